@@ -1,0 +1,5 @@
+pub mod Polynomials
+pub mod Points
+pub mod Profiles
+pub mod ServerCode
+pub mod DispersalCode

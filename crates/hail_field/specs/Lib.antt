@@ -1,0 +1,2 @@
+pub mod Nim
+pub mod Shape

@@ -1,0 +1,115 @@
+//! The laws of the field.
+ghost use Rattle.std.specs.Prelude.{◌≡◌, ◌≢◌, ◌≤◌, ◌<◌, ◌^◌, All};
+ghost use Rattle.std.specs.Int.{w128, from_le_bytes, to_le_bytes};
+ghost use Rattle.field_laws.specs.Field.{IsField};
+ghost use Rattle.hail_field.specs.Shape.{IsShape};
+ghost use Rattle.hail_field.specs.Nim.{product, width, nim, nim_add, nim_mul, nim_inv, is_symbol};
+
+use crate::{Shape, Symbol};
+
+/// All numbers are a field under the sum and the product.
+pub fn numbers_are_field()
+    ensures { IsField nim }
+{}
+
+/// A symbol's number is below 2^128.
+pub fn symbol_is_number(a: Symbol)
+    ensures { is_symbol a }
+{}
+
+/// Each symbol of a slice is such a number. A check learns it of an element once it is read, so this reads them all.
+pub fn symbols_are_numbers(items: &[Symbol])
+    ensures { All is_symbol items.now }
+{
+    for k in 0..items.len() {
+        symbol_is_number(items[k]);
+    }
+}
+
+/// The product of symbols is that of the textbook at level 7, where numbers have 128 bits.
+pub fn product_is_at_level_7(a: Symbol, b: Symbol)
+    ensures { nim_mul a b ≡ product 7 a b }
+{}
+
+/// The sum of symbols is one.
+pub fn sum_is_symbol(a: Symbol, b: Symbol)
+    ensures { is_symbol (nim_add a b) }
+{}
+
+/// The product of symbols is one.
+pub fn product_is_symbol(a: Symbol, b: Symbol)
+    ensures { is_symbol (nim_mul a b) }
+{}
+
+/// The inverse of a symbol is one.
+pub fn inverse_is_symbol(a: Symbol)
+    ensures { is_symbol (nim_inv a) }
+{}
+
+/// The sum commutes.
+pub fn sum_commutes(a: Symbol, b: Symbol)
+    ensures { nim_add a b ≡ nim_add b a }
+{}
+
+/// The sum associates.
+pub fn sum_associates(a: Symbol, b: Symbol, c: Symbol)
+    ensures { nim_add (nim_add a b) c ≡ nim_add a (nim_add b c) }
+{}
+
+/// The product commutes.
+pub fn product_commutes(a: Symbol, b: Symbol)
+    ensures { nim_mul a b ≡ nim_mul b a }
+{}
+
+/// The product associates.
+pub fn product_associates(a: Symbol, b: Symbol, c: Symbol)
+    ensures { nim_mul (nim_mul a b) c ≡ nim_mul a (nim_mul b c) }
+{}
+
+/// The product distributes over the sum.
+pub fn product_distributes(a: Symbol, b: Symbol, c: Symbol)
+    ensures { nim_mul a (nim_add b c) ≡ nim_add (nim_mul a b) (nim_mul a c) }
+{}
+
+/// One changes no product.
+pub fn one_is_neutral(a: Symbol)
+    ensures { nim_mul a 1 ≡ a }
+{}
+
+/// A number times its inverse is 1.
+pub fn inverse_gives_one(a: Symbol)
+    requires { a ≢ 0 }
+    ensures { nim_mul a (nim_inv a) ≡ 1 }
+{}
+
+/// What gives 1 is the inverse.
+pub fn inverse_is_one(a: Symbol, b: Symbol)
+    requires { nim_mul a b ≡ 1 }
+    ensures { b ≡ nim_inv a }
+{}
+
+/// The product of two numbers of width `2 ^ level` is of that width, and the same at each greater width.
+pub fn product_keeps_width(level: u8, above: u8, a: u128, b: u128)
+    requires levels { level ≤ above }
+    requires a_fits { a < 2 ^ width level }
+    requires b_fits { b < 2 ^ width level }
+    ensures within { product above a b < 2 ^ width level }
+    ensures same { product above a b ≡ product level a b }
+{}
+
+/// A symbol comes back from its bytes.
+pub fn bytes_give_symbol_back(a: Symbol)
+    ensures { from_le_bytes w128 (to_le_bytes w128 a) ≡ a }
+{}
+
+/// Bytes come back from their symbol.
+pub fn symbol_gives_bytes_back(bytes: [u8; 16])
+    ensures { to_le_bytes w128 (from_le_bytes w128 bytes) ≡ bytes }
+{}
+
+/// A shape keeps its limits.
+pub fn shape_fits(shape: Shape)
+    ensures { IsShape shape.n shape.l shape.b }
+{
+    let _ = shape;
+}

@@ -1,0 +1,6 @@
+use Rattle.std.proofs.Common.{◌≡◌, drop}
+use Rattle.hail_codes.specs.Polynomials.{value}
+use Rattle.hail_poly.proofs.read.eval.Given as goal
+
+abbrev pub invariant-loop-k : goal.invariant-loop-k
+invariant-loop-k l = l.sum ≡ value (drop l.k l.coefficients) l.x

@@ -1,0 +1,5 @@
+pub mod Registers
+pub mod Rows
+pub mod RowState
+pub mod GoesOn
+pub mod Quotient

@@ -1,0 +1,142 @@
+use crate::read::eval;
+use crate::row::{Row, go_on};
+use hail_field::{Memory, Symbol};
+use std::alloc::Global;
+use std::marker::Model;
+
+/// The most points that a `Work` may have room for.
+pub const MOST: usize = 128;
+
+/// Three polynomials, in memory that is reserved once: a whole, a rest and a factor.
+#[derive(Drop)]
+pub struct Work {
+    size: usize,
+    whole: Vec<Symbol>,
+    whole_len: usize,
+    row: Row,
+    spare: Row,
+}
+
+impl Model for Work {
+    ghost use Rattle.std.specs.Prelude.{take};
+    ghost use Rattle.hail_poly.specs.Registers.{Registers, IsWork};
+
+    ghost Value = { Registers };
+
+    ghost view = { λ w. record {
+      size = w.size;
+      whole = take w.whole_len w.whole.items;
+      rest = w.row.rest;
+      factor = w.row.factor;
+    } };
+
+    ghost invariant = { λ w. IsWork w.size w.whole.items w.whole_len w.row w.spare };
+}
+
+impl Work {
+    ghost use Rattle.std.specs.Prelude.{◌≡◌, ◌≢◌, ◌<◌, ◌≤◌, ◌+◌, ◌∷◌, [], length, IfOk};
+    ghost use Rattle.std.specs.Bool.{OnTrue, OnFalse};
+    ghost use Rattle.field_laws.specs.Field.{Apart};
+    ghost use Rattle.poly_laws.specs.Poly.{FirstRow};
+    ghost use Rattle.hail_field.specs.Nim.{nim};
+    ghost use Rattle.hail_codes.specs.Polynomials.{value, vanish, interpolate, trim};
+    ghost use Rattle.hail_poly.specs.Registers.{IsLoaded};
+    ghost use Rattle.hail_poly.specs.Quotient.{IsQuotient, HasNoQuotient};
+
+    /// Registers with room for as many points.
+    pub fn new(alloc: Global, size: usize) -> Result<Work, Memory>
+        requires { size ≤ MOST }
+        ensures { IfOk result (λ w. w ≡ record { size = size; whole = []; rest = []; factor = [] }) }
+    {
+        let zero = Symbol::ZERO;
+        let whole = vec![in alloc; zero; size + 1]?;
+        let row = Row::new(alloc, size + 1)?;
+        let spare = Row::new(alloc, size + 1)?;
+        Ok(Work {
+            size,
+            whole,
+            whole_len: 0,
+            row,
+            spare,
+        })
+    }
+
+    /// The whole becomes the product of all x + point, and the rest takes the values at the points.
+    pub fn load(&mut self, points: &[Symbol], values: &[Symbol])
+        requires apart { Apart points.now }
+        requires even { length points.now ≡ length values.now }
+        requires room { length points.now ≤ self.old.size }
+        ensures { self.new ≡ record {
+          size = self.old.size;
+          whole = vanish points.now;
+          rest = trim (interpolate points.now values.now);
+          factor = 1 ∷ [];
+        } }
+    {
+        self.row.load(points, values, &mut self.whole);
+        self.row.start_factor();
+        self.whole_len = points.len() + 1;
+    }
+
+    /// The rest and the factor become the first row of Euclid's algorithm on the whole and the rest
+    /// whose remainder has at most `below` coefficients.
+    pub fn euclid(&mut self, below: usize)
+        requires { IsLoaded self.old }
+        ensures size { self.new.size ≡ self.old.size }
+        ensures whole { self.new.whole ≡ self.old.whole }
+        ensures row { FirstRow nim below self.old.whole [] self.old.rest (1 ∷ []) self.new.rest self.new.factor }
+    {
+        self.spare.set_rest(&self.whole[..self.whole_len]);
+        self.spare.clear_factor();
+        go_on(&mut self.spare, &mut self.row, below);
+    }
+
+    /// Whether the factor divides the rest; then the rest becomes the quotient, and the factor 1.
+    pub fn divide(&mut self) -> bool
+        requires { self.old.factor ≢ [] }
+        ensures size { self.new.size ≡ self.old.size }
+        ensures whole { self.new.whole ≡ self.old.whole }
+        ensures quotient { OnTrue result (IsQuotient self.old.rest self.old.factor self.new.rest) }
+        ensures one { OnTrue result (self.new.factor ≡ 1 ∷ []) }
+        ensures none { OnFalse result (HasNoQuotient self.old.rest self.old.factor) }
+        ensures unchanged { OnFalse result (self.new ≡ self.old) }
+    {
+        self.spare.set_rest(self.row.rest());
+        self.spare.clear_factor();
+        self.spare.divide_by(self.row.factor());
+        if self.spare.rest_len() > 0 {
+            return false;
+        }
+        self.row.set_rest(self.spare.factor());
+        self.row.start_factor();
+        true
+    }
+
+    /// The rest becomes this polynomial.
+    pub fn set_rest(&mut self, coefficients: &[Symbol])
+        requires { length coefficients.now ≤ self.old.size }
+        ensures { self.new ≡ record {
+          size = self.old.size;
+          whole = self.old.whole;
+          rest = trim coefficients.now;
+          factor = self.old.factor;
+        } }
+    {
+        self.row.set_rest(coefficients);
+    }
+
+    /// The rest.
+    pub fn rest(&self) -> &[Symbol]
+        ensures is { result.now ≡ self.now.rest }
+        ensures trimmed { result.now ≡ trim result.now }
+    {
+        self.row.rest()
+    }
+
+    /// The value of the rest at x.
+    pub fn value(&self, x: Symbol) -> Symbol
+        ensures { result ≡ value self.now.rest x }
+    {
+        eval(self.row.rest(), x)
+    }
+}

@@ -1,0 +1,21 @@
+ghost use Rattle.std.specs.Prelude.{◌≡◌, ◌<◌, ◌≤◌, ℕ, List, length, take, OnOk, OnErr, IsErrOf};
+ghost use Rattle.stream_model.specs.declared.fault.WriteFault.TheVariants as write_fault;
+ghost use Rattle.hail_devices.specs.Faults.{HasCause};
+ghost use Rattle.hail_devices.specs.Told.{told_then};
+
+use crate::fault::WriteFault;
+use crate::sink::Sink;
+
+/// Writes all of the bytes, or some front of them.
+pub fn write_all<K: Sink>(sink: &mut K, bytes: &[u8]) -> Result<(), WriteFault>
+    ensures ok { OnOk result (K.written sink.new ≡ told_then (K.written sink.old) bytes.now) }
+    ensures err { OnErr result ((n : ℕ) × (n ≤ length bytes.now) × (K.written sink.new ≡ told_then (K.written sink.old) (take n bytes.now))) }
+    ensures cause { HasCause (K.faults sink.old) (K.faults sink.new) (IsErrOf result write_fault.Failed) }
+{
+    let mut done = 0;
+    while done < bytes.len() {
+        let n = sink.write(&bytes[done..])?;
+        done += n;
+    }
+    Ok(())
+}
