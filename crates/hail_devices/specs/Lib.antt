@@ -1,3 +1,9 @@
 pub mod Faults
 pub mod Told
 pub mod Calls
+pub mod Cells
+pub mod Images
+pub mod Disks
+pub mod Picks
+pub mod Providers
+pub mod ProviderCalls

@@ -1,2 +1,3 @@
-//! What devices may do, as definitions: counts of faults and their causes, and content that a device tells or does not.
+//! What devices may do, as definitions: counts of faults and their causes, content that a device tells or does not,
+//! the cells and images of a disk, and the blocks of a provider.
 #![tactic(auto)]
