@@ -1,0 +1,3 @@
+pub mod Splices
+pub mod ImageLaws
+pub mod PickLaws

@@ -1,0 +1,28 @@
+//! What holds of every disk and of every provider.
+ghost use Rattle.std.specs.Prelude.{◌≡◌, ◌↔◌, ℕ, List, All, length};
+ghost use Rattle.hail_devices.specs.Told.{IsByte};
+ghost use Rattle.hail_devices.specs.Cells.{Cells, reads, loose_offsets, is_loose_at, Ascends};
+ghost use Rattle.hail_devices.specs.Images.{IsImage, IsImageOf, is_among};
+ghost use Rattle.hail_devices.specs.Picks.{picked};
+
+/// An image is as long as what is read, and equals it at every offset that isn't loose.
+pub fn images()
+    ensures { (cells : Cells) (image : List ℕ) → IsImage cells image ↔ IsImageOf (reads cells) (loose_offsets cells) image }
+{}
+
+/// What is read is an image.
+pub fn what_is_read()
+    ensures { (cells : Cells) → IsImage cells (reads cells) }
+{}
+
+/// Any picks give an image, and each image can be picked.
+pub fn picks()
+    ensures gives { (cells : Cells) (picks : List ℕ) → IsImage cells (picked cells picks) }
+    ensures each { (cells : Cells) (image : List ℕ) → IsImage cells image → All IsByte image → (picks : List ℕ) × All IsByte picks × (picked cells picks ≡ image) }
+{}
+
+/// The loose offsets ascend, and are those at which a byte is loose.
+pub fn offsets()
+    ensures ascend { (cells : Cells) → Ascends 0 (loose_offsets cells) }
+    ensures listed { (cells : Cells) (k : ℕ) → is_among (loose_offsets cells) k ≡ is_loose_at cells k }
+{}
