@@ -1,3 +1,5 @@
 pub mod Splices
 pub mod ImageLaws
 pub mod PickLaws
+pub mod TearLaws
+pub mod WriteLaws

@@ -1,8 +1,9 @@
 //! What holds of every disk and of every provider.
-ghost use Rattle.std.specs.Prelude.{◌≡◌, ◌↔◌, ℕ, List, All, length};
+ghost use Rattle.std.specs.Prelude.{◌≡◌, ◌↔◌, ◌⊎◌, ◌+◌, ◌-◌, ◌≤◌, ◌<◌, ◌++◌, ℕ, true, List, All, length, min, replicate};
 ghost use Rattle.hail_devices.specs.Told.{IsByte};
 ghost use Rattle.hail_devices.specs.Cells.{Cells, reads, loose_offsets, is_loose_at, Ascends};
 ghost use Rattle.hail_devices.specs.Images.{IsImage, IsImageOf, is_among};
+ghost use Rattle.hail_devices.specs.Disks.{spliced, written, halved, marked, Torn};
 ghost use Rattle.hail_devices.specs.Picks.{picked};
 
 /// An image is as long as what is read, and equals it at every offset that isn't loose.
@@ -25,4 +26,24 @@ pub fn picks()
 pub fn offsets()
     ensures ascend { (cells : Cells) → Ascends 0 (loose_offsets cells) }
     ensures listed { (cells : Cells) (k : ℕ) → is_among (loose_offsets cells) k ≡ is_loose_at cells k }
+{}
+
+/// A write replaces or adds bytes, with zero bytes in a gap. It makes loose the offsets that it writes, a gap's too, and
+/// no other.
+pub fn writes()
+    ensures reads {
+        (at : ℕ) (bytes : List ℕ) (cells : Cells)
+            → reads (written at bytes cells) ≡ spliced (min at (length (reads cells))) (replicate (at - length (reads cells)) 0 ++ bytes) (reads cells) }
+    ensures loose {
+        (at : ℕ) (bytes : List ℕ) (cells : Cells) (k : ℕ) → min at (length cells) ≤ k → k < at + length bytes
+            → is_loose_at (written at bytes cells) k ≡ true }
+    ensures as_before {
+        (at : ℕ) (bytes : List ℕ) (cells : Cells) (k : ℕ) → (k < min at (length cells)) ⊎ (at + length bytes ≤ k)
+            → is_loose_at (written at bytes cells) k ≡ is_loose_at cells k }
+{}
+
+/// A failing write may write the first half and make loose what the range had, or only make that loose.
+pub fn tears()
+    ensures halved { (at : ℕ) (bytes : List ℕ) (cells : Cells) → Torn at (length bytes) cells (halved at bytes cells) }
+    ensures marked { (at n : ℕ) (cells : Cells) → Torn at n cells (marked at n cells) }
 {}

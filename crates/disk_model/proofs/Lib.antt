@@ -1,0 +1,4 @@
+pub mod Zips
+pub mod FrontLemmas
+pub mod PickLemmas
+pub mod Tears

@@ -1,0 +1,2 @@
+pub mod SureDisk
+pub mod MemDisk
