@@ -2,7 +2,7 @@ ghost use Rattle.std.specs.Prelude.{◌≡◌, ◌⊎◌, ◌↔◌, ◌+◌, �
 ghost use Rattle.stream_model.specs.declared.fault.WriteFault.TheVariants as write_fault;
 ghost use Rattle.hail_devices.specs.Faults.{HasCause};
 ghost use Rattle.hail_devices.specs.Cells.{reads, firm};
-ghost use Rattle.hail_devices.specs.Disks.{written, halved, marked, synced};
+ghost use Rattle.hail_devices.specs.Disks.{written, halved, marked, Torn, synced, Stopped};
 ghost use Rattle.hail_devices.specs.Picks.{picked};
 
 use crate::disk::Disk;
@@ -83,6 +83,7 @@ impl Disk for MemDisk {
         ensures failed {
             IsErrOf result write_fault.Failed
                 → (cells_of self.new ≡ halved at bytes.now (cells_of self.old)) ⊎ (cells_of self.new ≡ marked at (length bytes.now) (cells_of self.old)) }
+        ensures torn { IsErrOf result write_fault.Failed → Torn at (length bytes.now) (cells_of self.old) (cells_of self.new) }
         ensures memory { IsErrOf result write_fault.Memory → cells_of self.new ≡ cells_of self.old }
         ensures cause { HasCause (faults_of self.old) (faults_of self.new) (IsErrOf result write_fault.Failed) }
         ensures fails { IsErrOf result write_fault.Failed ↔ IsTrue (fails_next self.old) }
@@ -110,7 +111,8 @@ impl Disk for MemDisk {
 
     /// The picks stand for the loose bytes in order; loose bytes past the end of the picks stay. It is no counted call.
     fn stop(&mut self, picks: &[u8])
-        ensures cells { cells_of self.new ≡ firm (picked (cells_of self.old) picks.now) }
+        ensures picked { cells_of self.new ≡ firm (picked (cells_of self.old) picks.now) }
+        ensures image { Stopped (cells_of self.old) (cells_of self.new) }
         ensures calls { self.new.calls ≡ self.old.calls }
     {
         self.inner.stop(picks);

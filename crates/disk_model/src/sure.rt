@@ -1,7 +1,7 @@
 ghost use Rattle.std.specs.Prelude.{◌≡◌, ◌+◌, ◌^◌, ◌≤◌, Some, min, length, take, drop, IfOk, IfErr, OnOk, OnErr, IsOk, IfSome, vec_len};
 ghost use Rattle.stream_model.specs.declared.fault.WriteFault.TheVariants as write_fault;
 ghost use Rattle.hail_devices.specs.Cells.{reads, firm};
-ghost use Rattle.hail_devices.specs.Disks.{written, halved, marked, synced};
+ghost use Rattle.hail_devices.specs.Disks.{written, halved, marked, synced, Stopped};
 ghost use Rattle.hail_devices.specs.Picks.{picked};
 
 use crate::disk::Disk;
@@ -39,7 +39,7 @@ impl SureDisk {
 
     /// What a failing write of the disk in memory does: it writes the first half of the bytes, rounded down, if it has
     /// room, and none otherwise.
-    pub fn tear_at(&mut self, at: u64, bytes: &[u8])
+    pub(crate) fn tear_at(&mut self, at: u64, bytes: &[u8])
         requires { at + length bytes.now ≤ 2 ^ 24 }
         ensures { (cells_of self.new ≡ halved at bytes.now (cells_of self.old)) ⊎ (cells_of self.new ≡ marked at (length bytes.now) (cells_of self.old)) }
     {
@@ -97,7 +97,8 @@ impl Disk for SureDisk {
 
     /// The picks stand for the loose bytes in order; loose bytes past the end of the picks stay.
     fn stop(&mut self, picks: &[u8])
-        ensures { cells_of self.new ≡ firm (picked (cells_of self.old) picks.now) }
+        ensures picked { cells_of self.new ≡ firm (picked (cells_of self.old) picks.now) }
+        ensures image { Stopped (cells_of self.old) (cells_of self.new) }
     {
         pick(&mut self.held, &mut self.marks, picks);
     }

@@ -1,5 +1,5 @@
 -- What the disk in memory does at a failing write is one of the ways that such a write may go.
-use Rattle.std.proofs.Common.{◌≡◌, ◌⊎◌, inl, inr, ℕ, ◌+◌, ◌-◌, ◌*◌, ◌≤◌, ◌/◌, min, Bool, true, List, ◌++◌, length, take, drop, map, replicate, refl, sym, ap, ◌∙◌, arith, length-append, length-take, length-drop}
+use Rattle.std.proofs.Common.{◌≡◌, ◌⊎◌, inl, inr, ℕ, ◌+◌, ◌-◌, ◌*◌, ◌≤◌, ◌/◌, min, Bool, true, List, ◌++◌, length, take, drop, map, replicate, refl, sym, ap, ◌∙◌, subst, arith, length-append, length-take, length-drop}
 use Rattle.std.proofs.lemmas.List.{length-replicate, map-append, drop-map, length-map}
 use Rattle.hail_devices.specs.Cells.{Cells, loose, reads}
 use Rattle.hail_devices.specs.Disks.{spliced, written, marked, halved, Torn}
@@ -42,3 +42,7 @@ module _ (at n : ℕ) (old : Cells) where
 
 pub Torn-halved : (at : ℕ) (bytes : List ℕ) (old : Cells) → Torn at (length bytes) old (halved at bytes old)
 Torn-halved at bytes old = Torn-written at (length bytes) old (take (length bytes / 2) bytes) (omega (arith, length-take (length bytes / 2) bytes))
+
+pub Torn-either : (at : ℕ) (bytes : List ℕ) (old new : Cells) → (new ≡ halved at bytes old) ⊎ (new ≡ marked at (length bytes) old) → Torn at (length bytes) old new
+Torn-either at bytes old new (inl is) = subst (Torn at (length bytes) old) (sym is) (Torn-halved at bytes old)
+Torn-either at bytes old new (inr is) = subst (Torn at (length bytes) old) (sym is) (Torn-marked at (length bytes) old)
