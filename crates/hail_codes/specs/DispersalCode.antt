@@ -1,6 +1,6 @@
 -- The dispersal code: the symbols of a row are the values, at the providers' points, of a polynomial of degree below l.
-use Rattle.std.specs.Prelude.{ℕ, ◌≤◌, ◌+◌, List, Option, length, take}
-use Rattle.hail_codes.specs.Polynomials.{agree, interpolate}
+use Rattle.std.specs.Prelude.{◌≡◌, ℕ, ◌≤◌, ◌+◌, List, Option, length, take}
+use Rattle.hail_codes.specs.Polynomials.{agree, interpolate, trim}
 use Rattle.hail_codes.specs.Points.{values_at}
 
 -- the row of primary symbols: the values at all points of the polynomial that takes them at the first points, one a symbol
@@ -15,3 +15,7 @@ pub record Accepts (points : List ℕ) (seen : List (Option ℕ)) (l b : ℕ) (p
 -- no polynomial is accepted
 abbrev pub AcceptsNone : List ℕ → List (Option ℕ) → ℕ → ℕ → Type 0
 AcceptsNone points seen l b = (p : List ℕ) → Accepts points seen l b p → ⊥
+
+-- each accepted polynomial is this one, but for zeros at its end
+abbrev pub IsOnlyAccepted : List ℕ → List (Option ℕ) → ℕ → ℕ → List ℕ → Type 0
+IsOnlyAccepted points seen l b p = (q : List ℕ) → Accepts points seen l b q → p ≡ trim q

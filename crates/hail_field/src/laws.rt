@@ -1,5 +1,5 @@
 //! The laws of the field.
-ghost use Rattle.std.specs.Prelude.{◌≡◌, ◌≢◌, ◌≤◌, ◌<◌, ◌^◌, All};
+ghost use Rattle.std.specs.Prelude.{◌≡◌, ◌≢◌, ◌≤◌, ◌<◌, ◌^◌, All, map};
 ghost use Rattle.std.specs.Int.{w128, from_le_bytes, to_le_bytes};
 ghost use Rattle.field_laws.specs.Field.{IsField};
 ghost use Rattle.hail_field.specs.Shape.{IsShape};
@@ -113,3 +113,9 @@ pub fn shape_fits(shape: Shape)
 {
     let _ = shape;
 }
+
+/// The numbers below 256 act on each byte of a symbol by itself: the bytes of the product are the products of the bytes.
+pub fn bytes_of_product(a: Symbol, c: u8)
+    ensures bytes { to_le_bytes w128 (nim_mul a c) ≡ map (λ byte. nim_mul byte c) (to_le_bytes w128 a) }
+    ensures number { nim_mul a c ≡ from_le_bytes w128 (map (λ byte. nim_mul byte c) (to_le_bytes w128 a)) }
+{}

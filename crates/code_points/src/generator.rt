@@ -1,0 +1,75 @@
+ghost use Rattle.std.specs.Prelude.{◌≡◌, ◌<◌, ◌≤◌, ◌-◌, length, replicate, slice_set};
+ghost use Rattle.std.specs.List.{range_with_len};
+ghost use Rattle.hail_codes.specs.Polynomials.{value, vanish};
+ghost use Rattle.hail_codes.specs.Points.{upto, multiplier as multiplier_of};
+ghost use Rattle.hail_codes.specs.ServerCode.{IsGeneratorRow};
+ghost use Rattle.code_points.specs.Profile.{plain_profile};
+
+use crate::profile::Profile;
+use crate::table::multiplier;
+use hail_field::Symbol;
+
+/// The point at a place.
+fn point(place: u32) -> Symbol
+    ensures { result ≡ place }
+{
+    Symbol(u128::from(place))
+}
+
+/// The product of x + point over the points from `start` to before `end`.
+fn product_of_sums(x: Symbol, start: u32, end: u32) -> Symbol
+    requires { start ≤ end }
+    ensures { result ≡ value (vanish (range_with_len start (end - start))) x }
+{
+    let mut product = Symbol::ONE;
+    for place in (start..end).rev() {
+        product = point(place).add(x).mul(product);
+    }
+    product
+}
+
+/// The multiplier of a kept point among the kept points.
+fn kept_multiplier(profile: Profile, place: u32) -> Symbol
+    requires { place < profile.keep }
+    ensures { result ≡ multiplier_of place (upto profile.keep) }
+{
+    let rest = product_of_sums(point(place), profile.keep, profile.size);
+    multiplier(profile, place).mul(rest)
+}
+
+/// The coefficients of a kept place: 1 at the place itself.
+fn kept_row(place: usize, out: &mut [Symbol])
+    requires { place < length out.old }
+    ensures { out.new ≡ slice_set (replicate (length out.old) 0) place 1 }
+{
+    out.fill(Symbol::ZERO);
+    out[place] = Symbol::ONE;
+}
+
+/// The coefficients of a place behind the kept ones, by Lagrange's formula.
+fn parity_row(profile: Profile, place: u32, out: &mut [Symbol])
+    requires behind { profile.keep ≤ place }
+    requires out { length out.old ≡ profile.keep }
+    ensures { IsGeneratorRow (plain_profile profile) place out.new }
+{
+    let whole = product_of_sums(point(place), 0, profile.keep);
+    for k in 0..profile.keep {
+        let gap = point(place).add(point(k));
+        out[k as usize] = whole
+            .mul(gap.inv().unwrap())
+            .mul(kept_multiplier(profile, k));
+    }
+}
+
+/// Fills `out` with the coefficients by which the codeword's symbol at `place` is a sum over the kept symbols.
+pub fn generator_row(profile: Profile, place: u32, out: &mut [Symbol])
+    requires place { place < profile.size }
+    requires out { length out.old ≡ profile.keep }
+    ensures { IsGeneratorRow (plain_profile profile) place out.new }
+{
+    if place < profile.keep {
+        kept_row(place as usize, out);
+    } else {
+        parity_row(profile, place, out);
+    }
+}

@@ -1,0 +1,10 @@
+//! The profiles of the server code, and the coefficients of its codewords.
+#![tactic(auto)]
+
+mod generator;
+mod profile;
+mod table;
+
+pub use generator::generator_row;
+pub use profile::{Profile, find_profile};
+pub use table::multiplier;

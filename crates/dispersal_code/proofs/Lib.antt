@@ -1,0 +1,3 @@
+pub mod AgreementSteps
+pub mod SearchSteps
+pub mod Unique

@@ -1,0 +1,34 @@
+-- At most one polynomial is accepted.
+use Rattle.std.proofs.Common.{◌≡◌, ◌≤◌, ◌+◌, ℕ, List, [], ◌∷◌, length, Option, Some, None, arith, refl, sym}
+use Rattle.field_laws.specs.Field.{Apart, Each}
+use Rattle.hail_field.specs.Nim.{nim}
+use Rattle.hail_field.specs.Shape.{IsShape}
+use Rattle.hail_field.proofs.AllNumbers.{nim_laws}
+use Rattle.poly_laws.specs.Poly.{present}
+use Rattle.poly_laws.proofs.Agree.{unique}
+use Rattle.poly_laws.proofs.Roots.{same_values}
+use Rattle.poly_laws.proofs.Trim.{trim_same}
+use Rattle.hail_codes.specs.Polynomials.{value, plus, trim}
+use Rattle.hail_codes.specs.DispersalCode.{Accepts}
+
+-- no more symbols are present than there are places
+present_at_most : (ss : List (Option ℕ)) → present ss ≤ length ss
+unfolding present
+present_at_most [] = omega arith
+present_at_most (None ∷ ss) = omega (arith, present_at_most ss)
+present_at_most (Some s ∷ ss) = omega (arith, present_at_most ss)
+
+module _ (n l b : ℕ) (points : List ℕ) (seen : List (Option ℕ)) (p q : List ℕ) (shape : IsShape n l b) (apart : Apart points)
+    (even : length points ≡ length seen) (whole : length seen ≡ n) (first : Accepts points seen l b p) (second : Accepts points seen l b q) where
+  -- the sum of two accepted polynomials is zero
+  pub sum_zero : Each (λ (a : ℕ). a ≡ 0) (plus p q)
+  sum_zero = unique nim nim_laws p q points seen l apart first.degree second.degree
+      (omega (arith, shape, first.agrees, second.agrees, present_at_most seen))
+
+  -- so they are one
+  pub same_trim : trim p ≡ trim q
+  same_trim = trim_same nim nim_laws p q sum_zero
+
+  -- and have one value everywhere
+  pub same_value : (x : ℕ) → value p x ≡ value q x
+  same_value = same_values nim nim_laws p q sum_zero

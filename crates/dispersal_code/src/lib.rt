@@ -1,0 +1,13 @@
+//! The dispersal code across providers: the symbols of a row, and the row that enough of them agree on.
+#![tactic(auto)]
+
+mod agreements;
+mod choice;
+mod encode;
+pub mod laws;
+mod open;
+#[cfg(test)]
+mod tests;
+
+pub use encode::encode_row;
+pub use open::open_row;

@@ -1,0 +1,7 @@
+pub mod Keys
+pub mod Objects
+pub mod Columns
+pub mod Opened
+pub mod Forgeries
+pub mod Challenges
+pub mod Verdicts

@@ -1,0 +1,3 @@
+pub mod FilesLaws
+pub mod OrderLaws
+pub mod Sizes

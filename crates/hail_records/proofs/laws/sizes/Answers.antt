@@ -1,0 +1,8 @@
+use Rattle.hail_records.proofs.Sizes.{length-spelling, length-text}
+use Rattle.hail_records.proofs.laws.sizes.Goals as goal
+
+pub returns-clause-record : goal.returns-clause-record
+returns-clause-record c = length-spelling
+
+pub returns-clause-text : goal.returns-clause-text
+returns-clause-text c = length-text

@@ -1,0 +1,129 @@
+-- What a list of records folds to. Each value is read off the list from its newest record, which is the first.
+--
+--   setup_of rs           the setup, if there is one
+--   next_id rs            the number that the next put takes: 1 and the puts that were started
+--   next_audit rs         the number that the next audit takes: 1 and the audits that were started
+--   started_as rs id      the name under which a put was started and is not done
+--   file_of rs name       the file in effect under a name
+--   files_of rs           all files in effect, in byte order of their names
+--   find_file files name  the file of a name among files; None where there is none
+--   running_audit rs      the number of the audit that was started last and is not done
+--   due_of rs             the audit whose repair is due, with its counts
+--
+-- A byte order of names: `is_name_before`, where a name comes before those that it begins. `are_ordered` asks it of each
+-- file and all behind it.
+use Rattle.std.specs.Prelude.{ℕ, suc, ◌==◌, ◌&&◌, Bool, true, false, List, [], ◌∷◌, Option, None, Some, nat_lt, if◌then◌else◌}
+use Rattle.std.specs.List.{list_all, list_any}
+use Rattle.hail_records.specs.Records.{Setup, Record, SetUp, PutStart, PutDone, Drop, AuditStart, AuditDone, RepairDone}
+
+-- a file in effect: its name, its object number and its length
+pub record File : Type 0 where
+  pub name : List ℕ
+  pub id : ℕ
+  pub size : ℕ
+
+-- an audit whose repair is due, with its counts
+pub record Due : Type 0 where
+  pub number : ℕ
+  pub counts : List ℕ
+
+-- the setup
+abbrev pub setup_of : List Record → Option Setup
+setup_of [] = None
+setup_of (SetUp s ∷ rs) = Some s
+setup_of (r ∷ rs) = setup_of rs
+
+-- the next object number
+abbrev pub next_id : List Record → ℕ
+next_id [] = 1
+next_id (PutStart id name ∷ rs) = suc (next_id rs)
+next_id (r ∷ rs) = next_id rs
+
+-- the next audit number
+abbrev pub next_audit : List Record → ℕ
+next_audit [] = 1
+next_audit (AuditStart number ∷ rs) = suc (next_audit rs)
+next_audit (r ∷ rs) = next_audit rs
+
+-- the name under which an object number is started and not done
+abbrev pub started_as : List Record → ℕ → Option (List ℕ)
+started_as [] id = None
+started_as (PutStart k name ∷ rs) id = if k == id then Some name else started_as rs id
+started_as (PutDone k size ∷ rs) id = if k == id then None else started_as rs id
+started_as (r ∷ rs) id = started_as rs id
+
+-- two names are equal
+abbrev pub is_same_name : List ℕ → List ℕ → Bool
+is_same_name [] [] = true
+is_same_name (a ∷ as_) (b ∷ bs) = if a == b then is_same_name as_ bs else false
+is_same_name as_ bs = false
+
+-- a name comes before another in byte order; a name that begins another comes before it
+abbrev pub is_name_before : List ℕ → List ℕ → Bool
+is_name_before [] [] = false
+is_name_before [] (b ∷ bs) = true
+is_name_before (a ∷ as_) [] = false
+is_name_before (a ∷ as_) (b ∷ bs) = if a == b then is_name_before as_ bs else nat_lt a b
+
+-- a put that was started under this name
+abbrev pub is_start_of : List ℕ → Option (List ℕ) → Bool
+is_start_of name None = false
+is_start_of name (Some started) = is_same_name started name
+
+-- the file in effect under a name: that of the name's last PutDone, unless a later Drop took it out
+abbrev pub file_of : List Record → List ℕ → Option File
+file_of [] name = None
+file_of (PutDone id size ∷ rs) name = if is_start_of name (started_as rs id) then Some (record { name = name; id = id; size = size }) else file_of rs name
+file_of (Drop dropped ∷ rs) name = if is_same_name dropped name then None else file_of rs name
+file_of (r ∷ rs) name = file_of rs name
+
+-- files in byte order of their names, without that of a name
+abbrev pub without_file : List File → List ℕ → List File
+without_file [] name = []
+without_file (f ∷ fs) name = if is_same_name f.name name then without_file fs name else f ∷ without_file fs name
+
+-- files in byte order of their names, with one more in its place
+abbrev pub with_file : List File → File → List File
+with_file [] file = file ∷ []
+with_file (f ∷ fs) file = if is_name_before f.name file.name then f ∷ with_file fs file else file ∷ f ∷ fs
+
+-- files with the one that a put brings in, in place of an older one of its name
+abbrev pub with_put : List File → Option (List ℕ) → ℕ → ℕ → List File
+with_put files None id size = files
+with_put files (Some name) id size = with_file (without_file files name) (record { name = name; id = id; size = size })
+
+-- all files in effect, in byte order of their names
+abbrev pub files_of : List Record → List File
+files_of [] = []
+files_of (PutDone id size ∷ rs) = with_put (files_of rs) (started_as rs id) id size
+files_of (Drop name ∷ rs) = without_file (files_of rs) name
+files_of (r ∷ rs) = files_of rs
+
+-- each file's name comes before those of all files behind it
+abbrev pub are_ordered : List File → Bool
+are_ordered [] = true
+are_ordered (f ∷ fs) = list_all (λ g. is_name_before f.name g.name) fs && are_ordered fs
+
+-- the file of a name among files
+abbrev pub find_file : List File → List ℕ → Option File
+find_file [] name = None
+find_file (f ∷ fs) name = if is_same_name f.name name then Some f else find_file fs name
+
+-- the number of the running audit
+abbrev pub running_audit : List Record → Option ℕ
+running_audit [] = None
+running_audit (AuditStart number ∷ rs) = Some number
+running_audit (AuditDone number undecided counts ∷ rs) = None
+running_audit (r ∷ rs) = running_audit rs
+
+-- some count exceeds the tolerance of the setup
+abbrev pub exceeds : Option Setup → List ℕ → Bool
+exceeds None counts = false
+exceeds (Some s) counts = list_any (λ count. nat_lt s.tolerance count) counts
+
+-- the audit whose repair is due
+abbrev pub due_of : List Record → Option Due
+due_of [] = None
+due_of (AuditDone number undecided counts ∷ rs) = if exceeds (setup_of rs) counts then Some (record { number = number; counts = counts }) else due_of rs
+due_of (RepairDone number ∷ rs) = None
+due_of (r ∷ rs) = due_of rs

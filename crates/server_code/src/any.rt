@@ -1,0 +1,77 @@
+ghost use Rattle.std.specs.Prelude.{◌≡◌, ◌≤◌, IfOk, IfNone, OnSome, IfSome, length};
+ghost use Rattle.hail_codes.specs.ServerCode.{codeword, Opens, OpensToNone, differences};
+ghost use Rattle.code_points.specs.Profile.{plain_profile};
+ghost use Rattle.server_code.specs.Any.{profile_of};
+
+use crate::code::ServerCode;
+use code_points::Profile;
+use hail_field::{Memory, Symbol};
+use hail_poly::Work;
+use std::alloc::Global;
+
+/// The server code of any profile.
+#[derive(Drop)]
+pub enum AnyCode {
+    P0(ServerCode<6, 2>),
+    P1(ServerCode<16, 8>),
+    P2(ServerCode<32, 24>),
+    P3(ServerCode<64, 48>),
+    P4(ServerCode<128, 96>),
+}
+
+macro_rules! with_code {
+    ($any:expr, $code:ident => $body:expr) => {
+        match $any {
+            AnyCode::P0($code) => $body,
+            AnyCode::P1($code) => $body,
+            AnyCode::P2($code) => $body,
+            AnyCode::P3($code) => $body,
+            AnyCode::P4($code) => $body,
+        }
+    };
+}
+
+impl AnyCode {
+    /// The code of a profile, with its coefficients.
+    pub fn new(alloc: Global, profile: Profile) -> Result<AnyCode, Memory>
+        ensures { IfOk result (λ code. profile_of code ≡ profile) }
+    {
+        match profile.number {
+            0 => Ok(AnyCode::P0(ServerCode::new(alloc, profile)?)),
+            1 => Ok(AnyCode::P1(ServerCode::new(alloc, profile)?)),
+            2 => Ok(AnyCode::P2(ServerCode::new(alloc, profile)?)),
+            3 => Ok(AnyCode::P3(ServerCode::new(alloc, profile)?)),
+            _ => Ok(AnyCode::P4(ServerCode::new(alloc, profile)?)),
+        }
+    }
+
+    /// The profile.
+    pub fn profile(&self) -> Profile
+        ensures { result ≡ profile_of self.now }
+    {
+        with_code!(self, code => code.profile)
+    }
+
+    /// Fills `out` with the codeword of the kept symbols.
+    pub fn encode_into(&self, kept: &[Symbol], out: &mut [Symbol])
+        requires kept { length kept.now ≡ (profile_of self.now).keep }
+        requires out { length out.old ≡ (profile_of self.now).size }
+        ensures { out.new ≡ codeword (plain_profile (profile_of self.now)) kept.now }
+    {
+        with_code!(self, code => code.encode_into(kept, out))
+    }
+
+    /// Corrects up to `fix` wrong symbols of a block, and tells how many it changed. None where no codeword is so near;
+    /// then the block is unchanged.
+    pub fn decode_in(&self, block: &mut [Symbol], work: &mut Work) -> Option<u32>
+        requires block { length block.old ≡ (profile_of self.now).size }
+        requires room { (profile_of self.now).size ≤ work.old.size }
+        ensures none { IfNone result (OpensToNone (plain_profile (profile_of self.now)) block.old) }
+        ensures unchanged { IfNone result (block.new ≡ block.old) }
+        ensures opened { OnSome result (Opens (plain_profile (profile_of self.now)) block.old block.new) }
+        ensures changed { IfSome result (λ count. count ≡ differences block.old block.new) }
+        ensures work { work.new.size ≡ work.old.size }
+    {
+        with_code!(self, code => code.decode_in(block, work))
+    }
+}

@@ -1,0 +1,10 @@
+//! The server code: encoding a provider's block, and correcting it.
+#![tactic(auto)]
+
+mod any;
+mod code;
+mod make;
+mod rows;
+
+pub use any::AnyCode;
+pub use code::ServerCode;

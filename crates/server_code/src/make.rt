@@ -1,0 +1,33 @@
+ghost use Rattle.std.specs.Prelude.{◌≡◌, ◌≤◌, IfOk};
+ghost use Rattle.hail_codes.specs.Points.{upto};
+ghost use Rattle.code_points.specs.Profile.{plain_profile};
+ghost use Rattle.server_code.specs.Generator.{IsGenerator};
+
+use code_points::{Profile, generator_row};
+use hail_field::Symbol;
+use std::alloc::{AllocError, Global};
+
+/// The points 0 to count - 1.
+pub fn points(alloc: Global, count: u32) -> Result<Vec<Symbol>, AllocError>
+    ensures { IfOk result (λ points. points.items ≡ upto count) }
+{
+    let mut points = Vec::new(alloc);
+    for place in 0..count {
+        points.push(Symbol(u128::from(place)))?;
+    }
+    Ok(points)
+}
+
+/// The coefficients of all places behind the kept ones, row by row.
+pub fn rows(alloc: Global, profile: Profile) -> Result<Vec<Symbol>, AllocError>
+    ensures { IfOk result (λ rows. IsGenerator (plain_profile profile) rows.items) }
+{
+    let zero = Symbol::ZERO;
+    let mut row = vec![in alloc; zero; profile.keep as usize]?;
+    let mut rows = Vec::new(alloc);
+    for place in profile.keep..profile.size {
+        generator_row(profile, place, &mut row);
+        rows.extend_from_slice(&row)?;
+    }
+    Ok(rows)
+}

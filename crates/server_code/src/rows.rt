@@ -1,0 +1,70 @@
+ghost use Rattle.std.specs.Prelude.{◌≡◌, ◌≤◌, ◌+◌, ◌*◌, ◌↔◌, IsTrue, length, map};
+ghost use Rattle.hail_codes.specs.Polynomials.{value};
+ghost use Rattle.hail_codes.specs.ServerCode.{differences};
+ghost use Rattle.hail_codes.specs.Sums.{dot as dot_of};
+ghost use Rattle.server_code.specs.Generator.{row_at, sums};
+
+use hail_field::Symbol;
+use hail_poly::eval;
+
+/// The sum of each coefficient times the symbol at its place.
+fn dot(coefficients: &[Symbol], symbols: &[Symbol]) -> Symbol
+    requires { length coefficients.now ≡ length symbols.now }
+    ensures { result ≡ dot_of coefficients.now symbols.now }
+{
+    let mut sum = Symbol::ZERO;
+    for k in (0..coefficients.len()).rev() {
+        sum = coefficients[k].mul(symbols[k]).add(sum);
+    }
+    sum
+}
+
+/// The sum of the kept symbols by a row.
+fn row_sum(rows: &[Symbol], row: usize, kept: &[Symbol]) -> Symbol
+    requires { row * length kept.now + length kept.now ≤ length rows.now }
+    ensures { result ≡ dot_of (row_at (length kept.now) rows.now row) kept.now }
+{
+    let start = row * kept.len();
+    dot(&rows[start..start + kept.len()], kept)
+}
+
+/// Fills each place with the sum of the kept symbols by its row.
+pub fn fill_sums(rows: &[Symbol], kept: &[Symbol], out: &mut [Symbol])
+    requires { length rows.now ≡ length out.old * length kept.now }
+    ensures { out.new ≡ sums rows.now kept.now (length out.old) }
+{
+    for row in 0..out.len() {
+        out[row] = row_sum(rows, row, kept);
+    }
+}
+
+/// Whether each place is the sum of the kept symbols by its row.
+pub fn are_sums(rows: &[Symbol], kept: &[Symbol], seen: &[Symbol]) -> bool
+    requires { length rows.now ≡ length seen.now * length kept.now }
+    ensures { IsTrue result ↔ (seen.now ≡ sums rows.now kept.now (length seen.now)) }
+{
+    for row in 0..seen.len() {
+        if row_sum(rows, row, kept) != seen[row] {
+            return false;
+        }
+    }
+    true
+}
+
+/// Puts the polynomial's values at the points into a block, and tells at how many places it changes.
+pub fn put_values(coefficients: &[Symbol], points: &[Symbol], block: &mut [Symbol]) -> u32
+    requires even { length points.now ≡ length block.old }
+    requires few { length points.now ≤ 128 }
+    ensures values { block.new ≡ map (value coefficients.now) points.now }
+    ensures changed { result ≡ differences block.old block.new }
+{
+    let mut changed = 0;
+    for k in 0..points.len() {
+        let value = eval(coefficients, points[k]);
+        if block[k] != value {
+            block[k] = value;
+            changed += 1;
+        }
+    }
+    changed
+}
