@@ -1,2 +1,1 @@
-pub mod SureDisk
-pub mod MemDisk
+pub mod InMemory

@@ -36,7 +36,12 @@ fn mark(marks: &mut [bool], at: usize, len: usize)
 }
 
 /// Writes bytes and marks, or neither.
-pub fn put(held: &mut Vec<u8>, marks: &mut Vec<bool>, at: usize, bytes: &[u8]) -> Result<(), AllocError>
+pub fn put(
+    held: &mut Vec<u8>,
+    marks: &mut Vec<bool>,
+    at: usize,
+    bytes: &[u8],
+) -> Result<(), AllocError>
     requires room { at + length bytes.now ≤ 2 ^ 24 }
     requires same_len { length marks.old.items ≡ length held.old.items }
     ensures same_len { length marks.new.items ≡ length held.new.items }
@@ -65,9 +70,8 @@ pub fn tear(held: &mut Vec<u8>, marks: &mut Vec<bool>, at: usize, bytes: &[u8])
     requires room { at + length bytes.now ≤ 2 ^ 24 }
     requires same_len { length marks.old.items ≡ length held.old.items }
     ensures same_len { length marks.new.items ≡ length held.new.items }
-    ensures torn {
-        (zip held.new.items marks.new.items ≡ halved at bytes.now (zip held.old.items marks.old.items))
-            ⊎ (zip held.new.items marks.new.items ≡ marked at (length bytes.now) (zip held.old.items marks.old.items)) }
+    ensures torn { (zip held.new.items marks.new.items ≡ halved at bytes.now (zip held.old.items marks.old.items))
+        ⊎ (zip held.new.items marks.new.items ≡ marked at (length bytes.now) (zip held.old.items marks.old.items)) }
 {
     let len = held.len();
     let from = at.min(len);

@@ -1,4 +1,4 @@
-ghost use Rattle.std.specs.Prelude.{◌≡◌, ◌+◌, ◌^◌, ◌≤◌, Some, min, length, take, drop, IfOk, IfErr, OnOk, OnErr, IsOk, IfSome, vec_len};
+ghost use Rattle.std.specs.Prelude.{◌≡◌, ◌+◌, ◌^◌, ◌≤◌, Some, min, length, take, drop, IfOk, IfErr, OnOk, OnErr, IsOk};
 ghost use Rattle.stream_model.specs.declared.fault.WriteFault.TheVariants as write_fault;
 ghost use Rattle.hail_devices.specs.Cells.{reads, firm};
 ghost use Rattle.hail_devices.specs.Disks.{written, halved, marked, synced, Stopped};
@@ -7,6 +7,7 @@ ghost use Rattle.hail_devices.specs.Picks.{picked};
 use crate::disk::Disk;
 use crate::parts::{pick, put, tear};
 use std::alloc::Global;
+use std::marker::Model;
 use stream_model::{Failed, Memory, WriteFault};
 
 /// A disk in memory that never fails.
@@ -14,16 +15,28 @@ use stream_model::{Failed, Memory, WriteFault};
 pub struct SureDisk {
     held: Vec<u8>,
     marks: Vec<bool>,
-    ghost same_len: { vec_len marks ≡ vec_len held },
+}
+
+impl Model for SureDisk {
+    ghost use Rattle.std.specs.Prelude.{◌≡◌, vec_len};
+    ghost use Rattle.std.specs.List.{zip};
+    ghost use Rattle.hail_devices.specs.Cells.{Cells};
+
+    ghost Value = { Cells };
+
+    ghost view = { λ disk. zip disk.held.items disk.marks.items };
+
+    ghost invariant = { λ disk. vec_len disk.marks ≡ vec_len disk.held };
 }
 
 impl SureDisk {
-    ghost use Rattle.disk_model.specs.SureDisk.{cells_of};
-    ghost use Rattle.std.specs.Prelude.{◌⊎◌};
+    ghost use Rattle.std.specs.Prelude.{◌≡◌, ◌⊎◌, ◌+◌, ◌^◌, ◌≤◌, length, IfOk};
+    ghost use Rattle.hail_devices.specs.Cells.{reads, firm};
+    ghost use Rattle.hail_devices.specs.Disks.{halved, marked};
 
     /// A disk that reads these bytes, none of them loose.
     pub fn new(alloc: Global, bytes: &[u8]) -> Result<SureDisk, Memory>
-        ensures { IfOk result (λ d. ⟦<SureDisk as Disk>⟧.holds d ≡ Some (firm bytes.now)) }
+        ensures { IfOk result (λ disk. disk ≡ firm bytes.now) }
     {
         let held = bytes.to_vec(alloc)?;
         let marks = vec![in alloc; false; bytes.len()]?;
@@ -32,7 +45,7 @@ impl SureDisk {
 
     /// The bytes that the disk reads.
     pub fn bytes(&self) -> &[u8]
-        ensures { IfSome (⟦<SureDisk as Disk>⟧.holds self.now) (λ cells. result.now ≡ reads cells) }
+        ensures { result.now ≡ reads self.now }
     {
         &self.held
     }
@@ -41,22 +54,20 @@ impl SureDisk {
     /// room, and none otherwise.
     pub(crate) fn tear_at(&mut self, at: u64, bytes: &[u8])
         requires { at + length bytes.now ≤ 2 ^ 24 }
-        ensures { (cells_of self.new ≡ halved at bytes.now (cells_of self.old)) ⊎ (cells_of self.new ≡ marked at (length bytes.now) (cells_of self.old)) }
+        ensures { (self.new ≡ halved at bytes.now self.old) ⊎ (self.new ≡ marked at (length bytes.now) self.old) }
     {
         tear(&mut self.held, &mut self.marks, at as usize, bytes);
     }
 }
 
 impl Disk for SureDisk {
-    ghost use Rattle.disk_model.specs.SureDisk.{cells_of};
+    ghost holds = { λ disk. Some disk };
 
-    ghost holds = { λ d. Some (cells_of d) };
-
-    ghost faults = { λ d. 0 };
+    ghost faults = { λ _. 0 };
 
     fn len(&mut self) -> Result<u64, Failed>
-        ensures len { IfOk result (λ n. n ≡ length (cells_of self.old)) }
-        ensures same { cells_of self.new ≡ cells_of self.old }
+        ensures len { IfOk result (λ n. n ≡ length self.old) }
+        ensures same { self.new ≡ self.old }
         ensures sure { IsOk result }
     {
         Ok(self.held.len() as u64)
@@ -64,8 +75,8 @@ impl Disk for SureDisk {
 
     fn read_at(&mut self, at: u64, out: &mut [u8]) -> Result<usize, Failed>
         ensures at_most { IfOk result (λ n. n ≤ length out.old) }
-        ensures bytes { IfOk result (λ n. take n out.new ≡ take (length out.old) (drop at (reads (cells_of self.old)))) }
-        ensures same { cells_of self.new ≡ cells_of self.old }
+        ensures bytes { IfOk result (λ n. take n out.new ≡ take (length out.old) (drop at (reads self.old))) }
+        ensures same { self.new ≡ self.old }
         ensures sure { IsOk result }
     {
         let len = self.held.len();
@@ -80,15 +91,15 @@ impl Disk for SureDisk {
 
     fn write_at(&mut self, at: u64, bytes: &[u8]) -> Result<(), WriteFault>
         requires { at + length bytes.now ≤ 2 ^ 24 }
-        ensures ok { OnOk result (cells_of self.new ≡ written at bytes.now (cells_of self.old)) }
-        ensures memory { OnErr result (cells_of self.new ≡ cells_of self.old) }
+        ensures ok { OnOk result (self.new ≡ written at bytes.now self.old) }
+        ensures memory { OnErr result (self.new ≡ self.old) }
         ensures sure { IfErr result (λ e. e ≡ write_fault.Memory) }
     {
         Ok(put(&mut self.held, &mut self.marks, at as usize, bytes)?)
     }
 
     fn sync(&mut self) -> Result<(), Failed>
-        ensures ok { cells_of self.new ≡ synced (cells_of self.old) }
+        ensures ok { self.new ≡ synced self.old }
         ensures sure { IsOk result }
     {
         self.marks.fill(false);
@@ -97,8 +108,8 @@ impl Disk for SureDisk {
 
     /// The picks stand for the loose bytes in order; loose bytes past the end of the picks stay.
     fn stop(&mut self, picks: &[u8])
-        ensures picked { cells_of self.new ≡ firm (picked (cells_of self.old) picks.now) }
-        ensures image { Stopped (cells_of self.old) (cells_of self.new) }
+        ensures picked { self.new ≡ firm (picked self.old picks.now) }
+        ensures image { Stopped self.old self.new }
     {
         pick(&mut self.held, &mut self.marks, picks);
     }

@@ -1,5 +1,5 @@
 -- What the disk in memory does at a failing write is one of the ways that such a write may go.
-use Rattle.std.proofs.Common.{◌≡◌, ◌⊎◌, inl, inr, ℕ, ◌+◌, ◌-◌, ◌*◌, ◌≤◌, ◌/◌, min, Bool, true, List, ◌++◌, length, take, drop, map, replicate, refl, sym, ap, ◌∙◌, subst, arith, length-append, length-take, length-drop}
+use Rattle.std.proofs.Common.{◌≡◌, ◌⊎◌, inl, inr, ℕ, ◌+◌, ◌-◌, ◌≤◌, ◌/◌, min, Bool, true, List, ◌++◌, length, take, drop, replicate, refl, sym, ap, ◌∙◌, subst, arith, length-append, length-take, length-drop}
 use Rattle.std.proofs.lemmas.List.{length-replicate, map-append, drop-map, length-map}
 use Rattle.hail_devices.specs.Cells.{Cells, loose, reads}
 use Rattle.hail_devices.specs.Disks.{spliced, written, marked, halved, Torn}

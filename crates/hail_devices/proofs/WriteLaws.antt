@@ -1,5 +1,5 @@
 -- What a write leaves, by offsets.
-use Rattle.std.proofs.Common.{◌≡◌, ◌⊎◌, inl, inr, ℕ, zero, suc, ◌+◌, ◌-◌, ◌≤◌, ◌<◌, min, Bool, true, false, List, [], ◌∷◌, ◌++◌, length, take, drop, map, replicate, refl, sym, ap, ◌∙◌, arith, length-append, length-take, length-drop}
+use Rattle.std.proofs.Common.{◌≡◌, ◌⊎◌, inl, inr, ℕ, zero, suc, ◌+◌, ◌-◌, ◌≤◌, ◌<◌, min, Bool, true, List, [], ◌∷◌, ◌++◌, length, take, drop, replicate, refl, sym, ap, ◌∙◌, arith, length-append, length-take}
 use Rattle.std.proofs.lemmas.List.{length-replicate, map-append, length-map}
 use Rattle.hail_devices.specs.Cells.{Cells, loose, reads, is_loose_at}
 use Rattle.hail_devices.specs.Disks.{spliced, written}
@@ -26,9 +26,9 @@ reads-spliced at bytes cells =
     map-append (λ c. c.0) (take at cells) (loose bytes ++ drop (at + length (loose bytes)) cells)
     ∙ ap (λ (l : List ℕ). l ++ reads (loose bytes ++ drop (at + length (loose bytes)) cells)) (reads-take at cells)
     ∙ ap (λ (l : List ℕ). take at (reads cells) ++ l)
-        (map-append (λ c. c.0) (loose bytes) (drop (at + length (loose bytes)) cells)
-        ∙ (λ i. reads-loose bytes i ++ reads-drop (at + length (loose bytes)) cells i)
-        ∙ ap (λ (k : ℕ). bytes ++ drop (at + k) (reads cells)) (long bytes))
+    (map-append (λ c. c.0) (loose bytes) (drop (at + length (loose bytes)) cells)
+    ∙ (λ i. reads-loose bytes i ++ reads-drop (at + length (loose bytes)) cells i)
+    ∙ ap (λ (k : ℕ). bytes ++ drop (at + k) (reads cells)) (long bytes))
 
 pub reads-written : (at : ℕ) (bytes : List ℕ) (cells : Cells)
     → reads (written at bytes cells) ≡ spliced (min at (length (reads cells))) (replicate (at - length (reads cells)) 0 ++ bytes) (reads cells)

@@ -31,15 +31,12 @@ pub fn offsets()
 /// A write replaces or adds bytes, with zero bytes in a gap. It makes loose the offsets that it writes, a gap's too, and
 /// no other.
 pub fn writes()
-    ensures reads {
-        (at : ℕ) (bytes : List ℕ) (cells : Cells)
-            → reads (written at bytes cells) ≡ spliced (min at (length (reads cells))) (replicate (at - length (reads cells)) 0 ++ bytes) (reads cells) }
-    ensures loose {
-        (at : ℕ) (bytes : List ℕ) (cells : Cells) (k : ℕ) → min at (length cells) ≤ k → k < at + length bytes
-            → is_loose_at (written at bytes cells) k ≡ true }
-    ensures as_before {
-        (at : ℕ) (bytes : List ℕ) (cells : Cells) (k : ℕ) → (k < min at (length cells)) ⊎ (at + length bytes ≤ k)
-            → is_loose_at (written at bytes cells) k ≡ is_loose_at cells k }
+    ensures reads { (at : ℕ) (bytes : List ℕ) (cells : Cells)
+        → reads (written at bytes cells) ≡ spliced (min at (length (reads cells))) (replicate (at - length (reads cells)) 0 ++ bytes) (reads cells) }
+    ensures loose { (at : ℕ) (bytes : List ℕ) (cells : Cells) (k : ℕ) → min at (length cells) ≤ k → k < at + length bytes
+        → is_loose_at (written at bytes cells) k ≡ true }
+    ensures as_before { (at : ℕ) (bytes : List ℕ) (cells : Cells) (k : ℕ) → (k < min at (length cells)) ⊎ (at + length bytes ≤ k)
+        → is_loose_at (written at bytes cells) k ≡ is_loose_at cells k }
 {}
 
 /// A failing write may write the first half and make loose what the range had, or only make that loose.

@@ -1,7 +1,11 @@
-use Rattle.disk_model.specs.MemDisk.{cells_of}
+use Rattle.std.proofs.Common.{subst, ap}
+use Rattle.hail_devices.specs.Cells.{Cells}
+use Rattle.hail_devices.specs.Disks.{Torn}
+use Rattle.std.specs.Prelude.{length}
 use Rattle.hail_devices.proofs.TearLaws.{Torn-either}
+use Rattle.disk_model.specs.InMemory.{DiskInMemory}
 use Rattle.disk_model.proofs.memory.MemDiskDisk.write_at.Goals as goal
 
 pub returns-then-next-clause-torn : goal.returns-then-next-clause-torn
 returns-then-next-clause-torn c =
-    λ failed. Torn-either c.args.at c.args.bytes.now (cells_of c.args.self.now) (cells_of (record c.args.self.now { inner = c.tear_at.new.self; calls = c.next.new.self })) c.tear_at.ensures
+    λ failed. subst (λ (cells : Cells). Torn c.args.at (length c.args.bytes.now) cells c.tear_at.new.self) (ap (λ (d : DiskInMemory). d.cells) c.self.view_is) (Torn-either c.args.at c.args.bytes.now c.self.inside.inner c.tear_at.new.self c.tear_at.ensures)
