@@ -1,5 +1,5 @@
 -- A write that fails half way, on bytes and marks.
-use Rattle.std.proofs.Common.{◌≡◌, ◌⊎◌, inl, inr, ℕ, ◌+◌, ◌-◌, ◌≤◌, ◌/◌, min, Bool, true, List, length, take, drop, replicate, Result, Ok, Err, sym, ap, ◌∙◌, arith, length-take, length-drop}
+use Rattle.std.proofs.Common.{◌≡◌, ◌⊎◌, inl, inr, ℕ, ◌+◌, ◌-◌, ◌/◌, min, Bool, true, List, length, take, drop, replicate, Result, Ok, Err, sym, ap, ◌∙◌, arith, length-take, length-drop}
 use Rattle.std.specs.Prelude.{OnOk, OnErr}
 use Rattle.std.specs.List.{zip}
 use Rattle.std.proofs.lemmas.List.{length-replicate}

@@ -1,4 +1,4 @@
-use Rattle.std.proofs.Common.{◌≡◌, ◌<◌, inl, inr, ⊎_elim, length, ◌∙◌, arith, rules}
+use Rattle.std.proofs.Common.{◌≡◌, ◌<◌, inl, inr, ⊎_elim, length, ◌∙◌, arith}
 use Rattle.disk_model.proofs.PickLemmas.{kept_place, picked_place}
 use Rattle.disk_model.proofs.parts.pick.Goals as goal
 use Rattle.disk_model.proofs.parts.pick.Goals.{then-marks-i+then-next-picks, else-marks-i}

@@ -1,4 +1,4 @@
-use Rattle.std.proofs.Common.{◌≡◌, ◌+◌, ◌-◌, ◌∙◌, ℕ, Bool, true, List, min, length, replicate, ap, arith, rules}
+use Rattle.std.proofs.Common.{◌≡◌, ◌+◌, ◌-◌, ◌∙◌, Bool, true, List, min, length, replicate, ap, arith}
 use Rattle.std.proofs.lemmas.List.{take_at}
 use Rattle.hail_devices.specs.Disks.{spliced}
 use Rattle.disk_model.proofs.Tears.{tear_is}

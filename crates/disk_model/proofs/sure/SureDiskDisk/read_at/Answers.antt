@@ -1,4 +1,4 @@
-use Rattle.std.proofs.Common.{[], ◌≡◌, List, ℕ, length, drop, ap, ◌∙◌, sym, subst, take, arith, rules}
+use Rattle.std.proofs.Common.{[], ◌≡◌, length, drop, ap, ◌∙◌, sym, arith, rules}
 use Rattle.std.proofs.lemmas.List.{drop_all}
 use Rattle.std.proofs.lemmas.Slice.Zip.{firsts-zip}
 use Rattle.hail_devices.specs.Cells.{reads}
