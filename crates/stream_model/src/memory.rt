@@ -1,60 +1,38 @@
 // A sink and a source in memory, some of whose calls fail.
-ghost use Rattle.std.specs.Prelude.{◌≡◌, ◌<◌, ◌≤◌, ◌↔◌, ℕ, List, Option, [], Some, length, take, drop, IfOk, OnErr, IsErr, IfSome, IsErrOf, IsTrue};
+ghost use Rattle.std.specs.Prelude.{◌≡◌, ◌<◌, ◌≤◌, ◌↔◌, min, ℕ, Some, [], length, take, IfOk, OnErr, IsErr, IfSome, IsErrOf, IsTrue};
 ghost use Rattle.stream_model.specs.declared.fault.WriteFault.TheVariants as write_fault;
 ghost use Rattle.hail_devices.specs.Faults.{HasCause};
 ghost use Rattle.hail_devices.specs.Told.{told_then, then_told};
-ghost use Rattle.hail_devices.specs.Calls.{is_listed};
+ghost use Rattle.hail_devices.specs.Calls.{fails_next, no_calls, called};
 
+use crate::calls::Calls;
 use crate::fault::{Failed, Memory, WriteFault};
+use crate::front::copy_front;
 use crate::sink::Sink;
 use crate::source::Source;
 use std::alloc::Global;
+use std::marker::Model;
 
-/// Counts calls from 0, and fails those that are listed.
-#[derive(Drop)]
-pub struct Calls {
-    fails: Vec<u64>,
-    made: u64,
-    failed: u64,
-}
-
-impl Calls {
-    pub fn new(alloc: Global, fails: &[u64]) -> Result<Calls, Memory>
-        ensures made { IfOk result (λ c. c.made ≡ 0) }
-        ensures failed { IfOk result (λ c. c.failed ≡ 0) }
-        ensures fails { IfOk result (λ c. c.fails.items ≡ fails.now) }
-    {
-        Ok(Calls {
-            fails: fails.to_vec(alloc)?,
-            made: 0,
-            failed: 0,
-        })
-    }
-
-    /// Whether this call fails.
-    pub fn next(&mut self) -> bool
-        ensures value { result ≡ is_listed self.old.fails.items self.old.made }
-        ensures cause { HasCause self.old.failed self.new.failed (IsTrue result) }
-        ensures fails { self.new.fails.items ≡ self.old.fails.items }
-    {
-        let fails = self.fails.contains(&self.made);
-        self.made = self.made.saturating_add(1);
-        if fails {
-            self.failed = self.failed.saturating_add(1);
-        }
-        fails
-    }
-}
-
+/// A sink in memory. Its calls are numbered from 0, and those listed fail; any other takes the whole piece.
 #[derive(Drop)]
 pub struct MemSink {
     bytes: Vec<u8>,
     calls: Calls,
 }
 
+impl Model for MemSink {
+    ghost use Rattle.stream_model.specs.InMemory.{SinkInMemory};
+
+    ghost Value = { SinkInMemory };
+
+    ghost view = { λ sink. record { written = sink.bytes.items; calls = sink.calls } };
+}
+
 impl MemSink {
+    /// A sink to which nothing was written. Want of memory is its one refusal.
     pub fn new(alloc: Global, fails: &[u64]) -> Result<MemSink, Memory>
-        ensures { IfOk result (λ s. ⟦<MemSink as Sink>⟧.written s ≡ Some []) }
+        ensures empty { IfOk result (λ sink. sink.written ≡ []) }
+        ensures calls { IfOk result (λ sink. sink.calls ≡ no_calls fails.now) }
     {
         Ok(MemSink {
             bytes: Vec::new(alloc),
@@ -62,26 +40,31 @@ impl MemSink {
         })
     }
 
+    /// The bytes written so far.
     pub fn written(&self) -> &[u8]
-        ensures { ⟦<MemSink as Sink>⟧.written self.now ≡ Some result.now }
+        ensures { result.now ≡ self.now.written }
     {
         &self.bytes
     }
 }
 
 impl Sink for MemSink {
-    ghost written = { λ s. Some s.bytes.items };
+    ghost written = { λ sink. Some sink.written };
 
-    ghost faults = { λ s. s.calls.failed };
+    ghost faults = { λ sink. sink.calls.failed };
 
     fn write(&mut self, bytes: &[u8]) -> Result<usize, WriteFault>
         ensures at_most { IfOk result (λ n. n ≤ length bytes.now) }
         ensures some { IfOk result (λ n. 0 < length bytes.now → 0 < n) }
-        ensures taken { IfOk result (λ n. Some self.new.bytes.items ≡ told_then (Some self.old.bytes.items) (take n bytes.now)) }
-        ensures err { OnErr result (Some self.new.bytes.items ≡ Some self.old.bytes.items) }
-        ensures cause { HasCause self.old.calls.failed self.new.calls.failed (IsErrOf result write_fault.Failed) }
+        ensures taken { IfOk result (λ n.
+            Some self.new.written ≡ told_then (Some self.old.written) (take n bytes.now)) }
+        ensures err { OnErr result (Some self.new.written ≡ Some self.old.written) }
+        ensures cause { HasCause self.old.calls.failed self.new.calls.failed
+            (IsErrOf result write_fault.Failed) }
+
         ensures whole { IfOk result (λ n. n ≡ length bytes.now) }
-        ensures fails { IsErrOf result write_fault.Failed ↔ IsTrue (is_listed self.old.calls.fails.items self.old.calls.made) }
+        ensures fails { IsErrOf result write_fault.Failed ↔ IsTrue (fails_next self.old.calls) }
+        ensures counted { self.new.calls ≡ called self.old.calls }
     {
         if self.calls.next() {
             return Err(WriteFault::Failed);
@@ -91,17 +74,31 @@ impl Sink for MemSink {
     }
 }
 
+/// A source in memory. Its calls are numbered from 0, and those listed fail; any other gives as many bytes as fit or are
+/// left.
 #[derive(Drop)]
 pub struct MemSource {
     bytes: Vec<u8>,
     at: usize,
     calls: Calls,
-    ghost within: { at ≤ length bytes.items },
+}
+
+impl Model for MemSource {
+    ghost use Rattle.std.specs.Prelude.{◌≤◌, length, drop};
+    ghost use Rattle.stream_model.specs.InMemory.{SourceInMemory};
+
+    ghost Value = { SourceInMemory };
+
+    ghost view = { λ source. record { left = drop source.at source.bytes.items; calls = source.calls } };
+
+    ghost invariant = { λ source. source.at ≤ length source.bytes.items };
 }
 
 impl MemSource {
+    /// A source that has all of the bytes left. Want of memory is its one refusal.
     pub fn new(alloc: Global, bytes: &[u8], fails: &[u64]) -> Result<MemSource, Memory>
-        ensures { IfOk result (λ s. ⟦<MemSource as Source>⟧.left s ≡ Some bytes.now) }
+        ensures all_left { IfOk result (λ source. source.left ≡ bytes.now) }
+        ensures calls { IfOk result (λ source. source.calls ≡ no_calls fails.now) }
     {
         Ok(MemSource {
             bytes: bytes.to_vec(alloc)?,
@@ -112,16 +109,27 @@ impl MemSource {
 }
 
 impl Source for MemSource {
-    ghost left = { λ s. Some (drop s.at s.bytes.items) };
+    ghost left = { λ source. Some source.left };
 
-    ghost faults = { λ s. s.calls.failed };
+    ghost faults = { λ source. source.calls.failed };
 
-    fn read(&mut self, out: &mut [u8]) -> Result<usize, Failed> {
+    fn read(&mut self, out: &mut [u8]) -> Result<usize, Failed>
+        ensures at_most { IfOk result (λ n. n ≤ length out.old) }
+        ensures given { IfOk result (λ n.
+            Some self.old.left ≡ then_told (take n out.new) (Some self.new.left)) }
+        ensures end { IfOk result (λ n.
+            n ≡ 0 → 0 < length out.old → IfSome (Some self.old.left) (λ xs. xs ≡ [])) }
+        ensures err { OnErr result (Some self.new.left ≡ Some self.old.left) }
+        ensures cause { HasCause self.old.calls.failed self.new.calls.failed (IsErr result) }
+
+        ensures as_many { IfOk result (λ n. n ≡ min (length out.old) (length self.old.left)) }
+        ensures fails { IsErr result ↔ IsTrue (fails_next self.old.calls) }
+        ensures counted { self.new.calls ≡ called self.old.calls }
+    {
         if self.calls.next() {
             return Err(Failed);
         }
-        let n = out.len().min(self.bytes.len() - self.at);
-        out[..n].copy_from_slice(&self.bytes[self.at..self.at + n]);
+        let n = copy_front(&self.bytes, self.at, out);
         self.at += n;
         Ok(n)
     }

@@ -5,6 +5,7 @@ ghost use Rattle.hail_devices.specs.Told.{told_then};
 
 use crate::fault::WriteFault;
 
+/// Where bytes are written.
 pub trait Sink {
     /// The bytes written so far, where the sink tells them.
     ghost written: { Self → Option (List ℕ) };
@@ -12,7 +13,7 @@ pub trait Sink {
     /// How often the sink has failed.
     ghost faults: { Self → ℕ };
 
-    /// Takes a front of the piece.
+    /// Takes some first bytes of the piece, at least one where there is one, and says how many.
     fn write(&mut self, bytes: &[u8]) -> Result<usize, WriteFault>
         ensures at_most { IfOk result (λ n. n ≤ length bytes.now) }
         ensures some { IfOk result (λ n. 0 < length bytes.now → 0 < n) }

@@ -1,9 +1,10 @@
-ghost use Rattle.std.specs.Prelude.{◌≡◌, ◌<◌, ◌≤◌, ℕ, List, Option, [], Some, length, take, drop, IfOk, OnErr, IsErr, IfSome};
+ghost use Rattle.std.specs.Prelude.{◌≡◌, ◌<◌, ◌≤◌, ℕ, List, Option, [], length, take, IfOk, OnErr, IsErr, IfSome};
 ghost use Rattle.hail_devices.specs.Faults.{HasCause};
 ghost use Rattle.hail_devices.specs.Told.{then_told};
 
 use crate::fault::Failed;
 
+/// Where bytes are read.
 pub trait Source {
     /// The bytes that are left, where the source tells them.
     ghost left: { Self → Option (List ℕ) };
@@ -11,7 +12,7 @@ pub trait Source {
     /// How often the source has failed.
     ghost faults: { Self → ℕ };
 
-    /// Gives the first bytes that are left, none only at the end of input or for an empty buffer.
+    /// Gives some first bytes that are left, and says how many: none only at the end of input, or for a buffer without room.
     fn read(&mut self, out: &mut [u8]) -> Result<usize, Failed>
         ensures at_most { IfOk result (λ n. n ≤ length out.old) }
         ensures given { IfOk result (λ n. left self.old ≡ then_told (take n out.new) (left self.new)) }
