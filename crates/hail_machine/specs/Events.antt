@@ -6,7 +6,7 @@
 --
 -- A stop within a call of a device is that call failing, and then a Stop. A provider that gives other symbols of a held block
 -- in one answer is one that is altered before the call and altered again after it.
-use Rattle.std.specs.Prelude.{ℕ, ◌<◌, ◌^◌, List, IsTrue, length}
+use Rattle.std.specs.Prelude.{ℕ, ◌<◌, ◌^◌, List, IsTrue}
 use Rattle.std.specs.List.{list_all}
 use Rattle.hail_records.specs.Records.{Setup, is_byte, is_master}
 use Rattle.hail_records.specs.Table.{File}

@@ -25,3 +25,4 @@ pub mod Stands
 pub mod Halves
 pub mod Deeds
 pub mod Survival
+pub mod Examples

@@ -18,7 +18,7 @@
 -- The setup, the files in effect, the started puts, the next numbers and the audits that run or are due are what the
 -- records in effect fold to. Beside these a state keeps whose bytes an object number stands for, when an audit number
 -- was drawn, and which job wrote the record in doubt.
-use Rattle.std.specs.Prelude.{◌≡◌, ℕ, ◌==◌, ◌≤◌, ◌⊎◌, Bool, true, false, IsTrue, List, [], ◌∷◌, Option, None, Some, if◌then◌else◌}
+use Rattle.std.specs.Prelude.{◌≡◌, ℕ, ◌==◌, ◌≤◌, ◌⊎◌, Bool, false, IsTrue, List, [], ◌∷◌, Option, None, Some, if◌then◌else◌}
 use Rattle.hail_columns.specs.Objects.{Object}
 use Rattle.hail_records.specs.Records.{Setup, Record, SetUp, is_in_grammar}
 use Rattle.hail_records.specs.Table.{File, setup_of, file_of}

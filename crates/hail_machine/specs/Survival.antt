@@ -8,7 +8,7 @@
 --   IsAcknowledged                 == a put that ended well had brought its file in
 --
 -- With what the images of a disk stand for, every image at such a moment stands for records that have the file.
-use Rattle.std.specs.Prelude.{◌≡◌, ℕ, Bool, true, false, List, [], ◌∷◌, ◌++◌, length, Option, None, Some}
+use Rattle.std.specs.Prelude.{◌≡◌, ℕ, Bool, false, List, [], ◌∷◌, ◌++◌, length, Some}
 use Rattle.hail_records.specs.Records.{Record, PutDone, Drop}
 use Rattle.hail_records.specs.Table.{File, started_as, is_same_name, is_start_of, file_of}
 use Rattle.hail_machine.specs.Jobs.{PutJob, Job, job_of}
