@@ -6,7 +6,7 @@ use Rattle.field_laws.proofs.Ring.{zero_add, zero_mul, one_mul, add_left_comm, a
 use Rattle.hail_field.specs.Nim.{nim, nim_add, nim_mul, nim_inv}
 use Rattle.hail_field.proofs.AllNumbers.{nim_laws, nim_ring, nim_mul_inv, nim_inv_is}
 use Rattle.poly_laws.specs.Poly.{value as value_over, vanish as vanish_over, interpolate as interpolate_over}
-use Rattle.poly_laws.proofs.Roots.{factor_zero}
+use Rattle.field_laws.proofs.Inverse.{factor_zero}
 use Rattle.poly_laws.proofs.Values.{value-plus, value-scale}
 use Rattle.poly_laws.proofs.Interpolate.{value-vanish, vanish_else}
 use Rattle.hail_codes.specs.Polynomials.{value, plus, scale, vanish, interpolate}
