@@ -17,6 +17,7 @@ fn point(place: u32) -> Symbol
 }
 
 /// The product of x + point over the points from `start` to before `end`.
+#[tactic(auto, using(crate::proofs::Steps::product_start, crate::proofs::Steps::product_step))]
 fn product_of_sums(x: Symbol, start: u32, end: u32) -> Symbol
     requires { start ≤ end }
     ensures { result ≡ value (vanish (range_with_len start (end - start))) x }
@@ -49,6 +50,7 @@ fn kept_row(place: usize, out: &mut [Symbol])
 /// The coefficients of a place behind the kept ones, by Lagrange's formula.
 fn parity_row(profile: Profile, place: u32, out: &mut [Symbol])
     requires behind { profile.keep ≤ place }
+    requires place { place < profile.size }
     requires out { length out.old ≡ profile.keep }
     ensures { IsGeneratorRow (plain_profile profile) place out.new }
 {

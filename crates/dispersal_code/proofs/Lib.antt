@@ -1,3 +1,4 @@
 pub mod AgreementSteps
 pub mod SearchSteps
 pub mod Unique
+pub mod RowSteps

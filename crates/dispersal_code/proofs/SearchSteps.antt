@@ -1,11 +1,11 @@
 -- The steps of the search.
-use Rattle.std.proofs.Common.{◌≡◌, ◌≢◌, ◌≤◌, ◌<◌, ◌+◌, ◌++◌, [], ◌∷◌, ℕ, suc, List, length, drop, get_or, Option, Some, None, cond, Bool, true, false, eqb, arith, refl, sym, ◌∙◌, subst, zero}
-use Rattle.std.proofs.lemmas.List.{get_or_read, length-append, length-drop, drop_more}
+use Rattle.std.proofs.Common.{◌≡◌, ◌≢◌, ◌≤◌, ◌<◌, ◌+◌, ◌++◌, [], ◌∷◌, ℕ, suc, List, length, drop, get_or, Option, Some, None, cond, Bool, true, false, eqb, arith, take, append_assoc, refl, sym, ◌∙◌, subst, zero, ap}
+use Rattle.std.proofs.lemmas.List.{get_or_read, length-append, length-drop, drop_more, take-append-drop}
 use Rattle.std.proofs.lemmas.Bool.{eqb-true}
 use Rattle.field_laws.specs.Field.{Apart, Each}
 use Rattle.hail_field.specs.Nim.{nim}
 use Rattle.hail_field.proofs.AllNumbers.{nim_laws}
-use Rattle.poly_laws.specs.Poly.{present}
+use Rattle.poly_laws.specs.Poly.{agree as agree_over}
 use Rattle.poly_laws.proofs.Steps.{is_seen-none, is_seen-some}
 use Rattle.poly_laws.proofs.Trim.{length-trim, value-trim}
 use Rattle.poly_laws.proofs.Agree.{agree_same}
@@ -41,8 +41,15 @@ Apart-next xs points at lt h =
 
 -- the next point may be chosen
 pub Apart-with : (xs points : List ℕ) (at x : ℕ) → at < length points → x ≡ get_or points at x → Apart (xs ++ drop at points) →
-    Apart ((xs ++ x ∷ []) ++ drop (at + 1) points)
-Apart-with xs points at x lt read h = ?
+    Apart (xs ++ x ∷ [] ++ drop (at + 1) points)
+Apart-with xs points at x lt read h =
+    let is_x : get_or points at 0 ≡ x = sym (get_or_read points at x lt read 0) in
+    let rest : drop at points ≡ x ∷ drop (at + 1) points = drop_more points at 0 lt ∙ ap (λ (y : ℕ). y ∷ drop (at + 1) points) is_x in
+    rw append_assoc (rw rest at h)
+
+-- the first points are apart
+pub Apart-take : (k : ℕ) (xs : List ℕ) → Apart xs → Apart (take k xs)
+Apart-take k xs h = Apart-front (take k xs) (drop k xs) (rw take-append-drop h)
 
 -- the polynomial through the chosen symbols is accepted where it agrees often enough
 pub full_accepts : (points : List ℕ) (seen : List (Option ℕ)) (l b : ℕ) (xs ys : List ℕ) → length xs ≡ l → length ys ≡ length xs →
@@ -77,7 +84,14 @@ full_accepts_none points seen l b at xs ys d hx hy few =
 
 -- no more agreements than places
 agree_at_most : (p xs : List ℕ) (ss : List (Option ℕ)) → agree p xs ss ≤ length xs
-agree_at_most p xs ss = ?
+unfolding agree_over
+agree_at_most p [] ss = omega arith
+agree_at_most p (x ∷ xs) [] = omega arith
+agree_at_most p (x ∷ xs) (s ∷ ss) = at_one (is_seen (value p x) s) (agree_at_most p xs ss)
+  where
+    at_one : (t : Bool) → agree p xs ss ≤ length xs → cond t 1 0 + agree p xs ss ≤ suc (length xs)
+    at_one true h = omega arith
+    at_one false h = omega arith
 
 -- where too few places are left, none is accepted
 pub few_left : (points : List ℕ) (seen : List (Option ℕ)) (l b at : ℕ) (chosen : Chosen) →

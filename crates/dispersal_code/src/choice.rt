@@ -10,14 +10,14 @@ pub struct Choice {
 }
 
 impl Model for Choice {
-    ghost use Rattle.std.specs.Prelude.{◌≤◌, take};
-    ghost use Rattle.dispersal_code.specs.Chosen.{Chosen};
+    ghost use Rattle.std.specs.Prelude.{take};
+    ghost use Rattle.dispersal_code.specs.Chosen.{Chosen, IsKept};
 
     ghost Value = { Chosen };
 
     ghost view = { λ w. record { points = take w.count w.points; symbols = take w.count w.symbols } };
 
-    ghost invariant = { λ w. w.count ≤ 16 };
+    ghost invariant = { λ w. IsKept w.points w.symbols w.count };
 }
 
 impl Choice {

@@ -1,6 +1,7 @@
 ghost use Rattle.std.specs.Prelude.{◌≡◌, ◌≤◌, ◌++◌, length, drop, OnSome, IfNone};
 ghost use Rattle.std.specs.Bool.{OnTrue, OnFalse};
 ghost use Rattle.field_laws.specs.Field.{Apart};
+ghost use Rattle.hail_codes.specs.Polynomials.{trim};
 ghost use Rattle.hail_codes.specs.DispersalCode.{Accepts, AcceptsNone, IsOnlyAccepted};
 ghost use Rattle.dispersal_code.specs.Chosen.{Chosen, AcceptsNoneFrom};
 
@@ -48,6 +49,7 @@ fn search(
     requires few { length choice.now.points ≤ shape.l }
     requires room { 16 ≤ work.old.size }
     ensures found { OnTrue result (Accepts points.now seen.now shape.l shape.b work.new.rest) }
+    ensures trimmed { OnTrue result (work.new.rest ≡ trim work.new.rest) }
     ensures none { OnFalse result (AcceptsNoneFrom points.now seen.now shape.l shape.b at choice.now) }
     ensures room { work.new.size ≡ work.old.size }
 {

@@ -1,0 +1,4 @@
+pub mod Points
+pub mod Lagrange
+pub mod Profiles
+pub mod Generators

@@ -1,0 +1,10 @@
+use Rattle.std.proofs.Common.{ℕ, List, sym, subst, length}
+use Rattle.hail_codes.specs.ServerCode.{IsGeneratorRow}
+use Rattle.hail_codes.proofs.Generators.{kept_row}
+use Rattle.code_points.specs.Profile.{plain_profile}
+use Rattle.code_points.proofs.generator.generator_row.Goals as goal
+
+pub returns-then-place-profile : goal.returns-then-place-profile
+returns-then-place-profile c =
+    subst (λ (row : List ℕ). IsGeneratorRow (plain_profile c.args.profile) c.args.place row) (sym c.kept_row.ensures)
+    (kept_row (plain_profile c.args.profile) c.args.place (length c.args.out.now) c.requires.out c.if-place-profile.true c.requires.place)

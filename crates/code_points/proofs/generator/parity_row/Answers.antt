@@ -1,0 +1,22 @@
+use Rattle.std.proofs.Common.{◌≡◌, ◌∙◌, ◌<◌, ℕ, sym, subst, ap, map, List, arith, get_or, length}
+use Rattle.std.proofs.lemmas.Grind.{common_steps}
+use Rattle.std.proofs.lemmas.List.FromFn.{fill_by_all}
+use Rattle.hail_codes.specs.Points.{upto}
+use Rattle.hail_codes.specs.ServerCode.{IsGeneratorRow}
+use Rattle.hail_codes.proofs.Generators.{coefficient, parity_row}
+use Rattle.hail_codes.proofs.Lagrange.{gap_not_zero}
+use Rattle.code_points.specs.Profile.{plain_profile}
+use Rattle.code_points.proofs.generator.parity_row.Goals as goal
+
+pub unwrap-requires : goal.unwrap-requires
+unwrap-requires c =
+    let differ : c.args.place ≡ c.loop-k.k → ⊥ = λ e. omega (arith, e) in
+    let some : c.add-gap.result ≡ 0 → ⊥ = λ e. gap_not_zero c.args.place c.loop-k.k differ (cc (e)) in
+    grind (arith, common_steps, some, c.inv.ensures.zero)
+
+pub returns : goal.returns
+returns c =
+    let filled : c.loop-k.out ≡ map (coefficient c.args.profile.keep c.args.place) (upto c.args.profile.keep) =
+      fill_by_all (coefficient c.args.profile.keep c.args.place) c.loop-k.out c.args.profile.keep 0 (omega arith) (λ k h. c.loop-k.invariant k (omega arith)) in
+    subst (λ (row : List ℕ). IsGeneratorRow (plain_profile c.args.profile) c.args.place row) (sym filled)
+    (parity_row (plain_profile c.args.profile) c.args.place c.requires.behind c.requires.place)

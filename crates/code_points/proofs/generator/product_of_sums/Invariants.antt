@@ -1,0 +1,10 @@
+use Rattle.std.proofs.Common.{◌≡◌, ◌≤◌, ◌-◌}
+use Rattle.std.specs.List.{range_with_len}
+use Rattle.hail_codes.specs.Polynomials.{value, vanish}
+use Rattle.code_points.proofs.generator.product_of_sums.Given as goal
+
+abbrev pub invariant-loop-place : goal.invariant-loop-place
+invariant-loop-place l = record {
+  from : l.start ≤ l.place;
+  product : l.product ≡ value (vanish (range_with_len l.place (l.end - l.place))) l.x;
+}

@@ -1,0 +1,31 @@
+-- The steps of `encode_row`.
+use Rattle.std.proofs.Common.{◌≡◌, ◌≤◌, ◌<◌, ◌+◌, ◌++◌, [], ◌∷◌, ℕ, zero, suc, List, length, take, map, set, get_or, refl, ap, sym, ◌∙◌, arith}
+use Rattle.std.proofs.lemmas.List.{take_more, take_all, get_or_read, map-append}
+use Rattle.hail_field.specs.Nim.{nim}
+use Rattle.hail_field.proofs.AllNumbers.{nim_laws}
+use Rattle.poly_laws.proofs.Trim.{value-trim}
+use Rattle.hail_codes.specs.Polynomials.{value, interpolate, trim}
+use Rattle.hail_codes.specs.Points.{values_at}
+use Rattle.hail_codes.specs.DispersalCode.{row_of}
+
+-- one value more
+pub values_more : (p points : List ℕ) (k x : ℕ) → k < length points → x ≡ get_or points k x →
+    values_at (take (k + 1) points) p ≡ values_at (take k points) p ++ value p x ∷ []
+values_more p points k x lt read =
+    let is_x : get_or points k 0 ≡ x = sym (get_or_read points k x lt read 0) in
+    let more : take (k + 1) points ≡ take k points ++ x ∷ [] = take_more points k 0 lt ∙ ap (λ (y : ℕ). take k points ++ y ∷ []) is_x in
+    rw more (map-append (value p) (take k points) (x ∷ []))
+
+-- the values of a polynomial without zeros at its end
+pub values-trim : (p points : List ℕ) → values_at points (trim p) ≡ values_at points p
+values-trim p [] = refl
+values-trim p (x ∷ points) = cc (value-trim nim nim_laws p x, values-trim p points)
+
+-- the values at all points are the row
+pub row_is : (points primary out rest : List ℕ) (k : ℕ) → length points ≤ k → length out ≡ length points →
+    rest ≡ trim (interpolate (take (length primary) points) primary) → take k out ≡ values_at (take k points) rest → out ≡ row_of points primary
+row_is points primary out rest k past even is_rest done =
+    let all_points : take k points ≡ points = take_all k points past in
+    let all_out : take k out ≡ out = take_all k out (omega arith) in
+    sym all_out ∙ done ∙ ap (λ (ps : List ℕ). values_at ps rest) all_points ∙ ap (values_at points) is_rest ∙
+    values-trim (interpolate (take (length primary) points) primary) points

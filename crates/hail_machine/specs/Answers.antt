@@ -1,0 +1,15 @@
+-- How jobs end: Put, Got with the bytes, Dropped, Audited with the sums, Repaired, Lost at the lowest row that was not
+-- accepted, or a fault of a provider's store or of the disk, or want of memory.
+use Rattle.std.specs.Prelude.{ℕ, List}
+
+-- the answer of a job that ended
+pub data Answer : Type 0 where
+  Put : Answer
+  Got : (bytes : List ℕ) → Answer
+  Dropped : Answer
+  Audited : (number undecided : ℕ) (counts : List ℕ) → Answer
+  Repaired : (number : ℕ) → Answer
+  Lost : (stripe row : ℕ) → Answer
+  ProviderFault : (provider : ℕ) → Answer
+  DiskFault : Answer
+  Memory : Answer

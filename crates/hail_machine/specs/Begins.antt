@@ -1,0 +1,157 @@
+-- Begins: the order of their refusals, and the job that they add.
+--
+--   is_busy limit w kind      == the jobs that run leave no place for one of this kind
+--   names_taken w             == the names in effect and those of running puts, each once
+--   is_crowded w name         == these are as many as can be, and this name is not among them
+--   begin_refusal limit w kind  == the first refusal in order whose cause applies; None where the job begins
+--   pinned_for w kind         == the files that a job works on: a get's own, and for an audit or a repair all in effect, by number
+--   new_job w moment kind     == a job as it begins, after so many events
+--   Begins limit moment old kind outcome new  == a begin may have this outcome and leave this state
+use Rattle.std.specs.Prelude.{◌≡◌, ◌⊎◌, ℕ, ◌+◌, ◌&&◌, ◌||◌, Bool, true, false, not, List, [], ◌∷◌, ◌++◌, length, Option, None, Some, is_some, nat_lt, nat_le, if◌then◌else◌}
+use Rattle.std.specs.List.{list_any}
+use Rattle.hail_columns.specs.Verdicts.{is_flagged}
+use Rattle.hail_records.specs.Records.{is_name, largest_file, most_files}
+use Rattle.hail_records.specs.Table.{File, Due, is_same_name, files_of, due_of}
+use Rattle.hail_machine.specs.Jobs.{Kind, PutJob, GetJob, DropJob, AuditJob, RepairJob, Pinned, Job}
+use Rattle.hail_machine.specs.Refusals as refusal
+use Rattle.hail_machine.specs.Refusals.{Refusal, Cause, first_refusal}
+use Rattle.hail_machine.specs.Events.{Outcome, Closed, Refused, Begun}
+use Rattle.hail_machine.specs.States.{State, setup_in, file_in}
+use Rattle.hail_machine.specs.Space.{is_full}
+
+-- a job is an audit or a repair
+abbrev pub is_check : Kind → Bool
+is_check AuditJob = true
+is_check RepairJob = true
+is_check kind = false
+
+-- a job is a put, an audit or a repair
+abbrev pub is_put_or_check : Kind → Bool
+is_put_or_check (PutJob name bytes) = true
+is_put_or_check kind = is_check kind
+
+-- the jobs that run leave no place for one of this kind
+abbrev pub is_busy : ℕ → State → Kind → Bool
+is_busy limit w AuditJob = nat_le limit (length w.jobs) || list_any (λ (j : Job). is_put_or_check j.kind) w.jobs
+is_busy limit w RepairJob = nat_le limit (length w.jobs) || list_any (λ (j : Job). is_check j.kind) w.jobs
+is_busy limit w kind = nat_le limit (length w.jobs)
+
+-- a name is one of these
+abbrev pub is_listed : List (List ℕ) → List ℕ → Bool
+is_listed names name = list_any (is_same_name name) names
+
+-- names with one more, unless it is among them
+abbrev pub with_name : List (List ℕ) → List ℕ → List (List ℕ)
+with_name names name = if is_listed names name then names else name ∷ names
+
+-- names in effect
+abbrev pub names_in : List File → List (List ℕ)
+names_in [] = []
+names_in (f ∷ fs) = f.name ∷ names_in fs
+
+-- names with those of running puts
+abbrev pub with_puts : List (List ℕ) → List Job → List (List ℕ)
+with_puts names [] = names
+with_puts names (j ∷ js) = add j.kind (with_puts names js)
+  where
+    add : Kind → List (List ℕ) → List (List ℕ)
+    add (PutJob name bytes) others = with_name others name
+    add kind others = others
+
+-- the names in effect and those of running puts
+abbrev pub names_taken : State → List (List ℕ)
+names_taken w = with_puts (names_in (files_of w.records)) w.jobs
+
+-- no further name fits in
+abbrev pub is_crowded : State → List ℕ → Bool
+is_crowded w name = nat_le most_files (length (names_taken w)) && not (is_listed (names_taken w) name)
+
+-- the causes for which a begin is refused, in order
+abbrev pub causes : ℕ → State → Kind → List Cause
+causes limit w kind =
+    record { applies = w.is_barred; refusal = refusal.MustReopen }
+    ∷ record { applies = is_busy limit w kind; refusal = refusal.Busy }
+    ∷ by_kind kind ++ record { applies = is_full w kind; refusal = refusal.JournalFull } ∷ []
+  where
+    by_kind : Kind → List Cause
+    by_kind (PutJob name bytes) =
+        record { applies = not (is_name name); refusal = refusal.BadName }
+        ∷ record { applies = nat_lt largest_file (length bytes); refusal = refusal.TooLong }
+        ∷ record { applies = is_crowded w name; refusal = refusal.TooManyFiles } ∷ []
+    by_kind (GetJob name) =
+        record { applies = not (is_name name); refusal = refusal.BadName }
+        ∷ record { applies = not (is_some (file_in w name)); refusal = refusal.NoSuchName } ∷ []
+    by_kind (DropJob name) =
+        record { applies = not (is_name name); refusal = refusal.BadName }
+        ∷ record { applies = not (is_some (file_in w name)); refusal = refusal.NoSuchName } ∷ []
+    by_kind AuditJob = record { applies = is_some (due_of w.records); refusal = refusal.RepairDue } ∷ []
+    by_kind RepairJob = record { applies = not (is_some (due_of w.records)); refusal = refusal.NothingDue } ∷ []
+
+-- why a begin is refused
+abbrev pub begin_refusal : ℕ → State → Kind → Option Refusal
+begin_refusal limit w kind = first_refusal (causes limit w kind)
+
+-- a file in effect, with the bytes of its put
+abbrev pub pinned_file : State → File → Pinned
+pinned_file w f = record { id = f.id; bytes = w.bytes f.id }
+
+-- files with one more, in ascending order of their numbers
+abbrev pub pin : Pinned → List Pinned → List Pinned
+pin p [] = p ∷ []
+pin p (q ∷ qs) = if nat_lt p.id q.id then p ∷ q ∷ qs else q ∷ pin p qs
+
+-- these files, in ascending order of their numbers
+abbrev pub pin_all : State → List File → List Pinned
+pin_all w [] = []
+pin_all w (f ∷ fs) = pin (pinned_file w f) (pin_all w fs)
+
+-- the file under a name, if there is one
+abbrev pub pin_one : State → Option File → List Pinned
+pin_one w None = []
+pin_one w (Some f) = pinned_file w f ∷ []
+
+-- the files that a job works on: a get's own, and for an audit or a repair all in effect
+abbrev pub pinned_for : State → Kind → List Pinned
+pinned_for w (GetJob name) = pin_one w (file_in w name)
+pinned_for w (PutJob name bytes) = []
+pinned_for w (DropJob name) = []
+pinned_for w kind = pin_all w (files_of w.records)
+
+-- the number of the due audit
+abbrev pub due_number : Option Due → ℕ
+due_number None = 0
+due_number (Some due) = due.number
+
+-- the providers that the due audit flags
+abbrev pub due_flags : ℕ → Option Due → ℕ → Bool
+due_flags tolerance None j = false
+due_flags tolerance (Some due) j = is_flagged tolerance due.counts j
+
+-- the number that a job has from its begin on
+abbrev pub subject_at_begin : State → Kind → ℕ
+subject_at_begin w RepairJob = due_number (due_of w.records)
+subject_at_begin w kind = 0
+
+-- a job as it begins, after so many events
+abbrev pub new_job : State → ℕ → Kind → Job
+new_job w moment kind = record {
+  number = w.next_job;
+  kind = kind;
+  begun = moment;
+  pinned = pinned_for w kind;
+  flagged = due_flags (setup_in w).tolerance (due_of w.records);
+  subject = subject_at_begin w kind;
+  older = [];
+  place = 0;
+  given = [];
+}
+
+-- a begin, after so many events
+abbrev pub Begins : ℕ → ℕ → State → Kind → Outcome → State → Type 0
+Begins limit moment old kind Closed new = (old.is_open ≡ false) × (new ≡ old)
+Begins limit moment old kind (Refused why) new =
+    (old.is_open ≡ true) × ((begin_refusal limit old kind ≡ Some why) ⊎ (why ≡ refusal.Memory)) × (new ≡ old)
+Begins limit moment old kind (Begun job) new =
+    (old.is_open ≡ true) × (begin_refusal limit old kind ≡ None) × (job ≡ old.next_job)
+    × (new ≡ record old { jobs = old.jobs ++ new_job old moment kind ∷ []; next_job = old.next_job + 1 })
+Begins limit moment old kind outcome new = ⊥

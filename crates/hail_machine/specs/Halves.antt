@@ -1,0 +1,110 @@
+-- What runs are to keep: the two halves of the main theorem, as statements over runs.
+--
+--   IsRightGet begin_state job name bytes  == a get gave the bytes that were in effect under its name at its begin, unless its
+--                                             fetches hold a forgery against them
+--   FirstHalf start ms                     == every get that ended with bytes was right
+--   SecondHalf start ms                    == every get of a stored name that ended by a step gave its bytes, unless the count of
+--                                             the disk or of a provider rose since its begin; and its begin was refused for
+--                                             MustReopen, Busy or Memory alone
+--   FirstHalfHolds                         == the first half, of every run
+--   SecondHalfHolds                        == the second half, of every calm run in which no audit missed damage
+use Rattle.std.specs.Prelude.{◌≡◌, ◌⊎◌, ℕ, ◌<◌, List, [], ◌∷◌, Option, None, Some, IsSome}
+use Rattle.hail_records.specs.Table.{File}
+use Rattle.hail_devices.specs.Faults.{Rose}
+use Rattle.hail_machine.specs.Jobs.{Kind, GetJob, Job, job_of}
+use Rattle.hail_machine.specs.Refusals as refusal
+use Rattle.hail_machine.specs.Refusals.{Refusal}
+use Rattle.hail_machine.specs.Answers.{Answer, Got}
+use Rattle.hail_machine.specs.Events.{Event, Begin, Step, Outcome, Refused, Ended}
+use Rattle.hail_machine.specs.States.{State, IsStart, IsLimit, setup_in, object_in, file_in}
+use Rattle.hail_machine.specs.Runs.{Moment, now, first_moments, IsRun}
+use Rattle.hail_machine.specs.Calm.{IsCalm, since, relies}
+use Rattle.hail_machine.specs.Missed.{NoneMissed}
+use Rattle.hail_machine.specs.Heard.{heard_by, HoldsForgery}
+
+-- a get gave the bytes that were in effect under its name at its begin, unless its fetches hold a forgery against them
+pub record IsRightGet (begin_state : State) (job : Job) (name bytes : List ℕ) : Type 0 where
+  pub file : File
+  pub in_effect : file_in begin_state name ≡ Some file
+  pub right : (bytes ≡ begin_state.bytes file.id)
+      ⊎ HoldsForgery (object_in begin_state file.id) (begin_state.bytes file.id) job.number (heard_by (Some job))
+
+-- the count of the disk or of a provider rose from one state to another
+abbrev pub CountRose : State → State → Type 0
+CountRose old new = Rose old.disk_faults new.disk_faults
+    ⊎ ((j : ℕ) × (j < (setup_in old).n)
+    × (Rose (old.providers j).store_faults (new.providers j).store_faults ⊎ Rose (old.providers j).other_faults (new.providers j).other_faults))
+
+-- a get gave the bytes that were in effect under its name at its begin, unless a count rose since
+pub record GivesOrRose (begin_state end_state : State) (name : List ℕ) (answer : Answer) : Type 0 where
+  pub file : File
+  pub in_effect : file_in begin_state name ≡ Some file
+  pub gives : (answer ≡ Got (begin_state.bytes file.id)) ⊎ CountRose begin_state end_state
+
+-- a begin of a get of a stored name is refused for one of these alone
+abbrev pub IsGetRefusal : Refusal → Type 0
+IsGetRefusal why = (why ≡ refusal.MustReopen) ⊎ ((why ≡ refusal.Busy) ⊎ (why ≡ refusal.Memory))
+
+-- the end of a get's job by an answer gives right bytes
+abbrev pub EndsRight : State → Option Job → Answer → Type 0
+EndsRight begin_state None answer = Unit {0}
+EndsRight begin_state (Some job) answer = by_kind job.kind answer
+  where
+    by_kind : Kind → Answer → Type 0
+    by_kind (GetJob name) (Got bytes) = IsRightGet begin_state job name bytes
+    by_kind kind how = Unit {0}
+
+-- the end of a get's job gives bytes at all
+abbrev pub EndsWell : State → State → Option Job → Answer → Type 0
+EndsWell begin_state end_state None answer = Unit {0}
+EndsWell begin_state end_state (Some job) answer = by_kind job.kind
+  where
+    by_kind : Kind → Type 0
+    by_kind (GetJob name) = GivesOrRose begin_state end_state name answer
+    by_kind kind = Unit {0}
+
+-- how many events were before the begin of a job
+abbrev pub begun_of : Option Job → ℕ
+begun_of None = 0
+begun_of (Some job) = job.begun
+
+-- the state at the begin of a job
+abbrev pub at_begin : State → List Moment → Option Job → State
+at_begin start ms job = now start (first_moments (begun_of job) ms)
+
+-- the first half, for the newest event after these moments
+abbrev pub KeepsFirstHalf : State → List Moment → Event → Outcome → Type 0
+KeepsFirstHalf start ms (Step number) (Ended answer) =
+    EndsRight (at_begin start ms (job_of (now start ms).jobs number)) (job_of (now start ms).jobs number) answer
+KeepsFirstHalf start ms event outcome = Unit {0}
+
+-- the second half, for the newest event after these moments, and the state after it
+abbrev pub KeepsSecondHalf : State → List Moment → Event → Outcome → State → Type 0
+KeepsSecondHalf start ms (Step number) (Ended answer) new =
+    EndsWell (at_begin start ms (job_of (now start ms).jobs number)) new (job_of (now start ms).jobs number) answer
+KeepsSecondHalf start ms (Begin (GetJob name)) (Refused why) new =
+    (file : File) → file_in (now start ms) name ≡ Some file → IsGetRefusal why
+KeepsSecondHalf start ms event outcome new = Unit {0}
+
+-- every get that ended was right
+abbrev pub FirstHalf : State → List Moment → Type 0
+FirstHalf start [] = Unit {0}
+FirstHalf start (m ∷ ms) = KeepsFirstHalf start ms m.event m.outcome × FirstHalf start ms
+
+-- every get of a stored name ended well
+abbrev pub SecondHalf : State → List Moment → Type 0
+SecondHalf start [] = Unit {0}
+SecondHalf start (m ∷ ms) = KeepsSecondHalf start ms m.event m.outcome m.state × SecondHalf start ms
+
+-- the first half, of every run
+abbrev pub FirstHalfHolds : Type 0
+FirstHalfHolds = (limit : ℕ) (start : State) (ms : List Moment) → IsLimit limit → IsStart start → IsRun limit start ms → FirstHalf start ms
+
+-- every provider tells what it holds
+abbrev pub AllTell : State → Type 0
+AllTell w = (j : ℕ) → IsSome (w.providers j).held
+
+-- the second half, of every calm run in which no audit missed damage
+abbrev pub SecondHalfHolds : Type 0
+SecondHalfHolds = (limit : ℕ) (start : State) (ms : List Moment) → IsLimit limit → IsStart start → AllTell start →
+    IsRun limit start ms → IsCalm relies (since start) ms → NoneMissed start ms → SecondHalf start ms

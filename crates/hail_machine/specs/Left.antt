@@ -1,0 +1,38 @@
+-- Steps left of a job.
+--
+--   removes_older kind     == the job takes an older object away, where there is one: a put, a drop
+--   is_undecided s job     == it does, and its append has not yet decided on it
+--   left_alone w job       == how many steps the job makes until its end if nothing fails and no other job steps
+--   most_left s job        == the largest number of steps that it may make if nothing fails, whatever other jobs do: a
+--                             removal from each provider counts until it is decided
+use Rattle.std.specs.Prelude.{ℕ, ◌+◌, ◌&&◌, Bool, true, false, length, nat_lt, if◌then◌else◌}
+use Rattle.hail_records.specs.Records.{Setup}
+use Rattle.hail_machine.specs.Jobs.{Kind, PutJob, DropJob, Job}
+use Rattle.hail_machine.specs.Actions.{actions_left, appends_left}
+use Rattle.hail_machine.specs.States.{State, setup_in, file_in}
+use Rattle.hail_machine.specs.Appends.{removable}
+use Rattle.hail_machine.specs.Steps.{is_idle_drop}
+
+-- a job takes an older object away, where there is one
+abbrev pub removes_older : Kind → Bool
+removes_older (PutJob name bytes) = true
+removes_older (DropJob name) = true
+removes_older kind = false
+
+-- its append has not yet decided on it
+abbrev pub is_undecided : Setup → Job → Bool
+is_undecided s job = removes_older job.kind && nat_lt 0 (appends_left s job)
+
+-- the largest number of steps that may remain
+abbrev pub most_left : Setup → Job → ℕ
+most_left s job = length (actions_left s job) + (if is_undecided s job then s.n else 0)
+
+-- a job that has decided now on the object that it takes away
+abbrev pub decided : State → Job → Kind → Job
+decided w job (PutJob name bytes) = if is_undecided (setup_in w) job then record job { older = removable w (file_in w name) } else job
+decided w job (DropJob name) = if is_undecided (setup_in w) job then record job { older = removable w (file_in w name) } else job
+decided w job kind = job
+
+-- the number of steps that remain if no other job steps; an idle drop has only its end left
+abbrev pub left_alone : State → Job → ℕ
+left_alone w job = if is_idle_drop w job job.kind then 1 else length (actions_left (setup_in w) (decided w job job.kind))

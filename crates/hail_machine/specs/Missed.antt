@@ -1,0 +1,44 @@
+-- Damage that an audit missed.
+--
+--   is_wrong_now w f j          == provider j, if it tells what it holds, is wrong for a file
+--   Misses start ms counts begun j  == an audit of this begin with these counts, whose AuditDone comes into effect after these
+--                                  moments, missed provider j: it does not flag j, j was not replaced since its begin, and j was
+--                                  wrong at its begin for a file then in effect
+--   NoneMissed start ms         == no audit whose AuditDone came into effect missed a provider
+use Rattle.std.specs.Prelude.{◌≡◌, ℕ, ◌<◌, Bool, true, false, List, [], ◌∷◌, Option, None, Some}
+use Rattle.hail_columns.specs.Columns.{is_wrong}
+use Rattle.hail_columns.specs.Verdicts.{is_flagged}
+use Rattle.hail_records.specs.Records.{Record, AuditDone}
+use Rattle.hail_records.specs.Table.{File}
+use Rattle.hail_devices.specs.Providers.{Held}
+use Rattle.hail_machine.specs.States.{State, setup_in, object_in, file_in}
+use Rattle.hail_machine.specs.Runs.{Moment, now, first_moments, is_replaced_since, came}
+
+-- a provider that tells what it holds is wrong for the file of an object number
+abbrev pub is_wrong_told : State → ℕ → ℕ → Option Held → Bool
+is_wrong_told w id j None = false
+is_wrong_told w id j (Some held) = is_wrong (object_in w id) (w.bytes id) j (held id)
+
+-- a provider is wrong for a file now
+abbrev pub is_wrong_now : State → File → ℕ → Bool
+is_wrong_now w f j = is_wrong_told w f.id j (w.providers j).held
+
+-- An audit with these counts, whose AuditDone comes into effect after these moments, missed a provider.
+pub record Misses (start : State) (ms : List Moment) (counts : List ℕ) (begun j : ℕ) : Type 0 where
+  pub provider : j < (setup_in (now start ms)).n
+  pub unflagged : is_flagged (setup_in (now start ms)).tolerance counts j ≡ false
+  pub unreplaced : is_replaced_since begun j ms ≡ false
+  pub name : List ℕ
+  pub file : File
+  pub in_effect : file_in (now start (first_moments begun ms)) name ≡ Some file
+  pub wrong : is_wrong_now (now start (first_moments begun ms)) file j ≡ true
+
+-- a record that comes into effect is not the AuditDone of an audit that missed a provider
+abbrev pub MissesNone : State → List Moment → State → Option Record → Type 0
+MissesNone start ms new (Some (AuditDone number undecided counts)) = (j : ℕ) → Misses start ms counts (new.audits number) j → ⊥
+MissesNone start ms new came_in = Unit {0}
+
+-- no audit of a run missed a provider
+abbrev pub NoneMissed : State → List Moment → Type 0
+NoneMissed start [] = Unit {0}
+NoneMissed start (m ∷ ms) = MissesNone start ms m.state (came (now start ms) m.state) × NoneMissed start ms

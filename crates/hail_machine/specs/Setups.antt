@@ -1,0 +1,27 @@
+-- What a setup says of the codes of objects.
+--
+--   no_setup            == the setup of no provider, in place of one that is not there
+--   setup_or_none told  == the setup, and no_setup where there is none
+--   object_of s id      == the object of a number: its codes, its master key, its number
+--   stripes_of s size   == how many stripes a file of so many bytes has
+use Rattle.std.specs.Prelude.{ℕ, [], Option, None, Some}
+use Rattle.hail_codes.specs.Profiles.{profile_of}
+use Rattle.hail_columns.specs.Objects.{Object, stripes}
+use Rattle.hail_records.specs.Records.{Setup}
+
+-- no setup, with no provider at all
+abbrev pub no_setup : Setup
+no_setup = record { n = 0; l = 0; b = 0; profile = 0; rounds = 0; picks = 0; tolerance = 0; master = [] }
+
+-- a setup, if there is one
+abbrev pub setup_or_none : Option Setup → Setup
+setup_or_none None = no_setup
+setup_or_none (Some s) = s
+
+-- the object of a number
+abbrev pub object_of : Setup → ℕ → Object
+object_of s id = record { shape = record { n = s.n; l = s.l; b = s.b }; profile = profile_of s.profile; master = s.master; id = id }
+
+-- how many stripes a file of so many bytes has
+abbrev pub stripes_of : Setup → ℕ → ℕ
+stripes_of s size = stripes (object_of s 0) size

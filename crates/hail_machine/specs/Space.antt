@@ -1,0 +1,40 @@
+-- The room that records take in the journal.
+--
+--   append_sizes s kind   == the sizes of the records that a job appends, in order, each with its gate
+--   reserved s job        == the room that the records of a running job still need: a record counts until its append ends
+--   is_full w kind        == no job of this kind can have its records: they find no room, or its number would come too near the last one
+use Rattle.std.specs.Prelude.{ℕ, ◌+◌, ◌-◌, ◌*◌, ◌^◌, ◌||◌, Bool, false, List, [], ◌∷◌, drop, length, sum, sum_by, nat_lt}
+use Rattle.hail_records.specs.Records.{Setup, largest_journal}
+use Rattle.hail_records.specs.Journal.{text_size}
+use Rattle.hail_records.specs.Table.{next_id, next_audit}
+use Rattle.hail_machine.specs.Jobs.{Kind, PutJob, GetJob, DropJob, AuditJob, RepairJob, Job}
+use Rattle.hail_machine.specs.Actions.{appends_left}
+use Rattle.hail_machine.specs.States.{State, setup_in}
+
+-- the sizes of the records that a job appends, in order, each with its gate
+abbrev pub append_sizes : Setup → Kind → List ℕ
+append_sizes s (PutJob name bytes) = (11 + length name) ∷ 14 ∷ []
+append_sizes s (GetJob name) = []
+append_sizes s (DropJob name) = (3 + length name) ∷ []
+append_sizes s AuditJob = 10 ∷ (15 + 4 * s.n) ∷ []
+append_sizes s RepairJob = 10 ∷ []
+
+-- the room that a running job's records still need
+abbrev pub reserved : Setup → Job → ℕ
+reserved s job = sum (drop (length (append_sizes s job.kind) - appends_left s job) (append_sizes s job.kind))
+
+-- the journal would grow too long with a job of this kind
+abbrev pub is_too_full : State → Kind → Bool
+is_too_full w kind = nat_lt largest_journal
+    (text_size w.records + sum_by (reserved (setup_in w)) w.jobs + sum (append_sizes (setup_in w) kind))
+
+-- the numbers that a job of this kind draws come to their end
+abbrev pub are_numbers_used_up : State → Kind → Bool
+are_numbers_used_up w (PutJob name bytes) = nat_lt (2 ^ 64 - 32) (next_id w.records)
+are_numbers_used_up w AuditJob = nat_lt (2 ^ 64 - 32) (next_audit w.records)
+are_numbers_used_up w kind = false
+
+-- no job of this kind can have its records; a get has none
+abbrev pub is_full : State → Kind → Bool
+is_full w (GetJob name) = false
+is_full w kind = is_too_full w kind || are_numbers_used_up w kind

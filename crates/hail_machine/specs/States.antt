@@ -1,0 +1,123 @@
+-- The states of the machine.
+--
+--   Append                  == an append in flight: its job, its record, and how many of its four moves are done
+--   Doubt                   == a record in doubt, with the job that wrote it, if one did
+--   State                   == a state
+--   setup_in, object_in, file_in  == the setup in effect, the object of a number, the file in effect under a name
+--   going_on w job          == the state with this job in place of that of its number
+--   ended w job             == the state in which the job has ended
+--   given_up w              == the state in which all jobs are given up and the vault is closed
+--   continued w             == the state in which a later call of the program goes on
+--   DiskCall old left new   == a disk call that leaves this state, with a count of faults that did not fall
+--   DiskFails old left new  == a disk call that failed and leaves this state, with a count of faults that rose
+--   ProviderCall old j call left new  == a call of provider j that leaves this state but for that provider
+--   Settles old new         == a record in doubt is now in effect, or is not; none is in doubt
+--   IsStart w               == a state before the first event
+--   IsLimit limit           == a limit of running jobs: 1 to 8
+--
+-- The setup, the files in effect, the started puts, the next numbers and the audits that run or are due are what the
+-- records in effect fold to. Beside these a state keeps whose bytes an object number stands for, when an audit number
+-- was drawn, and which job wrote the record in doubt.
+use Rattle.std.specs.Prelude.{◌≡◌, ℕ, ◌==◌, ◌≤◌, ◌⊎◌, Bool, false, IsTrue, List, [], ◌∷◌, Option, None, Some, if◌then◌else◌}
+use Rattle.hail_columns.specs.Objects.{Object}
+use Rattle.hail_records.specs.Records.{Setup, Record, SetUp, is_in_grammar}
+use Rattle.hail_records.specs.Table.{File, setup_of, file_of}
+use Rattle.hail_devices.specs.Faults.{Rose}
+use Rattle.hail_devices.specs.Providers.{Provider}
+use Rattle.hail_machine.specs.Jobs.{Job, with_job, without_job}
+use Rattle.hail_machine.specs.Setups.{setup_or_none, object_of}
+
+-- an append in flight: its job, its record, and how many of its four moves are done
+pub record Append : Type 0 where
+  pub job : ℕ
+  pub entry : Record
+  pub moves : ℕ
+
+-- a record in doubt, with the job that wrote it, if one did
+pub record Doubt : Type 0 where
+  pub entry : Record
+  pub maker : Option Job
+
+-- a state
+pub record State : Type 0 where
+  pub records : List Record  -- in effect, the newest first
+  pub bytes : ℕ → List ℕ  -- of the put that drew an object number last
+  pub audits : ℕ → ℕ  -- the begin of the audit that drew a number last
+  pub jobs : List Job  -- that run, in the order of their begins
+  pub next_job : ℕ
+  pub append : Option Append
+  pub doubt : Option Doubt
+  pub providers : ℕ → Provider
+  pub handed : ℕ  -- how many providers were handed in
+  pub disk_faults : ℕ
+  pub is_open : Bool  -- a vault is open
+  pub is_barred : Bool  -- a disk call of its jobs failed
+
+-- the setup in effect
+unfoldable pub setup_in : State → Setup
+setup_in w = setup_or_none (setup_of w.records)
+
+-- the object of a number
+abbrev pub object_in : State → ℕ → Object
+object_in w id = object_of (setup_in w) id
+
+-- the file in effect under a name
+abbrev pub file_in : State → List ℕ → Option File
+file_in w name = file_of w.records name
+
+-- a state with this job in place of that of its number
+abbrev pub going_on : State → Job → State
+going_on w job = record w { jobs = with_job w.jobs job }
+
+-- a state in which a job has ended
+abbrev pub ended : State → Job → State
+ended w job = record w { jobs = without_job w.jobs job.number }
+
+-- all jobs are given up and the vault is closed
+abbrev pub given_up : State → State
+given_up w = record w { jobs = []; append = None; is_open = false; is_barred = false }
+
+-- the state in which a later call of the program goes on
+abbrev pub continued : State → State
+continued w = record (given_up w) { next_job = 1 }
+
+-- providers with another one at a place
+abbrev pub with_provider : (ℕ → Provider) → ℕ → Provider → ℕ → Provider
+with_provider providers j p k = if k == j then p else providers k
+
+-- a disk call that leaves this state; the count of faults does not fall
+abbrev pub DiskCall : State → State → State → Type 0
+DiskCall old left new = (faults : ℕ) × (old.disk_faults ≤ faults) × (new ≡ record left { disk_faults = faults })
+
+-- a disk call that fails and leaves this state
+abbrev pub DiskFails : State → State → State → Type 0
+DiskFails old left new =
+    (faults : ℕ) × (old.disk_faults ≤ faults) × Rose old.disk_faults faults × (new ≡ record left { disk_faults = faults })
+
+-- a call of one provider that leaves this state otherwise
+abbrev pub ProviderCall : State → ℕ → (Provider → Provider → Type 0) → State → State → Type 0
+ProviderCall old j call left new = (p : Provider) × call (old.providers j) p × (new ≡ record left { providers = with_provider old.providers j p })
+
+-- a record in doubt is in effect or is not, and is no longer in doubt
+abbrev pub Settles : State → State → Type 0
+Settles old new = (new ≡ record old { doubt = None })
+    ⊎ ((d : Doubt) × (old.doubt ≡ Some d) × (new ≡ record old { doubt = None; records = d.entry ∷ old.records }))
+
+-- the records that a disk may stand for at a start: none, or one setup
+abbrev pub AreFirst : List Record → Type 0
+AreFirst records = (records ≡ []) ⊎ ((s : Setup) × IsTrue (is_in_grammar (SetUp s)) × (records ≡ SetUp s ∷ []))
+
+-- a state before the first event, with what the devices hold and count, and the records that the disk stands for
+pub record IsStart (w : State) : Type 0 where
+  pub records : AreFirst w.records
+  pub jobs : w.jobs ≡ []
+  pub first_job : w.next_job ≡ 1
+  pub append : w.append ≡ None
+  pub doubt : w.doubt ≡ None
+  pub closed : w.is_open ≡ false
+  pub unbarred : w.is_barred ≡ false
+
+-- limits of running jobs
+pub record IsLimit (limit : ℕ) : Type 0 where
+  pub at_least : 1 ≤ limit
+  pub at_most : limit ≤ 8
