@@ -1,4 +1,4 @@
-use Rattle.std.proofs.Common.{List, ℕ, ◌∙◌, ap, refl, subst, arith, rules}
+use Rattle.std.proofs.Common.{List, ℕ, ◌∙◌, ap, refl, subst, arith}
 use Rattle.std.specs.Prelude.{IsSome, slice_set, if◌then◌else◌}
 use Rattle.std.specs.BTreeMap.{get}
 use Rattle.std.specs.Vec.{with_items}

@@ -1,6 +1,4 @@
-use Rattle.std.proofs.Common.{List, ℕ}
 use Rattle.std.specs.BTreeMap.{get}
-use Rattle.std.specs.Prelude.{Vec}
 use Rattle.provider_model.specs.HeldBlocks.{place_cmp}
 use Rattle.provider_model.proofs.Places.{set}
 use Rattle.provider_model.proofs.held.HeldBlocks.set.Goals as goal

@@ -1,4 +1,4 @@
-use Rattle.std.proofs.Common.{List, ℕ, not, rules, arith}
+use Rattle.std.proofs.Common.{not, rules}
 use Rattle.std.specs.Prelude.{◌==◌}
 use Rattle.std.proofs.lemmas.Map.Made.{filter_same_pairs}
 use Rattle.provider_model.proofs.Places.{taken_all}
