@@ -1,4 +1,4 @@
-use Rattle.std.specs.Prelude.{◌≡◌, ◌≢◌, ℕ, zero, suc, ◌==◌, if◌then◌else◌}
+use Rattle.std.specs.Prelude.{◌≡◌, ◌≢◌, ℕ, ◌==◌, if◌then◌else◌}
 use Rattle.std.proofs.Common.{arith}
 use Rattle.hail_columns.specs.Keys.{stream_symbol}
 use Rattle.hail_columns.specs.Challenges.{alpha}
