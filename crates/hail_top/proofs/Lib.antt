@@ -1,0 +1,4 @@
+mod RowWords
+mod PointSteps
+mod LineSteps
+mod RowAnswers
