@@ -2,3 +2,5 @@ mod RowWords
 mod PointSteps
 mod LineSteps
 mod RowAnswers
+mod WordLaws
+mod AnswerLaws

@@ -9,7 +9,7 @@ mod row_command;
 mod top;
 mod word;
 
-pub use report::Report;
+pub use report::{BAD_SETUP, LOST_ROW, NO_MEMORY, Report, SINK_FAULT, USAGE};
 pub use top::hail;
 
 #[cfg(test)]

@@ -1,8 +1,6 @@
-use Rattle.std.proofs.Common.{List, ℕ, Option, subst, sym, ap, refl, ◌∙◌}
+use Rattle.std.proofs.Common.{List, ℕ, Option, subst, sym, ◌∙◌}
 use Rattle.std.proofs.lemmas.List.FromFn.{length-range_with_len}
 use Rattle.hail_codes.specs.Points.{upto}
-use Rattle.hail_top.specs.Line.{values_line}
-use Rattle.hail_top.specs.Sinking.{Writes}
 use Rattle.hail_top.specs.Row.{Opens}
 use Rattle.hail_top.proofs.PointSteps.{Apart-upto}
 use Rattle.hail_top.proofs.RowAnswers.{answers_held, AnswersRow-same}
