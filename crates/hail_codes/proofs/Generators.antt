@@ -61,8 +61,8 @@ pub kept_row : (profile : Profile) (place n : ℕ) → n ≡ profile.keep → pl
 kept_row profile place n is h within = record {
   full = length-set (replicate n 0) place 1 ∙ length-replicate n 0 ∙ is;
   gives = λ kept long.
-    get_or-codeword profile kept place within ∙ value-kept profile.keep kept place long h ∙
-    sym (dot-unit n place kept (omega arith) (omega arith));
+      get_or-codeword profile kept place within ∙ value-kept profile.keep kept place long h ∙
+      sym (dot-unit n place kept (omega arith) (omega arith));
 }
 
 -- the multiplier of a kept point among the kept ones
@@ -111,10 +111,10 @@ pub parity_row : (profile : Profile) (place : ℕ) → profile.keep ≤ place �
 parity_row profile place behind within = record {
   full = length-map-range_with_len (coefficient profile.keep place) 0 profile.keep;
   gives = λ kept long.
-    get_or-codeword profile kept place within ∙
-    value-interpolate (upto profile.keep) kept place (length-range_with_len 0 profile.keep ∙ sym long) (Apart-range 0 profile.keep)
-    (Each-outside place 0 profile.keep (inr (omega arith))) ∙
-    sym (dot-scaled (part (upto profile.keep) place) (coefficient profile.keep place) V (upto profile.keep) kept (each (upto profile.keep)));
+      get_or-codeword profile kept place within ∙
+      value-interpolate (upto profile.keep) kept place (length-range_with_len 0 profile.keep ∙ sym long) (Apart-range 0 profile.keep)
+      (Each-outside place 0 profile.keep (inr (omega arith))) ∙
+      sym (dot-scaled (part (upto profile.keep) place) (coefficient profile.keep place) V (upto profile.keep) kept (each (upto profile.keep)));
 }
   where
     V : ℕ

@@ -152,7 +152,7 @@ value-interpolate (x0 ∷ xs) (y0 ∷ ys) x even apart out =
     (nim_mul_inv V0 (vanish_else nim nim_laws xs x0 one_not_zero apart.0))
     (nim_mul_inv (nim_add x x0) (gap_not_zero x x0 out.0))
     (sym (dot-scaled (part (x0 ∷ xs) x) (λ p. nim_mul (nim_add x x0) (part (x0 ∷ xs) x p)) (nim_add x x0) xs ys
-      (Each-same (λ p. nim_mul (nim_add x x0) (part (x0 ∷ xs) x p)) (λ p. nim_mul (nim_add x x0) (part (x0 ∷ xs) x p)) xs (λ p. refl))) ∙
+    (Each-same (λ p. nim_mul (nim_add x x0) (part (x0 ∷ xs) x p)) (λ p. nim_mul (nim_add x x0) (part (x0 ∷ xs) x p)) xs (λ p. refl))) ∙
     dot-added (part xs x) (part xs x0) (λ p. nim_mul (nim_add x x0) (part (x0 ∷ xs) x p)) xs ys (parts xs x x0 xs out.1 apart.0 (Each-some xs xs))) ∙
     cc (
       nim_ring.add_comm x x0,

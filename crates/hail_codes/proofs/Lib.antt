@@ -2,3 +2,4 @@ pub mod Points
 pub mod Lagrange
 pub mod Profiles
 pub mod Generators
+pub mod Codewords

@@ -12,12 +12,12 @@
 -- bytes_of_symbols symbols        == 16 bytes a symbol
 -- is_primary o j                  == provider j is one of the first l
 -- point o j, points o             == the point of provider j in the dispersal code, j itself for a primary one; those of all n
-use Rattle.std.specs.Prelude.{ℕ, ◌+◌, ◌-◌, ◌*◌, ◌/◌, Bool, List, take, drop, map, nat_lt, if◌then◌else◌}
+use Rattle.std.specs.Prelude.{ℕ, ◌+◌, ◌-◌, ◌*◌, ◌/◌, Bool, List, take, drop, map, nat_lt}
 use Rattle.std.specs.Int.{w128, to_le_bytes, from_le_bytes}
 use Rattle.std.specs.List.{flat_map}
 use Rattle.hail_codes.specs.Points.{upto}
 use Rattle.hail_codes.specs.Profiles.{Profile}
-use Rattle.hail_columns.specs.Keys.{secret_point}
+use Rattle.hail_columns.specs.Keys.{point_of}
 
 -- n providers, l of them primary, of which b may be wrong
 pub record Shape : Type 0 where
@@ -66,7 +66,7 @@ is_primary o j = nat_lt j o.shape.l
 
 -- the point of a provider in the dispersal code
 abbrev pub point : Object → ℕ → ℕ
-point o j = if is_primary o j then j else secret_point o.master o.id j
+point o j = point_of o.shape.l o.master o.id j
 
 -- the points of all providers
 abbrev pub points : Object → List ℕ

@@ -1,9 +1,9 @@
 //! Worked values of the definitions, and laws that follow from them alone.
-ghost use Rattle.std.specs.Prelude.{◌≡◌, ◌≤◌, ◌^◌, ◌%◌, ◌<◌, ℕ, true, false, List, [], ◌∷◌, None, Some, replicate};
+ghost use Rattle.std.specs.Prelude.{◌≡◌, ◌≢◌, ◌≤◌, ◌^◌, ◌%◌, ◌<◌, ℕ, true, false, List, [], ◌∷◌, None, Some, replicate};
 ghost use Rattle.field_laws.specs.Field.{Apart};
 ghost use Rattle.hail_codes.specs.Points.{upto};
 ghost use Rattle.hail_codes.specs.Profiles.{profile_of};
-ghost use Rattle.hail_columns.specs.Keys.{file_key, seed, mask_of, secret_point};
+ghost use Rattle.hail_columns.specs.Keys.{file_key, seed, mask_of, secret_point, stream_symbol};
 ghost use Rattle.hail_columns.specs.Objects.{Object, Shape, stripes, row_number, symbol_of, bytes_of_symbols, point, points};
 ghost use Rattle.hail_columns.specs.Columns.{differences, is_wrong};
 ghost use Rattle.hail_columns.specs.Opened.{SeenBlock};
@@ -59,6 +59,12 @@ pub fn worked_wrong()
 /// The lowest byte of a point is the provider's number.
 pub fn point_ends_in_number()
     ensures { (o : Object) (j : ℕ) → j < 256 → point o j % 256 ≡ j }
+{}
+
+/// The weight of a challenge is 1 where its four words are all 0, and never 0.
+pub fn alpha_is_not_zero()
+    ensures of_zero_words { (seed : List ℕ) → stream_symbol seed 0 ≡ 0 → alpha seed ≡ 1 }
+    ensures never { (seed : List ℕ) → alpha seed ≢ 0 }
 {}
 
 /// All points of an object differ.

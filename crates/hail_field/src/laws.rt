@@ -1,15 +1,21 @@
 //! The laws of the field.
-ghost use Rattle.std.specs.Prelude.{◌≡◌, ◌≢◌, ◌≤◌, ◌<◌, ◌^◌, All, map};
+ghost use Rattle.std.specs.Prelude.{◌≡◌, ◌≢◌, ◌≤◌, ◌<◌, ◌+◌, ◌^◌, ℕ, All, map, slice_index};
 ghost use Rattle.std.specs.Int.{w128, from_le_bytes, to_le_bytes};
-ghost use Rattle.field_laws.specs.Field.{IsField};
+ghost use Rattle.field_laws.specs.Field.{IsField, IsEndless};
 ghost use Rattle.hail_field.specs.Shape.{IsShape};
-ghost use Rattle.hail_field.specs.Nim.{product, width, nim, nim_add, nim_mul, nim_inv, is_symbol};
+ghost use Rattle.hail_field.specs.Nim.{product, width, nim, nim_add, nim_mul, nim_pow, nim_inv, is_symbol};
 
+use crate::tables::{EXP, LOG, SCALE};
 use crate::{Shape, Symbol};
 
 /// All numbers are a field under the sum and the product.
 pub fn numbers_are_field()
     ensures { IsField nim }
+{}
+
+/// There are infinitely many numbers, so polynomials over them that have the same values are the same.
+pub fn numbers_are_endless()
+    ensures { IsEndless ℕ }
 {}
 
 /// A symbol's number is below 2^128.
@@ -46,6 +52,12 @@ pub fn inverse_is_symbol(a: Symbol)
     ensures { is_symbol (nim_inv a) }
 {}
 
+/// Zero changes no sum, and what is added twice is gone.
+pub fn sum_cancels(a: Symbol)
+    ensures zero { nim_add a 0 ≡ a }
+    ensures twice { nim_add a a ≡ 0 }
+{}
+
 /// The sum commutes.
 pub fn sum_commutes(a: Symbol, b: Symbol)
     ensures { nim_add a b ≡ nim_add b a }
@@ -76,6 +88,12 @@ pub fn one_is_neutral(a: Symbol)
     ensures { nim_mul a 1 ≡ a }
 {}
 
+/// The power 0 is 1, also of zero, and each power is the one before, times the number.
+pub fn powers_are_products(a: Symbol, exponent: u32)
+    ensures none { nim_pow a 0 ≡ 1 }
+    ensures next { nim_pow a (exponent + 1) ≡ nim_mul a (nim_pow a exponent) }
+{}
+
 /// A number times its inverse is 1.
 pub fn inverse_gives_one(a: Symbol)
     requires { a ≢ 0 }
@@ -88,13 +106,14 @@ pub fn inverse_is_one(a: Symbol, b: Symbol)
     ensures { b ≡ nim_inv a }
 {}
 
-/// The product of two numbers of width `2 ^ level` is of that width, and the same at each greater width.
+/// The product of two numbers of width `2 ^ level` is of that width, and the same at each greater width. Levels 0 to 7 are the widths
+/// 1, 2, 4, 8, 16, 32, 64 and 128.
 pub fn product_keeps_width(level: u8, above: u8, a: u128, b: u128)
     requires levels { level ≤ above }
     requires a_fits { a < 2 ^ width level }
     requires b_fits { b < 2 ^ width level }
-    ensures within { product above a b < 2 ^ width level }
-    ensures same { product above a b ≡ product level a b }
+    ensures within { nim_mul a b < 2 ^ width level }
+    ensures same { product above a b ≡ nim_mul a b }
 {}
 
 /// A symbol comes back from its bytes.
@@ -118,4 +137,22 @@ pub fn shape_fits(shape: Shape)
 pub fn bytes_of_product(a: Symbol, c: u8)
     ensures bytes { to_le_bytes w128 (nim_mul a c) ≡ map (λ byte. nim_mul byte c) (to_le_bytes w128 a) }
     ensures number { nim_mul a c ≡ from_le_bytes w128 (map (λ byte. nim_mul byte c) (to_le_bytes w128 a)) }
+{}
+
+/// Each entry of `EXP` is the power of 18 at its index.
+pub fn exp_is_power(exponent: u16)
+    requires { exponent < 512 }
+    ensures { slice_index EXP exponent ≡ nim_pow 18 exponent }
+{}
+
+/// Each entry of `LOG` but the first is the exponent, below 255, at which the power of 18 is the entry's index.
+pub fn log_is_exponent(byte: u8)
+    requires { byte ≢ 0 }
+    ensures power { nim_pow 18 (slice_index LOG byte) ≡ byte }
+    ensures below { slice_index LOG byte < 255 }
+{}
+
+/// Each entry of `SCALE` is 128 times its index.
+pub fn scale_is_multiple(byte: u8)
+    ensures { slice_index SCALE byte ≡ nim_mul 128 byte }
 {}

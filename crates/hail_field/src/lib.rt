@@ -1,12 +1,15 @@
-//! The nim field: the numbers below 2^128 under XOR and Conway's product.
+//! The nim field: the numbers below 2^128 under XOR and the product of J. H. Conway, On Numbers and Games, chapter 6.
 #![tactic(auto)]
 
 pub mod laws;
 mod levels;
 mod memory;
+mod plain;
 mod shape;
 mod symbol;
-mod tables;
+pub mod tables;
+#[cfg(test)]
+mod tests;
 
 pub use memory::Memory;
 pub use shape::Shape;

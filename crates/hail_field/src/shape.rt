@@ -1,7 +1,8 @@
 ghost use Rattle.std.specs.Prelude.{◌≡◌, ◌↔◌, IsSome, IfSome};
 ghost use Rattle.hail_field.specs.Shape.{IsShape};
 
-/// How a row is spread: `n` providers, of which the first `l` hold the row's own symbols, and of which `b` may be wrong.
+/// How a row of symbols is spread: over `n` providers, 4 to 16, of which the first `l` hold the row's own symbols, and of which `b`
+/// may be wrong, with `l + 2 b + 1 <= n`.
 #[derive(Clone, Copy, Debug, PartialEq, Eq)]
 pub struct Shape {
     pub n: u8,
@@ -11,7 +12,7 @@ pub struct Shape {
 }
 
 impl Shape {
-    /// The shape with these numbers; none where they are outside the limits.
+    /// The shape with these numbers; none exactly where they are outside the limits.
     pub fn new(n: u8, l: u8, b: u8) -> Option<Shape>
         ensures fits { IsSome result ↔ IsShape n l b }
         ensures value { IfSome result (λ shape. (shape.n ≡ n) × (shape.l ≡ l) × (shape.b ≡ b)) }

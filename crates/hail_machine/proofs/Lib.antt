@@ -3,3 +3,9 @@ pub mod PutSteps
 pub mod GetSteps
 pub mod PutRun
 pub mod GetRun
+pub mod JobLists
+pub mod ActionLists
+pub mod Changes
+pub mod Events
+pub mod Numbers
+pub mod Uses

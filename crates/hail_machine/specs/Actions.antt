@@ -76,11 +76,11 @@ remove_actions s job = flat_map (λ object. on_each_provider s (λ j. Remove j o
 
 -- the actions of a job, by its kind
 abbrev pub actions_by : Setup → Job → Kind → List Action
-actions_by s job (PutJob name bytes) = append_actions ++ store_actions s job bytes ++ append_actions ++ remove_actions s job ++ End ∷ []
+actions_by s job (PutJob name bytes) = append_actions ++ (store_actions s job bytes ++ (append_actions ++ (remove_actions s job ++ End ∷ [])))
 actions_by s job (GetJob name) = read_actions s job.pinned ++ End ∷ []
-actions_by s job (DropJob name) = append_actions ++ remove_actions s job ++ End ∷ []
-actions_by s job AuditJob = append_actions ++ ask_actions s job ++ append_actions ++ End ∷ []
-actions_by s job RepairJob = repair_actions s job ++ append_actions ++ End ∷ []
+actions_by s job (DropJob name) = append_actions ++ (remove_actions s job ++ End ∷ [])
+actions_by s job AuditJob = append_actions ++ (ask_actions s job ++ (append_actions ++ End ∷ []))
+actions_by s job RepairJob = repair_actions s job ++ (append_actions ++ End ∷ [])
 
 -- the actions of a job
 unfoldable pub actions_of : Setup → Job → List Action

@@ -1,0 +1,4 @@
+pub mod RowSteps
+pub mod PutSteps
+pub mod MakeSteps
+pub mod Blocks

@@ -4,7 +4,7 @@ ghost use Rattle.code_points.specs.Profile.{plain_profile};
 ghost use Rattle.server_code.specs.Generator.{IsGenerator};
 
 use crate::make;
-use crate::rows::{are_sums, fill_sums, put_values};
+use crate::rows::{extend, is_extended, put_values};
 use code_points::Profile;
 use hail_field::{Memory, Symbol};
 use hail_gao::decode_gao;
@@ -48,8 +48,7 @@ impl<const N: usize, const K: usize> ServerCode<N, K> {
         requires out { length out.old ≡ N }
         ensures { out.new ≡ codeword (plain_profile self.now.profile) kept.now }
     {
-        out[..K].copy_from_slice(kept);
-        fill_sums(&self.rows, kept, &mut out[K..]);
+        extend(&self.rows, kept, out);
     }
 
     /// Corrects up to `fix` wrong symbols of a block, and tells how many it changed. None where no codeword is so near;
@@ -63,7 +62,7 @@ impl<const N: usize, const K: usize> ServerCode<N, K> {
         ensures changed { IfSome result (λ count. count ≡ differences block.old block.new) }
         ensures work { work.new.size ≡ work.old.size }
     {
-        if are_sums(&self.rows, &block[..K], &block[K..]) {
+        if is_extended(&self.rows, K, block) {
             return Some(0);
         }
         let fix = self.profile.fix as usize;

@@ -1,4 +1,4 @@
-ghost use Rattle.std.specs.Prelude.{◌≡◌, ◌≤◌, IfOk};
+ghost use Rattle.std.specs.Prelude.{◌≡◌, IfOk, length};
 ghost use Rattle.hail_codes.specs.Points.{upto};
 ghost use Rattle.code_points.specs.Profile.{plain_profile};
 ghost use Rattle.server_code.specs.Generator.{IsGenerator};
@@ -8,6 +8,7 @@ use hail_field::Symbol;
 use std::alloc::{AllocError, Global};
 
 /// The points 0 to count - 1.
+#[tactic(auto, using(crate::proofs::MakeSteps::upto_more))]
 pub fn points(alloc: Global, count: u32) -> Result<Vec<Symbol>, AllocError>
     ensures { IfOk result (λ points. points.items ≡ upto count) }
 {
@@ -18,16 +19,24 @@ pub fn points(alloc: Global, count: u32) -> Result<Vec<Symbol>, AllocError>
     Ok(points)
 }
 
+/// The coefficients of all places behind the kept ones, row by row; each is made in `row` first.
+fn rows_by(alloc: Global, profile: Profile, row: &mut [Symbol]) -> Result<Vec<Symbol>, AllocError>
+    requires { length row.old ≡ profile.keep }
+    ensures { IfOk result (λ rows. IsGenerator (plain_profile profile) rows.items) }
+{
+    let mut rows = Vec::new(alloc);
+    for place in profile.keep..profile.size {
+        generator_row(profile, place, row);
+        rows.extend_from_slice(row)?;
+    }
+    Ok(rows)
+}
+
 /// The coefficients of all places behind the kept ones, row by row.
 pub fn rows(alloc: Global, profile: Profile) -> Result<Vec<Symbol>, AllocError>
     ensures { IfOk result (λ rows. IsGenerator (plain_profile profile) rows.items) }
 {
     let zero = Symbol::ZERO;
     let mut row = vec![in alloc; zero; profile.keep as usize]?;
-    let mut rows = Vec::new(alloc);
-    for place in profile.keep..profile.size {
-        generator_row(profile, place, &mut row);
-        rows.extend_from_slice(&row)?;
-    }
-    Ok(rows)
+    rows_by(alloc, profile, &mut row)
 }

@@ -1,4 +1,4 @@
-ghost use Rattle.std.specs.Prelude.{◌≡◌, ◌≤◌, ◌+◌, ◌*◌, ◌↔◌, IsTrue, length, map};
+ghost use Rattle.std.specs.Prelude.{◌≡◌, ◌≤◌, ◌+◌, ◌-◌, ◌*◌, ◌++◌, ◌↔◌, ◌==◌, if◌then◌else◌, IsTrue, length, take, drop, map};
 ghost use Rattle.hail_codes.specs.Polynomials.{value};
 ghost use Rattle.hail_codes.specs.ServerCode.{differences};
 ghost use Rattle.hail_codes.specs.Sums.{dot as dot_of};
@@ -8,6 +8,7 @@ use hail_field::Symbol;
 use hail_poly::eval;
 
 /// The sum of each coefficient times the symbol at its place.
+#[tactic(auto, using(crate::proofs::RowSteps::dot_step, crate::proofs::RowSteps::dot_past))]
 fn dot(coefficients: &[Symbol], symbols: &[Symbol]) -> Symbol
     requires { length coefficients.now ≡ length symbols.now }
     ensures { result ≡ dot_of coefficients.now symbols.now }
@@ -28,8 +29,16 @@ fn row_sum(rows: &[Symbol], row: usize, kept: &[Symbol]) -> Symbol
     dot(&rows[start..start + kept.len()], kept)
 }
 
+/// Whether two symbols are one.
+fn same(a: Symbol, b: Symbol) -> bool
+    ensures { IsTrue result ↔ (a ≡ b) }
+{
+    a == b
+}
+
 /// Fills each place with the sum of the kept symbols by its row.
-pub fn fill_sums(rows: &[Symbol], kept: &[Symbol], out: &mut [Symbol])
+#[tactic(auto, using(crate::proofs::RowSteps::row_fits))]
+fn fill_sums(rows: &[Symbol], kept: &[Symbol], out: &mut [Symbol])
     requires { length rows.now ≡ length out.old * length kept.now }
     ensures { out.new ≡ sums rows.now kept.now (length out.old) }
 {
@@ -39,19 +48,48 @@ pub fn fill_sums(rows: &[Symbol], kept: &[Symbol], out: &mut [Symbol])
 }
 
 /// Whether each place is the sum of the kept symbols by its row.
-pub fn are_sums(rows: &[Symbol], kept: &[Symbol], seen: &[Symbol]) -> bool
+#[tactic(auto, using(crate::proofs::RowSteps::row_fits))]
+fn are_sums(rows: &[Symbol], kept: &[Symbol], seen: &[Symbol]) -> bool
     requires { length rows.now ≡ length seen.now * length kept.now }
     ensures { IsTrue result ↔ (seen.now ≡ sums rows.now kept.now (length seen.now)) }
 {
     for row in 0..seen.len() {
-        if row_sum(rows, row, kept) != seen[row] {
+        if !same(row_sum(rows, row, kept), seen[row]) {
             return false;
         }
     }
     true
 }
 
+/// Copies the kept symbols to the front, and fills the places behind them with their sums by the rows.
+pub fn extend(rows: &[Symbol], kept: &[Symbol], out: &mut [Symbol])
+    requires room { length kept.now ≤ length out.old }
+    requires rows { length rows.now ≡ (length out.old - length kept.now) * length kept.now }
+    ensures { out.new ≡ kept.now ++ sums rows.now kept.now (length out.old - length kept.now) }
+{
+    let keep = kept.len();
+    out[..keep].copy_from_slice(kept);
+    fill_sums(rows, kept, &mut out[keep..]);
+}
+
+/// Whether the symbols behind the first `keep` are the sums of these by the rows.
+pub fn is_extended(rows: &[Symbol], keep: usize, block: &[Symbol]) -> bool
+    requires room { keep ≤ length block.now }
+    requires rows { length rows.now ≡ (length block.now - keep) * keep }
+    ensures { IsTrue result ↔ (drop keep block.now ≡ sums rows.now (take keep block.now) (length block.now - keep)) }
+{
+    are_sums(rows, &block[..keep], &block[keep..])
+}
+
+/// 1 where two symbols differ, else 0.
+fn difference(a: Symbol, b: Symbol) -> u32
+    ensures { result ≡ (if a == b then 0 else 1) }
+{
+    if a == b { 0 } else { 1 }
+}
+
 /// Puts the polynomial's values at the points into a block, and tells at how many places it changes.
+
 pub fn put_values(coefficients: &[Symbol], points: &[Symbol], block: &mut [Symbol]) -> u32
     requires even { length points.now ≡ length block.old }
     requires few { length points.now ≤ 128 }
@@ -61,10 +99,8 @@ pub fn put_values(coefficients: &[Symbol], points: &[Symbol], block: &mut [Symbo
     let mut changed = 0;
     for k in 0..points.len() {
         let value = eval(coefficients, points[k]);
-        if block[k] != value {
-            block[k] = value;
-            changed += 1;
-        }
+        changed += difference(block[k], value);
+        block[k] = value;
     }
     changed
 }

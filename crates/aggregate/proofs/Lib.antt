@@ -1,0 +1,2 @@
+pub mod HonestAnswers
+pub mod RightRow

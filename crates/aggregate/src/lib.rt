@@ -1,0 +1,14 @@
+//! Honest answers to challenges, each one symbol for all picked rows, and the same sums of masks.
+#![tactic(auto)]
+
+mod answers;
+mod blocks;
+pub mod laws;
+mod masks;
+
+pub use answers::answer;
+pub use blocks::Blocks;
+pub use masks::mask_sum;
+
+#[cfg(test)]
+mod tests;

@@ -1,0 +1,164 @@
+-- What an event may change, whatever the event is: the laws over runs are proved of this alone.
+use Rattle.std.proofs.Common.{◌≡◌, ℕ, ◌+◌, ◌<◌, ◌≤◌, true, false, ◌⊎◌, [], ◌∷◌, Some, None, refl, ap, sym, subst, ◌∙◌, inl, inr, arith}
+use Rattle.std.specs.Option.{option_map}
+use Rattle.hail_records.specs.Records.{Setup, SetUp}
+use Rattle.hail_records.specs.Table.{next_id, setup_of}
+use Rattle.hail_machine.specs.Jobs.{Kind, Job, job_of, with_job, without_job, advanced}
+use Rattle.hail_machine.specs.Actions.{Action, WriteBody, SyncGate, Store, Remove}
+use Rattle.hail_machine.specs.Events.{Event, Outcome}
+use Rattle.hail_machine.specs.States.{State, Append, Doubt}
+use Rattle.hail_machine.specs.Begins.{begin_refusal, new_job}
+use Rattle.hail_machine.specs.Appends.{Writes, subject_drawn, taken_out}
+use Rattle.hail_machine.specs.Steps.{next_action, block_to_store}
+use Rattle.hail_machine.specs.Runs.{is_replacement}
+use Rattle.hail_machine.specs.Deeds.{told_block}
+use Rattle.hail_machine.proofs.JobLists.{found_with, found_without, found_none}
+
+-- an action that neither draws a number nor puts a record in effect
+abbrev pub IsPlain : Action → Type 0
+IsPlain WriteBody = ⊥
+IsPlain SyncGate = ⊥
+IsPlain action = Unit {0}
+
+-- a job that has made one more action, and is the same in all that this does not touch
+pub record GoesOn (before job : Job) : Type 0 where
+  pub number : job.number ≡ before.number
+  pub kind : job.kind ≡ before.kind
+  pub begun : job.begun ≡ before.begun
+  pub pinned : job.pinned ≡ before.pinned
+  pub flagged : job.flagged ≡ before.flagged
+  pub subject : job.subject ≡ before.subject
+  pub older : job.older ≡ before.older
+  pub place : job.place ≡ before.place + 1
+
+-- a running job after an event
+pub data Job_is (limit moment : ℕ) (old new : State) (k : ℕ) (job : Job) : Type 0 where
+  kept : job_of old.jobs k ≡ Some job → Job_is limit moment old new k job
+  begun : (kind : Kind) → job ≡ new_job old moment kind → k ≡ old.next_job → begin_refusal limit old kind ≡ None →
+      new.records ≡ old.records → Job_is limit moment old new k job
+  plain : (before : Job) (action : Action) → job_of old.jobs k ≡ Some before → next_action old before ≡ Some action → IsPlain action →
+      GoesOn before job → new.records ≡ old.records → Job_is limit moment old new k job
+  drew : (before : Job) → job_of old.jobs k ≡ Some before → next_action old before ≡ Some WriteBody → old.append ≡ None →
+      job ≡ record (advanced before) { subject = subject_drawn old before before.kind } → new.records ≡ old.records → Job_is limit moment old new k job
+  finished : (before : Job) (a : Append) → job_of old.jobs k ≡ Some before → next_action old before ≡ Some SyncGate → old.append ≡ Some a →
+      a.job ≡ k → job ≡ record (advanced before) { older = taken_out old before before.kind } → new.records ≡ a.entry ∷ old.records →
+      new.append ≡ None → Job_is limit moment old new k job
+
+-- the append in flight after an event
+pub data Append_is (old new : State) (a : Append) : Type 0 where
+  kept : (b : Append) → old.append ≡ Some b → a.job ≡ b.job → a.entry ≡ b.entry → new.records ≡ old.records → Append_is old new a
+  drew : (before : Job) → job_of old.jobs before.number ≡ Some before → next_action old before ≡ Some WriteBody → a.job ≡ before.number →
+      Writes old before before.kind a.entry →
+      job_of new.jobs before.number ≡ Some (record (advanced before) { subject = subject_drawn old before before.kind }) →
+      new.records ≡ old.records → Append_is old new a
+
+-- the records in effect after an event
+pub data Records_is (old new : State) : Type 0 where
+  same : new.records ≡ old.records → Records_is old new
+  finished : (before : Job) (a : Append) → job_of old.jobs before.number ≡ Some before → next_action old before ≡ Some SyncGate → old.append ≡ Some a →
+      a.job ≡ before.number → new.records ≡ a.entry ∷ old.records → Records_is old new
+  settled : (d : Doubt) → old.doubt ≡ Some d → new.records ≡ d.entry ∷ old.records → Records_is old new
+  set_up : (s : Setup) → setup_of old.records ≡ None → new.records ≡ SetUp s ∷ old.records → Records_is old new
+  settled_set_up : (s : Setup) (d : Doubt) → old.doubt ≡ Some d → setup_of (d.entry ∷ old.records) ≡ None → new.records ≡ SetUp s ∷ d.entry ∷ old.records → Records_is old new
+
+-- a block after an event, of a provider that tells
+pub data Block_is (old : State) (e : Event) (r : Outcome) (new : State) (i o s : ℕ) : Type 0 where
+  same : told_block new i o s ≡ told_block old i o s → Block_is old e r new i o s
+  replaced : is_replacement e r i ≡ true → Block_is old e r new i o s
+  stored : (job : Job) → job_of old.jobs job.number ≡ Some job → next_action old job ≡ Some (Store i o s) →
+      told_block new i o s ≡ option_map (λ held. Some (block_to_store old job job.kind i o s)) (old.providers i).held → Block_is old e r new i o s
+  removed : (job : Job) → job_of old.jobs job.number ≡ Some job → next_action old job ≡ Some (Remove i o) → Block_is old e r new i o s
+
+-- the next job number, whether a vault is open, and the bytes of object numbers stay
+pub record Rest (old new : State) : Type 0 where
+  pub next : new.next_job ≡ old.next_job
+  pub is_open : new.is_open ≡ old.is_open
+  pub bytes : new.bytes ≡ old.bytes
+
+-- while no vault is open, no job runs and no append is in flight
+abbrev pub IsIdle : State → Type 0
+IsIdle w = w.is_open ≡ false → (w.jobs ≡ []) × (w.append ≡ None)
+
+-- what an event may change
+pub record Changes (limit moment : ℕ) (old : State) (e : Event) (r : Outcome) (new : State) : Type 0 where
+  pub job : (k : ℕ) (j : Job) → job_of new.jobs k ≡ Some j → Job_is limit moment old new k j
+  pub append : (a : Append) → new.append ≡ Some a → Append_is old new a
+  pub records : Records_is old new
+  pub numbers : ((new.jobs ≡ []) × (new.append ≡ None)) ⊎ (old.next_job ≤ new.next_job)
+  pub next : (k : ℕ) (j : Job) → job_of new.jobs k ≡ Some j → (k < new.next_job) ⊎ (job_of old.jobs k ≡ Some j) ⊎ ((before : Job) × (job_of old.jobs k ≡ Some before))
+  pub idle : IsIdle old → IsIdle new
+  pub bytes : (o : ℕ) → o < next_id old.records → new.bytes o ≡ old.bytes o
+  pub block : (i o s : ℕ) → Block_is old e r new i o s
+
+module _ (limit moment : ℕ) (old : State) (e : Event) (r : Outcome) where
+  -- jobs, append and records stay
+  pub only_devices : (new : State) → new.jobs ≡ old.jobs → new.append ≡ old.append → new.records ≡ old.records → Rest old new →
+      ((i o s : ℕ) → Block_is old e r new i o s) → Changes limit moment old e r new
+  only_devices new jobs append records rest block = record {
+    job = λ k j h. Job_is.kept (ap (λ l. job_of l k) (sym jobs) ∙ h);
+    append = λ a h. Append_is.kept a (sym append ∙ h) refl refl records;
+    records = Records_is.same records;
+    numbers = inr (omega (arith, rest.next));
+    next = λ k j h. inr (inl (ap (λ l. job_of l k) (sym jobs) ∙ h));
+    idle = λ f closed. (let p = f (sym rest.is_open ∙ closed) in (jobs ∙ p.0, append ∙ p.1));
+    bytes = λ o l. ap (λ f. f o) rest.bytes;
+    block = block;
+  }
+
+  pub unchanged : (new : State) → new ≡ old → Changes limit moment old e r new
+  unchanged new is = subst (λ (w : State). Changes limit moment old e r w) (sym is)
+      (only_devices old refl refl refl (record { next = refl; is_open = refl; bytes = refl }) (λ i o s. Block_is.same refl))
+
+  -- all jobs are given up
+  pub gives_up : (new : State) → new.jobs ≡ [] → new.append ≡ None → Records_is old new → new.providers ≡ old.providers → new.bytes ≡ old.bytes → Changes limit moment old e r new
+  gives_up new jobs append records providers bytes = record {
+    job = λ k j h. absurd (found_none new.jobs k j jobs h);
+    append = λ a h. absurd (let f : None ≡ Some a = sym append ∙ h in cc);
+    records = records;
+    numbers = inl (jobs, append);
+    next = λ k j h. absurd (found_none new.jobs k j jobs h);
+    idle = λ f closed. (jobs, append);
+    bytes = λ o l. ap (λ f. f o) bytes;
+    block = λ i o s. Block_is.same (ap (λ p. option_map (λ held. held o s) (p i).held) providers);
+  }
+
+  -- a job ends
+  pub ends : (new : State) (n : ℕ) → new.jobs ≡ without_job old.jobs n → (new.append ≡ old.append) ⊎ (new.append ≡ None) → new.records ≡ old.records → Rest old new →
+      ((i o s : ℕ) → Block_is old e r new i o s) → Changes limit moment old e r new
+  ends new n jobs append records rest block = record {
+    job = λ k j h. Job_is.kept (found_without old.jobs n k j (ap (λ l. job_of l k) (sym jobs) ∙ h)).1;
+    append = λ a h. elim append [
+      | inl stays ↦ Append_is.kept a (sym stays ∙ h) refl refl records
+      | inr none ↦ absurd (let f : None ≡ Some a = sym none ∙ h in cc)
+    ];
+    records = Records_is.same records;
+    numbers = inr (omega (arith, rest.next));
+    next = λ k j h. inr (inl (found_without old.jobs n k j (ap (λ l. job_of l k) (sym jobs) ∙ h)).1);
+    idle = λ f closed. (let p = f (sym rest.is_open ∙ closed) in (jobs ∙ ap (λ l. without_job l n) p.0, elim append [ inl stays ↦ stays ∙ p.1 | inr none ↦ none ]));
+    bytes = λ o l. ap (λ f. f o) rest.bytes;
+    block = block;
+  }
+
+  -- a job makes a plain action
+  pub steps_plainly : (new : State) (before job : Job) (action : Action) → job_of old.jobs before.number ≡ Some before → next_action old before ≡ Some action → IsPlain action → GoesOn before job →
+      new.jobs ≡ with_job old.jobs job → ((a : Append) → new.append ≡ Some a → (b : Append) × (old.append ≡ Some b) × (a.job ≡ b.job) × (a.entry ≡ b.entry)) →
+      new.records ≡ old.records → Rest old new → ((i o s : ℕ) → Block_is old e r new i o s) → Changes limit moment old e r new
+  steps_plainly new before job action runs next_is is_plain goes jobs append records rest block = record {
+    job = λ k j h. elim (found_with old.jobs job k j (ap (λ l. job_of l k) (sym jobs) ∙ h)) [
+      | inl p ↦ Job_is.plain before action (at k p.0) next_is is_plain (subst (λ (x : Job). GoesOn before x) (sym p.1) goes) records
+      | inr q ↦ Job_is.kept q.1
+    ];
+    append = λ a h. (let b = append a h in Append_is.kept b.0 b.1 b.2 b.3 records);
+    records = Records_is.same records;
+    numbers = inr (omega (arith, rest.next));
+    next = λ k j h. elim (found_with old.jobs job k j (ap (λ l. job_of l k) (sym jobs) ∙ h)) [
+      | inl p ↦ inr (inr (before, at k p.0))
+      | inr q ↦ inr (inl q.1)
+    ];
+    idle = λ f closed. (let p = f (sym rest.is_open ∙ closed) in absurd (found_none old.jobs before.number before p.0 runs));
+    bytes = λ o l. ap (λ f. f o) rest.bytes;
+    block = block;
+  }
+    where
+      at : (k : ℕ) → k ≡ job.number → job_of old.jobs k ≡ Some before
+      at k is = subst (λ n. job_of old.jobs n ≡ Some before) (sym (is ∙ goes.number)) runs

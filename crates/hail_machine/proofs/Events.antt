@@ -1,0 +1,419 @@
+-- Each event makes such changes and no others.
+use Rattle.std.proofs.Common.{◌≡◌, ℕ, ◌+◌, ◌<◌, ◌==◌, Bool, true, false, ◌⊎◌, ◌&&◌, List, [], ◌∷◌, Option, Some, None, refl, ap, sym, subst, ◌∙◌, inl, inr, arith}
+use Rattle.std.specs.Prelude.{IsSome, is_some, nat_lt}
+use Rattle.std.specs.Option.{option_map}
+use Rattle.std.proofs.lemmas.Bool.{eqb-true, eq-eqb, ne_eqb, cases_Bool, and_parts, false≢true}
+use Rattle.hail_records.specs.Records.{Record, Setup, SetUp, is_setup}
+use Rattle.hail_records.specs.Table.{next_id, setup_of}
+use Rattle.hail_devices.specs.Providers.{Held, Provider, with_block, without_object, with_symbol, without_block, LosesPart, HasPlace}
+use Rattle.hail_devices.specs.ProviderCalls.{Stores, FindsNoMemory, FailsToStore, Removes, Replaces}
+use Rattle.hail_devices.specs.Told.{Goes}
+use Rattle.hail_machine.specs.Jobs.{Kind, PutJob, GetJob, DropJob, AuditJob, RepairJob, Job, Given, Fetched, Answered, Worked, job_of, with_job, without_job, advanced, advanced_with}
+use Rattle.hail_machine.specs.Actions.{Action, WriteBody, SyncBody, WriteGate, SyncGate, Store, Fetch, Ask, Work, Remove, End}
+use Rattle.hail_machine.specs.Refusals as refusal
+use Rattle.hail_machine.specs.Refusals.{Refusal}
+use Rattle.hail_machine.specs.Answers as answer
+use Rattle.hail_machine.specs.Answers.{Answer}
+use Rattle.hail_machine.specs.Events.{Event, Init, Begin, Step, Alter, Lose, Stop, Reopen, Names, Continue, Outcome, Ready, Refused, Opened, Begun, More, Waiting, Ended, Replaced, NothingHeld, Stopped, Listed, Closed, Continued}
+use Rattle.hail_machine.specs.States.{State, Append, Doubt, with_provider, going_on, ended, given_up, continued, DiskCall, ProviderCall, Settles}
+use Rattle.hail_machine.specs.Begins.{new_job, Begins}
+use Rattle.hail_machine.specs.Appends.{Writes, begun_append, moved, doubted, done_append, barred, unappended, subject_drawn, bytes_drawn, is_first_append, taken_out, Moves}
+use Rattle.hail_machine.specs.Steps.{next_action, holder_of, block_to_store, FetchStep, AskStep, WorkStep, Acts, ActsOrWaits, StepsOn, StepsJob, StepsOpen, Steps}
+use Rattle.hail_machine.specs.Openings.{Stops, Reopens, InitsClosed, InitsBy, Inits, Continues}
+use Rattle.hail_machine.specs.Replacements.{ReplacesAt, ReplacesIf}
+use Rattle.hail_machine.specs.Machine.{Lists, Happens}
+use Rattle.hail_machine.specs.Runs.{is_replacement}
+use Rattle.hail_machine.proofs.JobLists.{cond_true, cond_false, number_of, found_with, found_itself, found_more, found_none}
+use Rattle.hail_machine.proofs.Changes.{IsPlain, GoesOn, Job_is, Append_is, Records_is, Block_is, Rest, IsIdle, Changes, only_devices, unchanged, gives_up, ends, steps_plainly}
+
+-- what a provider tells of a block
+abbrev told : Provider → ℕ → ℕ → Option (Option (List ℕ))
+told p o s = option_map (λ held. held o s) p.held
+
+-- of providers one of which was called, each block is as before or what that one now tells
+called : (providers : ℕ → Provider) (j : ℕ) (p : Provider) (i o s : ℕ) →
+    ((i ≡ j) × (told (with_provider providers j p i) o s ≡ told p o s)) ⊎ (told (with_provider providers j p i) o s ≡ told (providers i) o s)
+called providers j p i o s = elim (cases_Bool (i == j)) [
+  | inl t ↦ inl (eqb-true i j t, ap (λ (q : Provider). told q o s) (cond_true (i == j) p (providers i) t))
+  | inr f ↦ inr (ap (λ (q : Provider). told q o s) (cond_false (i == j) p (providers i) f))
+]
+
+-- one block set
+set_block : (object stripe : ℕ) (block : List ℕ) (held : Option Held) (o s : ℕ) →
+    ((o ≡ object) × (s ≡ stripe) × (option_map (λ (h : Held). h o s) (option_map (with_block object stripe block) held) ≡ option_map (λ h. Some block) held))
+    ⊎ (option_map (λ (h : Held). h o s) (option_map (with_block object stripe block) held) ≡ option_map (λ (h : Held). h o s) held)
+set_block object stripe block None o s = inr refl
+set_block object stripe block (Some h) o s = elim (cases_Bool ((o == object) && (s == stripe))) [
+  | inl t ↦ (let p = and_parts (o == object) (s == stripe) t in inl (eqb-true o object p.0, eqb-true s stripe p.1, ap Some (cond_true ((o == object) && (s == stripe)) (Some block) (h o s) t)))
+  | inr f ↦ inr (ap Some (cond_false ((o == object) && (s == stripe)) (Some block) (h o s) f))
+]
+
+-- an object's blocks taken away
+gone_block : (object : ℕ) (held : Option Held) (o s : ℕ) → (o ≡ object) ⊎ (option_map (λ (h : Held). h o s) (option_map (without_object object) held) ≡ option_map (λ (h : Held). h o s) held)
+gone_block object None o s = inr refl
+gone_block object (Some h) o s = elim (cases_Bool (o == object)) [
+  | inl t ↦ inl (eqb-true o object t)
+  | inr f ↦ inr (ap Some (cond_false (o == object) None (h o s) f))
+]
+
+part_block : (object : ℕ) (old new : Option Held) (o s : ℕ) → Goes (LosesPart object) old new → (o ≡ object) ⊎ (option_map (λ (h : Held). h o s) new ≡ option_map (λ (h : Held). h o s) old)
+part_block object None None o s g = inr refl
+part_block object None (Some h) o s g = absurd g
+part_block object (Some h) None o s g = absurd g
+part_block object (Some h) (Some k) o s g = elim (g o s) [ inl stays ↦ inr (ap Some stays) | inr lost ↦ inl lost.0 ]
+
+removed_block : (object : ℕ) (old new : Provider) (o s : ℕ) → Removes object old new → (o ≡ object) ⊎ (told new o s ≡ told old o s)
+removed_block object old new o s (inl r) = elim (gone_block object old.held o s) [ inl e ↦ inl e | inr e ↦ inr (ap (λ (x : Option Held). option_map (λ (h : Held). h o s) x) r.held ∙ e) ]
+removed_block object old new o s (inr r) = part_block object old.held new.held o s r.held
+
+-- a replacement that answered false leaves all
+kept_told : (IsThere : Held → Type 0) (changed : Held → Held) (was : Option Held) (old new : Provider) (o s : ℕ) → old.held ≡ was → Replaces IsThere changed false (record old { held = was }) new → told new o s ≡ told old o s
+kept_told IsThere changed None old new o s e h = ap (λ (x : Option Held). option_map (λ (h : Held). h o s) x) (h.0 ∙ sym e)
+kept_told IsThere changed (Some held) old new o s e h = ap (λ (p : Provider). told p o s) h.1 ∙ ap (λ (x : Option Held). option_map (λ (h : Held). h o s) x) (sym e)
+
+-- a number that is drawn leaves the bytes of those below it
+drawn_bytes : (w : State) (job : Job) (kind : Kind) (o : ℕ) → o < next_id w.records → bytes_drawn w job kind o ≡ w.bytes o
+drawn_bytes w job (PutJob name bytes) o l =
+    cond_false (is_first_append job && (o == next_id w.records)) bytes (w.bytes o)
+    (go (is_first_append job) (ne_eqb o (next_id w.records) (λ e. omega arith)))
+  where
+    go : (b : Bool) → (o == next_id w.records) ≡ false → (b && (o == next_id w.records)) ≡ false
+    go true h = h
+    go false h = refl
+drawn_bytes w job (GetJob name) o l = refl
+drawn_bytes w job (DropJob name) o l = refl
+drawn_bytes w job AuditJob o l = refl
+drawn_bytes w job RepairJob o l = refl
+
+module _ (limit moment : ℕ) (old : State) where
+  -- of a call that leaves what the provider holds
+  leaves : (e : Event) (r : Outcome) (j : ℕ) (p : Provider) (new : State) → p.held ≡ (old.providers j).held → new.providers ≡ with_provider old.providers j p → (i o s : ℕ) → Block_is old e r new i o s
+  leaves e r j p new held providers i o s = elim (called old.providers j p i o s) [
+    | inl q ↦ Block_is.same (ap (λ f. told (f i) o s) providers ∙ (q.1 ∙ (ap (λ (x : Option Held). option_map (λ (h : Held). h o s) x) held ∙ ap (λ n. told (old.providers n) o s) (sym q.0))))
+    | inr q ↦ Block_is.same (ap (λ f. told (f i) o s) providers ∙ q)
+  ]
+
+  module _ (job : Job) (runs : job_of old.jobs job.number ≡ Some job) where
+    e_of : Event
+    e_of = Step job.number
+
+    abbrev Result : Outcome → State → Type 0
+    Result r new = Changes limit moment old (Step job.number) r new
+
+    on : (g : Given) → GoesOn job (advanced_with job g)
+    on g = record { number = refl; kind = refl; begun = refl; pinned = refl; flagged = refl; subject = refl; older = refl; place = refl }
+
+    on_advanced : GoesOn job (advanced job)
+    on_advanced = record { number = refl; kind = refl; begun = refl; pinned = refl; flagged = refl; subject = refl; older = refl; place = refl }
+
+    same_append : (a : Append) → old.append ≡ Some a → (b : Append) × (old.append ≡ Some b) × (a.job ≡ b.job) × (a.entry ≡ b.entry)
+    same_append a h = (a, h, refl, refl)
+
+    -- stores
+    stores : (j object stripe : ℕ) (new : State) → next_action old job ≡ Some (Store j object stripe) →
+        ProviderCall old j (Stores object stripe (block_to_store old job job.kind j object stripe)) (going_on old (advanced job)) new → Result More new
+    stores j object stripe new next_is (p, call, is) = subst (λ (w : State). Result More w) (sym is)
+        (steps_plainly limit moment old (Step job.number) More (record (going_on old (advanced job)) { providers = with_provider old.providers j p }) job (advanced job) (Store j object stripe) runs next_is tt on_advanced refl same_append refl (record { next = refl; is_open = refl; bytes = refl })
+        (λ i o s. elim (called old.providers j p i o s) [
+          | inl q ↦ elim (set_block object stripe (block_to_store old job job.kind j object stripe) (old.providers j).held o s) [
+            | inl hit ↦ Block_is.stored job runs (next_is ∙ ap Some (place i o s q.0 hit.0 hit.1))
+                (q.1 ∙ (ap (λ (x : Option Held). option_map (λ (h : Held). h o s) x) call.held ∙ (hit.2 ∙ same_block i o s q.0 hit.0 hit.1)))
+            | inr miss ↦ Block_is.same (q.1 ∙ (ap (λ (x : Option Held). option_map (λ (h : Held). h o s) x) call.held ∙ (miss ∙ ap (λ n. told (old.providers n) o s) (sym q.0))))
+          ]
+          | inr q ↦ Block_is.same q
+        ]))
+      where
+        place : (i o s : ℕ) → i ≡ j → o ≡ object → s ≡ stripe → Store j object stripe ≡ Store i o s
+        place i o s a b c = cc
+
+        same_block : (i o s : ℕ) → i ≡ j → o ≡ object → s ≡ stripe →
+            option_map (λ (h : Held). Some (block_to_store old job job.kind j object stripe)) (old.providers j).held ≡ option_map (λ (h : Held). Some (block_to_store old job job.kind i o s)) (old.providers i).held
+        same_block i o s a b c = subst (λ n. option_map (λ (h : Held). Some (block_to_store old job job.kind j object stripe)) (old.providers j).held ≡ option_map (λ (h : Held). Some (block_to_store old job job.kind n o s)) (old.providers n).held) (sym a)
+            (subst (λ n. option_map (λ (h : Held). Some (block_to_store old job job.kind j object stripe)) (old.providers j).held ≡ option_map (λ (h : Held). Some (block_to_store old job job.kind j n s)) (old.providers j).held) (sym b)
+            (subst (λ n. option_map (λ (h : Held). Some (block_to_store old job job.kind j object stripe)) (old.providers j).held ≡ option_map (λ (h : Held). Some (block_to_store old job job.kind j object n)) (old.providers j).held) (sym c) refl))
+
+    store_fails : (j k : ℕ) (new : State) → ProviderCall old j FailsToStore (ended old job) new → Result (Ended (answer.ProviderFault k)) new
+    store_fails j k new (p, call, is) = subst (λ (w : State). Result (Ended (answer.ProviderFault k)) w) (sym is)
+        (ends limit moment old (Step job.number) (Ended (answer.ProviderFault k)) (record (ended old job) { providers = with_provider old.providers j p }) job.number refl (inl refl) refl (record { next = refl; is_open = refl; bytes = refl }) (leaves (Step job.number) (Ended (answer.ProviderFault k)) j p _ call.held refl))
+
+    store_memory : (j : ℕ) (new : State) → ProviderCall old j FindsNoMemory (ended old job) new → Result (Ended answer.Memory) new
+    store_memory j new (p, call, is) = subst (λ (w : State). Result (Ended answer.Memory) w) (sym is)
+        (ends limit moment old (Step job.number) (Ended answer.Memory) (record (ended old job) { providers = with_provider old.providers j p }) job.number refl (inl refl) refl (record { next = refl; is_open = refl; bytes = refl }) (leaves (Step job.number) (Ended answer.Memory) j p _ call.held refl))
+
+    fetches : (j object stripe : ℕ) (new : State) → next_action old job ≡ Some (Fetch j object stripe) → FetchStep old job j object stripe new → Result More new
+    fetches j object stripe new next_is (block, (p, call, is)) = subst (λ (w : State). Result More w) (sym is)
+        (steps_plainly limit moment old (Step job.number) More (record (going_on old (advanced_with job (Fetched j object stripe block))) { providers = with_provider old.providers j p }) job (advanced_with job (Fetched j object stripe block)) (Fetch j object stripe) runs next_is tt (on (Fetched j object stripe block)) refl same_append refl (record { next = refl; is_open = refl; bytes = refl })
+        (leaves (Step job.number) More j p _ call.held refl))
+
+    asks : (j object round : ℕ) (new : State) → next_action old job ≡ Some (Ask j object round) → AskStep old job j object round new → Result More new
+    asks j object round new next_is (symbol, (p, call, is)) = subst (λ (w : State). Result More w) (sym is)
+        (steps_plainly limit moment old (Step job.number) More (record (going_on old (advanced_with job (Answered j object round symbol))) { providers = with_provider old.providers j p }) job (advanced_with job (Answered j object round symbol)) (Ask j object round) runs next_is tt (on (Answered j object round symbol)) refl same_append refl (record { next = refl; is_open = refl; bytes = refl })
+        (leaves (Step job.number) More j p _ call.held refl))
+
+    works : (object stripe : ℕ) (new : State) → next_action old job ≡ Some (Work object stripe) → WorkStep old job object stripe new → Result More new
+    works object stripe new next_is (symbols, gives, is) = subst (λ (w : State). Result More w) (sym is)
+        (steps_plainly limit moment old (Step job.number) More (going_on old (advanced_with job (Worked object stripe symbols))) job (advanced_with job (Worked object stripe symbols)) (Work object stripe) runs next_is tt (on (Worked object stripe symbols)) refl same_append refl (record { next = refl; is_open = refl; bytes = refl })
+        (λ i o s. Block_is.same refl))
+
+    removes : (j object : ℕ) (new : State) → next_action old job ≡ Some (Remove j object) → ProviderCall old j (Removes object) (going_on old (advanced job)) new → Result More new
+    removes j object new next_is (p, call, is) = subst (λ (w : State). Result More w) (sym is)
+        (steps_plainly limit moment old (Step job.number) More (record (going_on old (advanced job)) { providers = with_provider old.providers j p }) job (advanced job) (Remove j object) runs next_is tt on_advanced refl same_append refl (record { next = refl; is_open = refl; bytes = refl })
+        (λ i o s. elim (called old.providers j p i o s) [
+          | inl q ↦ elim (removed_block object (old.providers j) p o s call) [
+            | inl hit ↦ Block_is.removed job runs (next_is ∙ ap Some (place i o q.0 hit))
+            | inr miss ↦ Block_is.same (q.1 ∙ (miss ∙ ap (λ n. told (old.providers n) o s) (sym q.0)))
+          ]
+          | inr q ↦ Block_is.same q
+        ]))
+      where
+        place : (i o : ℕ) → i ≡ j → o ≡ object → Remove j object ≡ Remove i o
+        place i o a b = cc
+
+    -- a job ends, and no device changes but for the disk's count
+    just_ends : (r : Outcome) (new : State) → new ≡ ended old job → Result r new
+    just_ends r new is = subst (λ (w : State). Result r w) (sym is) (ends limit moment old (Step job.number) r (ended old job) job.number refl (inl refl) refl (record { next = refl; is_open = refl; bytes = refl }) (λ i o s. Block_is.same refl))
+
+    ends_barred : (r : Outcome) (left new : State) → left.jobs ≡ without_job old.jobs job.number → (left.append ≡ old.append) ⊎ (left.append ≡ None) → left.records ≡ old.records → Rest old left → left.providers ≡ old.providers →
+        (faults : ℕ) → new ≡ record left { disk_faults = faults } → Result r new
+    ends_barred r left new jobs append records rest providers faults is = subst (λ (w : State). Result r w) (sym is)
+        (ends limit moment old (Step job.number) r (record left { disk_faults = faults }) job.number jobs append records (record { next = rest.next; is_open = rest.is_open; bytes = rest.bytes }) (λ i o s. Block_is.same (ap (λ p. told (p i) o s) providers)))
+
+    -- moves of the append in flight
+    moves_on : (a : Append) (action : Action) (left new : State) → old.append ≡ Some a → next_action old job ≡ Some action → IsPlain action →
+        left.jobs ≡ with_job old.jobs (advanced job) → left.append ≡ Some (record a { moves = a.moves + 1 }) → left.records ≡ old.records → Rest old left → left.providers ≡ old.providers →
+        (faults : ℕ) → new ≡ record left { disk_faults = faults } → Result More new
+    moves_on a action left new flight next_is is_plain jobs append records rest providers faults is = subst (λ (w : State). Result More w) (sym is)
+        (steps_plainly limit moment old (Step job.number) More (record left { disk_faults = faults }) job (advanced job) action runs next_is is_plain on_advanced jobs
+        (λ b h. (let e : Some (record a { moves = a.moves + 1 }) ≡ Some b = sym append ∙ h in
+        let f : record a { moves = a.moves + 1 } ≡ b = cc in
+        (a, flight, sym (ap (λ (x : Append). x.job) f), sym (ap (λ (x : Append). x.entry) f))))
+        records (record { next = rest.next; is_open = rest.is_open; bytes = rest.bytes }) (λ i o s. Block_is.same (ap (λ p. told (p i) o s) providers)))
+
+    begins_append : (entry : Record) (new : State) → next_action old job ≡ Some WriteBody → old.append ≡ None → Writes old job job.kind entry → DiskCall old (begun_append old job entry) new → Result More new
+    begins_append entry new next_is none writes (faults, low, is) = subst (λ (w : State). Result More w) (sym is) (record {
+      job = λ k j h. elim (found_with old.jobs drawn k j h) [
+        | inl p ↦ Job_is.drew job (at k p.0) next_is none p.1 refl
+        | inr q ↦ Job_is.kept q.1
+      ];
+      append = λ a h. (let f : record { job = job.number; entry = entry; moves = 1 } ≡ a = (let e : Some (record { job = job.number; entry = entry; moves = 1 }) ≡ Some a = h in cc) in
+          Append_is.drew job runs next_is (sym (ap (λ (x : Append). x.job) f)) (subst (λ (x : Record). Writes old job job.kind x) (ap (λ (x : Append). x.entry) f) writes) (found_itself old.jobs drawn job runs) refl);
+      records = Records_is.same refl;
+      numbers = inr (omega arith);
+      next = λ k j h. elim (found_with old.jobs drawn k j h) [ inl p ↦ inr (inr (job, at k p.0)) | inr q ↦ inr (inl q.1) ];
+      idle = λ f closed. (let p = f closed in absurd (found_none old.jobs job.number job p.0 runs));
+      bytes = λ o l. drawn_bytes old job job.kind o l;
+      block = λ i o s. Block_is.same refl;
+    })
+      where
+        drawn : Job
+        drawn = record (advanced job) { subject = subject_drawn old job job.kind }
+
+        at : (k : ℕ) → k ≡ job.number → job_of old.jobs k ≡ Some job
+        at k same = subst (λ n. job_of old.jobs n ≡ Some job) (sym same) runs
+
+    finishes : (a : Append) (new : State) → next_action old job ≡ Some SyncGate → old.append ≡ Some a → a.job ≡ job.number → DiskCall old (done_append old job a) new → Result More new
+    finishes a new next_is flight mine (faults, low, is) = subst (λ (w : State). Result More w) (sym is) (record {
+      job = λ k j h. elim (found_with old.jobs decided k j h) [
+        | inl p ↦ Job_is.finished job a (at k p.0) next_is flight (mine ∙ sym p.0) p.1 refl refl
+        | inr q ↦ Job_is.kept q.1
+      ];
+      append = λ b h. absurd (let e : None ≡ Some b = h in cc);
+      records = Records_is.finished job a runs next_is flight mine refl;
+      numbers = inr (omega arith);
+      next = λ k j h. elim (found_with old.jobs decided k j h) [ inl p ↦ inr (inr (job, at k p.0)) | inr q ↦ inr (inl q.1) ];
+      idle = λ f closed. (let p = f closed in absurd (found_none old.jobs job.number job p.0 runs));
+      bytes = λ o l. refl;
+      block = λ i o s. Block_is.same refl;
+    })
+      where
+        decided : Job
+        decided = record (advanced job) { older = taken_out old job job.kind }
+
+        at : (k : ℕ) → k ≡ job.number → job_of old.jobs k ≡ Some job
+        at k same = subst (λ n. job_of old.jobs n ≡ Some job) (sym same) runs
+
+    moves : (action : Action) (flight : Option Append) (r : Outcome) (new : State) → old.append ≡ flight → next_action old job ≡ Some action → holder_of flight action ≡ None →
+        Moves old job action flight r new → Result r new
+    moves WriteBody None More new flight next_is free (entry, writes, call) = begins_append entry new next_is flight writes call
+    moves WriteBody (Some a) r new flight next_is free h = absurd (let e : Some a.job ≡ None = free in cc)
+    moves WriteBody None (Ended answer.DiskFault) new flight next_is free (faults, low, rose, is) = ends_barred (Ended answer.DiskFault) (barred (ended old job)) new refl (inr refl) refl (record { next = refl; is_open = refl; bytes = refl }) refl faults is
+    moves WriteBody None (Ended answer.Memory) new flight next_is free (faults, low, is) = ends_barred (Ended answer.Memory) (ended old job) new refl (inl refl) refl (record { next = refl; is_open = refl; bytes = refl }) refl faults is
+    moves SyncBody (Some a) More new flight next_is free (at, (faults, low, is)) = moves_on a SyncBody (moved (going_on old (advanced job)) a) new flight next_is tt refl refl refl (record { next = refl; is_open = refl; bytes = refl }) refl faults is
+    moves SyncBody (Some a) (Ended answer.DiskFault) new flight next_is free (at, (faults, low, rose, is)) = ends_barred (Ended answer.DiskFault) (barred (ended old job)) new refl (inr refl) refl (record { next = refl; is_open = refl; bytes = refl }) refl faults is
+    moves WriteGate (Some a) More new flight next_is free (at, (faults, low, is)) = moves_on a WriteGate (doubted (moved (going_on old (advanced job)) a) a job) new flight next_is tt refl refl refl (record { next = refl; is_open = refl; bytes = refl }) refl faults is
+    moves WriteGate (Some a) (Ended answer.DiskFault) new flight next_is free (at, (faults, low, rose, is)) = ends_barred (Ended answer.DiskFault) (doubted (barred (ended old job)) a job) new refl (inr refl) refl (record { next = refl; is_open = refl; bytes = refl }) refl faults is
+    moves WriteGate (Some a) (Ended answer.Memory) new flight next_is free (at, (faults, low, is)) = ends_barred (Ended answer.Memory) (unappended (ended old job)) new refl (inr refl) refl (record { next = refl; is_open = refl; bytes = refl }) refl faults is
+    moves SyncGate (Some a) More new flight next_is free (at, call) = finishes a new next_is flight at.0 call
+    moves SyncGate (Some a) (Ended answer.DiskFault) new flight next_is free (at, (faults, low, rose, is)) = ends_barred (Ended answer.DiskFault) (barred (ended old job)) new refl (inr refl) refl (record { next = refl; is_open = refl; bytes = refl }) refl faults is
+    moves action flight r new e next_is free h = absurd h
+
+    acts : (action : Action) (r : Outcome) (new : State) → next_action old job ≡ Some action → holder_of old.append action ≡ None → Acts old job action r new → Result r new
+    acts (Store j object stripe) More new next_is free h = stores j object stripe new next_is h
+    acts (Store j object stripe) (Ended (answer.ProviderFault k)) new next_is free h = store_fails j k new h.1
+    acts (Store j object stripe) (Ended answer.Memory) new next_is free h = store_memory j new h
+    acts (Fetch j object stripe) More new next_is free h = fetches j object stripe new next_is h
+    acts (Ask j object round) More new next_is free h = asks j object round new next_is h
+    acts (Work object stripe) More new next_is free h = works object stripe new next_is h
+    acts (Work object stripe) (Ended (answer.Lost s row)) new next_is free h = just_ends (Ended (answer.Lost s row)) new h.2
+    acts (Remove j object) More new next_is free h = removes j object new next_is h
+    acts End (Ended how) new next_is free h = just_ends (Ended how) new h.1
+    acts action r new next_is free h = moves action old.append r new refl next_is free h
+
+    acts_or_waits : (action : Action) (holder : Option ℕ) (r : Outcome) (new : State) → next_action old job ≡ Some action → holder_of old.append action ≡ holder → ActsOrWaits old job action holder r new → Result r new
+    acts_or_waits action (Some n) (Waiting h) new next_is free w = unchanged limit moment old (Step job.number) (Waiting h) new w.1
+    acts_or_waits action None r new next_is free h = acts action r new next_is free h
+    acts_or_waits action (Some n) r new next_is free h = absurd h
+
+    steps_on : (action : Option Action) (r : Outcome) (new : State) → next_action old job ≡ action → StepsOn old job action r new → Result r new
+    steps_on None r new next_is h = absurd h
+    steps_on (Some action) r new next_is h = acts_or_waits action (holder_of old.append action) r new next_is refl h
+
+  steps_job : (number : ℕ) (job : Option Job) (r : Outcome) (new : State) → job_of old.jobs number ≡ job → StepsJob old job r new → Changes limit moment old (Step number) r new
+  steps_job number None (Refused refusal.NoSuchJob) new is h = unchanged limit moment old (Step number) (Refused refusal.NoSuchJob) new h
+  steps_job number (Some job) r new is h = (let same : job.number ≡ number = number_of old.jobs number job is in
+      subst (λ n. Changes limit moment old (Step n) r new) same (steps_on job (subst (λ n. job_of old.jobs n ≡ Some job) (sym same) is) (next_action old job) r new refl h))
+  steps_job number None r new is h = absurd h
+
+  steps_open : (number : ℕ) (is_barred : Bool) (r : Outcome) (new : State) → StepsOpen old number is_barred r new → Changes limit moment old (Step number) r new
+  steps_open number true (Refused refusal.MustReopen) new h = unchanged limit moment old (Step number) (Refused refusal.MustReopen) new h
+  steps_open number false r new h = steps_job number (job_of old.jobs number) r new refl h
+  steps_open number true r new h = absurd h
+
+  steps : (number : ℕ) (is_open : Bool) (r : Outcome) (new : State) → Steps old number is_open r new → Changes limit moment old (Step number) r new
+  steps number false Closed new h = unchanged limit moment old (Step number) Closed new h
+  steps number true r new h = steps_open number old.is_barred r new h
+  steps number false r new h = absurd h
+
+  begins : (kind : Kind) (r : Outcome) (new : State) → Begins limit moment old kind r new → Changes limit moment old (Begin kind) r new
+  begins kind Closed new h = unchanged limit moment old (Begin kind) Closed new h.1
+  begins kind (Refused why) new h = unchanged limit moment old (Begin kind) (Refused why) new h.2
+  begins kind (Begun job) new h = subst (λ (w : State). Changes limit moment old (Begin kind) (Begun job) w) (sym h.3) (record {
+    job = λ k j f. elim (found_more old.jobs (new_job old moment kind) k j f) [
+      | inl p ↦ Job_is.begun kind p.1 p.0 h.1 refl
+      | inr q ↦ Job_is.kept q
+    ];
+    append = λ a f. Append_is.kept a f refl refl refl;
+    records = Records_is.same refl;
+    numbers = inr (omega arith);
+    next = λ k j f. elim (found_more old.jobs (new_job old moment kind) k j f) [
+      | inl p ↦ inl (omega (arith, p.0))
+      | inr q ↦ inr (inl q)
+    ];
+    idle = λ f closed. absurd (false≢true (sym closed ∙ h.0));
+    bytes = λ o l. refl;
+    block = λ i o s. Block_is.same refl;
+  })
+  begins kind r new h = absurd h
+
+  -- settling a record in doubt gives records that are as before or have that record on top
+  settled_records : (left mid : State) → left.records ≡ old.records → left.doubt ≡ old.doubt → Settles left mid →
+      (mid.records ≡ old.records) ⊎ ((d : Doubt) × (old.doubt ≡ Some d) × (mid.records ≡ d.entry ∷ old.records))
+  settled_records left mid records doubt (inl is) = inl (ap (λ (w : State). w.records) is ∙ records)
+  settled_records left mid records doubt (inr (d, in_doubt, is)) = inr (d, sym doubt ∙ in_doubt, ap (λ (w : State). w.records) is ∙ ap (λ rs. d.entry ∷ rs) records)
+
+  settled_jobs : (left mid : State) → Settles left mid → (mid.jobs ≡ left.jobs) × (mid.append ≡ left.append) × (mid.providers ≡ left.providers) × (mid.bytes ≡ left.bytes) × (mid.is_open ≡ left.is_open)
+  settled_jobs left mid (inl is) = (ap (λ (w : State). w.jobs) is, ap (λ (w : State). w.append) is, ap (λ (w : State). w.providers) is, ap (λ (w : State). w.bytes) is, ap (λ (w : State). w.is_open) is)
+  settled_jobs left mid (inr (d, in_doubt, is)) = (ap (λ (w : State). w.jobs) is, ap (λ (w : State). w.append) is, ap (λ (w : State). w.providers) is, ap (λ (w : State). w.bytes) is, ap (λ (w : State). w.is_open) is)
+
+  records_of : (mid new : State) → new.records ≡ mid.records → (mid.records ≡ old.records) ⊎ ((d : Doubt) × (old.doubt ≡ Some d) × (mid.records ≡ d.entry ∷ old.records)) → Records_is old new
+  records_of mid new is (inl e) = Records_is.same (is ∙ e)
+  records_of mid new is (inr (d, in_doubt, e)) = Records_is.settled d in_doubt (is ∙ e)
+
+  -- a reopening or a stop that settles
+  settles : (e : Event) (r : Outcome) (mid new : State) → Settles (given_up old) mid → new.jobs ≡ mid.jobs → new.append ≡ mid.append → new.providers ≡ mid.providers → new.records ≡ mid.records → new.bytes ≡ mid.bytes → Changes limit moment old e r new
+  settles e r mid new s jobs append providers records bytes =
+      let j = settled_jobs (given_up old) mid s in
+      gives_up limit moment old e r new (jobs ∙ j.0) (append ∙ j.1) (records_of mid new records (settled_records (given_up old) mid refl refl s)) (providers ∙ j.2) (bytes ∙ j.3)
+
+  stops : (picks : List ℕ) (r : Outcome) (new : State) → Stops old r new → Changes limit moment old (Stop picks) r new
+  stops picks Stopped new h = settles (Stop picks) Stopped new new h refl refl refl refl refl
+  stops picks r new h = absurd h
+
+  reopens : (r : Outcome) (new : State) → Reopens old r new → Changes limit moment old Reopen r new
+  reopens Opened new (mid, s, up, enough, (faults, low, is)) = subst (λ (w : State). Changes limit moment old Reopen Opened w) (sym is) (settles Reopen Opened mid (record mid { is_open = true; disk_faults = faults }) s refl refl refl refl refl)
+  reopens (Refused refusal.NotSetUp) new (mid, s, none, (faults, low, is)) = subst (λ (w : State). Changes limit moment old Reopen (Refused refusal.NotSetUp) w) (sym is) (settles Reopen (Refused refusal.NotSetUp) mid (record mid { disk_faults = faults }) s refl refl refl refl refl)
+  reopens (Refused refusal.TooFewProviders) new (mid, s, up, few, (faults, low, is)) = subst (λ (w : State). Changes limit moment old Reopen (Refused refusal.TooFewProviders) w) (sym is) (settles Reopen (Refused refusal.TooFewProviders) mid (record mid { disk_faults = faults }) s refl refl refl refl refl)
+  reopens (Refused refusal.DiskFault) new (faults, low, rose, is) = subst (λ (w : State). Changes limit moment old Reopen (Refused refusal.DiskFault) w) (sym is) (gives_up limit moment old Reopen (Refused refusal.DiskFault) (record (given_up old) { disk_faults = faults }) refl refl (Records_is.same refl) refl refl)
+  reopens (Refused refusal.Memory) new (faults, low, is) = subst (λ (w : State). Changes limit moment old Reopen (Refused refusal.Memory) w) (sym is) (gives_up limit moment old Reopen (Refused refusal.Memory) (record (given_up old) { disk_faults = faults }) refl refl (Records_is.same refl) refl refl)
+  reopens r new h = absurd h
+
+  -- an init while no vault is open: no job runs
+  inits_idle : (e : Event) (r : Outcome) (new : State) → new.jobs ≡ [] → new.append ≡ None → Records_is old new → new.providers ≡ old.providers → new.bytes ≡ old.bytes → Changes limit moment old e r new
+  inits_idle e r new jobs append records providers bytes = gives_up limit moment old e r new jobs append records providers bytes
+
+  none_setup : (o : Option Setup) → is_some o ≡ false → o ≡ None
+  none_setup None h = refl
+  none_setup (Some s) h = absurd (false≢true (sym h))
+
+  set_up_of : (s : Setup) (mid new : State) → new.records ≡ SetUp s ∷ mid.records → setup_of mid.records ≡ None →
+      (mid.records ≡ old.records) ⊎ ((d : Doubt) × (old.doubt ≡ Some d) × (mid.records ≡ d.entry ∷ old.records)) → Records_is old new
+  set_up_of s mid new is none (inl e) = Records_is.set_up s (ap setup_of (sym e) ∙ none) (is ∙ ap (λ rs. SetUp s ∷ rs) e)
+  set_up_of s mid new is none (inr (d, in_doubt, e)) = Records_is.settled_set_up s d in_doubt (ap setup_of (sym e) ∙ none) (is ∙ ap (λ rs. SetUp s ∷ rs) e)
+
+  inits_closed : (s : Setup) (r : Outcome) (new : State) → (old.jobs ≡ []) × (old.append ≡ None) → InitsClosed old s r new → Changes limit moment old (Init s) r new
+  inits_closed s (Refused refusal.DiskFault) new idle (doubt, leaves_it, (faults, low, rose, is)) = subst (λ (w : State). Changes limit moment old (Init s) (Refused refusal.DiskFault) w) (sym is)
+      (gives_up limit moment old (Init s) (Refused refusal.DiskFault) (record old { doubt = doubt; disk_faults = faults }) idle.0 idle.1 (Records_is.same refl) refl refl)
+  inits_closed s (Refused refusal.Memory) new idle (doubt, leaves_it, (faults, low, is)) = subst (λ (w : State). Changes limit moment old (Init s) (Refused refusal.Memory) w) (sym is)
+      (gives_up limit moment old (Init s) (Refused refusal.Memory) (record old { doubt = doubt; disk_faults = faults }) idle.0 idle.1 (Records_is.same refl) refl refl)
+  inits_closed s (Refused refusal.Already) new idle (mid, settled, up, (faults, low, is)) = (let j = settled_jobs old mid settled in
+      subst (λ (w : State). Changes limit moment old (Init s) (Refused refusal.Already) w) (sym is)
+      (gives_up limit moment old (Init s) (Refused refusal.Already) (record mid { disk_faults = faults }) (j.0 ∙ idle.0) (j.1 ∙ idle.1)
+      (records_of mid (record mid { disk_faults = faults }) refl (settled_records old mid refl refl settled)) j.2 j.3))
+  inits_closed s Ready new idle (mid, settled, none, (faults, low, is)) = (let j = settled_jobs old mid settled in
+      subst (λ (w : State). Changes limit moment old (Init s) Ready w) (sym is)
+      (gives_up limit moment old (Init s) Ready (record mid { records = SetUp s ∷ mid.records; disk_faults = faults }) (j.0 ∙ idle.0) (j.1 ∙ idle.1)
+      (set_up_of s mid (record mid { records = SetUp s ∷ mid.records; disk_faults = faults }) refl (none_setup (setup_of mid.records) none) (settled_records old mid refl refl settled)) j.2 j.3))
+  inits_closed s r new idle h = absurd h
+
+  inits_by : (s : Setup) (good : Bool) (r : Outcome) (new : State) → (old.jobs ≡ []) × (old.append ≡ None) → InitsBy old s good r new → Changes limit moment old (Init s) r new
+  inits_by s false (Refused refusal.BadSetup) new idle h = unchanged limit moment old (Init s) (Refused refusal.BadSetup) new h
+  inits_by s true r new idle h = inits_closed s r new idle h
+  inits_by s false r new idle h = absurd h
+
+  inits : (s : Setup) (is_open : Bool) (r : Outcome) (new : State) → old.is_open ≡ is_open → IsIdle old → Inits old s is_open r new → Changes limit moment old (Init s) r new
+  inits s true (Refused refusal.Already) new is idle h = unchanged limit moment old (Init s) (Refused refusal.Already) new h
+  inits s false r new is idle h = inits_by s (is_setup s) r new (idle is) h
+  inits s true r new is idle h = absurd h
+
+  -- replacements
+  replaces : (e : Event) (j : ℕ) (IsThere : Held → Type 0) (changed : Held → Held) (r : Outcome) (new : State) →
+      ((i : ℕ) → i ≡ j → is_replacement e Replaced i ≡ true) → ReplacesAt old j IsThere changed r new → Changes limit moment old e r new
+  replaces e j IsThere changed Replaced new counts (p, call, is) = subst (λ (w : State). Changes limit moment old e Replaced w) (sym is)
+      (only_devices limit moment old e Replaced (record old { providers = with_provider old.providers j p }) refl refl refl (record { next = refl; is_open = refl; bytes = refl })
+      (λ i o s. elim (called old.providers j p i o s) [ inl q ↦ Block_is.replaced (counts i q.0) | inr q ↦ Block_is.same q ]))
+  replaces e j IsThere changed NothingHeld new counts (p, call, is) = subst (λ (w : State). Changes limit moment old e NothingHeld w) (sym is)
+      (only_devices limit moment old e NothingHeld (record old { providers = with_provider old.providers j p }) refl refl refl (record { next = refl; is_open = refl; bytes = refl })
+      (λ i o s. elim (called old.providers j p i o s) [
+        | inl q ↦ Block_is.same (q.1 ∙ (kept_told IsThere changed (old.providers j).held (old.providers j) p o s refl call ∙ ap (λ n. told (old.providers n) o s) (sym q.0)))
+        | inr q ↦ Block_is.same q
+      ]))
+  replaces e j IsThere changed r new counts h = absurd h
+
+  replaces_if : (handed : Bool) (e : Event) (j : ℕ) (IsThere : Held → Type 0) (changed : Held → Held) (r : Outcome) (new : State) →
+      ((i : ℕ) → i ≡ j → is_replacement e Replaced i ≡ true) → ReplacesIf handed old j IsThere changed r new → Changes limit moment old e r new
+  replaces_if true e j IsThere changed r new counts h = replaces e j IsThere changed r new counts h
+  replaces_if false e j IsThere changed NothingHeld new counts h = unchanged limit moment old e NothingHeld new h
+  replaces_if false e j IsThere changed r new counts h = absurd h
+
+  lists : (is_open : Bool) (r : Outcome) (new : State) → Lists old is_open r new → Changes limit moment old Names r new
+  lists true (Listed files) new h = unchanged limit moment old Names (Listed files) new h.1
+  lists false Closed new h = unchanged limit moment old Names Closed new h
+  lists true r new h = absurd h
+  lists false r new h = absurd h
+
+  continues : (r : Outcome) (new : State) → Continues old r new → Changes limit moment old Continue r new
+  continues Continued new is = subst (λ (w : State). Changes limit moment old Continue Continued w) (sym is) (gives_up limit moment old Continue Continued (continued old) refl refl (Records_is.same refl) refl refl)
+  continues r new h = absurd h
+
+  pub changes : (e : Event) (r : Outcome) (new : State) → IsIdle old → Happens limit moment old e r new → Changes limit moment old e r new
+  changes (Init s) r new idle h = inits s old.is_open r new refl idle h
+  changes (Begin kind) r new idle h = begins kind r new h
+  changes (Step number) r new idle h = steps number old.is_open r new h
+  changes (Alter j object stripe place symbol) r new idle h =
+      replaces_if (nat_lt j old.handed) (Alter j object stripe place symbol) j (λ held. HasPlace (held object stripe) place) (with_symbol object stripe place symbol) r new (λ i is. eq-eqb j i (sym is)) h
+  changes (Lose j object stripe) r new idle h =
+      replaces_if (nat_lt j old.handed) (Lose j object stripe) j (λ held. IsSome (held object stripe)) (without_block object stripe) r new (λ i is. eq-eqb j i (sym is)) h
+  changes (Stop picks) r new idle h = stops picks r new h
+  changes Reopen r new idle h = reopens r new h
+  changes Names r new idle h = lists old.is_open r new h
+  changes Continue r new idle h = continues r new h

@@ -1,0 +1,6 @@
+mod RowWords
+mod PointSteps
+mod LineSteps
+mod RowAnswers
+mod WordLaws
+mod AnswerLaws

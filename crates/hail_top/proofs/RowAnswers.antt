@@ -1,0 +1,40 @@
+-- The answer to a row follows from what was found in it.
+use Rattle.std.proofs.Common.{◌≡◌, ℕ, List, [], ◌∷◌, Option, refl, ap, ◌∙◌, subst}
+use Rattle.hail_field.specs.Shape.{IsShape}
+use Rattle.hail_codes.specs.Polynomials.{value}
+use Rattle.hail_codes.specs.Points.{upto, values_at}
+use Rattle.hail_codes.specs.DispersalCode.{Accepts}
+use Rattle.hail_top.specs.Line.{values_line}
+use Rattle.hail_top.specs.Sinking.{Sinking, Writes}
+use Rattle.hail_top.specs.Row.{IsRowForm, Opens, AnswersRow}
+use Rattle.hail_top.proofs.RowWords.{Word, IsRowForm-once}
+
+-- two polynomials that have one value everywhere have the same values at some points
+pub values_at-same : (points p q : List ℕ) → ((x : ℕ) → value p x ≡ value q x) → values_at points p ≡ values_at points q
+values_at-same [] p q same = refl
+values_at-same (x ∷ points) p q same = ap (λ (y : ℕ). y ∷ values_at points p) (same x) ∙ ap (λ (ys : List ℕ). value q x ∷ ys) (values_at-same points p q same)
+
+-- the line of the values that were found answers the row
+pub answers_held : (n l b : ℕ) (seen : List (Option ℕ)) (values shown : List ℕ) (status : ℕ) (sink : Sinking) → IsShape n l b → Opens n l b seen values
+    → ((p q : List ℕ) → Accepts (upto n) seen l b p → Accepts (upto n) seen l b q → (x : ℕ) → value p x ≡ value q x)
+    → shown ≡ values → Writes (values_line shown) status sink → AnswersRow n l b seen status sink
+answers_held n l b seen values shown status sink shape opens only is writes = record {
+  no_shape = λ none. absurd (none shape);
+  lost = λ _ none. absurd (none opens.polynomial opens.accepted);
+  held = λ _ p accepted. subst (λ (line : List ℕ). Writes line status sink)
+      (ap (λ (xs : List ℕ). values_line xs) (is ∙ opens.values_are ∙ values_at-same (upto l) opens.polynomial p (only opens.polynomial p opens.accepted accepted)))
+      writes;
+}
+
+-- what answers a shape's row answers that of the same numbers
+pub AnswersRow-same : (n l b n' l' b' : ℕ) (seen : List (Option ℕ)) (status : ℕ) (sink : Sinking) → (n' ≡ n) × (l' ≡ l) × (b' ≡ b) → AnswersRow n' l' b' seen status sink → AnswersRow n l b seen status sink
+AnswersRow-same n l b n' l' b' seen status sink same answers =
+    subst (λ (x : ℕ). AnswersRow n l x seen status sink) same.2
+    (subst (λ (x : ℕ). AnswersRow n x b' seen status sink) same.1
+    (subst (λ (x : ℕ). AnswersRow x l' b' seen status sink) same.0 answers))
+
+-- what answers the row that was read answers each row that the words spell
+pub answers_each : (words : List Word) (n l b : ℕ) (seen : List (Option ℕ)) (n' l' b' : ℕ) (seen' : List (Option ℕ)) (status : ℕ) (sink : Sinking)
+    → IsRowForm words n l b seen → IsRowForm words n' l' b' seen' → AnswersRow n l b seen status sink → AnswersRow n' l' b' seen' status sink
+answers_each words n l b seen n' l' b' seen' status sink first second answers =
+    IsRowForm-once words n l b seen n' l' b' seen' first second (λ n l b seen. AnswersRow n l b seen status sink) answers

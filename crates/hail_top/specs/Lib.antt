@@ -1,0 +1,4 @@
+pub mod Word
+pub mod Line
+pub mod Sinking
+pub mod Row

@@ -1,0 +1,42 @@
+//! What follows from the definitions of words and answers.
+ghost use Rattle.std.specs.Prelude.{◌≡◌, ◌⊎◌, ◌≤◌, ◌<◌, ℕ, List, Option, length, String};
+ghost use Rattle.std.specs.declared.alloc.Global.{Global};
+ghost use Rattle.hail_field.specs.Shape.{IsShape};
+ghost use Rattle.hail_devices.specs.Faults.{last_count};
+ghost use Rattle.hail_codes.specs.Points.{upto, values_at};
+ghost use Rattle.hail_codes.specs.DispersalCode.{Accepts};
+ghost use Rattle.hail_top.specs.Word.{IsNumberWord};
+ghost use Rattle.hail_top.specs.Line.{values_line};
+ghost use Rattle.hail_top.specs.Sinking.{Sinking};
+ghost use Rattle.hail_top.specs.Row.{IsRowForm, AnswersRow};
+
+use dispersal_code::laws::accepted_polynomial_is_unique;
+
+/// A number word has at most 39 digits.
+pub fn number_word_is_short()
+    ensures { (text : List ℕ) (number : ℕ) → IsNumberWord text number → length text ≤ 39 }
+{}
+
+/// Words spell at most one row.
+pub fn row_words_spell_one_row()
+    ensures { (words : List (String Global)) (n l b n' l' b' : ℕ) (seen seen' : List (Option ℕ))
+        → IsRowForm words n l b seen → IsRowForm words n' l' b' seen'
+        → (n ≡ n') × (l ≡ l') × (b ≡ b') × (seen ≡ seen') }
+{}
+
+/// At most one line is right for a row: whichever accepted polynomial it is written from.
+pub fn row_has_one_line()
+    ensures { (n l b : ℕ) (seen : List (Option ℕ)) (p q : List ℕ) → IsShape n l b → length seen ≡ n
+        → Accepts (upto n) seen l b p → Accepts (upto n) seen l b q
+        → values_line (values_at (upto l) p) ≡ values_line (values_at (upto l) q) }
+{
+    accepted_polynomial_is_unique();
+}
+
+/// A row with an accepted polynomial is answered with status 0, or with that of no memory, where the sink's count of faults stands
+/// still below its last value.
+pub fn row_answer_is_complete()
+    ensures { (n l b : ℕ) (seen : List (Option ℕ)) (p : List ℕ) (status : ℕ) (sink : Sinking)
+        → IsShape n l b → Accepts (upto n) seen l b p → AnswersRow n l b seen status sink
+        → sink.before < last_count → sink.now ≡ sink.before → (status ≡ 0) ⊎ (status ≡ 70) }
+{}

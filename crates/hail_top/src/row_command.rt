@@ -1,0 +1,93 @@
+// Answers the command `row`.
+ghost use Rattle.std.specs.Prelude.{◌≡◌, ◌≤◌, ◌↔◌, ℕ, length, IsSome, IfSome, IfOk, MatchOption};
+ghost use Rattle.hail_field.specs.Shape.{IsShape};
+ghost use Rattle.hail_codes.specs.Points.{upto, values_at};
+ghost use Rattle.hail_codes.specs.DispersalCode.{AcceptsNone};
+ghost use Rattle.hail_top.specs.Row.{AnswersRow, Opens};
+ghost use Rattle.hail_top.specs.Sinking.{Sinking};
+
+use crate::line::{write_no_row, write_values};
+use crate::report::{BAD_SETUP, NO_MEMORY};
+use crate::row::Row;
+use dispersal_code::laws::accepted_polynomial_is_unique;
+use dispersal_code::open_row;
+use hail_field::{Memory, Shape, Symbol};
+use hail_poly::Work;
+use std::alloc::{AllocError, Global};
+use stream_model::Sink;
+
+/// The most providers of a shape.
+const MOST: usize = 16;
+
+/// The shape with these numbers, where there is one.
+fn row_shape(n: u128, l: u128, b: u128) -> Option<Shape>
+    ensures fits { IsSome result ↔ IsShape n l b }
+    ensures value { IfSome result (λ shape. (shape.n ≡ n) × (shape.l ≡ l) × (shape.b ≡ b)) }
+{
+    let Ok(small_n) = u8::try_from(n) else {
+        return None;
+    };
+    let Ok(small_l) = u8::try_from(l) else {
+        return None;
+    };
+    let Ok(small_b) = u8::try_from(b) else {
+        return None;
+    };
+    Shape::new(small_n, small_l, small_b)
+}
+
+/// The points 0 to count - 1.
+fn points(alloc: Global, count: u8) -> Result<Vec<Symbol>, AllocError>
+    ensures { IfOk result (λ points. points.items ≡ upto count) }
+{
+    let mut points = Vec::new(alloc);
+    for place in 0..count {
+        points.push(Symbol(u128::from(place)))?;
+    }
+    Ok(points)
+}
+
+/// The values of the rest at the points.
+fn values(alloc: Global, points: &[Symbol], work: &Work) -> Result<Vec<Symbol>, AllocError>
+    ensures { IfOk result (λ values. values.items ≡ values_at points.now work.now.rest) }
+{
+    let mut values = Vec::new(alloc);
+    for point in points {
+        values.push(work.value(*point))?;
+    }
+    Ok(values)
+}
+
+/// The values at the first `l` points of the polynomial that is accepted at the points 0 to n - 1.
+fn open(alloc: Global, seen: &[Option<Symbol>], shape: Shape) -> Result<Option<Vec<Symbol>>, Memory>
+    requires { length seen.now ≡ shape.n }
+    ensures { IfOk result (λ opened. MatchOption opened
+        (AcceptsNone (upto shape.n) seen.now shape.l shape.b)
+        (λ values. Opens shape.n shape.l shape.b seen.now values.items)) }
+{
+    let all = points(alloc, shape.n)?;
+    let mut work = Work::new(alloc, MOST)?;
+    if open_row(&all, seen, shape, &mut work).is_none() {
+        return Ok(None);
+    }
+    let first = points(alloc, shape.l)?;
+    Ok(Some(values(alloc, &first, &work)?))
+}
+
+/// Writes the values of the row, or that it is lost.
+pub fn answer_row<K: Sink>(alloc: Global, row: &Row, sink: &mut K) -> u8
+    requires { length row.now.seen.items ≡ row.now.n }
+    ensures answers { AnswersRow row.now.n row.now.l row.now.b row.now.seen.items result
+        (record { old = K.written sink.old; new = K.written sink.new; before = K.faults sink.old; now = K.faults sink.new }) }
+    ensures count { K.faults sink.old ≤ K.faults sink.new }
+{
+    accepted_polynomial_is_unique();
+    let Some(shape) = row_shape(row.n, row.l, row.b) else {
+        return BAD_SETUP;
+    };
+    match open(alloc, &row.seen, shape) {
+        Ok(Some(values)) => write_values(alloc, &values, sink),
+        Ok(None) => write_no_row(sink),
+        Err(Memory) => NO_MEMORY,
+    }
+}

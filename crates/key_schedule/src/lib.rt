@@ -1,0 +1,11 @@
+//! The master key, and what is derived from it by SHA-256: file keys, secret points and seeds.
+#![tactic(auto)]
+
+mod derive;
+mod master;
+
+pub use derive::{file_key, point, seed};
+pub use master::Master;
+
+#[cfg(test)]
+mod tests;

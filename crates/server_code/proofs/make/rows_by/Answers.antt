@@ -1,0 +1,21 @@
+use Rattle.std.proofs.Common.{◌≡◌, ℕ, List, ◌+◌, sym, subst, refl, arith}
+use Rattle.code_points.specs.Profile.{plain_profile}
+use Rattle.code_points.proofs.Steps.{keep_below}
+use Rattle.server_code.proofs.MakeSteps.{HasRows, no_rows, row_more, all_rows}
+use Rattle.server_code.proofs.make.rows_by.Goals as goal
+
+pub loop-place-init : goal.loop-place-init
+loop-place-init c =
+    subst (λ (rows : List ℕ). HasRows (plain_profile c.args.profile) c.args.profile.keep rows) (sym c.new-rows.ensures.items)
+    (no_rows (plain_profile c.args.profile) c.args.profile.keep refl)
+
+pub loop-place-preserved : goal.loop-place-preserved
+loop-place-preserved c =
+    subst (λ (rows : List ℕ). HasRows (plain_profile c.args.profile) (c.loop-place.place + 1) rows) (sym c.in_ok-extend_from_slice.ensures.items)
+    (row_more (plain_profile c.args.profile) c.loop-place.place c.loop-place.rows.items c.generator_row.new.out c.loop-place.invariant c.generator_row.ensures)
+
+pub returns : goal.returns
+returns c =
+    let p = c.args.profile in
+    let end : c.loop-place.place ≡ p.size = omega (arith, keep_below p.number p.size p.keep p.size_is p.keep_is, c.loop-place.auto.place-end) in
+    all_rows (plain_profile p) c.loop-place.place c.loop-place.rows.items end c.loop-place.invariant
