@@ -4,6 +4,7 @@
 mod fault;
 mod held;
 mod memory;
+mod object;
 mod provider;
 mod sure;
 

@@ -1,12 +1,16 @@
 ghost use Rattle.std.specs.Prelude.{◌≡◌, ◌↔◌, ◌≤◌, None, Some, false, length, option_copied, IfOk, OnOk, OnErr, IsErr, IsErrOf, IsTrue, IsSome, if◌then◌else◌};
 ghost use Rattle.provider_model.specs.declared.fault.StoreFault.TheVariants as store_fault;
+ghost use Rattle.hail_columns.specs.Challenges.{honest_answer};
+ghost use Rattle.challenge.specs.Asked.{asked};
 ghost use Rattle.hail_devices.specs.Faults.{HasCause, one_more};
 ghost use Rattle.hail_devices.specs.Calls.{fails_next, no_calls, called};
 ghost use Rattle.hail_devices.specs.Providers.{with_block, without_block, without_object, with_symbol, HasSize, HasPlace, LosesPart};
 
 use crate::fault::StoreFault;
 use crate::held::HeldBlocks;
+use crate::object::answer_of;
 use crate::provider::{Provider, Tamper};
+use challenge::Challenge;
 use hail_field::{Memory, Symbol};
 use std::alloc::Global;
 use stream_model::{Calls, Failed};
@@ -103,6 +107,24 @@ impl Provider for MemProvider {
             return Err(Failed);
         }
         Ok(self.blocks.copy(object, stripe, out))
+    }
+
+    fn ask(&mut self, object: u64, challenge: &Challenge) -> Result<Option<Symbol>, Failed>
+        ensures answer { IfOk result (λ answer. answer ≡ honest_answer (asked challenge.now) (held_of self.old object)) }
+        ensures same { held_of self.new ≡ held_of self.old }
+        ensures cause { HasCause (other_faults_of self.old) (other_faults_of self.new) (IsErr result) }
+        ensures no_store_fault { store_faults_of self.new ≡ store_faults_of self.old }
+        ensures no_fetch { fetches_of self.new ≡ fetches_of self.old }
+
+        ensures fails { IsErr result ↔ IsTrue (fails_next (calls_of self.old)) }
+        ensures counted_call { calls_of self.new ≡ called (calls_of self.old) }
+        ensures counted_fault { other_faults_of self.new ≡ (if fails_next (calls_of self.old) then one_more (other_faults_of self.old) else other_faults_of self.old) }
+    {
+        if self.calls.next() {
+            self.other_faults = self.other_faults.saturating_add(1);
+            return Err(Failed);
+        }
+        Ok(answer_of(&self.blocks, object, challenge))
     }
 
     /// A removal that fails removes nothing.

@@ -1,11 +1,14 @@
 ghost use Rattle.std.specs.Prelude.{◌≡◌, ◌↔◌, ◌≤◌, ℕ, Option, Some, false, length, IfOk, OnOk, OnErr, IsErr, IsErrOf, IsSome, IsTrue, IfSome, if◌then◌else◌};
 ghost use Rattle.std.specs.Option.{option_map};
 ghost use Rattle.provider_model.specs.declared.fault.StoreFault.TheVariants as store_fault;
+ghost use Rattle.hail_columns.specs.Challenges.{honest_answer};
+ghost use Rattle.challenge.specs.Asked.{asked};
 ghost use Rattle.hail_devices.specs.Faults.{HasCause, one_more};
 ghost use Rattle.hail_devices.specs.Told.{Goes};
 ghost use Rattle.hail_devices.specs.Providers.{Held, with_block, without_block, without_object, with_symbol, HasSize, HasPlace, LosesPart};
 
 use crate::fault::StoreFault;
+use challenge::Challenge;
 use hail_field::Symbol;
 use stream_model::Failed;
 
@@ -45,6 +48,14 @@ pub trait Provider {
         ensures cause { HasCause (other_faults self.old) (other_faults self.new) (IsErr result) }
         ensures no_store_fault { store_faults self.new ≡ store_faults self.old }
         ensures counted { fetches self.new ≡ one_more (fetches self.old) };
+
+    /// Answers a challenge to an object: a sum over the picked rows of its blocks, none where one of these is not held.
+    fn ask(&mut self, object: u64, challenge: &Challenge) -> Result<Option<Symbol>, Failed>
+        ensures answer { IfOk result (λ answer. IfSome (held self.old) (λ blocks. answer ≡ honest_answer (asked challenge.now) (blocks object))) }
+        ensures same { held self.new ≡ held self.old }
+        ensures cause { HasCause (other_faults self.old) (other_faults self.new) (IsErr result) }
+        ensures no_store_fault { store_faults self.new ≡ store_faults self.old }
+        ensures no_fetch { fetches self.new ≡ fetches self.old };
 
     /// Takes away all blocks of an object.
     fn remove(&mut self, object: u64) -> Result<(), Failed>

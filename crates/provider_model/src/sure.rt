@@ -1,11 +1,15 @@
 ghost use Rattle.std.specs.Prelude.{◌≡◌, ◌↔◌, ◌≤◌, None, Some, false, length, option_copied, IfOk, IfErr, OnOk, OnErr, IsOk, IsTrue, IsSome, if◌then◌else◌};
 ghost use Rattle.provider_model.specs.declared.fault.StoreFault.TheVariants as store_fault;
+ghost use Rattle.hail_columns.specs.Challenges.{honest_answer};
+ghost use Rattle.challenge.specs.Asked.{asked};
 ghost use Rattle.hail_devices.specs.Faults.{one_more};
 ghost use Rattle.hail_devices.specs.Providers.{with_block, without_block, without_object, with_symbol, HasSize, HasPlace};
 
 use crate::fault::StoreFault;
 use crate::held::HeldBlocks;
+use crate::object::answer_of;
 use crate::provider::{Provider, Tamper};
+use challenge::Challenge;
 use hail_field::Symbol;
 use std::alloc::Global;
 use stream_model::Failed;
@@ -71,6 +75,15 @@ impl Provider for SureProvider {
     {
         self.fetches = self.fetches.saturating_add(1);
         Ok(self.blocks.copy(object, stripe, out))
+    }
+
+    fn ask(&mut self, object: u64, challenge: &Challenge) -> Result<Option<Symbol>, Failed>
+        ensures answer { IfOk result (λ answer. answer ≡ honest_answer (asked challenge.now) (held_of self.old object)) }
+        ensures same { held_of self.new ≡ held_of self.old }
+        ensures sure { IsOk result }
+        ensures no_fetch { fetches_of self.new ≡ fetches_of self.old }
+    {
+        Ok(answer_of(&self.blocks, object, challenge))
     }
 
     fn remove(&mut self, object: u64) -> Result<(), Failed>
