@@ -3,6 +3,7 @@
 
 mod fault;
 mod held;
+pub mod laws;
 mod memory;
 mod object;
 mod provider;
