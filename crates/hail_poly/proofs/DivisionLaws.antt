@@ -1,5 +1,5 @@
 -- A division has one quotient and one remainder.
-use Rattle.std.proofs.Common.{◌≡◌, ◌≤◌, ◌<◌, [], ◌∷◌, ℕ, List, length, refl, sym, ◌∙◌, ap, arith}
+use Rattle.std.proofs.Common.{◌≡◌, [], ◌∷◌, ℕ, List, refl, sym, ◌∙◌, ap, arith}
 use Rattle.field_laws.proofs.Ring.{sum_zero}
 use Rattle.field_laws.proofs.Solve.{v, ◌⊞◌, ◌⊡◌, solve}
 use Rattle.hail_field.specs.Nim.{nim, nim_add, nim_mul}

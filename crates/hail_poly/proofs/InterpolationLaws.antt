@@ -1,5 +1,5 @@
 -- Interpolation gives a polynomial back from its values.
-use Rattle.std.proofs.Common.{◌≡◌, ◌≢◌, ◌≤◌, ◌++◌, [], ◌∷◌, ℕ, List, length, take, drop, map, refl, sym, ◌∙◌, arith}
+use Rattle.std.proofs.Common.{◌≡◌, ◌≢◌, ◌≤◌, ◌++◌, [], ◌∷◌, ℕ, List, length, take, drop, refl, sym, ◌∙◌, arith}
 use Rattle.std.proofs.lemmas.List.{length-map, length-take-le, take-append-drop}
 use Rattle.field_laws.specs.Field.{Apart, Each}
 use Rattle.hail_field.specs.Nim.{nim}
