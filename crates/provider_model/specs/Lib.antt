@@ -1,0 +1,3 @@
+pub mod HeldBlocks
+pub mod SureProvider
+pub mod MemProvider
