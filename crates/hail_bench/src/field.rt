@@ -122,9 +122,8 @@ mod tests {
         for (words, want) in rows {
             let mut owned = Vec::new(rt.alloc());
             for word in words {
-                owned
-                    .push(String::from_str(rt.alloc(), word).unwrap())
-                    .unwrap();
+                let text = String::from_str(rt.alloc(), word).expect(&rt, "no memory");
+                owned.push(text).expect(&rt, "no memory");
             }
             let count = FieldWork::from_words(&owned).map(|work| work.count);
             assert_eq!(rt; count, want);

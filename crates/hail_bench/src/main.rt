@@ -18,9 +18,12 @@ const FAULT: u8 = 1;
 
 const USAGE: u8 = 2;
 
-/// The work that the words of the command line name.
+/// The work that the words of the command line name. Words that are no text name none.
 fn asked(rt: &(impl Env + AllocGlobal)) -> Result<Work, Failure> {
-    let words: Vec<String> = env::args(rt)?.skip(1).collect(rt.alloc())?;
+    let Ok(all) = env::args(rt) else {
+        return Err(Failure::Usage);
+    };
+    let words: Vec<String> = all.skip(1).collect(rt.alloc())?;
     Work::from_words(&words).ok_or(Failure::Usage)
 }
 

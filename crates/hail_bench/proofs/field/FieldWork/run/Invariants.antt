@@ -1,4 +1,4 @@
-use Rattle.std.proofs.Common.{◌≡◌, ◌<◌, ◌^◌}
+use Rattle.std.proofs.Common.{◌≡◌}
 use Rattle.hail_bench.specs.Checksum.{number_at, checksum_of}
 use Rattle.hail_bench.proofs.field.FieldWork.run.Given as goal
 
