@@ -10,7 +10,7 @@ fn known(rt: &impl Abort, number: u8) -> Profile {
 /// Whether symbols have these numbers.
 fn are_numbers(symbols: &[Symbol], numbers: &[u128]) -> bool {
     for k in 0..symbols.len() {
-        if k >= numbers.len() || symbols[k].0 != numbers[k] {
+        if k >= numbers.len() || symbols[k] != Symbol(numbers[k]) {
             return false;
         }
     }
