@@ -1,6 +1,6 @@
 -- The number of bytes that zeros are put after.
 use Rattle.std.specs.Prelude.{◌≡◌, ℕ, zero, suc, ◌+◌, ◌-◌, ◌*◌, ◌≤◌, ◌<◌, Bool, true, false, nat_lt, List, [], ◌∷◌, ◌++◌, length, take, drop, replicate, min}
-use Rattle.std.proofs.Common.{arith, ap, sym, refl, ◌∙◌, get_or, subst}
+use Rattle.std.proofs.Common.{arith, ap, sym, refl, ◌∙◌, get_or}
 use Rattle.std.specs.Int.{w128, from_le_bytes, byte_worth, sum_through}
 use Rattle.std.proofs.lemmas.List.{get_or-take, drop_min}
 use Rattle.std.proofs.Math.ListN.{length-drop}

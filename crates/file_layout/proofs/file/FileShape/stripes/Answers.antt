@@ -1,4 +1,4 @@
-use Rattle.std.proofs.Common.{◌≤◌, ◌*◌, arith}
+use Rattle.std.proofs.Common.{arith}
 use Rattle.file_layout.proofs.Rounding.{rounded, stripe_some}
 use Rattle.file_layout.proofs.file.FileShape.stripes.Goals as goal
 
