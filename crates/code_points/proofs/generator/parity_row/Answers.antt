@@ -1,4 +1,4 @@
-use Rattle.std.proofs.Common.{◌≡◌, ◌∙◌, ◌<◌, ℕ, sym, subst, ap, map, List, arith, get_or, length}
+use Rattle.std.proofs.Common.{◌≡◌, ℕ, sym, subst, map, List, arith}
 use Rattle.std.proofs.lemmas.Grind.{common_steps}
 use Rattle.std.proofs.lemmas.List.FromFn.{fill_by_all}
 use Rattle.hail_codes.specs.Points.{upto}
