@@ -1,5 +1,5 @@
 -- Each event makes such changes and no others.
-use Rattle.std.proofs.Common.{◌≡◌, ℕ, zero, suc, ◌+◌, ◌-◌, ◌<◌, ◌≤◌, ◌==◌, Bool, true, false, cond, ◌⊎◌, ◌&&◌, List, [], ◌∷◌, ◌++◌, length, map, Option, Some, None, refl, ap, sym, subst, ◌∙◌, inl, inr, arith}
+use Rattle.std.proofs.Common.{◌≡◌, ℕ, ◌+◌, ◌<◌, ◌==◌, Bool, true, false, ◌⊎◌, ◌&&◌, List, [], ◌∷◌, Option, Some, None, refl, ap, sym, subst, ◌∙◌, inl, inr, arith}
 use Rattle.std.specs.Prelude.{IsSome, is_some, nat_lt}
 use Rattle.std.specs.Option.{option_map}
 use Rattle.std.proofs.lemmas.Bool.{eqb-true, eq-eqb, ne_eqb, cases_Bool, and_parts, and_from, false≢true}
@@ -93,7 +93,7 @@ IsNoStore action = Unit {0}
 not_stored : (action : Action) (i o s : ℕ) → IsNoStore action → action ≡ Store i o s → ⊥
 not_stored action i o s h e = subst IsNoStore e h
 
-some_told : (block : List ℕ) (held : Option Held) (b : Option (List ℕ)) → option_map (λ (h : Held). Some block) held ≡ Some b → b ≡ Some block
+pub some_told : (block : List ℕ) (held : Option Held) (b : Option (List ℕ)) → option_map (λ (h : Held). Some block) held ≡ Some b → b ≡ Some block
 some_told block None b h = (let e : None ≡ Some b = h in cc)
 some_told block (Some g) b h = (let e : Some (Some block) ≡ Some b = h in sym (let f : Some block ≡ b = cc in f))
 
@@ -106,20 +106,25 @@ stored_value old job j object stripe p call i o s b e h =
     Value : Action → Type 0
     Value (Store x y z) = b ≡ Some (block_to_store old job job.kind x y z)
     Value a = Unit {0}
+
     ij : j ≡ i
     ij = (let f = e in cc)
+
     oo : object ≡ o
     oo = (let f = e in cc)
+
     ss : stripe ≡ s
     ss = (let f = e in cc)
+
     told_here : told p object stripe ≡ Some b
     told_here = ap (λ (q : Provider). told q object stripe) (sym (cond_true (j == j) p (old.providers j) (eq-eqb j j refl)))
         ∙ (ap (λ n. told (with_provider old.providers j p n) object stripe) ij ∙ (ap (λ n. told (with_provider old.providers j p i) n stripe) oo ∙ (ap (λ n. told (with_provider old.providers j p i) o n) ss ∙ h)))
+
     here : b ≡ Some (block_to_store old job job.kind j object stripe)
     here = elim (set_block object stripe (block_to_store old job job.kind j object stripe) (old.providers j).held object stripe) [
-        | inl hit ↦ some_told (block_to_store old job job.kind j object stripe) (old.providers j).held b (sym hit.2 ∙ (ap (λ (x : Option Held). option_map (λ (g : Held). g object stripe) x) (sym call.held) ∙ told_here))
-        | inr miss ↦ some_at (old.providers j).held (ap (λ (x : Option Held). option_map (λ (g : Held). g object stripe) x) (sym call.held) ∙ told_here)
-      ]
+      | inl hit ↦ some_told (block_to_store old job job.kind j object stripe) (old.providers j).held b (sym hit.2 ∙ (ap (λ (x : Option Held). option_map (λ (g : Held). g object stripe) x) (sym call.held) ∙ told_here))
+      | inr miss ↦ some_at (old.providers j).held (ap (λ (x : Option Held). option_map (λ (g : Held). g object stripe) x) (sym call.held) ∙ told_here)
+    ]
       where
         some_at : (held : Option Held) → option_map (λ (g : Held). g object stripe) (option_map (with_block object stripe (block_to_store old job job.kind j object stripe)) held) ≡ Some b → b ≡ Some (block_to_store old job job.kind j object stripe)
         some_at None g = (let f : None ≡ Some b = g in cc)

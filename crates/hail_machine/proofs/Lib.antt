@@ -13,3 +13,4 @@ pub mod RecordFacts
 pub mod Fair
 pub mod Pins
 pub mod PinFacts
+pub mod Held

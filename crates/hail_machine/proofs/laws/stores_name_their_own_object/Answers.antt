@@ -1,7 +1,3 @@
-use Rattle.hail_machine.proofs.Fair.{is_fair}
-use Rattle.hail_machine.proofs.Pins.{pinned_stands}
-use Rattle.hail_machine.proofs.PinFacts.{start_facts}
-use Rattle.hail_machine.proofs.RecordFacts.{listed_file}
 use Rattle.hail_machine.proofs.Uses.{stored_once}
 use Rattle.hail_machine.proofs.laws.stores_name_their_own_object.Goals as goal
 
