@@ -1,5 +1,5 @@
 -- The steps of the loops of the generator.
-use Rattle.std.proofs.Common.{◌≡◌, ◌≢◌, ◌≤◌, ◌<◌, ◌+◌, ◌-◌, ◌*◌, ◌∷◌, ℕ, refl, sym, ap, ◌∙◌, arith, add-one}
+use Rattle.std.proofs.Common.{◌≡◌, ◌≤◌, ◌<◌, ◌+◌, ◌-◌, ◌∷◌, ℕ, refl, sym, ap, ◌∙◌, arith, add-one}
 use Rattle.std.specs.List.{range_with_len}
 use Rattle.hail_field.specs.Nim.{nim, nim_add, nim_mul}
 use Rattle.hail_field.proofs.AllNumbers.{nim_laws, nim_ring}
@@ -8,7 +8,6 @@ use Rattle.poly_laws.proofs.Interpolate.{value-vanish}
 use Rattle.hail_codes.specs.Polynomials.{value, vanish}
 use Rattle.hail_codes.specs.Profiles.{profile_of}
 use Rattle.hail_codes.proofs.Profiles.{size_is}
-use Rattle.hail_codes.proofs.Lagrange.{gap_not_zero}
 
 -- the product over no points
 pub product_start : (x place n : ℕ) → n ≡ 0 → 1 ≡ value (vanish (range_with_len place n)) x

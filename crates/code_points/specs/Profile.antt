@@ -1,4 +1,3 @@
-use Rattle.std.specs.Prelude.{ℕ}
 use Rattle.hail_codes.specs.Profiles.{Profile as Plain}
 use Rattle.code_points.specs.declared.profile.Profile.{Profile}
 

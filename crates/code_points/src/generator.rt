@@ -57,9 +57,8 @@ fn parity_row(profile: Profile, place: u32, out: &mut [Symbol])
     let whole = product_of_sums(point(place), 0, profile.keep);
     for k in 0..profile.keep {
         let gap = point(place).add(point(k));
-        out[k as usize] = whole
-            .mul(gap.inv().unwrap())
-            .mul(kept_multiplier(profile, k));
+        let ratio = whole.mul(gap.inv().unwrap());
+        out[k as usize] = ratio.mul(kept_multiplier(profile, k));
     }
 }
 

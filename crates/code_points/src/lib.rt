@@ -4,6 +4,8 @@
 mod generator;
 mod profile;
 mod table;
+#[cfg(test)]
+mod tests;
 
 pub use generator::generator_row;
 pub use profile::{Profile, find_profile};

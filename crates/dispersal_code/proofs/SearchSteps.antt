@@ -1,6 +1,6 @@
 -- The steps of the search.
 use Rattle.std.proofs.Common.{◌≡◌, ◌≢◌, ◌≤◌, ◌<◌, ◌+◌, ◌++◌, [], ◌∷◌, ℕ, suc, List, length, drop, get_or, Option, Some, None, cond, Bool, true, false, eqb, arith, take, append_assoc, refl, sym, ◌∙◌, subst, zero, ap}
-use Rattle.std.proofs.lemmas.List.{get_or_read, length-append, length-drop, drop_more, take-append-drop}
+use Rattle.std.proofs.lemmas.List.{get_or_read, length-append, drop_more, take-append-drop}
 use Rattle.std.proofs.lemmas.Bool.{eqb-true}
 use Rattle.field_laws.specs.Field.{Apart, Each}
 use Rattle.hail_field.specs.Nim.{nim}

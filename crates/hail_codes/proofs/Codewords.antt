@@ -1,15 +1,14 @@
 -- Codewords, and the blocks that open to themselves.
-use Rattle.std.proofs.Common.{◌≡◌, ◌≤◌, ◌<◌, ◌+◌, ◌*◌, ℕ, suc, sym, ◌∙◌, ap, refl, arith, Bool, true, false, cond, List, [], ◌∷◌, length, map, Some, nat_eq}
+use Rattle.std.proofs.Common.{◌≡◌, ◌≤◌, ℕ, sym, ◌∙◌, refl, arith, List, [], ◌∷◌, length, map, Some}
 use Rattle.std.proofs.lemmas.List.FromFn.{length-range_with_len, length-map-range_with_len}
 use Rattle.hail_field.specs.Nim.{nim}
 use Rattle.hail_field.proofs.AllNumbers.{nim_laws}
-use Rattle.poly_laws.specs.Poly.{Decodes, agree as agree_over, is_seen as is_seen_over, value as value_over}
+use Rattle.poly_laws.specs.Poly.{agree as agree_over, is_seen as is_seen_over}
 use Rattle.poly_laws.proofs.Interpolate.{length-interpolate}
-use Rattle.hail_codes.specs.Polynomials.{value, agree, is_seen, interpolate}
+use Rattle.hail_codes.specs.Polynomials.{value, agree, interpolate}
 use Rattle.hail_codes.specs.Points.{upto, values_at}
 use Rattle.hail_codes.specs.Profiles.{Profile}
-use Rattle.hail_codes.specs.ServerCode.{codeword, differences, IsCodeword, IsNear, Opens}
-use Rattle.hail_codes.proofs.Generators.{length-codeword}
+use Rattle.hail_codes.specs.ServerCode.{codeword, differences, IsNear, Opens}
 
 -- a polynomial agrees with its own values everywhere
 pub agree-values : (p points : List ℕ) → agree p points (map Some (values_at points p)) ≡ length points

@@ -1,13 +1,12 @@
 -- The coefficients of the kept symbols in the symbols of a codeword.
-use Rattle.std.proofs.Common.{◌≡◌, ◌≢◌, ◌≤◌, ◌<◌, ◌+◌, ◌-◌, ◌++◌, ◌⊎◌, inl, inr, ℕ, zero, suc, sym, ◌∙◌, ap, subst, refl, arith, List, [], ◌∷◌, length, map, get_or, set, replicate, zero-add}
+use Rattle.std.proofs.Common.{◌≡◌, ◌≢◌, ◌≤◌, ◌<◌, ◌+◌, ◌-◌, ◌++◌, inl, inr, ℕ, zero, suc, sym, ◌∙◌, ap, refl, arith, List, [], ◌∷◌, length, map, get_or, set, replicate, zero-add}
 use Rattle.std.specs.List.{range_with_len}
 use Rattle.std.proofs.lemmas.List.{length-set, length-replicate}
 use Rattle.std.proofs.lemmas.List.FromFn.{length-range_with_len, length-map-range_with_len, get_or-map-range_with_len, get_or-range_with_len}
-use Rattle.field_laws.specs.Field.{Each, Apart}
+use Rattle.field_laws.specs.Field.{Each}
 use Rattle.field_laws.proofs.Ring.{zero_add, zero_mul, one_mul}
 use Rattle.hail_field.specs.Nim.{nim, nim_add, nim_mul, nim_inv}
 use Rattle.hail_field.proofs.AllNumbers.{nim_laws, nim_ring, nim_mul_inv}
-use Rattle.poly_laws.specs.Poly.{Takes as Takes_over}
 use Rattle.poly_laws.proofs.Interpolate.{interpolate_takes, vanish_else}
 use Rattle.hail_codes.specs.Polynomials.{value, vanish, interpolate, Takes}
 use Rattle.hail_codes.specs.Points.{upto, others_product, multiplier}

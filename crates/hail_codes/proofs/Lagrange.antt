@@ -1,18 +1,18 @@
 -- Lagrange's formula for the value of the interpolating polynomial at another point.
-use Rattle.std.proofs.Common.{◌≡◌, ◌≢◌, ◌≤◌, ◌<◌, ◌+◌, ℕ, Bool, true, false, cond, nat_eq, zero, suc, sym, ◌∙◌, ap, refl, arith, List, [], ◌∷◌, length, map}
+use Rattle.std.proofs.Common.{◌≡◌, ◌≢◌, ℕ, Bool, true, false, cond, nat_eq, sym, ◌∙◌, ap, refl, arith, List, [], ◌∷◌, length, map}
 use Rattle.field_laws.specs.Field.{Each, Apart}
 use Rattle.field_laws.proofs.Solve.{v, ◌⊞◌, ◌⊡◌, solve}
-use Rattle.field_laws.proofs.Ring.{zero_add, zero_mul, one_mul, add_left_comm, add_swap, add_same, sum_zero, mul_left_comm, add_mul}
+use Rattle.field_laws.proofs.Ring.{one_mul, add_swap, sum_zero, mul_left_comm, add_mul}
 use Rattle.hail_field.specs.Nim.{nim, nim_add, nim_mul, nim_inv}
 use Rattle.hail_field.proofs.AllNumbers.{nim_laws, nim_ring, nim_mul_inv, nim_inv_is}
-use Rattle.poly_laws.specs.Poly.{value as value_over, vanish as vanish_over, interpolate as interpolate_over}
+use Rattle.poly_laws.specs.Poly.{value as value_over, interpolate as interpolate_over}
 use Rattle.field_laws.proofs.Inverse.{factor_zero}
 use Rattle.poly_laws.proofs.Values.{value-plus, value-scale}
 use Rattle.poly_laws.proofs.Interpolate.{value-vanish, vanish_else}
-use Rattle.hail_codes.specs.Polynomials.{value, plus, scale, vanish, interpolate}
+use Rattle.hail_codes.specs.Polynomials.{value, scale, vanish, interpolate}
 use Rattle.hail_codes.specs.Points.{others_product, multiplier}
 use Rattle.hail_codes.specs.Sums.{dot}
-use Rattle.hail_codes.proofs.Points.{one_not_zero, others_product-other, others_product-outside, nat_eq-differ}
+use Rattle.hail_codes.proofs.Points.{one_not_zero, others_product-other, others_product-outside}
 
 -- what has a product of 1 is the inverse of a product
 pub nim_inv-mul : (a b : ℕ) → a ≢ 0 → b ≢ 0 → nim_inv (nim_mul a b) ≡ nim_mul (nim_inv a) (nim_inv b)

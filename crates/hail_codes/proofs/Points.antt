@@ -1,14 +1,14 @@
 -- Points that are apart, and the products of their sums.
-use Rattle.std.proofs.Common.{◌≡◌, ◌≢◌, ◌≤◌, ◌<◌, ◌+◌, ◌-◌, ◌++◌, ◌⊎◌, inl, inr, ℕ, zero, suc, sym, ◌∙◌, ap, refl, arith, List, [], ◌∷◌, length, Bool, true, false, cond, nat_eq, eqb-true}
+use Rattle.std.proofs.Common.{◌≡◌, ◌≢◌, ◌≤◌, ◌<◌, ◌+◌, ◌++◌, ◌⊎◌, inl, inr, ℕ, zero, suc, sym, ◌∙◌, ap, refl, arith, List, [], ◌∷◌, Bool, true, false, cond, nat_eq, eqb-true}
 use Rattle.std.specs.List.{range_with_len}
 use Rattle.field_laws.specs.Field.{Each, Apart}
 use Rattle.field_laws.proofs.Ring.{one_mul}
-use Rattle.hail_field.specs.Nim.{nim, nim_add, nim_mul, nim_inv}
+use Rattle.hail_field.specs.Nim.{nim, nim_add, nim_mul}
 use Rattle.hail_field.proofs.AllNumbers.{nim_laws, nim_ring}
-use Rattle.poly_laws.proofs.Interpolate.{value-vanish, vanish_else}
+use Rattle.poly_laws.proofs.Interpolate.{value-vanish}
 use Rattle.poly_laws.specs.Poly.{value as value_over, vanish as vanish_over}
 use Rattle.hail_codes.specs.Polynomials.{value, vanish}
-use Rattle.hail_codes.specs.Points.{upto, others_product}
+use Rattle.hail_codes.specs.Points.{others_product}
 
 -- 1 is not 0
 pub one_not_zero : ◌≡◌ {A = ℕ} 1 0 → ⊥

@@ -1,5 +1,5 @@
 -- What holds in each row of the table of profiles.
-use Rattle.std.proofs.Common.{◌≡◌, ◌≤◌, ◌<◌, ◌+◌, ◌*◌, ℕ, zero, suc, refl, arith}
+use Rattle.std.proofs.Common.{◌≡◌, ◌≤◌, ◌+◌, ◌*◌, ℕ, zero, suc, refl, arith}
 use Rattle.hail_codes.specs.Profiles.{profile_of}
 
 -- a block has as many symbols as are kept, and two more for each that can be corrected

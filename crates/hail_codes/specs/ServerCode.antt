@@ -7,7 +7,7 @@
 -- OpensToNone profile block        == no polynomial is near the block, as where it is not of size symbols
 -- differences xs ys                == at how many places the two differ, as far as both go
 -- IsGeneratorRow profile place row == the symbol at the place is the sum of coefficient times kept symbol
-use Rattle.std.specs.Prelude.{◌≡◌, ◌≤◌, ℕ, suc, List, [], ◌∷◌, length, slice_index, ◌==◌, if◌then◌else◌}
+use Rattle.std.specs.Prelude.{◌≡◌, ◌≤◌, ℕ, suc, List, ◌∷◌, length, slice_index, ◌==◌, if◌then◌else◌}
 use Rattle.hail_field.specs.Nim.{nim}
 use Rattle.poly_laws.specs.Poly.{Decodes}
 use Rattle.hail_codes.specs.Polynomials.{interpolate}

@@ -1,3 +1,4 @@
 pub mod PointLaws
 pub mod ForgeryLaws
 pub mod ColumnLaws
+pub mod SecondaryLaws

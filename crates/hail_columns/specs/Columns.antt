@@ -4,15 +4,14 @@
 -- row_polynomial o symbols place           == the polynomial of a row: of degree below l, it takes the primary symbols at the points 0 to l - 1
 -- column_of_symbols o symbols j stripe     == the size symbols that provider j is to hold of a stripe with these symbols
 -- columns o bytes j stripe                 == the same, of a stripe of a file of these bytes
--- differences xs ys                        == at how many places two blocks differ; a place that one of them lacks counts for nothing
 -- is_wrong_block o bytes j stripe seen     == a block is absent, is not size long, or differs from the provider's own at more than fix places
 -- is_wrong o bytes j held                  == so is one of the blocks that provider j holds, by stripe; never so for a file of no stripes
-use Rattle.std.specs.Prelude.{ℕ, suc, ◌==◌, ◌||◌, Bool, true, List, ◌∷◌, length, map, not, nat_lt, slice_index, Option, None, Some, if◌then◌else◌}
+use Rattle.std.specs.Prelude.{ℕ, ◌==◌, ◌||◌, Bool, true, List, length, map, not, nat_lt, slice_index, Option, None, Some, if◌then◌else◌}
 use Rattle.std.specs.List.{list_any}
 use Rattle.hail_field.specs.Nim.{nim_add}
 use Rattle.hail_codes.specs.Polynomials.{value, interpolate}
 use Rattle.hail_codes.specs.Points.{upto}
-use Rattle.hail_codes.specs.ServerCode.{codeword}
+use Rattle.hail_codes.specs.ServerCode.{codeword, differences}
 use Rattle.hail_columns.specs.Keys.{mask}
 use Rattle.hail_columns.specs.Objects.{Object, stripes, row_number, symbols_in, kept_by, is_primary, point}
 
@@ -39,11 +38,6 @@ column_of_symbols o symbols j stripe =
 -- a provider's block of a stripe of a file
 abbrev pub columns : Object → List ℕ → ℕ → ℕ → List ℕ
 columns o bytes j stripe = column_of_symbols o (symbols_in o bytes stripe) j stripe
-
--- at how many places two blocks differ
-abbrev pub differences : List ℕ → List ℕ → ℕ
-differences (x ∷ xs) (y ∷ ys) = if x == y then differences xs ys else suc (differences xs ys)
-differences xs ys = 0
 
 -- a block is absent, is not of the size, or differs from the provider's own at more places than are corrected
 abbrev pub is_wrong_block : Object → List ℕ → ℕ → ℕ → Option (List ℕ) → Bool

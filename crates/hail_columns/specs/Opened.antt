@@ -34,11 +34,11 @@ masked o j row (x ∷ xs) = nim_add x (mask o.master o.id j row) ∷ masked o j 
 abbrev pub bare : Object → ℕ → ℕ → List ℕ → List ℕ
 bare o j stripe block = if is_primary o j then block else masked o j (row_number o stripe 0) block
 
--- a block of the size opens to the codeword that is near it without its masks; any other block, and an absent one, to nothing
+-- a block opens to the codeword that is near it without its masks; to nothing where there is none, as for a block of another size, or it is absent
 abbrev pub OpensTo : Object → ℕ → ℕ → SeenBlock → SeenBlock → Type 0
 OpensTo o j stripe None opened = opened ≡ None
-OpensTo o j stripe (Some block) (Some symbols) = (length block ≡ o.profile.size) × Opens o.profile (bare o j stripe block) symbols
-OpensTo o j stripe (Some block) None = length block ≡ o.profile.size → OpensToNone o.profile (bare o j stripe block)
+OpensTo o j stripe (Some block) (Some symbols) = Opens o.profile (bare o j stripe block) symbols
+OpensTo o j stripe (Some block) None = OpensToNone o.profile (bare o j stripe block)
 
 -- the blocks seen of the providers from one on open to these
 abbrev pub AllOpen : Object → ℕ → ℕ → List SeenBlock → List SeenBlock → Type 0

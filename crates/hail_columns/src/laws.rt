@@ -1,12 +1,13 @@
 //! Worked values of the definitions, and laws that follow from them alone.
-ghost use Rattle.std.specs.Prelude.{◌≡◌, ◌≢◌, ◌≤◌, ◌^◌, ◌%◌, ◌<◌, ℕ, true, false, List, [], ◌∷◌, None, Some, replicate};
+ghost use Rattle.std.specs.Prelude.{◌≡◌, ◌≢◌, ◌≤◌, ◌^◌, ◌%◌, ◌<◌, ℕ, length, true, false, List, [], ◌∷◌, None, Some, replicate};
 ghost use Rattle.field_laws.specs.Field.{Apart};
 ghost use Rattle.hail_codes.specs.Points.{upto};
 ghost use Rattle.hail_codes.specs.Profiles.{profile_of};
+ghost use Rattle.hail_codes.specs.ServerCode.{IsCodeword, differences};
 ghost use Rattle.hail_columns.specs.Keys.{file_key, seed, mask_of, secret_point, stream_symbol};
-ghost use Rattle.hail_columns.specs.Objects.{Object, Shape, stripes, row_number, symbol_of, bytes_of_symbols, point, points};
-ghost use Rattle.hail_columns.specs.Columns.{differences, is_wrong};
-ghost use Rattle.hail_columns.specs.Opened.{SeenBlock};
+ghost use Rattle.hail_columns.specs.Objects.{Object, Shape, stripe_symbols, stripes, row_number, symbol_of, bytes_of_symbols, point, points};
+ghost use Rattle.hail_columns.specs.Columns.{column_of_symbols, is_wrong};
+ghost use Rattle.hail_columns.specs.Opened.{SeenBlock, bare};
 ghost use Rattle.hail_columns.specs.Forgeries.{IsForgery, IsStripeForgery};
 ghost use Rattle.hail_columns.specs.Challenges.{alpha, picked_row};
 
@@ -70,6 +71,12 @@ pub fn alpha_is_not_zero()
 /// All points of an object differ.
 pub fn points_differ()
     ensures { (o : Object) → o.shape.n ≤ 256 → Apart (points o) }
+{}
+
+/// A column without its masks is a server codeword, also that of a secondary provider.
+pub fn bare_column_is_codeword()
+    ensures { (o : Object) (symbols : List ℕ) (j stripe : ℕ) → length symbols ≡ stripe_symbols o → j < 256
+        → IsCodeword o.profile (bare o j stripe (column_of_symbols o symbols j stripe)) }
 {}
 
 /// A forgery among the blocks of one stripe is a forgery.

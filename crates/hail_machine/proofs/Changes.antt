@@ -1,5 +1,5 @@
 -- What an event may change, whatever the event is: the laws over runs are proved of this alone.
-use Rattle.std.proofs.Common.{◌≡◌, ℕ, ◌+◌, ◌<◌, ◌≤◌, true, false, ◌⊎◌, [], ◌∷◌, Some, None, refl, ap, sym, subst, ◌∙◌, inl, inr, arith}
+use Rattle.std.proofs.Common.{◌≡◌, ℕ, ◌+◌, ◌<◌, ◌≤◌, true, false, ◌⊎◌, List, [], ◌∷◌, Option, Some, None, refl, ap, sym, subst, ◌∙◌, inl, inr, arith}
 use Rattle.std.specs.Option.{option_map}
 use Rattle.hail_records.specs.Records.{Setup, SetUp}
 use Rattle.hail_records.specs.Table.{next_id, setup_of}
@@ -31,13 +31,21 @@ pub record GoesOn (before job : Job) : Type 0 where
   pub older : job.older ≡ before.older
   pub place : job.place ≡ before.place + 1
 
+-- the records after an event that did not touch the job of a number: as before, or with that of another job's append on top
+pub data Grown (old new : State) (k : ℕ) : Type 0 where
+  as_before : new.records ≡ old.records → Grown old new k
+  by_other : (x : Job) (a : Append) → job_of old.jobs x.number ≡ Some x → next_action old x ≡ Some SyncGate → old.append ≡ Some a → a.job ≡ x.number → (x.number ≡ k → ⊥) →
+      new.records ≡ a.entry ∷ old.records → Grown old new k
+
 -- a running job after an event
 pub data Job_is (limit moment : ℕ) (old new : State) (k : ℕ) (job : Job) : Type 0 where
-  kept : job_of old.jobs k ≡ Some job → Job_is limit moment old new k job
+  kept : job_of old.jobs k ≡ Some job → Grown old new k → Job_is limit moment old new k job
   begun : (kind : Kind) → job ≡ new_job old moment kind → k ≡ old.next_job → begin_refusal limit old kind ≡ None →
       new.records ≡ old.records → Job_is limit moment old new k job
   plain : (before : Job) (action : Action) → job_of old.jobs k ≡ Some before → next_action old before ≡ Some action → IsPlain action →
-      GoesOn before job → new.records ≡ old.records → Job_is limit moment old new k job
+      GoesOn before job → new.records ≡ old.records →
+      ((i o s : ℕ) (b : Option (List ℕ)) → action ≡ Store i o s → told_block new i o s ≡ Some b → b ≡ Some (block_to_store old before before.kind i o s)) →
+      Job_is limit moment old new k job
   drew : (before : Job) → job_of old.jobs k ≡ Some before → next_action old before ≡ Some WriteBody → old.append ≡ None →
       job ≡ record (advanced before) { subject = subject_drawn old before before.kind } → new.records ≡ old.records → Job_is limit moment old new k job
   finished : (before : Job) (a : Append) → job_of old.jobs k ≡ Some before → next_action old before ≡ Some SyncGate → old.append ≡ Some a →
@@ -74,6 +82,13 @@ pub record Rest (old new : State) : Type 0 where
   pub next : new.next_job ≡ old.next_job
   pub is_open : new.is_open ≡ old.is_open
   pub bytes : new.bytes ≡ old.bytes
+  pub doubt : (d : Doubt) → new.doubt ≡ Some d → (old.doubt ≡ Some d) ⊎ ((a : Append) × (old.append ≡ Some a) × (d.entry ≡ a.entry))
+
+-- a record in doubt after an event: it was so before, or is that of the append in flight, or a setup
+pub data Doubt_is (old new : State) (d : Doubt) : Type 0 where
+  kept : old.doubt ≡ Some d → new.records ≡ old.records → Doubt_is old new d
+  gated : (a : Append) → old.append ≡ Some a → d.entry ≡ a.entry → new.records ≡ old.records → Doubt_is old new d
+  set_up : (s : Setup) → d.entry ≡ SetUp s → Doubt_is old new d
 
 -- while no vault is open, no job runs and no append is in flight
 abbrev pub IsIdle : State → Type 0
@@ -84,6 +99,7 @@ pub record Changes (limit moment : ℕ) (old : State) (e : Event) (r : Outcome) 
   pub job : (k : ℕ) (j : Job) → job_of new.jobs k ≡ Some j → Job_is limit moment old new k j
   pub append : (a : Append) → new.append ≡ Some a → Append_is old new a
   pub records : Records_is old new
+  pub doubt : (d : Doubt) → new.doubt ≡ Some d → Doubt_is old new d
   pub numbers : ((new.jobs ≡ []) × (new.append ≡ None)) ⊎ (old.next_job ≤ new.next_job)
   pub next : (k : ℕ) (j : Job) → job_of new.jobs k ≡ Some j → (k < new.next_job) ⊎ (job_of old.jobs k ≡ Some j) ⊎ ((before : Job) × (job_of old.jobs k ≡ Some before))
   pub idle : IsIdle old → IsIdle new
@@ -95,9 +111,10 @@ module _ (limit moment : ℕ) (old : State) (e : Event) (r : Outcome) where
   pub only_devices : (new : State) → new.jobs ≡ old.jobs → new.append ≡ old.append → new.records ≡ old.records → Rest old new →
       ((i o s : ℕ) → Block_is old e r new i o s) → Changes limit moment old e r new
   only_devices new jobs append records rest block = record {
-    job = λ k j h. Job_is.kept (ap (λ l. job_of l k) (sym jobs) ∙ h);
+    job = λ k j h. Job_is.kept (ap (λ l. job_of l k) (sym jobs) ∙ h) (Grown.as_before records);
     append = λ a h. Append_is.kept a (sym append ∙ h) refl refl records;
     records = Records_is.same records;
+    doubt = λ d h. elim (rest.doubt d h) [ inl q ↦ Doubt_is.kept q records | inr q ↦ Doubt_is.gated q.0 q.1 q.2 records ];
     numbers = inr (omega (arith, rest.next));
     next = λ k j h. inr (inl (ap (λ l. job_of l k) (sym jobs) ∙ h));
     idle = λ f closed. (let p = f (sym rest.is_open ∙ closed) in (jobs ∙ p.0, append ∙ p.1));
@@ -107,14 +124,15 @@ module _ (limit moment : ℕ) (old : State) (e : Event) (r : Outcome) where
 
   pub unchanged : (new : State) → new ≡ old → Changes limit moment old e r new
   unchanged new is = subst (λ (w : State). Changes limit moment old e r w) (sym is)
-      (only_devices old refl refl refl (record { next = refl; is_open = refl; bytes = refl }) (λ i o s. Block_is.same refl))
+      (only_devices old refl refl refl (record { next = refl; is_open = refl; bytes = refl; doubt = λ d h. inl h }) (λ i o s. Block_is.same refl))
 
   -- all jobs are given up
-  pub gives_up : (new : State) → new.jobs ≡ [] → new.append ≡ None → Records_is old new → new.providers ≡ old.providers → new.bytes ≡ old.bytes → Changes limit moment old e r new
-  gives_up new jobs append records providers bytes = record {
+  pub gives_up : (new : State) → new.jobs ≡ [] → new.append ≡ None → Records_is old new → new.providers ≡ old.providers → new.bytes ≡ old.bytes → ((d : Doubt) → new.doubt ≡ Some d → Doubt_is old new d) → Changes limit moment old e r new
+  gives_up new jobs append records providers bytes doubts = record {
     job = λ k j h. absurd (found_none new.jobs k j jobs h);
     append = λ a h. absurd (let f : None ≡ Some a = sym append ∙ h in cc);
     records = records;
+    doubt = doubts;
     numbers = inl (jobs, append);
     next = λ k j h. absurd (found_none new.jobs k j jobs h);
     idle = λ f closed. (jobs, append);
@@ -126,12 +144,13 @@ module _ (limit moment : ℕ) (old : State) (e : Event) (r : Outcome) where
   pub ends : (new : State) (n : ℕ) → new.jobs ≡ without_job old.jobs n → (new.append ≡ old.append) ⊎ (new.append ≡ None) → new.records ≡ old.records → Rest old new →
       ((i o s : ℕ) → Block_is old e r new i o s) → Changes limit moment old e r new
   ends new n jobs append records rest block = record {
-    job = λ k j h. Job_is.kept (found_without old.jobs n k j (ap (λ l. job_of l k) (sym jobs) ∙ h)).1;
+    job = λ k j h. Job_is.kept (found_without old.jobs n k j (ap (λ l. job_of l k) (sym jobs) ∙ h)).1 (Grown.as_before records);
     append = λ a h. elim append [
       | inl stays ↦ Append_is.kept a (sym stays ∙ h) refl refl records
       | inr none ↦ absurd (let f : None ≡ Some a = sym none ∙ h in cc)
     ];
     records = Records_is.same records;
+    doubt = λ d h. elim (rest.doubt d h) [ inl q ↦ Doubt_is.kept q records | inr q ↦ Doubt_is.gated q.0 q.1 q.2 records ];
     numbers = inr (omega (arith, rest.next));
     next = λ k j h. inr (inl (found_without old.jobs n k j (ap (λ l. job_of l k) (sym jobs) ∙ h)).1);
     idle = λ f closed. (let p = f (sym rest.is_open ∙ closed) in (jobs ∙ ap (λ l. without_job l n) p.0, elim append [ inl stays ↦ stays ∙ p.1 | inr none ↦ none ]));
@@ -142,14 +161,17 @@ module _ (limit moment : ℕ) (old : State) (e : Event) (r : Outcome) where
   -- a job makes a plain action
   pub steps_plainly : (new : State) (before job : Job) (action : Action) → job_of old.jobs before.number ≡ Some before → next_action old before ≡ Some action → IsPlain action → GoesOn before job →
       new.jobs ≡ with_job old.jobs job → ((a : Append) → new.append ≡ Some a → (b : Append) × (old.append ≡ Some b) × (a.job ≡ b.job) × (a.entry ≡ b.entry)) →
-      new.records ≡ old.records → Rest old new → ((i o s : ℕ) → Block_is old e r new i o s) → Changes limit moment old e r new
-  steps_plainly new before job action runs next_is is_plain goes jobs append records rest block = record {
+      new.records ≡ old.records → Rest old new →
+      ((i o s : ℕ) (b : Option (List ℕ)) → action ≡ Store i o s → told_block new i o s ≡ Some b → b ≡ Some (block_to_store old before before.kind i o s)) →
+      ((i o s : ℕ) → Block_is old e r new i o s) → Changes limit moment old e r new
+  steps_plainly new before job action runs next_is is_plain goes jobs append records rest stores_it block = record {
     job = λ k j h. elim (found_with old.jobs job k j (ap (λ l. job_of l k) (sym jobs) ∙ h)) [
-      | inl p ↦ Job_is.plain before action (at k p.0) next_is is_plain (subst (λ (x : Job). GoesOn before x) (sym p.1) goes) records
-      | inr q ↦ Job_is.kept q.1
+      | inl p ↦ Job_is.plain before action (at k p.0) next_is is_plain (subst (λ (x : Job). GoesOn before x) (sym p.1) goes) records stores_it
+      | inr q ↦ Job_is.kept q.1 (Grown.as_before records)
     ];
     append = λ a h. (let b = append a h in Append_is.kept b.0 b.1 b.2 b.3 records);
     records = Records_is.same records;
+    doubt = λ d h. elim (rest.doubt d h) [ inl q ↦ Doubt_is.kept q records | inr q ↦ Doubt_is.gated q.0 q.1 q.2 records ];
     numbers = inr (omega (arith, rest.next));
     next = λ k j h. elim (found_with old.jobs job k j (ap (λ l. job_of l k) (sym jobs) ∙ h)) [
       | inl p ↦ inr (inr (before, at k p.0))

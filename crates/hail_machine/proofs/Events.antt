@@ -2,7 +2,7 @@
 use Rattle.std.proofs.Common.{◌≡◌, ℕ, ◌+◌, ◌<◌, ◌==◌, Bool, true, false, ◌⊎◌, ◌&&◌, List, [], ◌∷◌, Option, Some, None, refl, ap, sym, subst, ◌∙◌, inl, inr, arith}
 use Rattle.std.specs.Prelude.{IsSome, is_some, nat_lt}
 use Rattle.std.specs.Option.{option_map}
-use Rattle.std.proofs.lemmas.Bool.{eqb-true, eq-eqb, ne_eqb, cases_Bool, and_parts, false≢true}
+use Rattle.std.proofs.lemmas.Bool.{eqb-true, eq-eqb, ne_eqb, cases_Bool, and_parts, and_from, false≢true}
 use Rattle.hail_records.specs.Records.{Record, Setup, SetUp, is_setup}
 use Rattle.hail_records.specs.Table.{next_id, setup_of}
 use Rattle.hail_devices.specs.Providers.{Held, Provider, with_block, without_object, with_symbol, without_block, LosesPart, HasPlace}
@@ -19,12 +19,12 @@ use Rattle.hail_machine.specs.States.{State, Append, Doubt, with_provider, going
 use Rattle.hail_machine.specs.Begins.{new_job, Begins}
 use Rattle.hail_machine.specs.Appends.{Writes, begun_append, moved, doubted, done_append, barred, unappended, subject_drawn, bytes_drawn, is_first_append, taken_out, Moves}
 use Rattle.hail_machine.specs.Steps.{next_action, holder_of, block_to_store, FetchStep, AskStep, WorkStep, Acts, ActsOrWaits, StepsOn, StepsJob, StepsOpen, Steps}
-use Rattle.hail_machine.specs.Openings.{Stops, Reopens, InitsClosed, InitsBy, Inits, Continues}
+use Rattle.hail_machine.specs.Openings.{LeavesDoubt, Stops, Reopens, InitsClosed, InitsBy, Inits, Continues}
 use Rattle.hail_machine.specs.Replacements.{ReplacesAt, ReplacesIf}
 use Rattle.hail_machine.specs.Machine.{Lists, Happens}
 use Rattle.hail_machine.specs.Runs.{is_replacement}
 use Rattle.hail_machine.proofs.JobLists.{cond_true, cond_false, number_of, found_with, found_itself, found_more, found_none}
-use Rattle.hail_machine.proofs.Changes.{IsPlain, GoesOn, Job_is, Append_is, Records_is, Block_is, Rest, IsIdle, Changes, only_devices, unchanged, gives_up, ends, steps_plainly}
+use Rattle.hail_machine.proofs.Changes.{IsPlain, GoesOn, Job_is, Append_is, Records_is, Block_is, Rest, Doubt_is, Grown, IsIdle, Changes, only_devices, unchanged, gives_up, ends, steps_plainly}
 
 -- what a provider tells of a block
 abbrev told : Provider → ℕ → ℕ → Option (Option (List ℕ))
@@ -85,6 +85,53 @@ drawn_bytes w job (DropJob name) o l = refl
 drawn_bytes w job AuditJob o l = refl
 drawn_bytes w job RepairJob o l = refl
 
+-- an action that stores nothing
+abbrev IsNoStore : Action → Type 0
+IsNoStore (Store j object stripe) = ⊥
+IsNoStore action = Unit {0}
+
+not_stored : (action : Action) (i o s : ℕ) → IsNoStore action → action ≡ Store i o s → ⊥
+not_stored action i o s h e = subst IsNoStore e h
+
+pub some_told : (block : List ℕ) (held : Option Held) (b : Option (List ℕ)) → option_map (λ (h : Held). Some block) held ≡ Some b → b ≡ Some block
+some_told block None b h = (let e : None ≡ Some b = h in cc)
+some_told block (Some g) b h = (let e : Some (Some block) ≡ Some b = h in sym (let f : Some block ≡ b = cc in f))
+
+-- what a store leaves where it stored
+stored_value : (old : State) (job : Job) (j object stripe : ℕ) (p : Provider) → Stores object stripe (block_to_store old job job.kind j object stripe) (old.providers j) p →
+    (i o s : ℕ) (b : Option (List ℕ)) → Store j object stripe ≡ Store i o s → told (with_provider old.providers j p i) o s ≡ Some b → b ≡ Some (block_to_store old job job.kind i o s)
+stored_value old job j object stripe p call i o s b e h =
+    subst (λ (a : Action). Value a) e here
+  where
+    Value : Action → Type 0
+    Value (Store x y z) = b ≡ Some (block_to_store old job job.kind x y z)
+    Value a = Unit {0}
+
+    ij : j ≡ i
+    ij = (let f = e in cc)
+
+    oo : object ≡ o
+    oo = (let f = e in cc)
+
+    ss : stripe ≡ s
+    ss = (let f = e in cc)
+
+    told_here : told p object stripe ≡ Some b
+    told_here = ap (λ (q : Provider). told q object stripe) (sym (cond_true (j == j) p (old.providers j) (eq-eqb j j refl)))
+        ∙ (ap (λ n. told (with_provider old.providers j p n) object stripe) ij ∙ (ap (λ n. told (with_provider old.providers j p i) n stripe) oo ∙ (ap (λ n. told (with_provider old.providers j p i) o n) ss ∙ h)))
+
+    here : b ≡ Some (block_to_store old job job.kind j object stripe)
+    here = elim (set_block object stripe (block_to_store old job job.kind j object stripe) (old.providers j).held object stripe) [
+      | inl hit ↦ some_told (block_to_store old job job.kind j object stripe) (old.providers j).held b (sym hit.2 ∙ (ap (λ (x : Option Held). option_map (λ (g : Held). g object stripe) x) (sym call.held) ∙ told_here))
+      | inr miss ↦ some_at (old.providers j).held (ap (λ (x : Option Held). option_map (λ (g : Held). g object stripe) x) (sym call.held) ∙ told_here)
+    ]
+      where
+        some_at : (held : Option Held) → option_map (λ (g : Held). g object stripe) (option_map (with_block object stripe (block_to_store old job job.kind j object stripe)) held) ≡ Some b → b ≡ Some (block_to_store old job job.kind j object stripe)
+        some_at None g = (let f : None ≡ Some b = g in cc)
+        some_at (Some x) g = (let f : Some (with_block object stripe (block_to_store old job job.kind j object stripe) x object stripe) ≡ Some b = g in
+            let k : with_block object stripe (block_to_store old job job.kind j object stripe) x object stripe ≡ b = cc in
+            sym k ∙ cond_true ((object == object) && (stripe == stripe)) (Some (block_to_store old job job.kind j object stripe)) (x object stripe) (and_from (object == object) (stripe == stripe) (eq-eqb object object refl) (eq-eqb stripe stripe refl)))
+
 module _ (limit moment : ℕ) (old : State) where
   -- of a call that leaves what the provider holds
   leaves : (e : Event) (r : Outcome) (j : ℕ) (p : Provider) (new : State) → p.held ≡ (old.providers j).held → new.providers ≡ with_provider old.providers j p → (i o s : ℕ) → Block_is old e r new i o s
@@ -113,7 +160,8 @@ module _ (limit moment : ℕ) (old : State) where
     stores : (j object stripe : ℕ) (new : State) → next_action old job ≡ Some (Store j object stripe) →
         ProviderCall old j (Stores object stripe (block_to_store old job job.kind j object stripe)) (going_on old (advanced job)) new → Result More new
     stores j object stripe new next_is (p, call, is) = subst (λ (w : State). Result More w) (sym is)
-        (steps_plainly limit moment old (Step job.number) More (record (going_on old (advanced job)) { providers = with_provider old.providers j p }) job (advanced job) (Store j object stripe) runs next_is tt on_advanced refl same_append refl (record { next = refl; is_open = refl; bytes = refl })
+        (steps_plainly limit moment old (Step job.number) More (record (going_on old (advanced job)) { providers = with_provider old.providers j p }) job (advanced job) (Store j object stripe) runs next_is tt on_advanced refl same_append refl (record { next = refl; is_open = refl; bytes = refl; doubt = λ d h. inl h })
+        (λ i o s b e h. stored_value old job j object stripe p call i o s b e h)
         (λ i o s. elim (called old.providers j p i o s) [
           | inl q ↦ elim (set_block object stripe (block_to_store old job job.kind j object stripe) (old.providers j).held o s) [
             | inl hit ↦ Block_is.stored job runs (next_is ∙ ap Some (place i o s q.0 hit.0 hit.1))
@@ -134,30 +182,30 @@ module _ (limit moment : ℕ) (old : State) where
 
     store_fails : (j k : ℕ) (new : State) → ProviderCall old j FailsToStore (ended old job) new → Result (Ended (answer.ProviderFault k)) new
     store_fails j k new (p, call, is) = subst (λ (w : State). Result (Ended (answer.ProviderFault k)) w) (sym is)
-        (ends limit moment old (Step job.number) (Ended (answer.ProviderFault k)) (record (ended old job) { providers = with_provider old.providers j p }) job.number refl (inl refl) refl (record { next = refl; is_open = refl; bytes = refl }) (leaves (Step job.number) (Ended (answer.ProviderFault k)) j p _ call.held refl))
+        (ends limit moment old (Step job.number) (Ended (answer.ProviderFault k)) (record (ended old job) { providers = with_provider old.providers j p }) job.number refl (inl refl) refl (record { next = refl; is_open = refl; bytes = refl; doubt = λ d h. inl h }) (leaves (Step job.number) (Ended (answer.ProviderFault k)) j p _ call.held refl))
 
     store_memory : (j : ℕ) (new : State) → ProviderCall old j FindsNoMemory (ended old job) new → Result (Ended answer.Memory) new
     store_memory j new (p, call, is) = subst (λ (w : State). Result (Ended answer.Memory) w) (sym is)
-        (ends limit moment old (Step job.number) (Ended answer.Memory) (record (ended old job) { providers = with_provider old.providers j p }) job.number refl (inl refl) refl (record { next = refl; is_open = refl; bytes = refl }) (leaves (Step job.number) (Ended answer.Memory) j p _ call.held refl))
+        (ends limit moment old (Step job.number) (Ended answer.Memory) (record (ended old job) { providers = with_provider old.providers j p }) job.number refl (inl refl) refl (record { next = refl; is_open = refl; bytes = refl; doubt = λ d h. inl h }) (leaves (Step job.number) (Ended answer.Memory) j p _ call.held refl))
 
     fetches : (j object stripe : ℕ) (new : State) → next_action old job ≡ Some (Fetch j object stripe) → FetchStep old job j object stripe new → Result More new
     fetches j object stripe new next_is (block, (p, call, is)) = subst (λ (w : State). Result More w) (sym is)
-        (steps_plainly limit moment old (Step job.number) More (record (going_on old (advanced_with job (Fetched j object stripe block))) { providers = with_provider old.providers j p }) job (advanced_with job (Fetched j object stripe block)) (Fetch j object stripe) runs next_is tt (on (Fetched j object stripe block)) refl same_append refl (record { next = refl; is_open = refl; bytes = refl })
+        (steps_plainly limit moment old (Step job.number) More (record (going_on old (advanced_with job (Fetched j object stripe block))) { providers = with_provider old.providers j p }) job (advanced_with job (Fetched j object stripe block)) (Fetch j object stripe) runs next_is tt (on (Fetched j object stripe block)) refl same_append refl (record { next = refl; is_open = refl; bytes = refl; doubt = λ d h. inl h }) (λ i o s b e h. absurd (not_stored _ i o s tt e))
         (leaves (Step job.number) More j p _ call.held refl))
 
     asks : (j object round : ℕ) (new : State) → next_action old job ≡ Some (Ask j object round) → AskStep old job j object round new → Result More new
     asks j object round new next_is (symbol, (p, call, is)) = subst (λ (w : State). Result More w) (sym is)
-        (steps_plainly limit moment old (Step job.number) More (record (going_on old (advanced_with job (Answered j object round symbol))) { providers = with_provider old.providers j p }) job (advanced_with job (Answered j object round symbol)) (Ask j object round) runs next_is tt (on (Answered j object round symbol)) refl same_append refl (record { next = refl; is_open = refl; bytes = refl })
+        (steps_plainly limit moment old (Step job.number) More (record (going_on old (advanced_with job (Answered j object round symbol))) { providers = with_provider old.providers j p }) job (advanced_with job (Answered j object round symbol)) (Ask j object round) runs next_is tt (on (Answered j object round symbol)) refl same_append refl (record { next = refl; is_open = refl; bytes = refl; doubt = λ d h. inl h }) (λ i o s b e h. absurd (not_stored _ i o s tt e))
         (leaves (Step job.number) More j p _ call.held refl))
 
     works : (object stripe : ℕ) (new : State) → next_action old job ≡ Some (Work object stripe) → WorkStep old job object stripe new → Result More new
     works object stripe new next_is (symbols, gives, is) = subst (λ (w : State). Result More w) (sym is)
-        (steps_plainly limit moment old (Step job.number) More (going_on old (advanced_with job (Worked object stripe symbols))) job (advanced_with job (Worked object stripe symbols)) (Work object stripe) runs next_is tt (on (Worked object stripe symbols)) refl same_append refl (record { next = refl; is_open = refl; bytes = refl })
+        (steps_plainly limit moment old (Step job.number) More (going_on old (advanced_with job (Worked object stripe symbols))) job (advanced_with job (Worked object stripe symbols)) (Work object stripe) runs next_is tt (on (Worked object stripe symbols)) refl same_append refl (record { next = refl; is_open = refl; bytes = refl; doubt = λ d h. inl h }) (λ i o s b e h. absurd (not_stored _ i o s tt e))
         (λ i o s. Block_is.same refl))
 
     removes : (j object : ℕ) (new : State) → next_action old job ≡ Some (Remove j object) → ProviderCall old j (Removes object) (going_on old (advanced job)) new → Result More new
     removes j object new next_is (p, call, is) = subst (λ (w : State). Result More w) (sym is)
-        (steps_plainly limit moment old (Step job.number) More (record (going_on old (advanced job)) { providers = with_provider old.providers j p }) job (advanced job) (Remove j object) runs next_is tt on_advanced refl same_append refl (record { next = refl; is_open = refl; bytes = refl })
+        (steps_plainly limit moment old (Step job.number) More (record (going_on old (advanced job)) { providers = with_provider old.providers j p }) job (advanced job) (Remove j object) runs next_is tt on_advanced refl same_append refl (record { next = refl; is_open = refl; bytes = refl; doubt = λ d h. inl h }) (λ i o s b e h. absurd (not_stored _ i o s tt e))
         (λ i o s. elim (called old.providers j p i o s) [
           | inl q ↦ elim (removed_block object (old.providers j) p o s call) [
             | inl hit ↦ Block_is.removed job runs (next_is ∙ ap Some (place i o q.0 hit))
@@ -171,33 +219,34 @@ module _ (limit moment : ℕ) (old : State) where
 
     -- a job ends, and no device changes but for the disk's count
     just_ends : (r : Outcome) (new : State) → new ≡ ended old job → Result r new
-    just_ends r new is = subst (λ (w : State). Result r w) (sym is) (ends limit moment old (Step job.number) r (ended old job) job.number refl (inl refl) refl (record { next = refl; is_open = refl; bytes = refl }) (λ i o s. Block_is.same refl))
+    just_ends r new is = subst (λ (w : State). Result r w) (sym is) (ends limit moment old (Step job.number) r (ended old job) job.number refl (inl refl) refl (record { next = refl; is_open = refl; bytes = refl; doubt = λ d h. inl h }) (λ i o s. Block_is.same refl))
 
     ends_barred : (r : Outcome) (left new : State) → left.jobs ≡ without_job old.jobs job.number → (left.append ≡ old.append) ⊎ (left.append ≡ None) → left.records ≡ old.records → Rest old left → left.providers ≡ old.providers →
         (faults : ℕ) → new ≡ record left { disk_faults = faults } → Result r new
     ends_barred r left new jobs append records rest providers faults is = subst (λ (w : State). Result r w) (sym is)
-        (ends limit moment old (Step job.number) r (record left { disk_faults = faults }) job.number jobs append records (record { next = rest.next; is_open = rest.is_open; bytes = rest.bytes }) (λ i o s. Block_is.same (ap (λ p. told (p i) o s) providers)))
+        (ends limit moment old (Step job.number) r (record left { disk_faults = faults }) job.number jobs append records (record { next = rest.next; is_open = rest.is_open; bytes = rest.bytes; doubt = rest.doubt }) (λ i o s. Block_is.same (ap (λ p. told (p i) o s) providers)))
 
     -- moves of the append in flight
-    moves_on : (a : Append) (action : Action) (left new : State) → old.append ≡ Some a → next_action old job ≡ Some action → IsPlain action →
+    moves_on : (a : Append) (action : Action) (left new : State) → IsNoStore action → old.append ≡ Some a → next_action old job ≡ Some action → IsPlain action →
         left.jobs ≡ with_job old.jobs (advanced job) → left.append ≡ Some (record a { moves = a.moves + 1 }) → left.records ≡ old.records → Rest old left → left.providers ≡ old.providers →
         (faults : ℕ) → new ≡ record left { disk_faults = faults } → Result More new
-    moves_on a action left new flight next_is is_plain jobs append records rest providers faults is = subst (λ (w : State). Result More w) (sym is)
+    moves_on a action left new stores_not flight next_is is_plain jobs append records rest providers faults is = subst (λ (w : State). Result More w) (sym is)
         (steps_plainly limit moment old (Step job.number) More (record left { disk_faults = faults }) job (advanced job) action runs next_is is_plain on_advanced jobs
         (λ b h. (let e : Some (record a { moves = a.moves + 1 }) ≡ Some b = sym append ∙ h in
         let f : record a { moves = a.moves + 1 } ≡ b = cc in
         (a, flight, sym (ap (λ (x : Append). x.job) f), sym (ap (λ (x : Append). x.entry) f))))
-        records (record { next = rest.next; is_open = rest.is_open; bytes = rest.bytes }) (λ i o s. Block_is.same (ap (λ p. told (p i) o s) providers)))
+        records (record { next = rest.next; is_open = rest.is_open; bytes = rest.bytes; doubt = rest.doubt }) (λ i o s b e h. absurd (not_stored action i o s stores_not e)) (λ i o s. Block_is.same (ap (λ p. told (p i) o s) providers)))
 
     begins_append : (entry : Record) (new : State) → next_action old job ≡ Some WriteBody → old.append ≡ None → Writes old job job.kind entry → DiskCall old (begun_append old job entry) new → Result More new
     begins_append entry new next_is none writes (faults, low, is) = subst (λ (w : State). Result More w) (sym is) (record {
       job = λ k j h. elim (found_with old.jobs drawn k j h) [
         | inl p ↦ Job_is.drew job (at k p.0) next_is none p.1 refl
-        | inr q ↦ Job_is.kept q.1
+        | inr q ↦ Job_is.kept q.1 (Grown.as_before refl)
       ];
       append = λ a h. (let f : record { job = job.number; entry = entry; moves = 1 } ≡ a = (let e : Some (record { job = job.number; entry = entry; moves = 1 }) ≡ Some a = h in cc) in
           Append_is.drew job runs next_is (sym (ap (λ (x : Append). x.job) f)) (subst (λ (x : Record). Writes old job job.kind x) (ap (λ (x : Append). x.entry) f) writes) (found_itself old.jobs drawn job runs) refl);
       records = Records_is.same refl;
+      doubt = λ d g. Doubt_is.kept g refl;
       numbers = inr (omega arith);
       next = λ k j h. elim (found_with old.jobs drawn k j h) [ inl p ↦ inr (inr (job, at k p.0)) | inr q ↦ inr (inl q.1) ];
       idle = λ f closed. (let p = f closed in absurd (found_none old.jobs job.number job p.0 runs));
@@ -215,10 +264,11 @@ module _ (limit moment : ℕ) (old : State) where
     finishes a new next_is flight mine (faults, low, is) = subst (λ (w : State). Result More w) (sym is) (record {
       job = λ k j h. elim (found_with old.jobs decided k j h) [
         | inl p ↦ Job_is.finished job a (at k p.0) next_is flight (mine ∙ sym p.0) p.1 refl refl
-        | inr q ↦ Job_is.kept q.1
+        | inr q ↦ Job_is.kept q.1 (Grown.by_other job a runs next_is flight mine (λ same. q.0 (sym same)) refl)
       ];
       append = λ b h. absurd (let e : None ≡ Some b = h in cc);
       records = Records_is.finished job a runs next_is flight mine refl;
+      doubt = λ d h. absurd (let e : None ≡ Some d = h in cc);
       numbers = inr (omega arith);
       next = λ k j h. elim (found_with old.jobs decided k j h) [ inl p ↦ inr (inr (job, at k p.0)) | inr q ↦ inr (inl q.1) ];
       idle = λ f closed. (let p = f closed in absurd (found_none old.jobs job.number job p.0 runs));
@@ -232,19 +282,22 @@ module _ (limit moment : ℕ) (old : State) where
         at : (k : ℕ) → k ≡ job.number → job_of old.jobs k ≡ Some job
         at k same = subst (λ n. job_of old.jobs n ≡ Some job) (sym same) runs
 
+    in_doubt : (a : Append) (d : Doubt) → Some (record { entry = a.entry; maker = Some (advanced job) }) ≡ Some d → d.entry ≡ a.entry
+    in_doubt a d h = (let e : record { entry = a.entry; maker = Some (advanced job) } ≡ d = cc in sym (ap (λ (x : Doubt). x.entry) e))
+
     moves : (action : Action) (flight : Option Append) (r : Outcome) (new : State) → old.append ≡ flight → next_action old job ≡ Some action → holder_of flight action ≡ None →
         Moves old job action flight r new → Result r new
     moves WriteBody None More new flight next_is free (entry, writes, call) = begins_append entry new next_is flight writes call
     moves WriteBody (Some a) r new flight next_is free h = absurd (let e : Some a.job ≡ None = free in cc)
-    moves WriteBody None (Ended answer.DiskFault) new flight next_is free (faults, low, rose, is) = ends_barred (Ended answer.DiskFault) (barred (ended old job)) new refl (inr refl) refl (record { next = refl; is_open = refl; bytes = refl }) refl faults is
-    moves WriteBody None (Ended answer.Memory) new flight next_is free (faults, low, is) = ends_barred (Ended answer.Memory) (ended old job) new refl (inl refl) refl (record { next = refl; is_open = refl; bytes = refl }) refl faults is
-    moves SyncBody (Some a) More new flight next_is free (at, (faults, low, is)) = moves_on a SyncBody (moved (going_on old (advanced job)) a) new flight next_is tt refl refl refl (record { next = refl; is_open = refl; bytes = refl }) refl faults is
-    moves SyncBody (Some a) (Ended answer.DiskFault) new flight next_is free (at, (faults, low, rose, is)) = ends_barred (Ended answer.DiskFault) (barred (ended old job)) new refl (inr refl) refl (record { next = refl; is_open = refl; bytes = refl }) refl faults is
-    moves WriteGate (Some a) More new flight next_is free (at, (faults, low, is)) = moves_on a WriteGate (doubted (moved (going_on old (advanced job)) a) a job) new flight next_is tt refl refl refl (record { next = refl; is_open = refl; bytes = refl }) refl faults is
-    moves WriteGate (Some a) (Ended answer.DiskFault) new flight next_is free (at, (faults, low, rose, is)) = ends_barred (Ended answer.DiskFault) (doubted (barred (ended old job)) a job) new refl (inr refl) refl (record { next = refl; is_open = refl; bytes = refl }) refl faults is
-    moves WriteGate (Some a) (Ended answer.Memory) new flight next_is free (at, (faults, low, is)) = ends_barred (Ended answer.Memory) (unappended (ended old job)) new refl (inr refl) refl (record { next = refl; is_open = refl; bytes = refl }) refl faults is
+    moves WriteBody None (Ended answer.DiskFault) new flight next_is free (faults, low, rose, is) = ends_barred (Ended answer.DiskFault) (barred (ended old job)) new refl (inr refl) refl (record { next = refl; is_open = refl; bytes = refl; doubt = λ d h. inl h }) refl faults is
+    moves WriteBody None (Ended answer.Memory) new flight next_is free (faults, low, is) = ends_barred (Ended answer.Memory) (ended old job) new refl (inl refl) refl (record { next = refl; is_open = refl; bytes = refl; doubt = λ d h. inl h }) refl faults is
+    moves SyncBody (Some a) More new flight next_is free (at, (faults, low, is)) = moves_on a SyncBody (moved (going_on old (advanced job)) a) new tt flight next_is tt refl refl refl (record { next = refl; is_open = refl; bytes = refl; doubt = λ d h. inl h }) refl faults is
+    moves SyncBody (Some a) (Ended answer.DiskFault) new flight next_is free (at, (faults, low, rose, is)) = ends_barred (Ended answer.DiskFault) (barred (ended old job)) new refl (inr refl) refl (record { next = refl; is_open = refl; bytes = refl; doubt = λ d h. inl h }) refl faults is
+    moves WriteGate (Some a) More new flight next_is free (at, (faults, low, is)) = moves_on a WriteGate (doubted (moved (going_on old (advanced job)) a) a job) new tt flight next_is tt refl refl refl (record { next = refl; is_open = refl; bytes = refl; doubt = λ d h. inr (a, flight, in_doubt a d h) }) refl faults is
+    moves WriteGate (Some a) (Ended answer.DiskFault) new flight next_is free (at, (faults, low, rose, is)) = ends_barred (Ended answer.DiskFault) (doubted (barred (ended old job)) a job) new refl (inr refl) refl (record { next = refl; is_open = refl; bytes = refl; doubt = λ d h. inr (a, flight, in_doubt a d h) }) refl faults is
+    moves WriteGate (Some a) (Ended answer.Memory) new flight next_is free (at, (faults, low, is)) = ends_barred (Ended answer.Memory) (unappended (ended old job)) new refl (inr refl) refl (record { next = refl; is_open = refl; bytes = refl; doubt = λ d h. inl h }) refl faults is
     moves SyncGate (Some a) More new flight next_is free (at, call) = finishes a new next_is flight at.0 call
-    moves SyncGate (Some a) (Ended answer.DiskFault) new flight next_is free (at, (faults, low, rose, is)) = ends_barred (Ended answer.DiskFault) (barred (ended old job)) new refl (inr refl) refl (record { next = refl; is_open = refl; bytes = refl }) refl faults is
+    moves SyncGate (Some a) (Ended answer.DiskFault) new flight next_is free (at, (faults, low, rose, is)) = ends_barred (Ended answer.DiskFault) (barred (ended old job)) new refl (inr refl) refl (record { next = refl; is_open = refl; bytes = refl; doubt = λ d h. inl h }) refl faults is
     moves action flight r new e next_is free h = absurd h
 
     acts : (action : Action) (r : Outcome) (new : State) → next_action old job ≡ Some action → holder_of old.append action ≡ None → Acts old job action r new → Result r new
@@ -290,10 +343,11 @@ module _ (limit moment : ℕ) (old : State) where
   begins kind (Begun job) new h = subst (λ (w : State). Changes limit moment old (Begin kind) (Begun job) w) (sym h.3) (record {
     job = λ k j f. elim (found_more old.jobs (new_job old moment kind) k j f) [
       | inl p ↦ Job_is.begun kind p.1 p.0 h.1 refl
-      | inr q ↦ Job_is.kept q
+      | inr q ↦ Job_is.kept q (Grown.as_before refl)
     ];
     append = λ a f. Append_is.kept a f refl refl refl;
     records = Records_is.same refl;
+    doubt = λ d g. Doubt_is.kept g refl;
     numbers = inr (omega arith);
     next = λ k j f. elim (found_more old.jobs (new_job old moment kind) k j f) [
       | inl p ↦ inl (omega (arith, p.0))
@@ -315,31 +369,31 @@ module _ (limit moment : ℕ) (old : State) where
   settled_jobs left mid (inl is) = (ap (λ (w : State). w.jobs) is, ap (λ (w : State). w.append) is, ap (λ (w : State). w.providers) is, ap (λ (w : State). w.bytes) is, ap (λ (w : State). w.is_open) is)
   settled_jobs left mid (inr (d, in_doubt, is)) = (ap (λ (w : State). w.jobs) is, ap (λ (w : State). w.append) is, ap (λ (w : State). w.providers) is, ap (λ (w : State). w.bytes) is, ap (λ (w : State). w.is_open) is)
 
+  settled_doubt : (left mid : State) → Settles left mid → mid.doubt ≡ None
+  settled_doubt left mid (inl is) = ap (λ (w : State). w.doubt) is
+  settled_doubt left mid (inr (d, in_doubt, is)) = ap (λ (w : State). w.doubt) is
+
   records_of : (mid new : State) → new.records ≡ mid.records → (mid.records ≡ old.records) ⊎ ((d : Doubt) × (old.doubt ≡ Some d) × (mid.records ≡ d.entry ∷ old.records)) → Records_is old new
   records_of mid new is (inl e) = Records_is.same (is ∙ e)
   records_of mid new is (inr (d, in_doubt, e)) = Records_is.settled d in_doubt (is ∙ e)
 
   -- a reopening or a stop that settles
-  settles : (e : Event) (r : Outcome) (mid new : State) → Settles (given_up old) mid → new.jobs ≡ mid.jobs → new.append ≡ mid.append → new.providers ≡ mid.providers → new.records ≡ mid.records → new.bytes ≡ mid.bytes → Changes limit moment old e r new
-  settles e r mid new s jobs append providers records bytes =
+  settles : (e : Event) (r : Outcome) (mid new : State) → Settles (given_up old) mid → new.jobs ≡ mid.jobs → new.append ≡ mid.append → new.providers ≡ mid.providers → new.records ≡ mid.records → new.bytes ≡ mid.bytes → new.doubt ≡ mid.doubt → Changes limit moment old e r new
+  settles e r mid new s jobs append providers records bytes doubt =
       let j = settled_jobs (given_up old) mid s in
-      gives_up limit moment old e r new (jobs ∙ j.0) (append ∙ j.1) (records_of mid new records (settled_records (given_up old) mid refl refl s)) (providers ∙ j.2) (bytes ∙ j.3)
+      gives_up limit moment old e r new (jobs ∙ j.0) (append ∙ j.1) (records_of mid new records (settled_records (given_up old) mid refl refl s)) (providers ∙ j.2) (bytes ∙ j.3) (λ d h. absurd (let f : None ≡ Some d = sym (doubt ∙ settled_doubt (given_up old) mid s) ∙ h in cc))
 
   stops : (picks : List ℕ) (r : Outcome) (new : State) → Stops old r new → Changes limit moment old (Stop picks) r new
-  stops picks Stopped new h = settles (Stop picks) Stopped new new h refl refl refl refl refl
+  stops picks Stopped new h = settles (Stop picks) Stopped new new h refl refl refl refl refl refl
   stops picks r new h = absurd h
 
   reopens : (r : Outcome) (new : State) → Reopens old r new → Changes limit moment old Reopen r new
-  reopens Opened new (mid, s, up, enough, (faults, low, is)) = subst (λ (w : State). Changes limit moment old Reopen Opened w) (sym is) (settles Reopen Opened mid (record mid { is_open = true; disk_faults = faults }) s refl refl refl refl refl)
-  reopens (Refused refusal.NotSetUp) new (mid, s, none, (faults, low, is)) = subst (λ (w : State). Changes limit moment old Reopen (Refused refusal.NotSetUp) w) (sym is) (settles Reopen (Refused refusal.NotSetUp) mid (record mid { disk_faults = faults }) s refl refl refl refl refl)
-  reopens (Refused refusal.TooFewProviders) new (mid, s, up, few, (faults, low, is)) = subst (λ (w : State). Changes limit moment old Reopen (Refused refusal.TooFewProviders) w) (sym is) (settles Reopen (Refused refusal.TooFewProviders) mid (record mid { disk_faults = faults }) s refl refl refl refl refl)
-  reopens (Refused refusal.DiskFault) new (faults, low, rose, is) = subst (λ (w : State). Changes limit moment old Reopen (Refused refusal.DiskFault) w) (sym is) (gives_up limit moment old Reopen (Refused refusal.DiskFault) (record (given_up old) { disk_faults = faults }) refl refl (Records_is.same refl) refl refl)
-  reopens (Refused refusal.Memory) new (faults, low, is) = subst (λ (w : State). Changes limit moment old Reopen (Refused refusal.Memory) w) (sym is) (gives_up limit moment old Reopen (Refused refusal.Memory) (record (given_up old) { disk_faults = faults }) refl refl (Records_is.same refl) refl refl)
+  reopens Opened new (mid, s, up, enough, (faults, low, is)) = subst (λ (w : State). Changes limit moment old Reopen Opened w) (sym is) (settles Reopen Opened mid (record mid { is_open = true; disk_faults = faults }) s refl refl refl refl refl refl)
+  reopens (Refused refusal.NotSetUp) new (mid, s, none, (faults, low, is)) = subst (λ (w : State). Changes limit moment old Reopen (Refused refusal.NotSetUp) w) (sym is) (settles Reopen (Refused refusal.NotSetUp) mid (record mid { disk_faults = faults }) s refl refl refl refl refl refl)
+  reopens (Refused refusal.TooFewProviders) new (mid, s, up, few, (faults, low, is)) = subst (λ (w : State). Changes limit moment old Reopen (Refused refusal.TooFewProviders) w) (sym is) (settles Reopen (Refused refusal.TooFewProviders) mid (record mid { disk_faults = faults }) s refl refl refl refl refl refl)
+  reopens (Refused refusal.DiskFault) new (faults, low, rose, is) = subst (λ (w : State). Changes limit moment old Reopen (Refused refusal.DiskFault) w) (sym is) (gives_up limit moment old Reopen (Refused refusal.DiskFault) (record (given_up old) { disk_faults = faults }) refl refl (Records_is.same refl) refl refl (λ d h. Doubt_is.kept h refl))
+  reopens (Refused refusal.Memory) new (faults, low, is) = subst (λ (w : State). Changes limit moment old Reopen (Refused refusal.Memory) w) (sym is) (gives_up limit moment old Reopen (Refused refusal.Memory) (record (given_up old) { disk_faults = faults }) refl refl (Records_is.same refl) refl refl (λ d h. Doubt_is.kept h refl))
   reopens r new h = absurd h
-
-  -- an init while no vault is open: no job runs
-  inits_idle : (e : Event) (r : Outcome) (new : State) → new.jobs ≡ [] → new.append ≡ None → Records_is old new → new.providers ≡ old.providers → new.bytes ≡ old.bytes → Changes limit moment old e r new
-  inits_idle e r new jobs append records providers bytes = gives_up limit moment old e r new jobs append records providers bytes
 
   none_setup : (o : Option Setup) → is_some o ≡ false → o ≡ None
   none_setup None h = refl
@@ -350,19 +404,24 @@ module _ (limit moment : ℕ) (old : State) where
   set_up_of s mid new is none (inl e) = Records_is.set_up s (ap setup_of (sym e) ∙ none) (is ∙ ap (λ rs. SetUp s ∷ rs) e)
   set_up_of s mid new is none (inr (d, in_doubt, e)) = Records_is.settled_set_up s d in_doubt (ap setup_of (sym e) ∙ none) (is ∙ ap (λ rs. SetUp s ∷ rs) e)
 
+  left_doubt : (s : Setup) (doubt : Option Doubt) → LeavesDoubt old s doubt → (d : Doubt) → doubt ≡ Some d → (new : State) → new.records ≡ old.records → Doubt_is old new d
+  left_doubt s doubt (inl is) d h new rec = Doubt_is.kept (sym is ∙ h) rec
+  left_doubt s doubt (inr (none, is)) d h new rec = (let e : Some (record { entry = SetUp s; maker = None }) ≡ Some d = sym is ∙ h in
+      let f : record { entry = SetUp s; maker = None } ≡ d = cc in Doubt_is.set_up s (sym (ap (λ (x : Doubt). x.entry) f)))
+
   inits_closed : (s : Setup) (r : Outcome) (new : State) → (old.jobs ≡ []) × (old.append ≡ None) → InitsClosed old s r new → Changes limit moment old (Init s) r new
   inits_closed s (Refused refusal.DiskFault) new idle (doubt, leaves_it, (faults, low, rose, is)) = subst (λ (w : State). Changes limit moment old (Init s) (Refused refusal.DiskFault) w) (sym is)
-      (gives_up limit moment old (Init s) (Refused refusal.DiskFault) (record old { doubt = doubt; disk_faults = faults }) idle.0 idle.1 (Records_is.same refl) refl refl)
+      (gives_up limit moment old (Init s) (Refused refusal.DiskFault) (record old { doubt = doubt; disk_faults = faults }) idle.0 idle.1 (Records_is.same refl) refl refl (λ d h. left_doubt s doubt leaves_it d h _ refl))
   inits_closed s (Refused refusal.Memory) new idle (doubt, leaves_it, (faults, low, is)) = subst (λ (w : State). Changes limit moment old (Init s) (Refused refusal.Memory) w) (sym is)
-      (gives_up limit moment old (Init s) (Refused refusal.Memory) (record old { doubt = doubt; disk_faults = faults }) idle.0 idle.1 (Records_is.same refl) refl refl)
+      (gives_up limit moment old (Init s) (Refused refusal.Memory) (record old { doubt = doubt; disk_faults = faults }) idle.0 idle.1 (Records_is.same refl) refl refl (λ d h. left_doubt s doubt leaves_it d h _ refl))
   inits_closed s (Refused refusal.Already) new idle (mid, settled, up, (faults, low, is)) = (let j = settled_jobs old mid settled in
       subst (λ (w : State). Changes limit moment old (Init s) (Refused refusal.Already) w) (sym is)
       (gives_up limit moment old (Init s) (Refused refusal.Already) (record mid { disk_faults = faults }) (j.0 ∙ idle.0) (j.1 ∙ idle.1)
-      (records_of mid (record mid { disk_faults = faults }) refl (settled_records old mid refl refl settled)) j.2 j.3))
+      (records_of mid (record mid { disk_faults = faults }) refl (settled_records old mid refl refl settled)) j.2 j.3 (λ d h. absurd (let f : None ≡ Some d = sym (settled_doubt old mid settled) ∙ h in cc))))
   inits_closed s Ready new idle (mid, settled, none, (faults, low, is)) = (let j = settled_jobs old mid settled in
       subst (λ (w : State). Changes limit moment old (Init s) Ready w) (sym is)
       (gives_up limit moment old (Init s) Ready (record mid { records = SetUp s ∷ mid.records; disk_faults = faults }) (j.0 ∙ idle.0) (j.1 ∙ idle.1)
-      (set_up_of s mid (record mid { records = SetUp s ∷ mid.records; disk_faults = faults }) refl (none_setup (setup_of mid.records) none) (settled_records old mid refl refl settled)) j.2 j.3))
+      (set_up_of s mid (record mid { records = SetUp s ∷ mid.records; disk_faults = faults }) refl (none_setup (setup_of mid.records) none) (settled_records old mid refl refl settled)) j.2 j.3 (λ d h. absurd (let f : None ≡ Some d = sym (settled_doubt old mid settled) ∙ h in cc))))
   inits_closed s r new idle h = absurd h
 
   inits_by : (s : Setup) (good : Bool) (r : Outcome) (new : State) → (old.jobs ≡ []) × (old.append ≡ None) → InitsBy old s good r new → Changes limit moment old (Init s) r new
@@ -379,10 +438,10 @@ module _ (limit moment : ℕ) (old : State) where
   replaces : (e : Event) (j : ℕ) (IsThere : Held → Type 0) (changed : Held → Held) (r : Outcome) (new : State) →
       ((i : ℕ) → i ≡ j → is_replacement e Replaced i ≡ true) → ReplacesAt old j IsThere changed r new → Changes limit moment old e r new
   replaces e j IsThere changed Replaced new counts (p, call, is) = subst (λ (w : State). Changes limit moment old e Replaced w) (sym is)
-      (only_devices limit moment old e Replaced (record old { providers = with_provider old.providers j p }) refl refl refl (record { next = refl; is_open = refl; bytes = refl })
+      (only_devices limit moment old e Replaced (record old { providers = with_provider old.providers j p }) refl refl refl (record { next = refl; is_open = refl; bytes = refl; doubt = λ d h. inl h })
       (λ i o s. elim (called old.providers j p i o s) [ inl q ↦ Block_is.replaced (counts i q.0) | inr q ↦ Block_is.same q ]))
   replaces e j IsThere changed NothingHeld new counts (p, call, is) = subst (λ (w : State). Changes limit moment old e NothingHeld w) (sym is)
-      (only_devices limit moment old e NothingHeld (record old { providers = with_provider old.providers j p }) refl refl refl (record { next = refl; is_open = refl; bytes = refl })
+      (only_devices limit moment old e NothingHeld (record old { providers = with_provider old.providers j p }) refl refl refl (record { next = refl; is_open = refl; bytes = refl; doubt = λ d h. inl h })
       (λ i o s. elim (called old.providers j p i o s) [
         | inl q ↦ Block_is.same (q.1 ∙ (kept_told IsThere changed (old.providers j).held (old.providers j) p o s refl call ∙ ap (λ n. told (old.providers n) o s) (sym q.0)))
         | inr q ↦ Block_is.same q
@@ -402,7 +461,7 @@ module _ (limit moment : ℕ) (old : State) where
   lists false r new h = absurd h
 
   continues : (r : Outcome) (new : State) → Continues old r new → Changes limit moment old Continue r new
-  continues Continued new is = subst (λ (w : State). Changes limit moment old Continue Continued w) (sym is) (gives_up limit moment old Continue Continued (continued old) refl refl (Records_is.same refl) refl refl)
+  continues Continued new is = subst (λ (w : State). Changes limit moment old Continue Continued w) (sym is) (gives_up limit moment old Continue Continued (continued old) refl refl (Records_is.same refl) refl refl (λ d h. Doubt_is.kept h refl))
   continues r new h = absurd h
 
   pub changes : (e : Event) (r : Outcome) (new : State) → IsIdle old → Happens limit moment old e r new → Changes limit moment old e r new

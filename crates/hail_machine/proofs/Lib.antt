@@ -9,3 +9,8 @@ pub mod Changes
 pub mod Events
 pub mod Numbers
 pub mod Uses
+pub mod RecordFacts
+pub mod Fair
+pub mod Pins
+pub mod PinFacts
+pub mod Held

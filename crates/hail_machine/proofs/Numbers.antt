@@ -65,7 +65,7 @@ next_of_records series old new (Records_is.settled_set_up s d in_doubt none is) 
     let g = next_grows series (SetUp s) (d.entry ∷ old.records) in let f = next_grows series d.entry old.records in omega arith)
 
 -- the next action, by kind and place
-abbrev next_by : State → Job → Kind → ℕ → Option Action
+abbrev pub next_by : State → Job → Kind → ℕ → Option Action
 next_by w job kind place = cond (is_idle_drop w job kind) (Some End) (slice_get (actions_by (setup_in w) job kind) place)
 
 pub next_is_by : (w : State) (job : Job) → next_action w job ≡ next_by w job job.kind job.place
@@ -85,18 +85,18 @@ three_by audits w job (DropJob name) d = absurd d
 three_by audits w job RepairJob d = absurd d
 
 -- at place 3 a put or an audit makes the fourth move of its first append
-at_three : (series : Series) (w : State) (job : Job) → Draws series job.kind → job.place ≡ 3 → next_action w job ≡ Some SyncGate
+pub at_three : (series : Series) (w : State) (job : Job) → Draws series job.kind → job.place ≡ 3 → next_action w job ≡ Some SyncGate
 at_three series w job d is = next_is_by w job ∙ (ap (next_by w job job.kind) is ∙ three_by series w job job.kind d)
 
 -- what a job has drawn at its first move, and at a later first move
-drawn_later : (w : State) (job : Job) (kind : Kind) → is_first_append job ≡ false → subject_drawn w job kind ≡ job.subject
+pub drawn_later : (w : State) (job : Job) (kind : Kind) → is_first_append job ≡ false → subject_drawn w job kind ≡ job.subject
 drawn_later w job (PutJob name bytes) h = cond_false _ _ _ h
 drawn_later w job (GetJob name) h = refl
 drawn_later w job (DropJob name) h = refl
 drawn_later w job AuditJob h = cond_false _ _ _ h
 drawn_later w job RepairJob h = refl
 
-drawn_first : (series : Series) (w : State) (job : Job) (kind : Kind) → Draws series kind → is_first_append job ≡ true → subject_drawn w job kind ≡ next series w.records
+pub drawn_first : (series : Series) (w : State) (job : Job) (kind : Kind) → Draws series kind → is_first_append job ≡ true → subject_drawn w job kind ≡ next series w.records
 drawn_first objects w job (PutJob name bytes) d h = cond_true _ _ _ h
 drawn_first audits w job AuditJob d h = cond_true _ _ _ h
 drawn_first objects w job (GetJob name) d h = absurd d
@@ -109,7 +109,7 @@ drawn_first audits w job (DropJob name) d h = absurd d
 drawn_first audits w job RepairJob d h = absurd d
 
 -- a record that raises the next number
-abbrev Raises : Series → Record → Type 0
+abbrev pub Raises : Series → Record → Type 0
 Raises series r = (rs : List Record) → next series (r ∷ rs) ≡ suc (next series rs)
 
 raises_start : (series : Series) (r s : Record) → r ≡ s → Raises series s → Raises series r
@@ -129,10 +129,10 @@ writes_first audits w job (GetJob name) entry d first h = absurd d
 writes_first audits w job (DropJob name) entry d first h = absurd d
 writes_first audits w job RepairJob entry d first h = absurd d
 
-first_below : (job : Job) → job.place < 4 → is_first_append job ≡ true
+pub first_below : (job : Job) → job.place < 4 → is_first_append job ≡ true
 first_below job l = lt-ltb job.place 4 l
 
-first_above : (job : Job) → 4 ≤ job.place → is_first_append job ≡ false
+pub first_above : (job : Job) → 4 ≤ job.place → is_first_append job ≡ false
 first_above job l = elim (cases_Bool (nat_lt job.place 4)) [ inl t ↦ absurd (let e = ltb-true job.place 4 t in omega arith) | inr f ↦ f ]
 
 -- a step of a job whose number is in effect
@@ -177,9 +177,9 @@ module _ (series : Series) (limit : ℕ) (start : State) (m : Moment) (ms : List
 
   numbered : (k : ℕ) (j : Job) → job_of m.state.jobs k ≡ Some j → HasNumber series j → Numbered series (now start ms) m.state k j
   numbered k j h has = elim (X.job k j h) [
-    | Job_is.kept r ↦ Numbered.was j r has refl refl
+    | Job_is.kept r grown ↦ Numbered.was j r has refl refl
     | Job_is.begun kind is k_is none rec ↦ absurd (let e : j.place ≡ 0 = ap (λ (x : Job). x.place) is in let l = has.1 in omega arith)
-    | Job_is.plain i action runs next_is is_plain goes rec ↦ elim (cases_eq i.place 3) [
+    | Job_is.plain i action runs next_is is_plain goes rec stores_it ↦ elim (cases_eq i.place 3) [
       | inl three ↦ absurd (subst IsPlain (same_value _ action SyncGate next_is (at_three series (now start ms) i (draws_back i j goes.kind has.0) three)) is_plain)
       | inr other ↦ Numbered.was i runs (draws_back i j goes.kind has.0, (let e = goes.place in let l = has.1 in omega arith)) (sym goes.subject) (sym goes.begun)
     ]
@@ -223,9 +223,9 @@ module _ (series : Series) (limit : ℕ) (start : State) (m : Moment) (ms : List
       (j.subject ≡ next series m.state.records) × Raises series a.entry
   fits_step a j h hj d small = elim (X.append a h) [
     | Append_is.kept b flight job_is entry rec ↦ elim (X.job a.job j hj) [
-      | Job_is.kept r ↦ carried b entry rec j refl (F.fits b j flight (subst (λ n. job_of (now start ms).jobs n ≡ Some j) job_is r) d small)
+      | Job_is.kept r grown ↦ carried b entry rec j refl (F.fits b j flight (subst (λ n. job_of (now start ms).jobs n ≡ Some j) job_is r) d small)
       | Job_is.begun kind is k_is none rec2 ↦ absurd (let l = F.holder b flight in omega arith)
-      | Job_is.plain i action runs next_is is_plain goes rec2 ↦ carried b entry rec i goes.subject
+      | Job_is.plain i action runs next_is is_plain goes rec2 stores_it ↦ carried b entry rec i goes.subject
           (F.fits b i flight (subst (λ n. job_of (now start ms).jobs n ≡ Some i) job_is runs) (draws_back i j goes.kind d) (let e = goes.place in omega arith))
       | Job_is.drew i runs next_is none is rec2 ↦ absurd (let e : None ≡ Some b = sym none ∙ flight in cc)
       | Job_is.finished i c runs next_is flight_c mine is rec2 none ↦ absurd (let e : None ≡ Some a = sym none ∙ h in cc)

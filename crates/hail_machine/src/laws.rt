@@ -1,11 +1,14 @@
 //! Worked values of the definitions, and laws that follow from them alone.
-ghost use Rattle.std.specs.Prelude.{◌≡◌, ℕ, ◌≤◌, ◌<◌, List, ◌∷◌};
-ghost use Rattle.hail_records.specs.Table.{next_id, next_audit};
-ghost use Rattle.hail_machine.specs.States.{State, IsStart};
-ghost use Rattle.hail_machine.specs.Runs.{Moment, IsRun, now};
+ghost use Rattle.std.specs.Prelude.{◌≡◌, ℕ, ◌≤◌, ◌<◌, false, List, ◌∷◌, Option, Some};
+ghost use Rattle.std.specs.List.{Contains};
+ghost use Rattle.hail_columns.specs.Columns.{columns};
+ghost use Rattle.hail_records.specs.Table.{next_id, next_audit, started_as};
+ghost use Rattle.hail_machine.specs.Jobs.{PutJob, AuditJob, Pinned, Job, job_of};
+ghost use Rattle.hail_machine.specs.States.{State, IsStart, setup_in, object_in};
+ghost use Rattle.hail_machine.specs.Runs.{Moment, IsRun, now, first_moments, is_replaced_since};
 ghost use Rattle.hail_machine.specs.Calm.{IsCalm, since, relies};
 ghost use Rattle.hail_machine.specs.Missed.{NoneMissed};
-ghost use Rattle.hail_machine.specs.Deeds.{HasStored, HasAsked};
+ghost use Rattle.hail_machine.specs.Deeds.{HasStored, HasAsked, HasMadeStore, told_block};
 
 /// What holds of a run held before its newest event.
 pub fn run_before()
@@ -41,4 +44,24 @@ pub fn stores_name_their_own_object()
 pub fn challenges_are_made_once()
     ensures { (limit : ℕ) (start : State) (ms : List Moment) (begun other number object round : ℕ) → IsStart start → IsRun limit start ms →
         HasAsked start ms begun number object round → HasAsked start ms other number object round → begun ≡ other }
+{}
+
+/// What an audit works on changes only by replacements while it runs: of a provider that was not replaced since the audit's
+/// begin, each block of a file that the audit works on is as it was at that begin.
+pub fn audited_files_stay()
+    ensures { (limit : ℕ) (start : State) (ms : List Moment) (number : ℕ) (job : Job) (file : Pinned) (j stripe : ℕ) →
+        IsStart start → IsRun limit start ms → job_of (now start ms).jobs number ≡ Some job → job.kind ≡ AuditJob →
+        Contains job.pinned file → is_replaced_since job.begun j ms ≡ false →
+        told_block (now start ms) j file.id stripe ≡ told_block (now start (first_moments job.begun ms)) j file.id stripe }
+{}
+
+/// What a put has stored is its columns until its last record is in effect: of a provider that tells what it holds and was not
+/// replaced since the put's begin, each block that the put has stored is the provider's own.
+pub fn stored_blocks_are_columns()
+    ensures { (limit : ℕ) (start : State) (ms : List Moment) (number : ℕ) (job : Job) (name bytes : List ℕ)
+        (j object stripe : ℕ) (block : Option (List ℕ)) →
+        IsStart start → IsRun limit start ms → job_of (now start ms).jobs number ≡ Some job → job.kind ≡ PutJob name bytes →
+        started_as (now start ms).records job.subject ≡ Some name → HasMadeStore (setup_in (now start ms)) job j object stripe →
+        is_replaced_since job.begun j ms ≡ false → told_block (now start ms) j object stripe ≡ Some block →
+        block ≡ Some (columns (object_in (now start ms) object) bytes j stripe) }
 {}

@@ -75,11 +75,16 @@ pub division_made : (p d z r q : List ℕ) → Reduces (take (length p) p) z d (
     length r < length d → r ≡ trim r → IsDivision p d (trim q) r
 division_made p d z r q h zeros less trimmed =
     record {
-      whole = λ x. ap (λ u. value u x) (sym (take-length p)) ∙ cc (h.rest x, by_is (take (length p) p) z d r q h x (zeros x), value-trim nim nim_laws q x);
+      values = values;
+      whole = same_from_values nim nim_laws nim_endless p (plus (times (trim q) d) r)
+          (λ x. cc (values x, value-plus nim nim_laws (times (trim q) d) r x, value-times nim nim_laws (trim q) d x));
       shorter = less;
       quotient = sym (trim_trim q);
       rest = trimmed;
     }
+  where
+    values : (x : ℕ) → value p x ≡ nim_add (nim_mul (value (trim q) x) (value d x)) (value r x)
+    values x = ap (λ u. value u x) (sym (take-length p)) ∙ cc (h.rest x, by_is (take (length p) p) z d r q h x (zeros x), value-trim nim nim_laws q x)
 
 -- 1 is not 0
 one_not_zero : ◌≡◌ {A = ℕ} 1 0 → ⊥

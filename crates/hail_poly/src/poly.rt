@@ -5,7 +5,8 @@ use hail_field::{Memory, Symbol};
 use std::alloc::Global;
 use std::marker::Model;
 
-/// A polynomial, seen as its coefficients, lowest first and without a zero at the end.
+/// A polynomial over the nim field, seen as the list of its coefficients, lowest first and without a zero at the end:
+/// 0 is the empty list. The one refusal of its calls is `Memory`.
 #[derive(Drop)]
 pub struct Poly {
     alloc: Global,
@@ -41,7 +42,7 @@ impl Poly {
         }
     }
 
-    /// The polynomial of these coefficients.
+    /// The polynomial of these coefficients, lowest first; zeros at the end are dropped.
     pub fn from_slice(alloc: Global, coefficients: &[Symbol]) -> Result<Poly, Memory>
         ensures { IfOk result (λ p. p ≡ trim coefficients.now) }
     {
@@ -101,7 +102,7 @@ impl Poly {
         Ok(Poly::from_vec(self.alloc, product))
     }
 
-    /// The quotient and the remainder.
+    /// The quotient and the remainder of the division by a polynomial that is not 0. No other two polynomials fit.
     pub fn div_rem(&self, by: &Poly) -> Result<(Poly, Poly), Memory>
         requires { by.now ≢ [] }
         ensures { IfOk result (λ r. IsDivision self.now by.now r.0 r.1) }

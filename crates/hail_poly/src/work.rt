@@ -7,7 +7,8 @@ use std::marker::Model;
 /// The most points that a `Work` may have room for.
 pub const MOST: usize = 128;
 
-/// Three polynomials, in memory that is reserved once: a whole, a rest and a factor.
+/// The registers of a decoder: three polynomials `whole`, `rest` and `factor`, in memory that `new` reserves.
+/// No other call takes any. For Gao's decoder (A new algorithm for decoding Reed-Solomon codes, 2003).
 #[derive(Drop)]
 pub struct Work {
     size: usize,
@@ -41,9 +42,9 @@ impl Work {
     ghost use Rattle.hail_field.specs.Nim.{nim};
     ghost use Rattle.hail_codes.specs.Polynomials.{value, vanish, interpolate, trim};
     ghost use Rattle.hail_poly.specs.Registers.{IsLoaded};
-    ghost use Rattle.hail_poly.specs.Quotient.{IsQuotient, HasNoQuotient};
+    ghost use Rattle.hail_poly.specs.Quotient.{IsQuotient, HasNoQuotient, IsCombination};
 
-    /// Registers with room for as many points.
+    /// Registers of zeros with room for `size` points, of which there may be 128.
     pub fn new(alloc: Global, size: usize) -> Result<Work, Memory>
         requires { size ≤ MOST }
         ensures { IfOk result (λ w. w ≡ record { size = size; whole = []; rest = []; factor = [] }) }
@@ -61,7 +62,8 @@ impl Work {
         })
     }
 
-    /// The whole becomes the product of all x + point, and the rest takes the values at the points.
+    /// `whole` becomes the product of all x + point, `rest` the polynomial of degree below the number of points
+    /// that takes the values at the points, and `factor` 1.
     pub fn load(&mut self, points: &[Symbol], values: &[Symbol])
         requires apart { Apart points.now }
         requires even { length points.now ≡ length values.now }
@@ -78,12 +80,14 @@ impl Work {
         self.whole_len = points.len() + 1;
     }
 
-    /// The rest and the factor become the first row of Euclid's algorithm on the whole and the rest
-    /// whose remainder has at most `below` coefficients.
+    /// Runs Euclid's algorithm on `whole` and `rest`, which `load` has made: `rest` and `factor` become the remainder
+    /// and its cofactor of the first row after `whole` itself whose remainder has degree below `below`.
     pub fn euclid(&mut self, below: usize)
         requires { IsLoaded self.old }
         ensures size { self.new.size ≡ self.old.size }
         ensures whole { self.new.whole ≡ self.old.whole }
+        ensures below { length self.new.rest ≤ below }
+        ensures combination { IsCombination self.new.rest self.new.factor self.old.rest self.old.whole }
         ensures row { FirstRow nim below self.old.whole [] self.old.rest (1 ∷ []) self.new.rest self.new.factor }
     {
         self.spare.set_rest(&self.whole[..self.whole_len]);
@@ -91,7 +95,7 @@ impl Work {
         go_on(&mut self.spare, &mut self.row, below);
     }
 
-    /// Whether the factor divides the rest; then the rest becomes the quotient, and the factor 1.
+    /// Whether `factor` divides `rest`. Then `rest` becomes the quotient and `factor` 1; else nothing changes.
     pub fn divide(&mut self) -> bool
         requires { self.old.factor ≢ [] }
         ensures size { self.new.size ≡ self.old.size }
@@ -112,7 +116,7 @@ impl Work {
         true
     }
 
-    /// The rest becomes this polynomial.
+    /// `rest` becomes the polynomial of these coefficients, lowest first.
     pub fn set_rest(&mut self, coefficients: &[Symbol])
         requires { length coefficients.now ≤ self.old.size }
         ensures { self.new ≡ record {
@@ -125,7 +129,7 @@ impl Work {
         self.row.set_rest(coefficients);
     }
 
-    /// The rest.
+    /// The coefficients of `rest`, lowest first and without a zero at the end.
     pub fn rest(&self) -> &[Symbol]
         ensures is { result.now ≡ self.now.rest }
         ensures trimmed { result.now ≡ trim result.now }
@@ -133,7 +137,7 @@ impl Work {
         self.row.rest()
     }
 
-    /// The value of the rest at x.
+    /// The value of `rest` at x.
     pub fn value(&self, x: Symbol) -> Symbol
         ensures { result ≡ value self.now.rest x }
     {

@@ -1,15 +1,15 @@
 -- What a code makes of the kept symbols and of blocks.
-use Rattle.std.proofs.Common.{◌≡◌, ◌≤◌, ◌<◌, ◌+◌, ◌-◌, ◌*◌, ◌++◌, ◌⊎◌, inl, inr, ℕ, List, [], ◌∷◌, length, take, drop, map, get_or, refl, sym, ap, subst, ◌∙◌, arith, zero-add, length-append}
+use Rattle.std.proofs.Common.{◌≡◌, ◌≤◌, ◌<◌, ◌+◌, ◌-◌, ◌++◌, ◌⊎◌, inl, inr, ℕ, List, length, take, drop, map, get_or, sym, ap, subst, ◌∙◌, arith, length-append}
 use Rattle.std.proofs.lemmas.List.{take-append-drop, length-take, get_or_append_left, get_or-append_right}
 use Rattle.std.proofs.lemmas.List.FromFn.{fill_by_all, length-map-range_with_len, length-range_with_len}
 use Rattle.field_laws.specs.Field.{Apart}
 use Rattle.hail_field.specs.Nim.{nim}
 use Rattle.poly_laws.specs.Poly.{Decodes}
-use Rattle.hail_codes.specs.Polynomials.{value, interpolate, trim}
-use Rattle.hail_codes.specs.Points.{upto, values_at}
+use Rattle.hail_codes.specs.Polynomials.{value, interpolate}
+use Rattle.hail_codes.specs.Points.{upto}
 use Rattle.hail_codes.specs.Profiles.{Profile}
 use Rattle.hail_codes.specs.Sums.{dot}
-use Rattle.hail_codes.specs.ServerCode.{codeword, IsNear, Opens, OpensToNone, differences}
+use Rattle.hail_codes.specs.ServerCode.{codeword, Opens, OpensToNone}
 use Rattle.hail_codes.proofs.Points.{Apart-range}
 use Rattle.hail_codes.proofs.Generators.{value-kept, get_or-codeword}
 use Rattle.hail_codes.proofs.Codewords.{opens_itself}

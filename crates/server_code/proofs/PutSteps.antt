@@ -1,6 +1,6 @@
 -- The steps of putting values into a block.
-use Rattle.std.proofs.Common.{◌≡◌, ◌≤◌, ◌<◌, ◌+◌, ◌-◌, ◌++◌, ℕ, zero, suc, List, [], ◌∷◌, length, take, drop, set, get_or, map, add-one, cond, nat_eq, Bool, true, false, refl, sym, ap, ◌∙◌, arith}
-use Rattle.std.proofs.lemmas.List.{take_more_set, take_more, take_all, drop_all, drop-set-lt, length-map, get_or-map}
+use Rattle.std.proofs.Common.{◌≡◌, ◌≤◌, ◌<◌, ◌+◌, ◌++◌, ℕ, zero, suc, List, [], ◌∷◌, length, take, drop, set, get_or, add-one, cond, nat_eq, Bool, true, false, refl, sym, ap, ◌∙◌, arith}
+use Rattle.std.proofs.lemmas.List.{take_more_set, take_more, take_all, drop_all, drop-set-lt}
 use Rattle.hail_codes.specs.ServerCode.{differences}
 
 -- the places that differ from one on

@@ -5,6 +5,8 @@ mod any;
 mod code;
 mod make;
 mod rows;
+#[cfg(test)]
+mod tests;
 
 pub use any::AnyCode;
 pub use code::ServerCode;

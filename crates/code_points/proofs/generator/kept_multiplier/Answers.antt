@@ -1,4 +1,3 @@
-use Rattle.std.proofs.Common.{arith}
 use Rattle.hail_codes.proofs.Generators.{kept_multiplier}
 use Rattle.code_points.proofs.Steps.{keep_below}
 use Rattle.code_points.proofs.generator.kept_multiplier.Goals as goal

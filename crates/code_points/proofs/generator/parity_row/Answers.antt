@@ -1,4 +1,4 @@
-use Rattle.std.proofs.Common.{◌≡◌, ◌∙◌, ◌<◌, ℕ, sym, subst, ap, map, List, arith, get_or, length}
+use Rattle.std.proofs.Common.{◌≡◌, ℕ, sym, subst, map, List, arith}
 use Rattle.std.proofs.lemmas.Grind.{common_steps}
 use Rattle.std.proofs.lemmas.List.FromFn.{fill_by_all}
 use Rattle.hail_codes.specs.Points.{upto}
@@ -17,6 +17,6 @@ unwrap-requires c =
 pub returns : goal.returns
 returns c =
     let filled : c.loop-k.out ≡ map (coefficient c.args.profile.keep c.args.place) (upto c.args.profile.keep) =
-      fill_by_all (coefficient c.args.profile.keep c.args.place) c.loop-k.out c.args.profile.keep 0 (omega arith) (λ k h. c.loop-k.invariant k (omega arith)) in
+    fill_by_all (coefficient c.args.profile.keep c.args.place) c.loop-k.out c.args.profile.keep 0 (omega arith) (λ k h. c.loop-k.invariant k (omega arith)) in
     subst (λ (row : List ℕ). IsGeneratorRow (plain_profile c.args.profile) c.args.place row) (sym filled)
     (parity_row (plain_profile c.args.profile) c.args.place c.requires.behind c.requires.place)

@@ -1,4 +1,4 @@
-use Rattle.std.proofs.Common.{rules, ◌≡◌, ◌<◌, ◌≤◌, ◌+◌, length, drop, leb, arith, ap, List, ℕ, sym, ◌∙◌}
+use Rattle.std.proofs.Common.{rules, ◌≡◌, ◌<◌, ◌≤◌, length, drop, leb, arith, ap}
 use Rattle.std.proofs.lemmas.Bool.{OnTrue_from, OnFalse_from, OnFalse_at, leb-true}
 use Rattle.std.proofs.lemmas.Bool.Decides.{leb_tells}
 use Rattle.std.proofs.lemmas.List.{length-drop}
@@ -6,7 +6,7 @@ use Rattle.hail_codes.specs.Polynomials.{interpolate, trim}
 use Rattle.hail_codes.specs.DispersalCode.{Accepts}
 use Rattle.hail_poly.specs.Registers.{Registers}
 use Rattle.dispersal_code.specs.Chosen.{AcceptsNoneFrom}
-use Rattle.dispersal_code.proofs.SearchSteps.{Apart-front, Apart-next, Apart-with, full_accepts, full_accepts_none, few_left, absent_accepts_none, present_accepts_none}
+use Rattle.dispersal_code.proofs.SearchSteps.{Apart-front, Apart-next, full_accepts, full_accepts_none, few_left, absent_accepts_none, present_accepts_none}
 use Rattle.dispersal_code.proofs.open.+search.Goals as goal
 
 pub load-requires-clause-apart : goal.load-requires-clause-apart

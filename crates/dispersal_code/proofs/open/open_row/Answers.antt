@@ -1,4 +1,4 @@
-use Rattle.std.proofs.Common.{arith, ◌∙◌}
+use Rattle.std.proofs.Common.{◌∙◌}
 use Rattle.std.proofs.lemmas.Bool.{OnTrue_at}
 use Rattle.dispersal_code.proofs.Unique.{same_trim}
 use Rattle.dispersal_code.proofs.open.open_row.Goals as goal

@@ -1,4 +1,4 @@
-use Rattle.std.proofs.Common.{ℕ, arith, length}
+use Rattle.std.proofs.Common.{arith, length}
 use Rattle.server_code.proofs.RowSteps.{sums_by_all}
 use Rattle.server_code.proofs.rows.fill_sums.Goals as goal
 

@@ -1,4 +1,4 @@
-use Rattle.std.proofs.Common.{ℕ, List, ◌≡◌, map, sym, ◌∙◌, arith, length, get_or}
+use Rattle.std.proofs.Common.{ℕ, List, ◌≡◌, map, arith, length, get_or}
 use Rattle.std.proofs.lemmas.List.{get_or_read, get_or-map, length-map}
 use Rattle.hail_codes.specs.Polynomials.{value}
 use Rattle.hail_codes.specs.ServerCode.{differences}

@@ -1,4 +1,4 @@
-use Rattle.std.proofs.Common.{◌≡◌, ◌-◌, ◌∙◌, sym, length, refl, arith}
+use Rattle.std.proofs.Common.{◌-◌, ◌∙◌, sym, length, refl, arith}
 use Rattle.hail_codes.proofs.Codewords.{differences-same}
 use Rattle.code_points.specs.Profile.{plain_profile}
 use Rattle.code_points.proofs.Steps.{keep_below}

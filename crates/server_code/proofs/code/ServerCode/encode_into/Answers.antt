@@ -1,4 +1,4 @@
-use Rattle.std.proofs.Common.{◌≡◌, ◌-◌, ◌∙◌, length, arith}
+use Rattle.std.proofs.Common.{◌-◌, ◌∙◌, length, arith}
 use Rattle.code_points.specs.Profile.{plain_profile}
 use Rattle.code_points.proofs.Steps.{keep_below}
 use Rattle.server_code.proofs.Blocks.{extended_is_codeword}

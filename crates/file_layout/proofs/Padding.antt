@@ -1,0 +1,77 @@
+-- The number of bytes that zeros are put after.
+use Rattle.std.specs.Prelude.{◌≡◌, ℕ, zero, suc, ◌+◌, ◌-◌, ◌*◌, ◌≤◌, ◌<◌, Bool, true, false, nat_lt, List, [], ◌∷◌, ◌++◌, length, take, drop, replicate, min}
+use Rattle.std.proofs.Common.{arith, ap, sym, refl, ◌∙◌, get_or}
+use Rattle.std.specs.Int.{w128, from_le_bytes, byte_worth, sum_through}
+use Rattle.std.proofs.lemmas.List.{get_or-take, drop_min}
+use Rattle.std.proofs.Math.ListN.{length-drop}
+use Rattle.std.proofs.Math.ListN.{get_or-append}
+use Rattle.std.proofs.Math.Seq.{get_or-append_right}
+
+-- sums of the same parts
+sum_through-same : (f g : ℕ → ℕ) (k : ℕ) → ((i : ℕ) → i ≤ k → f i ≡ g i) → sum_through f k ≡ sum_through g k
+sum_through-same f g zero same = same 0 (omega arith)
+sum_through-same f g (suc k) same =
+    (λ i. sum_through-same f g k (λ j below. same j (omega (arith, below))) i + same (suc k) (omega arith) i)
+
+-- numbers of the same first 16 bytes
+from_le_bytes-same : (xs ys : List ℕ) → ((i : ℕ) → i < 16 → get_or xs i 0 ≡ get_or ys i 0) → from_le_bytes w128 xs ≡ from_le_bytes w128 ys
+from_le_bytes-same xs ys same =
+    sum_through-same (λ i. byte_worth i (get_or xs i 0)) (λ i. byte_worth i (get_or ys i 0)) 15
+    (λ i below. ap (byte_worth i) (same i (omega (arith, below))))
+
+-- zeros are read as what lies past the end
+zeros : (n i : ℕ) → ◌≡◌ {A = ℕ} (get_or (replicate n 0) i 0) 0
+zeros zero i = refl
+zeros (suc n) zero = refl
+zeros (suc n) (suc i) = zeros n i
+
+-- also after some of them
+drop-zeros : (k n i : ℕ) → ◌≡◌ {A = ℕ} (get_or (drop k (replicate n 0)) i 0) 0
+drop-zeros zero n i = zeros n i
+drop-zeros (suc k) zero i = refl
+drop-zeros (suc k) (suc n) i = drop-zeros k n i
+
+get_or-past : (xs : List ℕ) (i : ℕ) → length xs ≤ i → get_or xs i 0 ≡ 0
+get_or-past [] i h = refl
+get_or-past (x ∷ xs) zero h = absurd (omega (arith, h))
+get_or-past (x ∷ xs) (suc i) h = get_or-past xs i (omega (arith, h))
+
+length-take : (n : ℕ) (xs : List ℕ) → n ≤ length xs → length (take n xs) ≡ n
+length-take zero xs h = refl
+length-take (suc n) [] h = absurd (omega (arith, h))
+length-take (suc n) (x ∷ xs) h = let e = length-take n xs (omega (arith, h)) in omega (arith, e)
+
+padded-at : (bytes : List ℕ) (n i : ℕ) → n ≡ min (length bytes) 16 → i < 16 →
+    get_or (take n bytes ++ drop n (replicate 16 0)) i 0 ≡ get_or bytes i 0
+padded-at bytes n i is below = go (nat_lt i n) refl
+  where
+    long : length (take n bytes) ≡ n
+    long = length-take n bytes (omega (arith, is))
+
+    go : (b : Bool) → nat_lt i n ≡ b → get_or (take n bytes ++ drop n (replicate 16 0)) i 0 ≡ get_or bytes i 0
+    go true less =
+        let before : i < n = grind (arith, less) in
+        get_or-append (take n bytes) (drop n (replicate 16 0)) 0 i (omega (arith, before, long)) ∙ get_or-take n bytes i 0 before
+    go false more =
+        let after : n ≤ i = grind (arith, more) in
+        get_or-append_right (take n bytes) (drop n (replicate 16 0)) i 0 (omega (arith, after, long))
+        ∙ drop-zeros n 16 (i - length (take n bytes)) ∙ sym (get_or-past bytes i (omega (arith, is, after, below)))
+
+pub padded-value : (xs bytes : List ℕ) (n : ℕ) → n ≡ min (length bytes) 16 → xs ≡ take n bytes →
+    from_le_bytes w128 (xs ++ drop n (replicate 16 0)) ≡ from_le_bytes w128 bytes
+padded-value xs bytes n is e =
+    ap (λ (l : List ℕ). from_le_bytes w128 (l ++ drop n (replicate 16 0))) e
+    ∙ from_le_bytes-same (take n bytes ++ drop n (replicate 16 0)) bytes (λ i below. padded-at bytes n i is below)
+
+-- what a range to the end of a list has
+take-rest : (n : ℕ) (xs : List ℕ) → length xs ≤ n → take n xs ≡ xs
+take-rest zero [] h = refl
+take-rest zero (x ∷ xs) h = absurd (omega (arith, h))
+take-rest (suc n) [] h = refl
+take-rest (suc n) (x ∷ xs) h = ap (λ (l : List ℕ). x ∷ l) (take-rest n xs (omega (arith, h)))
+
+pub rest-value : (bytes : List ℕ) (from number start : ℕ) → from ≡ number → start ≡ min (16 * from) (length bytes) →
+    from_le_bytes w128 (take (length bytes - start) (drop start bytes)) ≡ from_le_bytes w128 (drop (16 * number) bytes)
+rest-value bytes from number start e is =
+    ap (λ (l : List ℕ). from_le_bytes w128 l) (take-rest (length bytes - start) (drop start bytes) (omega (arith, length-drop start bytes))
+    ∙ ap (λ (n : ℕ). drop n bytes) is ∙ drop_min (16 * from) bytes ∙ ap (λ (n : ℕ). drop (16 * n) bytes) e)

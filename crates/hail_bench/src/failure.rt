@@ -1,0 +1,23 @@
+use std::alloc::AllocError;
+use std::io;
+
+/// Why nothing was measured.
+#[derive(Debug, Drop)]
+pub enum Failure {
+    /// The words name no work.
+    Usage,
+    /// There was no memory, or the system failed.
+    Fault,
+}
+
+impl From<AllocError> for Failure {
+    fn from(_: AllocError) -> Failure {
+        Failure::Fault
+    }
+}
+
+impl From<io::Error> for Failure {
+    fn from(_: io::Error) -> Failure {
+        Failure::Fault
+    }
+}

@@ -1,0 +1,132 @@
+//! Products, squares and inverses of symbols.
+ghost use Rattle.std.specs.Prelude.{◌≡◌, ◌+◌, ◌*◌, ◌%◌, ◌^◌};
+ghost use Rattle.hail_bench.specs.Checksum.{number_after, answer, checksum_of};
+
+use crate::outcome::Outcome;
+use hail_field::Symbol;
+use std::fmt::{self, Display, Formatter, Write};
+
+/// What is done with each symbol.
+#[derive(Clone, Copy, Debug, PartialEq, Eq)]
+pub enum Operation {
+    /// Its product with the next one.
+    Product,
+    /// Its product with itself.
+    Square,
+    /// Its inverse.
+    Inverse,
+}
+
+impl Operation {
+    /// The operation of this name.
+    fn named(word: &str) -> Option<Operation> {
+        match word {
+            "product" => Some(Operation::Product),
+            "square" => Some(Operation::Square),
+            "inverse" => Some(Operation::Inverse),
+            _ => None,
+        }
+    }
+
+    /// What the operation gives at a symbol, before the next one.
+    fn answer(self, a: Symbol, next: Symbol) -> Symbol
+        ensures { result ≡ answer self a next }
+    {
+        match self {
+            Operation::Product => a.mul(next),
+            Operation::Square => a.square(),
+            Operation::Inverse => match a.inv() {
+                Some(inverse) => inverse,
+                None => Symbol::ZERO,
+            },
+        }
+    }
+}
+
+impl Display for Operation {
+    fn fmt<W: Write>(&self, f: &mut Formatter<W>) -> fmt::Result {
+        f.write_str(match self {
+            Operation::Product => "product",
+            Operation::Square => "square",
+            Operation::Inverse => "inverse",
+        })
+    }
+}
+
+/// The number after a number, in a row that looks like chance.
+fn after(number: u128) -> u128
+    ensures { result ≡ number_after number }
+{
+    number
+        .wrapping_mul(290_540_817_353_171_031_345_215_227_939_350_468_789)
+        .wrapping_add(1)
+}
+
+/// An operation on the first numbers of the row, this many of them.
+#[derive(Clone, Copy, Debug, PartialEq, Eq)]
+pub struct FieldWork {
+    operation: Operation,
+    count: u32,
+}
+
+impl FieldWork {
+    /// The work that these words name: an operation and a count.
+    pub fn from_words(words: &[String]) -> Option<FieldWork> {
+        let [operation, count] = words else {
+            return None;
+        };
+        let operation = Operation::named(operation)?;
+        let count = count.parse::<u32>().ok()?;
+        Some(FieldWork { operation, count })
+    }
+
+    /// Does the work. The checksum is the sum of the answers.
+    pub fn run(&self) -> Outcome
+        ensures count { result.count ≡ self.now.count }
+        ensures checksum { result.checksum ≡ checksum_of self.now.operation self.now.count }
+    {
+        let mut number = 1;
+        let mut sum = Symbol::ZERO;
+        for _ in 0..self.count {
+            let next = after(number);
+            sum = sum.add(self.operation.answer(Symbol(number), Symbol(next)));
+            number = next;
+        }
+        Outcome {
+            count: self.count,
+            checksum: sum.0,
+        }
+    }
+}
+
+impl Display for FieldWork {
+    fn fmt<W: Write>(&self, f: &mut Formatter<W>) -> fmt::Result {
+        write!(f, "{} {}", self.operation, self.count)
+    }
+}
+
+#[cfg(test)]
+mod tests {
+    use super::*;
+
+    #[test]
+    fn knows_its_words(rt: HostRuntime) {
+        let rows: [(&[&str], Option<u32>); 6] = [
+            (&["product", "7"], Some(7)),
+            (&["inverse", "0"], Some(0)),
+            (&["square"], None),
+            (&["square", "x"], None),
+            (&["square", "1", "2"], None),
+            (&["sum", "1"], None),
+        ];
+        for (words, want) in rows {
+            let mut owned = Vec::new(rt.alloc());
+            for word in words {
+                let text = String::from_str(rt.alloc(), word).expect(&rt, "no memory");
+                owned.push(text).expect(&rt, "no memory");
+            }
+            let count = FieldWork::from_words(&owned).map(|work| work.count);
+            assert_eq!(rt; count, want);
+        }
+    }
+}

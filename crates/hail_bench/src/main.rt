@@ -1,0 +1,55 @@
+//! `hail_bench WORK COUNT ..`: does a piece of hail's work, writes a checksum of its answers, and tells how long it took.
+#![tactic(auto)]
+
+mod failure;
+mod field;
+mod outcome;
+mod work;
+
+use failure::Failure;
+use outcome::Outcome;
+use std::env::{self, Env};
+use std::process::ExitCode;
+use std::rt::Clock;
+use std::time::Instant;
+use work::{FORMS, Work};
+
+const FAULT: u8 = 1;
+
+const USAGE: u8 = 2;
+
+/// The work that the words of the command line name. Words that are no text name none.
+fn asked(rt: &(impl Env + AllocGlobal)) -> Result<Work, Failure> {
+    let Ok(all) = env::args(rt) else {
+        return Err(Failure::Usage);
+    };
+    let words: Vec<String> = all.skip(1).collect(rt.alloc())?;
+    Work::from_words(&words).ok_or(Failure::Usage)
+}
+
+/// Does the work; its answers go to standard output, the time to standard error.
+fn measure(rt: &(impl Env + AllocGlobal + Clock + Print + Eprint)) -> Result<(), Failure> {
+    let work = asked(rt)?;
+    let start = Instant::now(rt)?;
+    let outcome = work.run(rt.alloc())?;
+    let nanos = start.elapsed(rt)?.as_nanos();
+    println!(rt; "{work} checksum {:032x}", outcome.checksum)?;
+    eprintln!(rt;
+        "{} in {} ns, {} a second",
+        outcome.count,
+        nanos,
+        outcome.rate(nanos)
+    )?;
+    Ok(())
+}
+
+fn main(rt: HostRuntime) -> ExitCode {
+    match measure(&rt) {
+        Ok(()) => ExitCode::SUCCESS,
+        Err(Failure::Usage) => {
+            let _ = eprintln!(rt; "usage: hail_bench {FORMS}");
+            ExitCode::from(USAGE)
+        }
+        Err(Failure::Fault) => ExitCode::from(FAULT),
+    }
+}

@@ -1,0 +1,19 @@
+ghost use Rattle.std.specs.Prelude.{◌≡◌, ◌*◌, ◌/◌, max};
+
+/// What a piece of work came to.
+#[derive(Clone, Copy, Debug, PartialEq, Eq)]
+pub struct Outcome {
+    /// How many answers were computed.
+    pub count: u32,
+    /// A number that depends on each answer, and not on the machine.
+    pub checksum: u128,
+}
+
+impl Outcome {
+    /// How many answers came in a second, if all came in these nanoseconds.
+    pub fn rate(&self, nanos: u128) -> u128
+        ensures { result ≡ self.now.count * 1_000_000_000 / max nanos 1 }
+    {
+        u128::from(self.count) * 1_000_000_000 / nanos.max(1)
+    }
+}

@@ -1,0 +1,176 @@
+-- Files in effect, files that jobs work on, and objects that they take away.
+use Rattle.std.proofs.Common.{◌≡◌, ℕ, ◌<◌, ◌≤◌, ◌==◌, Bool, true, false, ◌⊎◌, ◌||◌, List, [], ◌∷◌, length, Option, Some, None, refl, ap, sym, subst, ◌∙◌, inl, inr}
+use Rattle.std.specs.Prelude.{nat_lt}
+use Rattle.std.specs.List.{list_any}
+use Rattle.std.proofs.lemmas.Bool.{eq-eqb, cases_Bool, cases_lt, false≢true}
+use Rattle.hail_records.specs.Records.{Record, PutStart, PutDone, Drop, AuditStart, AuditDone, RepairDone}
+use Rattle.hail_records.specs.Table.{File, next_id, files_of}
+use Rattle.hail_machine.specs.Jobs.{Kind, PutJob, GetJob, DropJob, AuditJob, RepairJob, Pinned, Job, job_of}
+use Rattle.hail_machine.specs.Refusals as refusal
+use Rattle.hail_machine.specs.Refusals.{Cause, first_refusal}
+use Rattle.hail_machine.specs.States.{State, file_in}
+use Rattle.hail_machine.specs.Begins.{is_check, is_put_or_check, is_busy, begin_refusal, pinned_file, pin, pin_all, pin_one, pinned_for}
+use Rattle.hail_machine.specs.Appends.{Writes, is_first_append, is_pinned, removable, taken_out}
+use Rattle.hail_machine.proofs.JobLists.{cond_true, cond_false, same_value}
+use Rattle.hail_machine.proofs.Numbers.{first_above, first_below}
+use Rattle.hail_machine.proofs.RecordFacts.{IsProper, In, listed_file}
+
+-- ---- what begins pin
+
+in_pin : (p : Pinned) (ps : List Pinned) (f : Pinned) → In f (pin p ps) → (f ≡ p) ⊎ In f ps
+in_pin p [] f (inl e) = inl e
+in_pin p [] f (inr i) = absurd i
+in_pin p (q ∷ qs) f h = elim (cases_Bool (nat_lt p.id q.id)) [
+  | inl t ↦ here (subst (λ l. In f l) (cond_true (nat_lt p.id q.id) (p ∷ q ∷ qs) (q ∷ pin p qs) t) h)
+  | inr o ↦ later (in_pin p qs f) (subst (λ l. In f l) (cond_false (nat_lt p.id q.id) (p ∷ q ∷ qs) (q ∷ pin p qs) o) h)
+]
+  where
+    here : In f (p ∷ q ∷ qs) → (f ≡ p) ⊎ In f (q ∷ qs)
+    here (inl e) = inl e
+    here (inr i) = inr i
+
+    later : (In f (pin p qs) → (f ≡ p) ⊎ In f qs) → In f (q ∷ pin p qs) → (f ≡ p) ⊎ In f (q ∷ qs)
+    later rest (inl e) = inr (inl e)
+    later rest (inr i) = elim (rest i) [ inl e ↦ inl e | inr k ↦ inr (inr k) ]
+
+-- a file that is pinned is in effect
+pub record Stands (w : State) (f : Pinned) : Type 0 where
+  pub name : List ℕ
+  pub file : File
+  pub in_effect : file_in w name ≡ Some file
+  pub is : f ≡ pinned_file w file
+
+in_all : (w : State) (fs : List File) (f : Pinned) → In f (pin_all w fs) → (g : File) × In g fs × (f ≡ pinned_file w g)
+in_all w [] f h = absurd h
+in_all w (g ∷ gs) f h = elim (in_pin (pinned_file w g) (pin_all w gs) f h) [
+  | inl e ↦ (g, inl refl, e)
+  | inr i ↦ (let r = in_all w gs f i in (r.0, inr r.1, r.2))
+]
+
+pub in_effect_all : (w : State) (f : Pinned) → In f (pin_all w (files_of w.records)) → Stands w f
+in_effect_all w f h = (let r = in_all w (files_of w.records) f h in record { name = r.0.name; file = r.0; in_effect = listed_file w.records r.0 r.1; is = r.2 })
+
+in_effect_one : (w : State) (name : List ℕ) (o : Option File) (f : Pinned) → file_in w name ≡ o → In f (pin_one w o) → Stands w f
+in_effect_one w name None f is h = absurd h
+in_effect_one w name (Some g) f is (inl e) = record { name = name; file = g; in_effect = is; is = e }
+in_effect_one w name (Some g) f is (inr i) = absurd i
+
+pub pinned_stands : (w : State) (kind : Kind) (f : Pinned) → In f (pinned_for w kind) → Stands w f
+pinned_stands w (PutJob name bytes) f h = absurd h
+pinned_stands w (GetJob name) f h = in_effect_one w name (file_in w name) f refl h
+pinned_stands w (DropJob name) f h = absurd h
+pinned_stands w AuditJob f h = in_effect_all w f h
+pinned_stands w RepairJob f h = in_effect_all w f h
+
+-- ---- what is pinned is not taken away
+
+any_pinned : (ps : List Pinned) (id : ℕ) (f : Pinned) → In f ps → f.id ≡ id → list_any (λ (p : Pinned). p.id == id) ps ≡ true
+any_pinned [] id f h e = absurd h
+any_pinned (p ∷ ps) id f (inl i) e = elim (cases_Bool (p.id == id)) [
+  | inl t ↦ rw t refl
+  | inr o ↦ absurd (false≢true (sym o ∙ eq-eqb p.id id (sym (ap (λ (x : Pinned). x.id) i) ∙ e)))
+]
+any_pinned (p ∷ ps) id f (inr i) e = (let r = any_pinned ps id f i e in elim (cases_Bool (p.id == id)) [ inl t ↦ rw t refl | inr o ↦ rw o r ])
+
+pub any_job : (test : Job → Bool) (js : List Job) (k : ℕ) (j : Job) → job_of js k ≡ Some j → list_any test js ≡ false → test j ≡ false
+any_job test [] k j h none = (let e : None ≡ Some j = h in cc)
+any_job test (x ∷ js) k j h none = elim (cases_Bool (test x)) [
+  | inl t ↦ absurd (false≢true (sym none ∙ (rw t refl)))
+  | inr o ↦ elim (cases_Bool (x.number == k)) [
+    | inl t ↦ (let same : x ≡ j = same_value _ x j (cond_true _ (Some x) (job_of js k) t) h in ap test (sym same) ∙ o)
+    | inr n ↦ any_job test js k j (sym (cond_false _ (Some x) (job_of js k) n) ∙ h) (let e = rw o at none in e)
+  ]
+]
+
+pub not_pinned : (w : State) (k : ℕ) (j : Job) (f : Pinned) (id : ℕ) → is_pinned w id ≡ false → job_of w.jobs k ≡ Some j → In f j.pinned → f.id ≡ id → ⊥
+not_pinned w k j f id none runs i e = false≢true (sym (any_job (λ (x : Job). list_any (λ (p : Pinned). p.id == id) x.pinned) w.jobs k j runs none) ∙ any_pinned j.pinned id f i e)
+
+-- the file of an object that a job takes away
+pub record Taken (w : State) (job : Job) (name : List ℕ) (o : ℕ) : Type 0 where
+  pub file : File
+  pub in_effect : file_in w name ≡ Some file
+  pub id_is : file.id ≡ o
+  pub free : is_pinned w o ≡ false
+
+removable_is : (w : State) (job : Job) (name : List ℕ) (f : Option File) (o : ℕ) → file_in w name ≡ f → In o (removable w f) → Taken w job name o
+removable_is w job name None o is h = absurd h
+removable_is w job name (Some f) o is h = elim (cases_Bool (is_pinned w f.id)) [
+  | inl t ↦ absurd (subst (λ l. In o l) (cond_true (is_pinned w f.id) [] (f.id ∷ []) t) h)
+  | inr n ↦ here n (subst (λ l. In o l) (cond_false (is_pinned w f.id) [] (f.id ∷ []) n) h)
+]
+  where
+    here : is_pinned w f.id ≡ false → In o (f.id ∷ []) → Taken w job name o
+    here n (inl e) = record { file = f; in_effect = is; id_is = sym e; free = ap (is_pinned w) e ∙ n }
+    here n (inr i) = absurd i
+
+-- which job takes an object of which name away
+abbrev pub Takes : Job → Kind → List ℕ → Type 0
+Takes job (PutJob n bytes) name = (4 ≤ job.place) × (n ≡ name)
+Takes job (DropJob n) name = n ≡ name
+Takes job kind name = ⊥
+
+pub taken : (w : State) (job : Job) (kind : Kind) (o : ℕ) → In o (taken_out w job kind) → (name : List ℕ) × Takes job kind name × Taken w job name o
+taken w job (PutJob n bytes) o h = elim (cases_lt job.place 4) [
+  | inl l ↦ absurd (subst (λ x. In o x) (cond_true (is_first_append job) [] (removable w (file_in w n)) (first_below job l)) h)
+  | inr l ↦ (n, (l, refl), removable_is w job n (file_in w n) o refl (subst (λ x. In o x) (cond_false (is_first_append job) [] (removable w (file_in w n)) (first_above job l)) h))
+]
+taken w job (DropJob n) o h = (n, refl, removable_is w job n (file_in w n) o refl h)
+taken w job (GetJob n) o h = absurd h
+taken w job AuditJob o h = absurd h
+taken w job RepairJob o h = absurd h
+
+-- ---- begins of audits and repairs
+
+not_busy : (limit : ℕ) (w : State) (kind : Kind) → begin_refusal limit w kind ≡ None → is_busy limit w kind ≡ false
+not_busy limit w kind h = elim (cases_Bool w.is_barred) [
+  | inl t ↦ absurd (let e = rw t at h in let f : Some refusal.MustReopen ≡ None = e in cc)
+  | inr o ↦ elim (cases_Bool (is_busy limit w kind)) [
+    | inl b ↦ absurd (let e = rw (o, b) at h in let f : Some refusal.Busy ≡ None = e in cc)
+    | inr f ↦ f
+  ]
+]
+
+right_false : (a b : Bool) → (a || b) ≡ false → b ≡ false
+right_false true b h = absurd (false≢true (sym h))
+right_false false b h = h
+
+pub check_alone : (limit : ℕ) (w : State) (kind : Kind) → begin_refusal limit w kind ≡ None → is_check kind ≡ true → (k : ℕ) (j : Job) → job_of w.jobs k ≡ Some j → is_check j.kind ≡ false
+check_alone limit w AuditJob none check k j runs =
+    not_put (any_job (λ (x : Job). is_put_or_check x.kind) w.jobs k j runs (right_false _ _ (not_busy limit w AuditJob none)))
+  where
+    not_put : is_put_or_check j.kind ≡ false → is_check j.kind ≡ false
+    not_put h = by_kind j.kind h
+      where
+        by_kind : (kind : Kind) → is_put_or_check kind ≡ false → is_check kind ≡ false
+        by_kind (PutJob name bytes) h = refl
+        by_kind (GetJob name) h = h
+        by_kind (DropJob name) h = h
+        by_kind AuditJob h = h
+        by_kind RepairJob h = h
+check_alone limit w RepairJob none check k j runs = any_job (λ (x : Job). is_check x.kind) w.jobs k j runs (right_false _ _ (not_busy limit w RepairJob none))
+check_alone limit w (PutJob name bytes) none check k j runs = absurd (false≢true check)
+check_alone limit w (GetJob name) none check k j runs = absurd (false≢true check)
+check_alone limit w (DropJob name) none check k j runs = absurd (false≢true check)
+
+-- ---- what appends write
+
+-- the record of an append, by the job that it is of
+abbrev pub Wrote : Job → Kind → Record → Type 0
+Wrote job (PutJob name bytes) entry = ((job.place < 4) × (entry ≡ PutStart job.subject name)) ⊎ ((4 ≤ job.place) × (entry ≡ PutDone job.subject (length bytes)))
+Wrote job (DropJob name) entry = entry ≡ Drop name
+Wrote job AuditJob entry = ((number : ℕ) × (entry ≡ AuditStart number)) ⊎ ((number : ℕ) × (u : ℕ) × (c : List ℕ) × (entry ≡ AuditDone number u c))
+Wrote job RepairJob entry = (number : ℕ) × (entry ≡ RepairDone number)
+Wrote job (GetJob name) entry = ⊥
+
+pub writes_proper : (w : State) (job : Job) (kind : Kind) (entry : Record) → Writes w job kind entry → IsProper w.records entry
+writes_proper w job (PutJob name bytes) entry h = elim (cases_Bool (is_first_append job)) [
+  | inl t ↦ subst (IsProper w.records) (sym (h ∙ cond_true (is_first_append job) (PutStart (next_id w.records) name) (PutDone job.subject (length bytes)) t)) refl
+  | inr f ↦ subst (IsProper w.records) (sym (h ∙ cond_false (is_first_append job) (PutStart (next_id w.records) name) (PutDone job.subject (length bytes)) f)) tt
+]
+writes_proper w job (GetJob name) entry h = absurd h
+writes_proper w job (DropJob name) entry h = subst (IsProper w.records) (sym h) tt
+writes_proper w job AuditJob entry h = elim (cases_Bool (is_first_append job)) [
+  | inl t ↦ subst (IsProper w.records) (sym (let g = rw t at h in g)) tt
+  | inr f ↦ (let g = rw f at h in subst (IsProper w.records) (sym g.2) tt)
+]
+writes_proper w job RepairJob entry h = subst (IsProper w.records) (sym h) tt

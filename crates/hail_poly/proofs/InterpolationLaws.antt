@@ -1,0 +1,48 @@
+-- Interpolation gives a polynomial back from its values.
+use Rattle.std.proofs.Common.{◌≡◌, ◌≢◌, ◌≤◌, ◌++◌, [], ◌∷◌, ℕ, List, length, take, drop, refl, sym, ◌∙◌, arith}
+use Rattle.std.proofs.lemmas.List.{length-map, length-take-le, take-append-drop}
+use Rattle.field_laws.specs.Field.{Apart, Each}
+use Rattle.hail_field.specs.Nim.{nim}
+use Rattle.hail_field.proofs.AllNumbers.{nim_laws}
+use Rattle.poly_laws.proofs.Headlines.{one_takes}
+use Rattle.poly_laws.proofs.Trim.{value-trim}
+use Rattle.poly_laws.proofs.Interpolate.{interpolate_takes, length-interpolate}
+use Rattle.hail_codes.specs.Points.{values_at}
+use Rattle.hail_codes.specs.Polynomials.{value, interpolate, trim, Takes}
+
+-- points that are apart stay so without the last ones
+Apart-front : (xs ys : List ℕ) → Apart (xs ++ ys) → Apart xs
+Apart-front [] ys h = tt
+Apart-front (x ∷ xs) ys h = (each xs h.0, Apart-front xs ys h.1)
+  where
+    each : (us : List ℕ) → Each (λ y. x ≢ y) (us ++ ys) → Each (λ y. x ≢ y) us
+    each [] h = tt
+    each (u ∷ us) h = (h.0, each us h.1)
+
+-- the first points are apart
+pub Apart-take : (k : ℕ) (xs : List ℕ) → Apart xs → Apart (take k xs)
+Apart-take k xs h = Apart-front (take k xs) (drop k xs) (rw take-append-drop h)
+
+-- a polynomial takes its values
+pub takes_values : (p xs : List ℕ) → Takes p xs (values_at xs p)
+takes_values p [] = tt
+takes_values p (x ∷ xs) = (refl, takes_values p xs)
+
+-- interpolation gives it back at as many points as it has coefficients
+pub back : (points p : List ℕ) → Apart points → length p ≤ length points → trim (interpolate points (values_at points p)) ≡ trim p
+back points p apart fits =
+    let even : length points ≡ length (values_at points p) = sym (length-map points (value p)) in
+    one_takes nim nim_laws points (values_at points p) (interpolate points (values_at points p)) p apart
+    (omega (arith, length-interpolate nim nim_laws points (values_at points p) even))
+    (interpolate_takes nim nim_laws points (values_at points p) nim_laws.one_not_zero even apart) fits (takes_values p points)
+
+module _ (points p : List ℕ) (l : ℕ) (apart : Apart points) (fits : length p ≤ l) (enough : l ≤ length points) where
+  -- and at the first ones of more points
+  pub back_front : trim (interpolate (take l points) (values_at (take l points) p)) ≡ trim p
+  back_front = back (take l points) p (Apart-take l points apart) (omega (arith, length-take-le l points enough))
+
+  -- so both have one value everywhere
+  pub values_back : (x : ℕ) → value (interpolate (take l points) (values_at (take l points) p)) x ≡ value p x
+  values_back x =
+      sym (value-trim nim nim_laws (interpolate (take l points) (values_at (take l points) p)) x) ∙
+      cc (back_front, value-trim nim nim_laws p x)

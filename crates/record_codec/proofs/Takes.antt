@@ -1,0 +1,177 @@
+-- What is read is spelled so, and what is spelled so is read.
+use Rattle.std.proofs.Common.{◌≡◌, ℕ, suc, ◌^◌, ◌<◌, ◌≤◌, true, false, cond, ltb, eqb, leb, List, [], ◌∷◌, ◌++◌, length, take, drop, Option, Some, None, refl, sym, ap, subst, ◌∙◌, append_assoc, arith, length-append, length-take, take-append-drop, ⊎_elim}
+use Rattle.std.specs.Prelude.{◌&&◌}
+use Rattle.std.specs.Int.{w16, w32, w64, to_le_bytes, from_le_bytes}
+use Rattle.std.specs.List.{list_all}
+use Rattle.std.proofs.lemmas.Bool.{eqb-true, leb-true, ltb-false, le-ltb, lt-ltb}
+use Rattle.std.proofs.lemmas.Bool.Decides.{nat_tests}
+use Rattle.std.proofs.lemmas.List.{take_at, drop_at as drop-front}
+use Rattle.hail_records.specs.Records.{Setup, Record, SetUp, PutStart, PutDone, Drop, AuditStart, AuditDone, RepairDone, is_name, is_setup, is_master, is_byte, is_in_grammar}
+use Rattle.hail_records.specs.Spellings.{name_bytes, setup_bytes, counts_bytes, spelling}
+use Rattle.record_codec.specs.Reading.{◌>>=◌, number_at, name_at, counts_at, keyed_at, setup_at, put_start_at, put_done_at, drop_at, audit_start_at, audit_done_at, repair_done_at, record_at}
+use Rattle.record_codec.proofs.Fields.{IsBytes, IsBytes-rest, IsBytes-take, IsBytes-drop, bind_some, chosen, passed, passed_to, stopped, some_is, Takes, Takes-then, wide16, wide32, wide64, number_takes, number_again, name_takes, name_again}
+use Rattle.record_codec.proofs.CountsLemmas.{counts_takes, counts_again}
+
+abbrev Found : List ℕ → Record × List ℕ → Type 0
+Found bytes x = Takes bytes (spelling x.0) x.1 × (is_in_grammar x.0 ≡ true)
+
+IsBytes-all : (bytes : List ℕ) → IsBytes bytes → list_all is_byte bytes ≡ true
+IsBytes-all [] fits = refl
+IsBytes-all (b ∷ bytes) fits = grind (arith, nat_tests, fits 0, IsBytes-all bytes (IsBytes-rest b bytes fits))
+
+-- ---- a setup
+
+keyed_takes : (s : Setup) (rest : List ℕ) (x : Record × List ℕ) → IsBytes rest → keyed_at s rest ≡ Some x
+    → (key : List ℕ) × (x.0 ≡ SetUp (record s { master = key })) × Takes rest key x.1 × (is_setup s ≡ true) × (is_master key ≡ true)
+unfolding keyed_at
+keyed_takes s rest x fits e =
+    let made : Record × List ℕ = (SetUp (record s { master = take 32 rest }), drop 32 rest) in
+    let g = passed_to (is_setup s) (cond (ltb (length rest) 32) None (Some made)) x e in
+    let h = stopped (ltb (length rest) 32) (Some made) x g.1 in
+    let long : 32 ≤ length rest = ltb-false _ _ h.0 in
+    let len : length (take 32 rest) ≡ 32 = omega (arith, length-take 32 rest) in
+    let key : is_master (take 32 rest) ≡ true = grind (arith, nat_tests, len, IsBytes-all (take 32 rest) (IsBytes-take 32 rest fits)) in
+    let took : Takes rest (take 32 rest) (drop 32 rest) = record { parts = sym (take-append-drop 32 rest); rest_fits = IsBytes-drop 32 rest fits } in
+    subst (λ (y : Record × List ℕ). (key : List ℕ) × (y.0 ≡ SetUp (record s { master = key })) × Takes rest key y.1 × (is_setup s ≡ true) × (is_master key ≡ true))
+    (some_is made x h.1) (take 32 rest, refl, took, g.0, key)
+
+setup_takes : (rest : List ℕ) (x : Record × List ℕ) → IsBytes rest → setup_at rest ≡ Some x → Found (1 ∷ rest) x
+unfolding setup_at spelling
+setup_takes (n ∷ l ∷ b ∷ profile ∷ rounds ∷ picks ∷ low ∷ high ∷ rest) x fits e =
+    let two : List ℕ = low ∷ high ∷ [] in
+    let s : Setup = record { n = n; l = l; b = b; profile = profile; rounds = rounds; picks = picks; tolerance = from_le_bytes w16 two; master = [] } in
+    let inner : IsBytes rest = λ i. fits (suc (suc (suc (suc (suc (suc (suc (suc i)))))))) in
+    let two_fit : IsBytes two = IsBytes-take 2 (low ∷ high ∷ rest) (λ i. fits (suc (suc (suc (suc (suc (suc i))))))) in
+    let k = keyed_takes s rest x inner e in
+    let front : List ℕ = n ∷ l ∷ b ∷ profile ∷ rounds ∷ picks ∷ [] in
+    let parts : 1 ∷ n ∷ l ∷ b ∷ profile ∷ rounds ∷ picks ∷ low ∷ high ∷ rest ≡ spelling (SetUp (record s { master = k.0 })) ++ x.1 =
+    (λ i. 1 ∷ n ∷ l ∷ b ∷ profile ∷ rounds ∷ picks ∷ (sym (wide16.back two refl two_fit) i ++ k.2.parts i)) ∙ (λ i. 1 ∷ n ∷ l ∷ b ∷ profile ∷ rounds ∷ picks ∷ sym (append_assoc (to_le_bytes w16 (from_le_bytes w16 two)) k.0 x.1) i) in
+    let good : is_in_grammar (SetUp (record s { master = k.0 })) ≡ true = (λ i. k.3 i && k.4 i) in
+    (record { parts = parts ∙ ap (λ (r : Record). spelling r ++ x.1) (sym k.1); rest_fits = k.2.rest_fits }, ap is_in_grammar k.1 ∙ good)
+setup_takes bytes x fits e = absurd cc
+
+setup_again : (s : Setup) (rest : List ℕ) → is_setup s ≡ true → is_master s.master ≡ true → setup_at (setup_bytes s ++ rest) ≡ Some (SetUp s, rest)
+unfolding setup_at keyed_at
+setup_again s rest good key =
+    let small : s.tolerance < 2 ^ 16 = grind (arith, nat_tests, good) in
+    let len : length s.master ≡ 32 = grind (arith, nat_tests, key) in
+    let long : ltb (length (s.master ++ rest)) 32 ≡ false = le-ltb _ _ (omega (arith, length-append s.master rest)) in
+    rw (wide16.again s.tolerance small, good, long, take_at s.master rest 32 len, drop-front s.master rest 32 len) refl
+
+-- ---- the others
+
+put_start_takes : (rest : List ℕ) (x : Record × List ℕ) → IsBytes rest → put_start_at rest ≡ Some x → Found (2 ∷ rest) x
+unfolding put_start_at spelling
+put_start_takes rest x fits e =
+    let a = bind_some (number_at w64 rest) (λ id. name_at id.1 >>= λ name. Some (PutStart id.0 name.0, name.1)) x e in
+    let b = bind_some (name_at a.0.1) (λ name. Some (PutStart a.0.0 name.0, name.1)) x a.2 in
+    let made : Record × List ℕ = (PutStart a.0.0 b.0.0, b.0.1) in
+    let first = number_takes w64 (2 ^ 64) wide64 rest a.0 fits a.1 in
+    let second = name_takes a.0.1 b.0 first.0.rest_fits b.1 in
+    let both = Takes-then rest (to_le_bytes w64 a.0.0) a.0.1 (name_bytes b.0.0) b.0.1 first.0 second.0 in
+    subst (Found (2 ∷ rest)) (some_is made x b.2) (record { parts = ap (λ (l : List ℕ). 2 ∷ l) both.parts; rest_fits = both.rest_fits }, (λ i. lt-ltb _ _ first.1 i && second.1 i))
+
+put_done_takes : (rest : List ℕ) (x : Record × List ℕ) → IsBytes rest → put_done_at rest ≡ Some x → Found (3 ∷ rest) x
+unfolding put_done_at spelling
+put_done_takes rest x fits e =
+    let a = bind_some (number_at w64 rest) (λ id. number_at w32 id.1 >>= λ len. cond (leb len.0 4194304) (Some (PutDone id.0 len.0, len.1)) None) x e in
+    let b = bind_some (number_at w32 a.0.1) (λ len. cond (leb len.0 4194304) (Some (PutDone a.0.0 len.0, len.1)) None) x a.2 in
+    let made : Record × List ℕ = (PutDone a.0.0 b.0.0, b.0.1) in
+    let g = passed (leb b.0.0 4194304) made x b.2 in
+    let first = number_takes w64 (2 ^ 64) wide64 rest a.0 fits a.1 in
+    let second = number_takes w32 (2 ^ 32) wide32 a.0.1 b.0 first.0.rest_fits b.1 in
+    let both = Takes-then rest (to_le_bytes w64 a.0.0) a.0.1 (to_le_bytes w32 b.0.0) b.0.1 first.0 second.0 in
+    subst (Found (3 ∷ rest)) g.1 (record { parts = ap (λ (l : List ℕ). 3 ∷ l) both.parts; rest_fits = both.rest_fits }, (λ i. lt-ltb _ _ first.1 i && g.0 i))
+
+drop_takes : (rest : List ℕ) (x : Record × List ℕ) → IsBytes rest → drop_at rest ≡ Some x → Found (4 ∷ rest) x
+unfolding drop_at spelling
+drop_takes rest x fits e =
+    let a = bind_some (name_at rest) (λ name. Some (Drop name.0, name.1)) x e in
+    let made : Record × List ℕ = (Drop a.0.0, a.0.1) in
+    let first = name_takes rest a.0 fits a.1 in
+    subst (Found (4 ∷ rest)) (some_is made x a.2) (record { parts = ap (λ (l : List ℕ). 4 ∷ l) first.0.parts; rest_fits = first.0.rest_fits }, first.1)
+
+audit_start_takes : (rest : List ℕ) (x : Record × List ℕ) → IsBytes rest → audit_start_at rest ≡ Some x → Found (5 ∷ rest) x
+unfolding audit_start_at spelling
+audit_start_takes rest x fits e =
+    let a = bind_some (number_at w64 rest) (λ number. Some (AuditStart number.0, number.1)) x e in
+    let made : Record × List ℕ = (AuditStart a.0.0, a.0.1) in
+    let first = number_takes w64 (2 ^ 64) wide64 rest a.0 fits a.1 in
+    subst (Found (5 ∷ rest)) (some_is made x a.2) (record { parts = ap (λ (l : List ℕ). 5 ∷ l) first.0.parts; rest_fits = first.0.rest_fits }, lt-ltb _ _ first.1)
+
+audit_done_takes : (rest : List ℕ) (x : Record × List ℕ) → IsBytes rest → audit_done_at rest ≡ Some x → Found (6 ∷ rest) x
+unfolding audit_done_at spelling
+audit_done_takes rest x fits e =
+    let a = bind_some (number_at w64 rest) (λ number. number_at w32 number.1 >>= λ undecided. counts_at undecided.1 >>= λ counts. Some (AuditDone number.0 undecided.0 counts.0, counts.1)) x e in
+    let b = bind_some (number_at w32 a.0.1) (λ undecided. counts_at undecided.1 >>= λ counts. Some (AuditDone a.0.0 undecided.0 counts.0, counts.1)) x a.2 in
+    let d = bind_some (counts_at b.0.1) (λ counts. Some (AuditDone a.0.0 b.0.0 counts.0, counts.1)) x b.2 in
+    let made : Record × List ℕ = (AuditDone a.0.0 b.0.0 d.0.0, d.0.1) in
+    let first = number_takes w64 (2 ^ 64) wide64 rest a.0 fits a.1 in
+    let second = number_takes w32 (2 ^ 32) wide32 a.0.1 b.0 first.0.rest_fits b.1 in
+    let third = counts_takes b.0.1 d.0 second.0.rest_fits d.1 in
+    let front = Takes-then rest (to_le_bytes w64 a.0.0) a.0.1 (to_le_bytes w32 b.0.0) b.0.1 first.0 second.0 in
+    let all = Takes-then rest (to_le_bytes w64 a.0.0 ++ to_le_bytes w32 b.0.0) b.0.1 (counts_bytes d.0.0) d.0.1 front third.0 in
+    let good : is_in_grammar (AuditDone a.0.0 b.0.0 d.0.0) ≡ true = grind (arith, lt-ltb _ _ first.1, lt-ltb _ _ second.1, third.1, third.2) in
+    subst (Found (6 ∷ rest)) (some_is made x d.2) (record { parts = ap (λ (l : List ℕ). 6 ∷ l) all.parts; rest_fits = all.rest_fits }, good)
+
+repair_done_takes : (rest : List ℕ) (x : Record × List ℕ) → IsBytes rest → repair_done_at rest ≡ Some x → Found (7 ∷ rest) x
+unfolding repair_done_at spelling
+repair_done_takes rest x fits e =
+    let a = bind_some (number_at w64 rest) (λ number. Some (RepairDone number.0, number.1)) x e in
+    let made : Record × List ℕ = (RepairDone a.0.0, a.0.1) in
+    let first = number_takes w64 (2 ^ 64) wide64 rest a.0 fits a.1 in
+    subst (Found (7 ∷ rest)) (some_is made x a.2) (record { parts = ap (λ (l : List ℕ). 7 ∷ l) first.0.parts; rest_fits = first.0.rest_fits }, lt-ltb _ _ first.1)
+
+-- one kind after the other
+of_kind : (kind k : ℕ) (rest : List ℕ) (found others : Option (Record × List ℕ)) (x : Record × List ℕ)
+    → (found ≡ Some x → Found (k ∷ rest) x) → (others ≡ Some x → Found (kind ∷ rest) x) → cond (eqb kind k) found others ≡ Some x → Found (kind ∷ rest) x
+of_kind kind k rest found others x here on e =
+    ⊎_elim (λ p. subst (λ (j : ℕ). Found (j ∷ rest) x) (sym (eqb-true kind k p.0)) (here p.1)) (λ p. on p.1) (chosen (eqb kind k) found others (Some x) e)
+
+pub record_takes : (bytes : List ℕ) (x : Record × List ℕ) → IsBytes bytes → record_at bytes ≡ Some x → Takes bytes (spelling x.0) x.1 × (is_in_grammar x.0 ≡ true)
+unfolding record_at
+record_takes [] x fits e = absurd cc
+record_takes (kind ∷ rest) x fits e =
+    let inner = IsBytes-rest kind rest fits in
+    of_kind kind 1 rest _ _ x (setup_takes rest x inner) (of_kind kind 2 rest _ _ x (put_start_takes rest x inner) (
+    of_kind kind 3 rest _ _ x (put_done_takes rest x inner) (of_kind kind 4 rest _ _ x (drop_takes rest x inner) (
+    of_kind kind 5 rest _ _ x (audit_start_takes rest x inner) (of_kind kind 6 rest _ _ x (audit_done_takes rest x inner) (
+    of_kind kind 7 rest _ _ x (repair_done_takes rest x inner) (λ none. absurd (none_is x none)))))))) e
+  where
+    none_is : (y : Record × List ℕ) → None ≡ Some y → ⊥
+    none_is y h = cc
+
+pub record_again : (r : Record) (rest : List ℕ) → is_in_grammar r ≡ true → record_at (spelling r ++ rest) ≡ Some (r, rest)
+unfolding record_at put_start_at put_done_at drop_at audit_start_at audit_done_at repair_done_at spelling
+record_again (SetUp s) rest fits = setup_again s rest (grind (arith, fits)) (grind (arith, fits))
+record_again (PutStart id name) rest fits =
+    let id_fits : id < 2 ^ 64 = grind (arith, nat_tests, fits) in
+    let good : is_name name ≡ true = grind (arith, fits) in
+    ap (λ (l : List ℕ). put_start_at l) (append_assoc (to_le_bytes w64 id) (name_bytes name) rest) ∙ rw (number_again w64 (2 ^ 64) wide64 id (name_bytes name ++ rest) id_fits, name_again name rest good) refl
+record_again (PutDone id size) rest fits =
+    let id_fits : id < 2 ^ 64 = grind (arith, nat_tests, fits) in
+    let short : leb size 4194304 ≡ true = grind (arith, fits) in
+    ap (λ (l : List ℕ). put_done_at l) (append_assoc (to_le_bytes w64 id) (to_le_bytes w32 size) rest) ∙ rw (number_again w64 (2 ^ 64) wide64 id (to_le_bytes w32 size ++ rest) id_fits, number_again w32 (2 ^ 32) wide32 size rest (omega (arith, leb-true _ _ short)), short) refl
+record_again (Drop name) rest fits = rw (name_again name rest fits) refl
+record_again (AuditStart number) rest fits =
+    let number_fits : number < 2 ^ 64 = grind (arith, nat_tests, fits) in
+    rw (number_again w64 (2 ^ 64) wide64 number rest number_fits) refl
+record_again (AuditDone number undecided counts) rest fits =
+    let a = to_le_bytes w64 number in
+    let b = to_le_bytes w32 undecided in
+    let d = counts_bytes counts in
+    let number_fits : number < 2 ^ 64 = grind (arith, nat_tests, fits) in
+    let undecided_fits : undecided < 2 ^ 32 = grind (arith, nat_tests, fits) in
+    let range : (leb 4 (length counts) && leb (length counts) 16) ≡ true = grind (arith, fits) in
+    let each : list_all (λ k. ltb k (2 ^ 32)) counts ≡ true = grind (arith, fits) in
+    let regrouped : (a ++ b ++ d) ++ rest ≡ a ++ (b ++ (d ++ rest)) = append_assoc (a ++ b) d rest ∙ append_assoc a b (d ++ rest) in
+    ap (λ (l : List ℕ). audit_done_at l) regrouped ∙ rw (number_again w64 (2 ^ 64) wide64 number (b ++ (d ++ rest)) number_fits, number_again w32 (2 ^ 32) wide32 undecided (d ++ rest) undecided_fits, counts_again counts rest range each) refl
+record_again (RepairDone number) rest fits =
+    let number_fits : number < 2 ^ 64 = grind (arith, nat_tests, fits) in
+    rw (number_again w64 (2 ^ 64) wide64 number rest number_fits) refl
+
+-- no spelling begins another
+pub one_front : (a b : Record) (x y : List ℕ) → is_in_grammar a ≡ true → is_in_grammar b ≡ true → spelling a ++ x ≡ spelling b ++ y → (a ≡ b) × (x ≡ y)
+one_front a b x y fits_a fits_b e =
+    let same = some_is (a, x) (b, y) (sym (record_again a x fits_a) ∙ ap record_at e ∙ record_again b y fits_b) in
+    (ap (λ (p : Record × List ℕ). p.0) same, ap (λ (p : Record × List ℕ). p.1) same)

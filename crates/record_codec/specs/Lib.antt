@@ -1,0 +1,4 @@
+pub mod Entries
+pub mod NameParts
+pub mod Reading
+pub mod Limits

@@ -1,0 +1,120 @@
+ghost use Rattle.std.specs.Prelude.{◌≡◌, ◌++◌, ◌+◌, ◌*◌, ◌≤◌, length, take, drop};
+ghost use Rattle.std.specs.Int.{w32, to_le_bytes};
+ghost use Rattle.std.specs.List.{flat_map};
+ghost use Rattle.hail_records.specs.Records.{record_size};
+ghost use Rattle.hail_records.specs.Spellings.{spelling, setup_bytes};
+ghost use Rattle.record_codec.specs.Entries.{entry_of, with_master, IsInGrammar};
+
+use crate::records::Record;
+use crate::setup::Setup;
+
+/// Writes a piece behind what was written.
+fn put(out: &mut [u8], at: usize, piece: &[u8]) -> usize
+    requires { at + length piece.now ≤ length out.old }
+    ensures at { result ≡ at + length piece.now }
+    ensures front { take result out.new ≡ take at out.old ++ piece.now }
+{
+    let end = at + piece.len();
+    out[at..end].copy_from_slice(piece);
+    end
+}
+
+fn put_numbers(out: &mut [u8], at: usize, ks: &[u32]) -> usize
+    requires { at + 4 * length ks.now ≤ length out.old }
+    ensures at { result ≡ at + 4 * length ks.now }
+    ensures front { take result out.new ≡ take at out.old ++ flat_map (to_le_bytes w32) ks.now }
+{
+    let mut end = at;
+    for k in ks {
+        end = put(out, end, &k.to_le_bytes());
+    }
+    end
+}
+
+fn put_setup(out: &mut [u8], at: usize, setup: &Setup, master: &[u8; 32]) -> usize
+    requires { at + 40 ≤ length out.old }
+    ensures at { result ≡ at + 40 }
+    ensures front { take result out.new ≡ take at out.old ++ setup_bytes (with_master setup.now master.now) }
+{
+    let numbers = [
+        setup.n,
+        setup.l,
+        setup.b,
+        setup.profile,
+        setup.rounds,
+        setup.picks,
+    ];
+    let at = put(out, at, &numbers);
+    let at = put(out, at, &setup.tolerance.to_le_bytes());
+    put(out, at, master)
+}
+
+impl Record {
+    /// Writes the record's bytes to the front of `out`, and answers how many they are. What stands behind them is not
+    /// promised. Condition: the record is in the grammar.
+    #[tactic(auto, unfolding(hail_records::specs::Spellings::spelling))]
+    pub fn write(&self, out: &mut [u8; 80]) -> usize
+        requires { IsInGrammar self.now }
+        ensures size { result ≡ record_size (entry_of self.now) }
+        ensures bytes { take result out.new ≡ spelling (entry_of self.now) }
+    {
+        match self {
+            Record::Setup { setup, master } => {
+                let at = put(out, 0, &[1]);
+                put_setup(out, at, setup, master)
+            }
+            Record::PutStart { id, name } => {
+                let name = name.as_bytes();
+                let at = put(out, 0, &[2]);
+                let at = put(out, at, &id.to_le_bytes());
+                let at = put(out, at, &[name.len() as u8]);
+                put(out, at, name)
+            }
+            Record::PutDone { id, length } => {
+                let at = put(out, 0, &[3]);
+                let at = put(out, at, &id.to_le_bytes());
+                put(out, at, &length.to_le_bytes())
+            }
+            Record::Drop { name } => {
+                let name = name.as_bytes();
+                let at = put(out, 0, &[4, name.len() as u8]);
+                put(out, at, name)
+            }
+            Record::AuditStart { number } => {
+                let at = put(out, 0, &[5]);
+                put(out, at, &number.to_le_bytes())
+            }
+            Record::AuditDone {
+                number,
+                undecided,
+                counts,
+            } => {
+                let at = put(out, 0, &[6]);
+                let at = put(out, at, &number.to_le_bytes());
+                let at = put(out, at, &undecided.to_le_bytes());
+                let at = put(out, at, &[counts.n]);
+                put_numbers(out, at, &counts.by[..counts.n as usize])
+            }
+            Record::RepairDone { number } => {
+                let at = put(out, 0, &[7]);
+                put(out, at, &number.to_le_bytes())
+            }
+        }
+    }
+
+    /// How many bytes the record takes, its kind included. Condition: the record is in the grammar.
+    pub fn size(&self) -> usize
+        requires { IsInGrammar self.now }
+        ensures { result ≡ record_size (entry_of self.now) }
+    {
+        match self {
+            Record::Setup { .. } => 41,
+            Record::PutStart { name, .. } => 10 + name.as_bytes().len(),
+            Record::PutDone { .. } => 13,
+            Record::Drop { name } => 2 + name.as_bytes().len(),
+            Record::AuditStart { .. } => 9,
+            Record::AuditDone { counts, .. } => 14 + 4 * counts.n as usize,
+            Record::RepairDone { .. } => 9,
+        }
+    }
+}
