@@ -1,0 +1,70 @@
+-- Writes and syncs of a disk whose front is known.
+use Rattle.std.proofs.Common.{◌≡◌, ℕ, ◌+◌, ◌-◌, min, Bool, true, false, List, [], ◌∷◌, ◌++◌, length, drop, replicate, refl, sym, ap, ◌∙◌, arith, length-append}
+use Rattle.std.proofs.lemmas.List.{take_at, map-append, length-map}
+use Rattle.std.proofs.Math.Seq.{drop-append-add}
+use Rattle.hail_devices.specs.Cells.{Cells, reads, firm, loose}
+use Rattle.hail_devices.specs.Images.{IsImage}
+use Rattle.hail_devices.specs.Disks.{spliced, written, Torn}
+
+pub spliced-behind : {X : Type 0} (front new rest : List X) (at : ℕ) → at ≡ length front → spliced at new (front ++ rest) ≡ front ++ (new ++ drop (length new) rest)
+spliced-behind front new rest at is =
+    ap (λ (l : List _). l ++ (new ++ drop (at + length new) (front ++ rest))) (take_at front rest at (sym is))
+    ∙ ap (λ (k : ℕ). front ++ (new ++ drop (k + length new) (front ++ rest))) is
+    ∙ ap (λ (l : List _). front ++ (new ++ l)) (drop-append-add front rest (length new))
+
+module _ (front rest : Cells) (at : ℕ) (is : at ≡ length front) where
+  start : min at (length (front ++ rest)) ≡ length front
+  start = omega (arith, length-append front rest, is)
+
+  pub written-behind : (bytes : List ℕ) → written at bytes (front ++ rest) ≡ front ++ (loose bytes ++ drop (length bytes) rest)
+  written-behind bytes =
+      let none : at - length (front ++ rest) ≡ 0 = omega (arith, length-append front rest, is) in
+      ap (λ (k : ℕ). spliced (min at (length (front ++ rest))) (loose (replicate k 0 ++ bytes)) (front ++ rest)) none
+      ∙ spliced-behind front (loose bytes) rest (min at (length (front ++ rest))) start
+      ∙ ap (λ (k : ℕ). front ++ (loose bytes ++ drop k rest)) (length-map bytes (λ b. (b, true)))
+
+  pub torn-behind : (n : ℕ) (new : Cells) → Torn at n (front ++ rest) new → (after : Cells) × (new ≡ front ++ after)
+  torn-behind n new torn = (loose torn.bytes ++ drop (length (loose torn.bytes)) rest, torn.held ∙ spliced-behind front (loose torn.bytes) rest _ start)
+
+one_byte : (bytes : List ℕ) (rest : Cells) (c : ℕ × Bool) → length bytes ≡ 1 → (x : ℕ) × (loose bytes ++ drop (length (loose bytes)) (c ∷ rest) ≡ (x, true) ∷ rest)
+one_byte [] rest c is = absurd (omega arith)
+one_byte (x ∷ []) rest c is = (x, refl)
+one_byte (x ∷ y ∷ bytes) rest c is = absurd (omega arith)
+
+pub torn_gate : (front rest : Cells) (c : ℕ × Bool) (at : ℕ) (new : Cells) → at ≡ length front → Torn at 1 (front ++ (c ∷ rest)) new → (x : ℕ) × (new ≡ front ++ ((x, true) ∷ rest))
+torn_gate front rest c at new is torn =
+    let from = start front (c ∷ rest) at is in
+    let size : length torn.bytes ≡ 1 = omega (arith, torn.no_longer, torn.no_shorter, length-append front (c ∷ rest), from, is) in
+    let one = one_byte torn.bytes rest c size in
+    (one.0, torn.held ∙ spliced-behind front (loose torn.bytes) (c ∷ rest) _ from ∙ ap (λ (l : Cells). front ++ l) one.1)
+
+pub reads-firm : (bytes : List ℕ) → reads (firm bytes) ≡ bytes
+reads-firm [] = refl
+reads-firm (b ∷ bytes) = ap (λ (l : List ℕ). b ∷ l) (reads-firm bytes)
+
+pub reads-loose : (bytes : List ℕ) → reads (loose bytes) ≡ bytes
+reads-loose [] = refl
+reads-loose (b ∷ bytes) = ap (λ (l : List ℕ). b ∷ l) (reads-loose bytes)
+
+-- a sync
+abbrev pub settled : Cells → Cells
+settled cells = firm (reads cells)
+
+pub settled-append : (a b : Cells) → settled (a ++ b) ≡ settled a ++ settled b
+settled-append a b = ap firm (map-append (λ c. c.0) a b) ∙ map-append (λ b. (b, false)) (reads a) (reads b)
+
+pub settled-firm : (bytes : List ℕ) → settled (firm bytes) ≡ firm bytes
+settled-firm bytes = ap firm (reads-firm bytes)
+
+pub settled-loose : (bytes : List ℕ) → settled (loose bytes) ≡ firm bytes
+settled-loose bytes = ap firm (reads-loose bytes)
+
+-- ---- images
+
+-- where nothing is loose, an image is what is read
+pub IsImage-firm : (bytes : List ℕ) (rest : Cells) (image : List ℕ) → IsImage (firm bytes ++ rest) image → (tail : List ℕ) × (image ≡ bytes ++ tail) × IsImage rest tail
+IsImage-firm [] rest image is = (image, refl, is)
+IsImage-firm (b ∷ bytes) rest [] is = absurd is
+IsImage-firm (b ∷ bytes) rest (i ∷ image) is =
+    let behind = IsImage-firm bytes rest image is.1 in
+    (behind.0, (λ k. is.0 refl k ∷ behind.1 k), behind.2)

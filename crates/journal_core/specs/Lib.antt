@@ -1,0 +1,4 @@
+pub mod Lists
+pub mod Moves
+pub mod Appends
+pub mod Faults

@@ -1,0 +1,47 @@
+-- What a disk holds in the course of an append, and what its images stand for. Lists of records have the newest first.
+--
+--   IsClosed front cells             a closed gate stands behind these bytes, and nothing up to it is loose
+--   IsInDoubt front body cells       the gate behind these bytes is loose, and the body behind it is firm
+--   IsAfterMoves n front body cells  after n moves: write the body, sync, write the open gate, sync
+--   IsGivenUp n front body cells     after a fault of the move that came after n
+--   AllStandFor rs told              each image of the disk stands for these records
+--   MayStandFor rs r told            each image stands for these records, or for these with one more
+use Rattle.std.specs.Prelude.{◌≡◌, ◌≢◌, ◌⊎◌, ℕ, zero, suc, true, false, List, ◌∷◌, ◌++◌, Option}
+use Rattle.hail_devices.specs.Cells.{Cells, firm, loose}
+use Rattle.hail_devices.specs.Images.{EachImage}
+use Rattle.hail_records.specs.Records.{Record}
+use Rattle.hail_records.specs.Journal.{StandsFor}
+
+-- a closed gate stands behind these bytes, and nothing up to it is loose
+abbrev pub IsClosed : List ℕ → Cells → Type 0
+IsClosed front cells = (gate : ℕ) × (rest : Cells) × (gate ≢ 1) × (cells ≡ firm front ++ ((gate, false) ∷ rest))
+
+-- the gate behind these bytes is loose, and the body behind it isn't
+abbrev pub IsInDoubt : List ℕ → List ℕ → Cells → Type 0
+IsInDoubt front body cells = (gate : ℕ) × (rest : Cells) × (cells ≡ firm front ++ ((gate, true) ∷ (firm body ++ rest)))
+
+-- one of the two
+abbrev pub IsInDoubtOrClosed : List ℕ → List ℕ → Cells → Type 0
+IsInDoubtOrClosed front body cells = IsClosed front cells ⊎ IsInDoubt front body cells
+
+-- after so many moves of an append
+abbrev pub IsAfterMoves : ℕ → List ℕ → List ℕ → Cells → Type 0
+IsAfterMoves zero front body cells = IsClosed front cells
+IsAfterMoves (suc zero) front body cells = (gate : ℕ) × (rest : Cells) × (gate ≢ 1) × (cells ≡ firm front ++ ((gate, false) ∷ (loose body ++ rest)))
+IsAfterMoves (suc (suc zero)) front body cells = (gate : ℕ) × (rest : Cells) × (gate ≢ 1) × (cells ≡ firm front ++ ((gate, false) ∷ (firm body ++ rest)))
+IsAfterMoves (suc (suc (suc zero))) front body cells = (rest : Cells) × (cells ≡ firm front ++ ((1, true) ∷ (firm body ++ rest)))
+IsAfterMoves (suc (suc (suc (suc n)))) front body cells = (rest : Cells) × (cells ≡ firm front ++ ((1, false) ∷ (firm body ++ rest)))
+
+-- after a fault of the move that came after so many
+abbrev pub IsGivenUp : ℕ → List ℕ → List ℕ → Cells → Type 0
+IsGivenUp zero front body cells = IsClosed front cells
+IsGivenUp (suc zero) front body cells = IsClosed front cells
+IsGivenUp (suc (suc n)) front body cells = IsInDoubtOrClosed front body cells
+
+-- each image stands for these records
+abbrev pub AllStandFor : List Record → Option Cells → Type 0
+AllStandFor rs told = EachImage told (λ image. StandsFor image rs)
+
+-- each image stands for these records, or for these and one more
+abbrev pub MayStandFor : List Record → Record → Option Cells → Type 0
+MayStandFor rs r told = EachImage told (λ image. StandsFor image rs ⊎ StandsFor image (r ∷ rs))

@@ -1,0 +1,103 @@
+ghost use Rattle.std.specs.Prelude.{◌≡◌, ◌+◌, ◌^◌, ◌<◌, ◌≤◌, ◌++◌, [], ◌∷◌, ℕ, List, length, drop, OnOk, OnErr, IfSome, IfOk, IsErrOf, IsTrue, ◌↔◌};
+ghost use Rattle.stream_model.specs.declared.fault.WriteFault.TheVariants as write_fault;
+ghost use Rattle.hail_devices.specs.Faults.{HasCause};
+ghost use Rattle.hail_records.specs.Records.{Record as Entry, record_size};
+ghost use Rattle.hail_records.specs.Spellings.{spelling};
+ghost use Rattle.hail_records.specs.Journal.{before_gate};
+ghost use Rattle.record_codec.specs.Entries.{entry_of, IsInGrammar};
+ghost use Rattle.journal_core.specs.Moves.{IsClosed, IsAfterMoves, IsGivenUp, AllStandFor, MayStandFor};
+
+use disk_model::Disk;
+use record_codec::Record;
+use stream_model::WriteFault;
+
+/// One record on its way into a journal, in four moves: write the body, which is the record and the next closed gate,
+/// behind the closed gate; sync; open the gate; sync. A stop between any two of them leaves the old records or the new.
+#[derive(Drop)]
+pub struct Append {
+    gate: u64,
+    bytes: [u8; 81],
+    len: usize,
+    moves: u8,
+    ghost within: { len ≤ 81 },
+    ghost fits: { gate + 1 + len ≤ 2 ^ 24 },
+}
+
+/// The count of moves once one has failed.
+const GIVEN_UP: u8 = 5;
+
+fn copy_front(all: &mut [u8], bytes: &[u8])
+    requires { length bytes.now ≤ length all.old }
+    ensures { all.new ≡ bytes.now ++ drop (length bytes.now) all.old }
+{
+    all[..bytes.len()].copy_from_slice(bytes);
+}
+
+impl Append {
+    ghost use Rattle.journal_core.specs.Appends.{gate_of, body_of, moves_of, Appends};
+
+    /// An append at the closed gate at offset `gate`. Condition: the record is in the grammar, and the journal has room.
+    pub fn new(gate: u64, entry: &Record) -> Append
+        requires in_grammar { IsInGrammar entry.now }
+        requires room { gate + 2 + record_size (entry_of entry.now) ≤ 2 ^ 24 }
+        ensures gate { gate_of result ≡ gate }
+        ensures moves { moves_of result ≡ 0 }
+        ensures body { body_of result ≡ spelling (entry_of entry.now) ++ 0 ∷ [] }
+    {
+        let mut spelled = [0u8; 80];
+        let n = entry.write(&mut spelled);
+        let mut bytes = [0u8; 81];
+        copy_front(&mut bytes, &spelled[..n]);
+        Append {
+            gate,
+            bytes,
+            len: n + 1,
+            moves: 0,
+        }
+    }
+
+    /// What the first move writes: the record's bytes and a closed gate.
+    pub fn body(&self) -> &[u8]
+        ensures { result.now ≡ body_of self.now }
+    {
+        &self.bytes[..self.len]
+    }
+
+    /// Makes the next move; true after the fourth. After a fault the append is given up.
+    /// Condition: the four moves are not yet made, and none of them failed.
+    pub fn turn<D: Disk>(&mut self, disk: &mut D) -> Result<bool, WriteFault>
+        requires { moves_of self.old < 4 }
+        ensures last { IfOk result (λ ended. IsTrue ended ↔ (moves_of self.new ≡ 4)) }
+        ensures next { OnOk result (moves_of self.new ≡ moves_of self.old + 1) }
+        ensures failed { OnErr result (moves_of self.new ≡ 5) }
+        ensures gate { gate_of self.new ≡ gate_of self.old }
+        ensures body { body_of self.new ≡ body_of self.old }
+        ensures moved { (rs : List Entry) (r : Entry) → Appends rs r self.old (D.holds disk.old) → OnOk result (Appends rs r self.new (D.holds disk.new)) }
+        ensures given_up { (rs : List Entry) (r : Entry) → Appends rs r self.old (D.holds disk.old)
+            → OnErr result (IfSome (D.holds disk.new) (IsGivenUp (moves_of self.old) (before_gate rs) (body_of self.old))) }
+        ensures before { (rs : List Entry) (r : Entry) → Appends rs r self.old (D.holds disk.old) → moves_of self.old < 2 → AllStandFor rs (D.holds disk.new) }
+        ensures between { (rs : List Entry) (r : Entry) → Appends rs r self.old (D.holds disk.old) → MayStandFor rs r (D.holds disk.new) }
+        ensures after { (rs : List Entry) (r : Entry) → Appends rs r self.old (D.holds disk.old) → OnOk result (moves_of self.new ≡ 4 → AllStandFor (r ∷ rs) (D.holds disk.new)) }
+        ensures closed { (rs : List Entry) (r : Entry) → Appends rs r self.old (D.holds disk.old)
+            → OnOk result (moves_of self.new ≡ 4 → IfSome (D.holds disk.new) (IsClosed (before_gate (r ∷ rs)))) }
+        ensures cause { HasCause (D.faults disk.old) (D.faults disk.new) (IsErrOf result write_fault.Failed) }
+    {
+        if self.moves == 0 {
+            self.moves = GIVEN_UP;
+            disk.write_at(self.gate + 1, &self.bytes[..self.len])?;
+            self.moves = 1;
+            return Ok(false);
+        }
+        if self.moves == 2 {
+            self.moves = GIVEN_UP;
+            disk.write_at(self.gate, &[1])?;
+            self.moves = 3;
+            return Ok(false);
+        }
+        let moves = self.moves;
+        self.moves = GIVEN_UP;
+        disk.sync()?;
+        self.moves = moves + 1;
+        Ok(self.moves == 4)
+    }
+}

@@ -1,0 +1,14 @@
+//! The text of a journal, and appends to it.
+#![tactic(auto)]
+
+mod append;
+mod fault;
+pub mod laws;
+mod reading;
+
+pub use append::Append;
+pub use fault::{BadJournal, JournalFault};
+pub use reading::read_journal;
+
+#[cfg(test)]
+mod tests;

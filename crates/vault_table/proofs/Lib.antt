@@ -1,0 +1,4 @@
+pub mod Fold
+pub mod Orders
+pub mod Places
+pub mod Taken

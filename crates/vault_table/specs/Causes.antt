@@ -1,0 +1,34 @@
+-- How a table takes a record.
+use Rattle.std.specs.Prelude.{◌≡◌, ℕ, Bool, true, false, IsTrue, Option, Some, None, Result, Ok, Err}
+use Rattle.hail_records.specs.Records.{Record, PutStart}
+use Rattle.hail_records.specs.Acceptance.{Refused as Reason, NoSetup, SecondSetup, BadId, NotStarted, TooMany, NoName, BadAudit, NoRepair}
+use Rattle.vault_table.specs.declared.entry.Refused.{Refused}
+use Rattle.vault_table.specs.declared.entry.Refused.TheVariants as fault
+use Rattle.vault_table.specs.Values.{Kept, refusal, with_record}
+
+-- The answer says why the record is refused. Where memory ran out the record was not refused.
+abbrev pub IsCause : Refused → Option Reason → Type 0
+IsCause fault.NoSetup why = why ≡ Some NoSetup
+IsCause fault.SecondSetup why = why ≡ Some SecondSetup
+IsCause fault.BadId why = why ≡ Some BadId
+IsCause fault.NotStarted why = why ≡ Some NotStarted
+IsCause fault.TooMany why = why ≡ Some TooMany
+IsCause fault.NoName why = why ≡ Some NoName
+IsCause fault.BadAudit why = why ≡ Some BadAudit
+IsCause fault.NoRepair why = why ≡ Some NoRepair
+IsCause fault.Memory why = why ≡ None
+
+-- the record is a PutStart
+abbrev pub is_put_start : Record → Bool
+is_put_start (PutStart id name) = true
+is_put_start r = false
+
+-- memory may be wanted for a record
+abbrev pub MayWant : Refused → Record → ℕ → Type 0
+MayWant fault.Memory r spare = IsTrue (is_put_start r) × (spare ≡ 0)
+MayWant why r spare = Unit {0}
+
+-- a table goes on by a record that it does not refuse, and else stays as it is
+abbrev pub Accepts : Kept → Record → Result Unit Refused → Kept → Type 0
+Accepts old r (Ok x) new = (refusal old r ≡ None) × (new ≡ with_record old r)
+Accepts old r (Err why) new = IsCause why (refusal old r) × (new ≡ old) × MayWant why r old.spare

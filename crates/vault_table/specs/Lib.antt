@@ -1,0 +1,4 @@
+pub mod Orders
+pub mod Values
+pub mod Parts
+pub mod Causes

@@ -1,0 +1,83 @@
+ghost use Rattle.std.specs.Option.{option_map};
+ghost use Rattle.std.specs.Prelude.{◌≡◌, ◌≤◌, map, not, is_some, IsTrue, MatchResult, vec_capacity, if◌then◌else◌};
+ghost use Rattle.hail_records.specs.Table.{are_ordered, find_file, with_file, without_file};
+ghost use Rattle.vault_table.specs.Orders.{order_of, IsHere, IsBetween};
+ghost use Rattle.vault_table.specs.Values.{file_of_entry, is_full_without};
+
+use crate::entry::Entry;
+use crate::names::compare;
+use record_codec::Name;
+use std::cmp::Ordering;
+
+/// How many files can be in effect.
+pub const MOST_FILES: usize = 1024;
+
+/// How a file's name stands to a name in byte order.
+fn order(file: &Entry, name: &Name) -> Ordering
+    ensures { result ≡ order_of file.now.name name.now }
+{
+    compare(file.name.as_bytes(), name.as_bytes())
+}
+
+/// The place of a name among files in byte order of their names, or else the place at which it would stand.
+pub fn place_of(files: &[Entry], name: &Name) -> Result<usize, usize>
+    requires { IsTrue (are_ordered (map file_of_entry files.now)) }
+    ensures { MatchResult result (λ i. IsHere (map file_of_entry files.now) name.now i) (λ i. IsBetween (map file_of_entry files.now) name.now i) }
+{
+    let mut low = 0;
+    let mut high = files.len();
+    while low < high {
+        let middle = low + (high - low) / 2;
+        match order(&files[middle], name) {
+            Ordering::Less => low = middle + 1,
+            Ordering::Equal => return Ok(middle),
+            Ordering::Greater => high = middle,
+        }
+    }
+    Err(low)
+}
+
+/// The file of a name.
+pub fn find(files: &[Entry], name: &Name) -> Option<Entry>
+    requires { IsTrue (are_ordered (map file_of_entry files.now)) }
+    ensures { option_map file_of_entry result ≡ find_file (map file_of_entry files.now) name.now }
+{
+    match place_of(files, name) {
+        Ok(place) => Some(files[place]),
+        Err(_) => None,
+    }
+}
+
+/// Puts a file in the place of an older one of its name, or beside the others; false where there is no room for it.
+pub fn put_file(files: &mut Vec<Entry>, file: Entry) -> bool
+    requires ordered { IsTrue (are_ordered (map file_of_entry files.old.items)) }
+    requires room { 1024 ≤ vec_capacity files.old }
+    ensures fits { result ≡ not (is_full_without (map file_of_entry files.old.items) file.name) }
+    ensures files { map file_of_entry files.new.items ≡ (if result then with_file (without_file (map file_of_entry files.old.items) file.name) (file_of_entry file) else map file_of_entry files.old.items) }
+    ensures room { 1024 ≤ vec_capacity files.new }
+{
+    match place_of(files, &file.name) {
+        Ok(place) => {
+            files[place] = file;
+            true
+        }
+        Err(place) => files.len() < MOST_FILES && files.insert(place, file).is_ok(),
+    }
+}
+
+/// Takes the file of a name out; false where there is none.
+pub fn drop_file(files: &mut Vec<Entry>, name: &Name) -> bool
+    requires ordered { IsTrue (are_ordered (map file_of_entry files.old.items)) }
+    requires room { 1024 ≤ vec_capacity files.old }
+    ensures found { result ≡ is_some (find_file (map file_of_entry files.old.items) name.now) }
+    ensures files { map file_of_entry files.new.items ≡ (if result then without_file (map file_of_entry files.old.items) name.now else map file_of_entry files.old.items) }
+    ensures room { 1024 ≤ vec_capacity files.new }
+{
+    match place_of(files, name) {
+        Ok(place) => {
+            files.remove(place);
+            true
+        }
+        Err(_) => false,
+    }
+}

@@ -1,0 +1,15 @@
+//! What the records of a journal fold to: the setup, the files in effect, started puts, and audits.
+#![tactic(auto)]
+
+mod apply;
+mod entry;
+mod files;
+mod names;
+mod started;
+mod table;
+
+pub use entry::{Entry, Refused};
+pub use table::Table;
+
+#[cfg(test)]
+mod tests;
