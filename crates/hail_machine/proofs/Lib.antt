@@ -14,3 +14,4 @@ pub mod Fair
 pub mod Pins
 pub mod PinFacts
 pub mod Held
+pub mod Survive

@@ -128,7 +128,7 @@ module _ (limit : ℕ) (start : State) (m : Moment) (ms : List Moment) (N : num.
   sound_step : AreSound m.state.records
   sound_step = elim X.records [
     | Records_is.same rec ↦ subst AreSound (sym rec) F.sound
-    | Records_is.finished x a runs next_is flight mine rec ↦ subst AreSound (sym rec) (sound-more (now start ms).records a.entry (F.append_proper a flight) F.sound)
+    | Records_is.finished x a runs next_is flight mine moves rec ↦ subst AreSound (sym rec) (sound-more (now start ms).records a.entry (F.append_proper a flight) F.sound)
     | Records_is.settled d in_doubt rec ↦ subst AreSound (sym rec) (sound-more (now start ms).records d.entry (F.doubt_proper d in_doubt) F.sound)
     | Records_is.set_up s out rec ↦ subst AreSound (sym rec) (sound-more (now start ms).records (SetUp s) tt F.sound)
     | Records_is.settled_set_up s d in_doubt out rec ↦ subst AreSound (sym rec) (sound-more (d.entry ∷ (now start ms).records) (SetUp s) tt (sound-more (now start ms).records d.entry (F.doubt_proper d in_doubt) F.sound))
