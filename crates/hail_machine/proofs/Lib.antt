@@ -15,3 +15,4 @@ pub mod Pins
 pub mod PinFacts
 pub mod Held
 pub mod Survive
+pub mod Acknowledged

@@ -32,7 +32,7 @@ count_is : (w : State) (job : Job) (bytes : List ℕ) → stores_count w job byt
 unfolding count_by
 count_is w job bytes = refl
 
-count_same : (v w : State) (i j : Job) (bytes : List ℕ) → setup_of v.records ≡ setup_of w.records → i.subject ≡ j.subject → stores_count v i bytes ≡ stores_count w j bytes
+pub count_same : (v w : State) (i j : Job) (bytes : List ℕ) → setup_of v.records ≡ setup_of w.records → i.subject ≡ j.subject → stores_count v i bytes ≡ stores_count w j bytes
 count_same v w i j bytes s e = count_is v i bytes ∙ (ap (λ x. count_by x i.subject bytes) (setup_same v w s) ∙ (ap (λ n. count_by (setup_in w) n bytes) e ∙ sym (count_is w j bytes)))
 
 wrote_setup : (job : Job) (kind : Kind) (entry : Record) (rs : List Record) → Wrote job kind entry → setup_of (entry ∷ rs) ≡ setup_of rs
