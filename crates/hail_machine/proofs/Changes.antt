@@ -64,7 +64,7 @@ pub data Append_is (old new : State) (a : Append) : Type 0 where
 pub data Records_is (old new : State) : Type 0 where
   same : new.records ≡ old.records → Records_is old new
   finished : (before : Job) (a : Append) → job_of old.jobs before.number ≡ Some before → next_action old before ≡ Some SyncGate → old.append ≡ Some a →
-      a.job ≡ before.number → new.records ≡ a.entry ∷ old.records → Records_is old new
+      a.job ≡ before.number → a.moves ≡ 3 → new.records ≡ a.entry ∷ old.records → Records_is old new
   settled : (d : Doubt) → old.doubt ≡ Some d → new.records ≡ d.entry ∷ old.records → Records_is old new
   set_up : (s : Setup) → setup_of old.records ≡ None → new.records ≡ SetUp s ∷ old.records → Records_is old new
   settled_set_up : (s : Setup) (d : Doubt) → old.doubt ≡ Some d → setup_of (d.entry ∷ old.records) ≡ None → new.records ≡ SetUp s ∷ d.entry ∷ old.records → Records_is old new
@@ -94,6 +94,10 @@ pub data Doubt_is (old new : State) (d : Doubt) : Type 0 where
 abbrev pub IsIdle : State → Type 0
 IsIdle w = w.is_open ≡ false → (w.jobs ≡ []) × (w.append ≡ None)
 
+-- after the third move of the append in flight its record is in doubt
+abbrev pub IsGated : State → Type 0
+IsGated w = (a : Append) → w.append ≡ Some a → a.moves ≡ 3 → (d : Doubt) × (w.doubt ≡ Some d) × (d.entry ≡ a.entry)
+
 -- what an event may change
 pub record Changes (limit moment : ℕ) (old : State) (e : Event) (r : Outcome) (new : State) : Type 0 where
   pub job : (k : ℕ) (j : Job) → job_of new.jobs k ≡ Some j → Job_is limit moment old new k j
@@ -103,20 +107,22 @@ pub record Changes (limit moment : ℕ) (old : State) (e : Event) (r : Outcome) 
   pub numbers : ((new.jobs ≡ []) × (new.append ≡ None)) ⊎ (old.next_job ≤ new.next_job)
   pub next : (k : ℕ) (j : Job) → job_of new.jobs k ≡ Some j → (k < new.next_job) ⊎ (job_of old.jobs k ≡ Some j) ⊎ ((before : Job) × (job_of old.jobs k ≡ Some before))
   pub idle : IsIdle old → IsIdle new
+  pub gated : IsGated old → IsGated new
   pub bytes : (o : ℕ) → o < next_id old.records → new.bytes o ≡ old.bytes o
   pub block : (i o s : ℕ) → Block_is old e r new i o s
 
 module _ (limit moment : ℕ) (old : State) (e : Event) (r : Outcome) where
   -- jobs, append and records stay
-  pub only_devices : (new : State) → new.jobs ≡ old.jobs → new.append ≡ old.append → new.records ≡ old.records → Rest old new →
+  pub only_devices : (new : State) → (IsGated old → IsGated new) → new.jobs ≡ old.jobs → new.append ≡ old.append → new.records ≡ old.records → Rest old new →
       ((i o s : ℕ) → Block_is old e r new i o s) → Changes limit moment old e r new
-  only_devices new jobs append records rest block = record {
+  only_devices new gate jobs append records rest block = record {
     job = λ k j h. Job_is.kept (ap (λ l. job_of l k) (sym jobs) ∙ h) (Grown.as_before records);
     append = λ a h. Append_is.kept a (sym append ∙ h) refl refl records;
     records = Records_is.same records;
     doubt = λ d h. elim (rest.doubt d h) [ inl q ↦ Doubt_is.kept q records | inr q ↦ Doubt_is.gated q.0 q.1 q.2 records ];
     numbers = inr (omega (arith, rest.next));
     next = λ k j h. inr (inl (ap (λ l. job_of l k) (sym jobs) ∙ h));
+    gated = gate;
     idle = λ f closed. (let p = f (sym rest.is_open ∙ closed) in (jobs ∙ p.0, append ∙ p.1));
     bytes = λ o l. ap (λ f. f o) rest.bytes;
     block = block;
@@ -124,7 +130,7 @@ module _ (limit moment : ℕ) (old : State) (e : Event) (r : Outcome) where
 
   pub unchanged : (new : State) → new ≡ old → Changes limit moment old e r new
   unchanged new is = subst (λ (w : State). Changes limit moment old e r w) (sym is)
-      (only_devices old refl refl refl (record { next = refl; is_open = refl; bytes = refl; doubt = λ d h. inl h }) (λ i o s. Block_is.same refl))
+      (only_devices old (λ g. g) refl refl refl (record { next = refl; is_open = refl; bytes = refl; doubt = λ d h. inl h }) (λ i o s. Block_is.same refl))
 
   -- all jobs are given up
   pub gives_up : (new : State) → new.jobs ≡ [] → new.append ≡ None → Records_is old new → new.providers ≡ old.providers → new.bytes ≡ old.bytes → ((d : Doubt) → new.doubt ≡ Some d → Doubt_is old new d) → Changes limit moment old e r new
@@ -135,15 +141,16 @@ module _ (limit moment : ℕ) (old : State) (e : Event) (r : Outcome) where
     doubt = doubts;
     numbers = inl (jobs, append);
     next = λ k j h. absurd (found_none new.jobs k j jobs h);
+    gated = (λ g a h three. absurd (let f : None ≡ Some a = sym append ∙ h in cc));
     idle = λ f closed. (jobs, append);
     bytes = λ o l. ap (λ f. f o) bytes;
     block = λ i o s. Block_is.same (ap (λ p. option_map (λ held. held o s) (p i).held) providers);
   }
 
   -- a job ends
-  pub ends : (new : State) (n : ℕ) → new.jobs ≡ without_job old.jobs n → (new.append ≡ old.append) ⊎ (new.append ≡ None) → new.records ≡ old.records → Rest old new →
+  pub ends : (new : State) → (IsGated old → IsGated new) → (n : ℕ) → new.jobs ≡ without_job old.jobs n → (new.append ≡ old.append) ⊎ (new.append ≡ None) → new.records ≡ old.records → Rest old new →
       ((i o s : ℕ) → Block_is old e r new i o s) → Changes limit moment old e r new
-  ends new n jobs append records rest block = record {
+  ends new gate n jobs append records rest block = record {
     job = λ k j h. Job_is.kept (found_without old.jobs n k j (ap (λ l. job_of l k) (sym jobs) ∙ h)).1 (Grown.as_before records);
     append = λ a h. elim append [
       | inl stays ↦ Append_is.kept a (sym stays ∙ h) refl refl records
@@ -153,18 +160,19 @@ module _ (limit moment : ℕ) (old : State) (e : Event) (r : Outcome) where
     doubt = λ d h. elim (rest.doubt d h) [ inl q ↦ Doubt_is.kept q records | inr q ↦ Doubt_is.gated q.0 q.1 q.2 records ];
     numbers = inr (omega (arith, rest.next));
     next = λ k j h. inr (inl (found_without old.jobs n k j (ap (λ l. job_of l k) (sym jobs) ∙ h)).1);
+    gated = gate;
     idle = λ f closed. (let p = f (sym rest.is_open ∙ closed) in (jobs ∙ ap (λ l. without_job l n) p.0, elim append [ inl stays ↦ stays ∙ p.1 | inr none ↦ none ]));
     bytes = λ o l. ap (λ f. f o) rest.bytes;
     block = block;
   }
 
   -- a job makes a plain action
-  pub steps_plainly : (new : State) (before job : Job) (action : Action) → job_of old.jobs before.number ≡ Some before → next_action old before ≡ Some action → IsPlain action → GoesOn before job →
+  pub steps_plainly : (new : State) → (IsGated old → IsGated new) → (before job : Job) (action : Action) → job_of old.jobs before.number ≡ Some before → next_action old before ≡ Some action → IsPlain action → GoesOn before job →
       new.jobs ≡ with_job old.jobs job → ((a : Append) → new.append ≡ Some a → (b : Append) × (old.append ≡ Some b) × (a.job ≡ b.job) × (a.entry ≡ b.entry)) →
       new.records ≡ old.records → Rest old new →
       ((i o s : ℕ) (b : Option (List ℕ)) → action ≡ Store i o s → told_block new i o s ≡ Some b → b ≡ Some (block_to_store old before before.kind i o s)) →
       ((i o s : ℕ) → Block_is old e r new i o s) → Changes limit moment old e r new
-  steps_plainly new before job action runs next_is is_plain goes jobs append records rest stores_it block = record {
+  steps_plainly new gate before job action runs next_is is_plain goes jobs append records rest stores_it block = record {
     job = λ k j h. elim (found_with old.jobs job k j (ap (λ l. job_of l k) (sym jobs) ∙ h)) [
       | inl p ↦ Job_is.plain before action (at k p.0) next_is is_plain (subst (λ (x : Job). GoesOn before x) (sym p.1) goes) records stores_it
       | inr q ↦ Job_is.kept q.1 (Grown.as_before records)
@@ -177,6 +185,7 @@ module _ (limit moment : ℕ) (old : State) (e : Event) (r : Outcome) where
       | inl p ↦ inr (inr (before, at k p.0))
       | inr q ↦ inr (inl q.1)
     ];
+    gated = gate;
     idle = λ f closed. (let p = f (sym rest.is_open ∙ closed) in absurd (found_none old.jobs before.number before p.0 runs));
     bytes = λ o l. ap (λ f. f o) rest.bytes;
     block = block;

@@ -24,7 +24,7 @@ use Rattle.hail_machine.specs.Replacements.{ReplacesAt, ReplacesIf}
 use Rattle.hail_machine.specs.Machine.{Lists, Happens}
 use Rattle.hail_machine.specs.Runs.{is_replacement}
 use Rattle.hail_machine.proofs.JobLists.{cond_true, cond_false, number_of, found_with, found_itself, found_more, found_none}
-use Rattle.hail_machine.proofs.Changes.{IsPlain, GoesOn, Job_is, Append_is, Records_is, Block_is, Rest, Doubt_is, Grown, IsIdle, Changes, only_devices, unchanged, gives_up, ends, steps_plainly}
+use Rattle.hail_machine.proofs.Changes.{IsPlain, GoesOn, Job_is, Append_is, Records_is, Block_is, Rest, Doubt_is, Grown, IsIdle, IsGated, Changes, only_devices, unchanged, gives_up, ends, steps_plainly}
 
 -- what a provider tells of a block
 abbrev told : Provider → ℕ → ℕ → Option (Option (List ℕ))
@@ -160,7 +160,7 @@ module _ (limit moment : ℕ) (old : State) where
     stores : (j object stripe : ℕ) (new : State) → next_action old job ≡ Some (Store j object stripe) →
         ProviderCall old j (Stores object stripe (block_to_store old job job.kind j object stripe)) (going_on old (advanced job)) new → Result More new
     stores j object stripe new next_is (p, call, is) = subst (λ (w : State). Result More w) (sym is)
-        (steps_plainly limit moment old (Step job.number) More (record (going_on old (advanced job)) { providers = with_provider old.providers j p }) job (advanced job) (Store j object stripe) runs next_is tt on_advanced refl same_append refl (record { next = refl; is_open = refl; bytes = refl; doubt = λ d h. inl h })
+        (steps_plainly limit moment old (Step job.number) More (record (going_on old (advanced job)) { providers = with_provider old.providers j p }) (λ g. g) job (advanced job) (Store j object stripe) runs next_is tt on_advanced refl same_append refl (record { next = refl; is_open = refl; bytes = refl; doubt = λ d h. inl h })
         (λ i o s b e h. stored_value old job j object stripe p call i o s b e h)
         (λ i o s. elim (called old.providers j p i o s) [
           | inl q ↦ elim (set_block object stripe (block_to_store old job job.kind j object stripe) (old.providers j).held o s) [
@@ -182,30 +182,30 @@ module _ (limit moment : ℕ) (old : State) where
 
     store_fails : (j k : ℕ) (new : State) → ProviderCall old j FailsToStore (ended old job) new → Result (Ended (answer.ProviderFault k)) new
     store_fails j k new (p, call, is) = subst (λ (w : State). Result (Ended (answer.ProviderFault k)) w) (sym is)
-        (ends limit moment old (Step job.number) (Ended (answer.ProviderFault k)) (record (ended old job) { providers = with_provider old.providers j p }) job.number refl (inl refl) refl (record { next = refl; is_open = refl; bytes = refl; doubt = λ d h. inl h }) (leaves (Step job.number) (Ended (answer.ProviderFault k)) j p _ call.held refl))
+        (ends limit moment old (Step job.number) (Ended (answer.ProviderFault k)) (record (ended old job) { providers = with_provider old.providers j p }) (λ g. g) job.number refl (inl refl) refl (record { next = refl; is_open = refl; bytes = refl; doubt = λ d h. inl h }) (leaves (Step job.number) (Ended (answer.ProviderFault k)) j p _ call.held refl))
 
     store_memory : (j : ℕ) (new : State) → ProviderCall old j FindsNoMemory (ended old job) new → Result (Ended answer.Memory) new
     store_memory j new (p, call, is) = subst (λ (w : State). Result (Ended answer.Memory) w) (sym is)
-        (ends limit moment old (Step job.number) (Ended answer.Memory) (record (ended old job) { providers = with_provider old.providers j p }) job.number refl (inl refl) refl (record { next = refl; is_open = refl; bytes = refl; doubt = λ d h. inl h }) (leaves (Step job.number) (Ended answer.Memory) j p _ call.held refl))
+        (ends limit moment old (Step job.number) (Ended answer.Memory) (record (ended old job) { providers = with_provider old.providers j p }) (λ g. g) job.number refl (inl refl) refl (record { next = refl; is_open = refl; bytes = refl; doubt = λ d h. inl h }) (leaves (Step job.number) (Ended answer.Memory) j p _ call.held refl))
 
     fetches : (j object stripe : ℕ) (new : State) → next_action old job ≡ Some (Fetch j object stripe) → FetchStep old job j object stripe new → Result More new
     fetches j object stripe new next_is (block, (p, call, is)) = subst (λ (w : State). Result More w) (sym is)
-        (steps_plainly limit moment old (Step job.number) More (record (going_on old (advanced_with job (Fetched j object stripe block))) { providers = with_provider old.providers j p }) job (advanced_with job (Fetched j object stripe block)) (Fetch j object stripe) runs next_is tt (on (Fetched j object stripe block)) refl same_append refl (record { next = refl; is_open = refl; bytes = refl; doubt = λ d h. inl h }) (λ i o s b e h. absurd (not_stored _ i o s tt e))
+        (steps_plainly limit moment old (Step job.number) More (record (going_on old (advanced_with job (Fetched j object stripe block))) { providers = with_provider old.providers j p }) (λ g. g) job (advanced_with job (Fetched j object stripe block)) (Fetch j object stripe) runs next_is tt (on (Fetched j object stripe block)) refl same_append refl (record { next = refl; is_open = refl; bytes = refl; doubt = λ d h. inl h }) (λ i o s b e h. absurd (not_stored _ i o s tt e))
         (leaves (Step job.number) More j p _ call.held refl))
 
     asks : (j object round : ℕ) (new : State) → next_action old job ≡ Some (Ask j object round) → AskStep old job j object round new → Result More new
     asks j object round new next_is (symbol, (p, call, is)) = subst (λ (w : State). Result More w) (sym is)
-        (steps_plainly limit moment old (Step job.number) More (record (going_on old (advanced_with job (Answered j object round symbol))) { providers = with_provider old.providers j p }) job (advanced_with job (Answered j object round symbol)) (Ask j object round) runs next_is tt (on (Answered j object round symbol)) refl same_append refl (record { next = refl; is_open = refl; bytes = refl; doubt = λ d h. inl h }) (λ i o s b e h. absurd (not_stored _ i o s tt e))
+        (steps_plainly limit moment old (Step job.number) More (record (going_on old (advanced_with job (Answered j object round symbol))) { providers = with_provider old.providers j p }) (λ g. g) job (advanced_with job (Answered j object round symbol)) (Ask j object round) runs next_is tt (on (Answered j object round symbol)) refl same_append refl (record { next = refl; is_open = refl; bytes = refl; doubt = λ d h. inl h }) (λ i o s b e h. absurd (not_stored _ i o s tt e))
         (leaves (Step job.number) More j p _ call.held refl))
 
     works : (object stripe : ℕ) (new : State) → next_action old job ≡ Some (Work object stripe) → WorkStep old job object stripe new → Result More new
     works object stripe new next_is (symbols, gives, is) = subst (λ (w : State). Result More w) (sym is)
-        (steps_plainly limit moment old (Step job.number) More (going_on old (advanced_with job (Worked object stripe symbols))) job (advanced_with job (Worked object stripe symbols)) (Work object stripe) runs next_is tt (on (Worked object stripe symbols)) refl same_append refl (record { next = refl; is_open = refl; bytes = refl; doubt = λ d h. inl h }) (λ i o s b e h. absurd (not_stored _ i o s tt e))
+        (steps_plainly limit moment old (Step job.number) More (going_on old (advanced_with job (Worked object stripe symbols))) (λ g. g) job (advanced_with job (Worked object stripe symbols)) (Work object stripe) runs next_is tt (on (Worked object stripe symbols)) refl same_append refl (record { next = refl; is_open = refl; bytes = refl; doubt = λ d h. inl h }) (λ i o s b e h. absurd (not_stored _ i o s tt e))
         (λ i o s. Block_is.same refl))
 
     removes : (j object : ℕ) (new : State) → next_action old job ≡ Some (Remove j object) → ProviderCall old j (Removes object) (going_on old (advanced job)) new → Result More new
     removes j object new next_is (p, call, is) = subst (λ (w : State). Result More w) (sym is)
-        (steps_plainly limit moment old (Step job.number) More (record (going_on old (advanced job)) { providers = with_provider old.providers j p }) job (advanced job) (Remove j object) runs next_is tt on_advanced refl same_append refl (record { next = refl; is_open = refl; bytes = refl; doubt = λ d h. inl h }) (λ i o s b e h. absurd (not_stored _ i o s tt e))
+        (steps_plainly limit moment old (Step job.number) More (record (going_on old (advanced job)) { providers = with_provider old.providers j p }) (λ g. g) job (advanced job) (Remove j object) runs next_is tt on_advanced refl same_append refl (record { next = refl; is_open = refl; bytes = refl; doubt = λ d h. inl h }) (λ i o s b e h. absurd (not_stored _ i o s tt e))
         (λ i o s. elim (called old.providers j p i o s) [
           | inl q ↦ elim (removed_block object (old.providers j) p o s call) [
             | inl hit ↦ Block_is.removed job runs (next_is ∙ ap Some (place i o q.0 hit))
@@ -219,23 +219,26 @@ module _ (limit moment : ℕ) (old : State) where
 
     -- a job ends, and no device changes but for the disk's count
     just_ends : (r : Outcome) (new : State) → new ≡ ended old job → Result r new
-    just_ends r new is = subst (λ (w : State). Result r w) (sym is) (ends limit moment old (Step job.number) r (ended old job) job.number refl (inl refl) refl (record { next = refl; is_open = refl; bytes = refl; doubt = λ d h. inl h }) (λ i o s. Block_is.same refl))
+    just_ends r new is = subst (λ (w : State). Result r w) (sym is) (ends limit moment old (Step job.number) r (ended old job) (λ g. g) job.number refl (inl refl) refl (record { next = refl; is_open = refl; bytes = refl; doubt = λ d h. inl h }) (λ i o s. Block_is.same refl))
 
-    ends_barred : (r : Outcome) (left new : State) → left.jobs ≡ without_job old.jobs job.number → (left.append ≡ old.append) ⊎ (left.append ≡ None) → left.records ≡ old.records → Rest old left → left.providers ≡ old.providers →
+    ends_barred : (r : Outcome) (left new : State) → (IsGated old → IsGated left) → left.jobs ≡ without_job old.jobs job.number → (left.append ≡ old.append) ⊎ (left.append ≡ None) → left.records ≡ old.records → Rest old left → left.providers ≡ old.providers →
         (faults : ℕ) → new ≡ record left { disk_faults = faults } → Result r new
-    ends_barred r left new jobs append records rest providers faults is = subst (λ (w : State). Result r w) (sym is)
-        (ends limit moment old (Step job.number) r (record left { disk_faults = faults }) job.number jobs append records (record { next = rest.next; is_open = rest.is_open; bytes = rest.bytes; doubt = rest.doubt }) (λ i o s. Block_is.same (ap (λ p. told (p i) o s) providers)))
+    ends_barred r left new gate jobs append records rest providers faults is = subst (λ (w : State). Result r w) (sym is)
+        (ends limit moment old (Step job.number) r (record left { disk_faults = faults }) gate job.number jobs append records (record { next = rest.next; is_open = rest.is_open; bytes = rest.bytes; doubt = rest.doubt }) (λ i o s. Block_is.same (ap (λ p. told (p i) o s) providers)))
 
     -- moves of the append in flight
-    moves_on : (a : Append) (action : Action) (left new : State) → IsNoStore action → old.append ≡ Some a → next_action old job ≡ Some action → IsPlain action →
+    moves_on : (a : Append) (action : Action) (left new : State) → (IsGated old → IsGated left) → IsNoStore action → old.append ≡ Some a → next_action old job ≡ Some action → IsPlain action →
         left.jobs ≡ with_job old.jobs (advanced job) → left.append ≡ Some (record a { moves = a.moves + 1 }) → left.records ≡ old.records → Rest old left → left.providers ≡ old.providers →
         (faults : ℕ) → new ≡ record left { disk_faults = faults } → Result More new
-    moves_on a action left new stores_not flight next_is is_plain jobs append records rest providers faults is = subst (λ (w : State). Result More w) (sym is)
-        (steps_plainly limit moment old (Step job.number) More (record left { disk_faults = faults }) job (advanced job) action runs next_is is_plain on_advanced jobs
+    moves_on a action left new gate stores_not flight next_is is_plain jobs append records rest providers faults is = subst (λ (w : State). Result More w) (sym is)
+        (steps_plainly limit moment old (Step job.number) More (record left { disk_faults = faults }) gate job (advanced job) action runs next_is is_plain on_advanced jobs
         (λ b h. (let e : Some (record a { moves = a.moves + 1 }) ≡ Some b = sym append ∙ h in
         let f : record a { moves = a.moves + 1 } ≡ b = cc in
         (a, flight, sym (ap (λ (x : Append). x.job) f), sym (ap (λ (x : Append). x.entry) f))))
         records (record { next = rest.next; is_open = rest.is_open; bytes = rest.bytes; doubt = rest.doubt }) (λ i o s b e h. absurd (not_stored action i o s stores_not e)) (λ i o s. Block_is.same (ap (λ p. told (p i) o s) providers)))
+
+    first_move : (n : ℕ) (entry : Record) (b : Append) → Some (record { job = n; entry = entry; moves = 1 }) ≡ Some b → b.moves ≡ 3 → ⊥
+    first_move n entry b h three = (let e : record { job = n; entry = entry; moves = 1 } ≡ b = cc in let f : 1 ≡ b.moves = ap (λ (x : Append). x.moves) e in omega arith)
 
     begins_append : (entry : Record) (new : State) → next_action old job ≡ Some WriteBody → old.append ≡ None → Writes old job job.kind entry → DiskCall old (begun_append old job entry) new → Result More new
     begins_append entry new next_is none writes (faults, low, is) = subst (λ (w : State). Result More w) (sym is) (record {
@@ -249,6 +252,7 @@ module _ (limit moment : ℕ) (old : State) where
       doubt = λ d g. Doubt_is.kept g refl;
       numbers = inr (omega arith);
       next = λ k j h. elim (found_with old.jobs drawn k j h) [ inl p ↦ inr (inr (job, at k p.0)) | inr q ↦ inr (inl q.1) ];
+      gated = λ g b h three. absurd (first_move job.number entry b h three);
       idle = λ f closed. (let p = f closed in absurd (found_none old.jobs job.number job p.0 runs));
       bytes = λ o l. drawn_bytes old job job.kind o l;
       block = λ i o s. Block_is.same refl;
@@ -260,17 +264,18 @@ module _ (limit moment : ℕ) (old : State) where
         at : (k : ℕ) → k ≡ job.number → job_of old.jobs k ≡ Some job
         at k same = subst (λ n. job_of old.jobs n ≡ Some job) (sym same) runs
 
-    finishes : (a : Append) (new : State) → next_action old job ≡ Some SyncGate → old.append ≡ Some a → a.job ≡ job.number → DiskCall old (done_append old job a) new → Result More new
-    finishes a new next_is flight mine (faults, low, is) = subst (λ (w : State). Result More w) (sym is) (record {
+    finishes : (a : Append) (new : State) → next_action old job ≡ Some SyncGate → old.append ≡ Some a → a.job ≡ job.number → a.moves ≡ 3 → DiskCall old (done_append old job a) new → Result More new
+    finishes a new next_is flight mine at_three (faults, low, is) = subst (λ (w : State). Result More w) (sym is) (record {
       job = λ k j h. elim (found_with old.jobs decided k j h) [
         | inl p ↦ Job_is.finished job a (at k p.0) next_is flight (mine ∙ sym p.0) p.1 refl refl
         | inr q ↦ Job_is.kept q.1 (Grown.by_other job a runs next_is flight mine (λ same. q.0 (sym same)) refl)
       ];
       append = λ b h. absurd (let e : None ≡ Some b = h in cc);
-      records = Records_is.finished job a runs next_is flight mine refl;
+      records = Records_is.finished job a runs next_is flight mine at_three refl;
       doubt = λ d h. absurd (let e : None ≡ Some d = h in cc);
       numbers = inr (omega arith);
       next = λ k j h. elim (found_with old.jobs decided k j h) [ inl p ↦ inr (inr (job, at k p.0)) | inr q ↦ inr (inl q.1) ];
+      gated = λ g b h three. absurd (let e : None ≡ Some b = h in cc);
       idle = λ f closed. (let p = f closed in absurd (found_none old.jobs job.number job p.0 runs));
       bytes = λ o l. refl;
       block = λ i o s. Block_is.same refl;
@@ -282,6 +287,12 @@ module _ (limit moment : ℕ) (old : State) where
         at : (k : ℕ) → k ≡ job.number → job_of old.jobs k ≡ Some job
         at k same = subst (λ n. job_of old.jobs n ≡ Some job) (sym same) runs
 
+    second_move : (a b : Append) → a.moves ≡ 1 → Some (record a { moves = a.moves + 1 }) ≡ Some b → b.moves ≡ 3 → ⊥
+    second_move a b one h three = (let e : record a { moves = a.moves + 1 } ≡ b = cc in let f : a.moves + 1 ≡ b.moves = ap (λ (x : Append). x.moves) e in omega arith)
+
+    moved_entry : (a b : Append) → Some (record a { moves = a.moves + 1 }) ≡ Some b → a.entry ≡ b.entry
+    moved_entry a b h = (let e : record a { moves = a.moves + 1 } ≡ b = cc in ap (λ (x : Append). x.entry) e)
+
     in_doubt : (a : Append) (d : Doubt) → Some (record { entry = a.entry; maker = Some (advanced job) }) ≡ Some d → d.entry ≡ a.entry
     in_doubt a d h = (let e : record { entry = a.entry; maker = Some (advanced job) } ≡ d = cc in sym (ap (λ (x : Doubt). x.entry) e))
 
@@ -289,15 +300,15 @@ module _ (limit moment : ℕ) (old : State) where
         Moves old job action flight r new → Result r new
     moves WriteBody None More new flight next_is free (entry, writes, call) = begins_append entry new next_is flight writes call
     moves WriteBody (Some a) r new flight next_is free h = absurd (let e : Some a.job ≡ None = free in cc)
-    moves WriteBody None (Ended answer.DiskFault) new flight next_is free (faults, low, rose, is) = ends_barred (Ended answer.DiskFault) (barred (ended old job)) new refl (inr refl) refl (record { next = refl; is_open = refl; bytes = refl; doubt = λ d h. inl h }) refl faults is
-    moves WriteBody None (Ended answer.Memory) new flight next_is free (faults, low, is) = ends_barred (Ended answer.Memory) (ended old job) new refl (inl refl) refl (record { next = refl; is_open = refl; bytes = refl; doubt = λ d h. inl h }) refl faults is
-    moves SyncBody (Some a) More new flight next_is free (at, (faults, low, is)) = moves_on a SyncBody (moved (going_on old (advanced job)) a) new tt flight next_is tt refl refl refl (record { next = refl; is_open = refl; bytes = refl; doubt = λ d h. inl h }) refl faults is
-    moves SyncBody (Some a) (Ended answer.DiskFault) new flight next_is free (at, (faults, low, rose, is)) = ends_barred (Ended answer.DiskFault) (barred (ended old job)) new refl (inr refl) refl (record { next = refl; is_open = refl; bytes = refl; doubt = λ d h. inl h }) refl faults is
-    moves WriteGate (Some a) More new flight next_is free (at, (faults, low, is)) = moves_on a WriteGate (doubted (moved (going_on old (advanced job)) a) a job) new tt flight next_is tt refl refl refl (record { next = refl; is_open = refl; bytes = refl; doubt = λ d h. inr (a, flight, in_doubt a d h) }) refl faults is
-    moves WriteGate (Some a) (Ended answer.DiskFault) new flight next_is free (at, (faults, low, rose, is)) = ends_barred (Ended answer.DiskFault) (doubted (barred (ended old job)) a job) new refl (inr refl) refl (record { next = refl; is_open = refl; bytes = refl; doubt = λ d h. inr (a, flight, in_doubt a d h) }) refl faults is
-    moves WriteGate (Some a) (Ended answer.Memory) new flight next_is free (at, (faults, low, is)) = ends_barred (Ended answer.Memory) (unappended (ended old job)) new refl (inr refl) refl (record { next = refl; is_open = refl; bytes = refl; doubt = λ d h. inl h }) refl faults is
-    moves SyncGate (Some a) More new flight next_is free (at, call) = finishes a new next_is flight at.0 call
-    moves SyncGate (Some a) (Ended answer.DiskFault) new flight next_is free (at, (faults, low, rose, is)) = ends_barred (Ended answer.DiskFault) (barred (ended old job)) new refl (inr refl) refl (record { next = refl; is_open = refl; bytes = refl; doubt = λ d h. inl h }) refl faults is
+    moves WriteBody None (Ended answer.DiskFault) new flight next_is free (faults, low, rose, is) = ends_barred (Ended answer.DiskFault) (barred (ended old job)) new (λ g b h three. absurd (let e : None ≡ Some b = h in cc)) refl (inr refl) refl (record { next = refl; is_open = refl; bytes = refl; doubt = λ d h. inl h }) refl faults is
+    moves WriteBody None (Ended answer.Memory) new flight next_is free (faults, low, is) = ends_barred (Ended answer.Memory) (ended old job) new (λ g. g) refl (inl refl) refl (record { next = refl; is_open = refl; bytes = refl; doubt = λ d h. inl h }) refl faults is
+    moves SyncBody (Some a) More new flight next_is free (at, (faults, low, is)) = moves_on a SyncBody (moved (going_on old (advanced job)) a) new (λ g b h three. absurd (second_move a b at.1 h three)) tt flight next_is tt refl refl refl (record { next = refl; is_open = refl; bytes = refl; doubt = λ d h. inl h }) refl faults is
+    moves SyncBody (Some a) (Ended answer.DiskFault) new flight next_is free (at, (faults, low, rose, is)) = ends_barred (Ended answer.DiskFault) (barred (ended old job)) new (λ g b h three. absurd (let e : None ≡ Some b = h in cc)) refl (inr refl) refl (record { next = refl; is_open = refl; bytes = refl; doubt = λ d h. inl h }) refl faults is
+    moves WriteGate (Some a) More new flight next_is free (at, (faults, low, is)) = moves_on a WriteGate (doubted (moved (going_on old (advanced job)) a) a job) new (λ g b h three. (record { entry = a.entry; maker = Some (advanced job) }, refl, moved_entry a b h)) tt flight next_is tt refl refl refl (record { next = refl; is_open = refl; bytes = refl; doubt = λ d h. inr (a, flight, in_doubt a d h) }) refl faults is
+    moves WriteGate (Some a) (Ended answer.DiskFault) new flight next_is free (at, (faults, low, rose, is)) = ends_barred (Ended answer.DiskFault) (doubted (barred (ended old job)) a job) new (λ g b h three. absurd (let e : None ≡ Some b = h in cc)) refl (inr refl) refl (record { next = refl; is_open = refl; bytes = refl; doubt = λ d h. inr (a, flight, in_doubt a d h) }) refl faults is
+    moves WriteGate (Some a) (Ended answer.Memory) new flight next_is free (at, (faults, low, is)) = ends_barred (Ended answer.Memory) (unappended (ended old job)) new (λ g b h three. absurd (let e : None ≡ Some b = h in cc)) refl (inr refl) refl (record { next = refl; is_open = refl; bytes = refl; doubt = λ d h. inl h }) refl faults is
+    moves SyncGate (Some a) More new flight next_is free (at, call) = finishes a new next_is flight at.0 at.1 call
+    moves SyncGate (Some a) (Ended answer.DiskFault) new flight next_is free (at, (faults, low, rose, is)) = ends_barred (Ended answer.DiskFault) (barred (ended old job)) new (λ g b h three. absurd (let e : None ≡ Some b = h in cc)) refl (inr refl) refl (record { next = refl; is_open = refl; bytes = refl; doubt = λ d h. inl h }) refl faults is
     moves action flight r new e next_is free h = absurd h
 
     acts : (action : Action) (r : Outcome) (new : State) → next_action old job ≡ Some action → holder_of old.append action ≡ None → Acts old job action r new → Result r new
@@ -353,6 +364,7 @@ module _ (limit moment : ℕ) (old : State) where
       | inl p ↦ inl (omega (arith, p.0))
       | inr q ↦ inr (inl q)
     ];
+    gated = λ g. g;
     idle = λ f closed. absurd (false≢true (sym closed ∙ h.0));
     bytes = λ o l. refl;
     block = λ i o s. Block_is.same refl;
@@ -438,10 +450,10 @@ module _ (limit moment : ℕ) (old : State) where
   replaces : (e : Event) (j : ℕ) (IsThere : Held → Type 0) (changed : Held → Held) (r : Outcome) (new : State) →
       ((i : ℕ) → i ≡ j → is_replacement e Replaced i ≡ true) → ReplacesAt old j IsThere changed r new → Changes limit moment old e r new
   replaces e j IsThere changed Replaced new counts (p, call, is) = subst (λ (w : State). Changes limit moment old e Replaced w) (sym is)
-      (only_devices limit moment old e Replaced (record old { providers = with_provider old.providers j p }) refl refl refl (record { next = refl; is_open = refl; bytes = refl; doubt = λ d h. inl h })
+      (only_devices limit moment old e Replaced (record old { providers = with_provider old.providers j p }) (λ g. g) refl refl refl (record { next = refl; is_open = refl; bytes = refl; doubt = λ d h. inl h })
       (λ i o s. elim (called old.providers j p i o s) [ inl q ↦ Block_is.replaced (counts i q.0) | inr q ↦ Block_is.same q ]))
   replaces e j IsThere changed NothingHeld new counts (p, call, is) = subst (λ (w : State). Changes limit moment old e NothingHeld w) (sym is)
-      (only_devices limit moment old e NothingHeld (record old { providers = with_provider old.providers j p }) refl refl refl (record { next = refl; is_open = refl; bytes = refl; doubt = λ d h. inl h })
+      (only_devices limit moment old e NothingHeld (record old { providers = with_provider old.providers j p }) (λ g. g) refl refl refl (record { next = refl; is_open = refl; bytes = refl; doubt = λ d h. inl h })
       (λ i o s. elim (called old.providers j p i o s) [
         | inl q ↦ Block_is.same (q.1 ∙ (kept_told IsThere changed (old.providers j).held (old.providers j) p o s refl call ∙ ap (λ n. told (old.providers n) o s) (sym q.0)))
         | inr q ↦ Block_is.same q

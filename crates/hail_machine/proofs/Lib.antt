@@ -14,3 +14,5 @@ pub mod Fair
 pub mod Pins
 pub mod PinFacts
 pub mod Held
+pub mod Survive
+pub mod Acknowledged

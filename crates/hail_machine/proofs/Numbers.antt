@@ -54,7 +54,7 @@ on_top series rs more is = (let e : next series more ≡ next series rs = ap (ne
 
 pub next_of_records : (series : Series) (old new : State) → Records_is old new → next series old.records ≤ next series new.records
 next_of_records series old new (Records_is.same is) = on_top series old.records new.records is
-next_of_records series old new (Records_is.finished before a runs next_is flight mine is) =
+next_of_records series old new (Records_is.finished before a runs next_is flight mine moves is) =
     (let e = on_top series (a.entry ∷ old.records) new.records is in let g = next_grows series a.entry old.records in omega arith)
 next_of_records series old new (Records_is.settled d in_doubt is) =
     (let e = on_top series (d.entry ∷ old.records) new.records is in let g = next_grows series d.entry old.records in omega arith)

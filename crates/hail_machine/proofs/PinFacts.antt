@@ -32,7 +32,7 @@ count_is : (w : State) (job : Job) (bytes : List ℕ) → stores_count w job byt
 unfolding count_by
 count_is w job bytes = refl
 
-count_same : (v w : State) (i j : Job) (bytes : List ℕ) → setup_of v.records ≡ setup_of w.records → i.subject ≡ j.subject → stores_count v i bytes ≡ stores_count w j bytes
+pub count_same : (v w : State) (i j : Job) (bytes : List ℕ) → setup_of v.records ≡ setup_of w.records → i.subject ≡ j.subject → stores_count v i bytes ≡ stores_count w j bytes
 count_same v w i j bytes s e = count_is v i bytes ∙ (ap (λ x. count_by x i.subject bytes) (setup_same v w s) ∙ (ap (λ n. count_by (setup_in w) n bytes) e ∙ sym (count_is w j bytes)))
 
 wrote_setup : (job : Job) (kind : Kind) (entry : Record) (rs : List Record) → Wrote job kind entry → setup_of (entry ∷ rs) ≡ setup_of rs
@@ -128,7 +128,7 @@ module _ (limit : ℕ) (start : State) (m : Moment) (ms : List Moment) (N : num.
   sound_step : AreSound m.state.records
   sound_step = elim X.records [
     | Records_is.same rec ↦ subst AreSound (sym rec) F.sound
-    | Records_is.finished x a runs next_is flight mine rec ↦ subst AreSound (sym rec) (sound-more (now start ms).records a.entry (F.append_proper a flight) F.sound)
+    | Records_is.finished x a runs next_is flight mine moves rec ↦ subst AreSound (sym rec) (sound-more (now start ms).records a.entry (F.append_proper a flight) F.sound)
     | Records_is.settled d in_doubt rec ↦ subst AreSound (sym rec) (sound-more (now start ms).records d.entry (F.doubt_proper d in_doubt) F.sound)
     | Records_is.set_up s out rec ↦ subst AreSound (sym rec) (sound-more (now start ms).records (SetUp s) tt F.sound)
     | Records_is.settled_set_up s d in_doubt out rec ↦ subst AreSound (sym rec) (sound-more (d.entry ∷ (now start ms).records) (SetUp s) tt (sound-more (now start ms).records d.entry (F.doubt_proper d in_doubt) F.sound))

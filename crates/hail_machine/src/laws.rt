@@ -8,6 +8,7 @@ ghost use Rattle.hail_machine.specs.States.{State, IsStart, setup_in, object_in}
 ghost use Rattle.hail_machine.specs.Runs.{Moment, IsRun, now, first_moments, is_replaced_since};
 ghost use Rattle.hail_machine.specs.Calm.{IsCalm, since, relies};
 ghost use Rattle.hail_machine.specs.Missed.{NoneMissed};
+ghost use Rattle.hail_machine.specs.Survival.{IsAcknowledged, Survives};
 ghost use Rattle.hail_machine.specs.Deeds.{HasStored, HasAsked, HasMadeStore, told_block};
 
 /// What holds of a run held before its newest event.
@@ -64,4 +65,15 @@ pub fn stored_blocks_are_columns()
         started_as (now start ms).records job.subject ≡ Some name → HasMadeStore (setup_in (now start ms)) job j object stripe →
         is_replaced_since job.begun j ms ≡ false → told_block (now start ms) j object stripe ≡ Some block →
         block ≡ Some (columns (object_in (now start ms) object) bytes j stripe) }
+{}
+
+/// A put that ended well had brought its file into effect, under its name, with its number and length.
+pub fn ended_puts_came_in()
+    ensures { IsAcknowledged }
+{}
+
+/// A file that has come into effect stays so, in the records and in these with the one in doubt added, at every later moment,
+/// until a record that takes it out has come to the third move of its append.
+pub fn acknowledged_files_survive()
+    ensures { Survives }
 {}
