@@ -1,5 +1,5 @@
 -- The coefficients of codewords are bytes, since the points are.
-use Rattle.std.proofs.Common.{◌≡◌, ◌≤◌, ◌<◌, ℕ, zero, suc, sym, subst, arith, List, [], ◌∷◌, map, get_or, set, replicate, zero-add}
+use Rattle.std.proofs.Common.{◌≡◌, ◌≤◌, ◌<◌, ℕ, zero, suc, arith, List, [], ◌∷◌, map, get_or, set, replicate, zero-add}
 use Rattle.std.proofs.lemmas.List.FromFn.{get_or-map-range_with_len}
 use Rattle.field_laws.specs.Field.{Each}
 use Rattle.hail_field.specs.Nim.{nim, nim_add, nim_mul, nim_inv}
