@@ -1,2 +1,3 @@
 pub mod Multipliers
 pub mod Steps
+pub mod Coefficients

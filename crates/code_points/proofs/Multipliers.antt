@@ -66,7 +66,7 @@ unfolding product
 holds_4d = refl
 
 -- a product of bytes is a byte
-bytes_product-lt : (x : ℕ) (points : List ℕ) → x < 256 → Each (λ p. p < 256) points → bytes_product x points < 2 ^ width 3
+pub bytes_product-lt : (x : ℕ) (points : List ℕ) → x < 256 → Each (λ p. p < 256) points → bytes_product x points < 2 ^ width 3
 bytes_product-lt x [] hx small = omega arith
 bytes_product-lt x (p ∷ points) hx small = go (nat_eq p x) (bytes_product-lt x points hx small.1)
   where
@@ -75,7 +75,7 @@ bytes_product-lt x (p ∷ points) hx small = go (nat_eq p x) (bytes_product-lt x
     go false h = product-lt 3 (bit_xor x p) (bytes_product x points) (xor_lt 8 x p hx small.0) h
 
 -- and is the product in the field
-others_product-bytes : (x : ℕ) (points : List ℕ) → x < 256 → Each (λ p. p < 256) points → others_product x points ≡ bytes_product x points
+pub others_product-bytes : (x : ℕ) (points : List ℕ) → x < 256 → Each (λ p. p < 256) points → others_product x points ≡ bytes_product x points
 unfolding others_product nim_add
 others_product-bytes x [] hx small = refl
 others_product-bytes x (p ∷ points) hx small = go (nat_eq p x) (others_product-bytes x points hx small.1)
@@ -86,7 +86,7 @@ others_product-bytes x (p ∷ points) hx small = go (nat_eq p x) (others_product
     go false h = ap (nim_mul (bit_xor x p)) h ∙ nim_mul_at 3 (bit_xor x p) (bytes_product x points) (xor_lt 8 x p hx small.0) (bytes_product-lt x points hx small.1)
 
 -- the numbers of a range are below its end
-Each-range : (a n : ℕ) → a + n ≤ 256 → Each (λ p. p < 256) (range_with_len a n)
+pub Each-range : (a n : ℕ) → a + n ≤ 256 → Each (λ p. p < 256) (range_with_len a n)
 Each-range a zero h = tt
 Each-range a (suc n) h = (omega arith, Each-range (a + 1) n (omega arith))
 

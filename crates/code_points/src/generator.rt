@@ -1,4 +1,4 @@
-ghost use Rattle.std.specs.Prelude.{◌≡◌, ◌<◌, ◌≤◌, ◌-◌, length, replicate, slice_set};
+ghost use Rattle.std.specs.Prelude.{◌≡◌, ◌<◌, ◌≤◌, ◌-◌, length, replicate, slice_set, slice_index, EachIndex};
 ghost use Rattle.std.specs.List.{range_with_len};
 ghost use Rattle.hail_codes.specs.Polynomials.{value, vanish};
 ghost use Rattle.hail_codes.specs.Points.{upto, multiplier as multiplier_of};
@@ -52,7 +52,8 @@ fn parity_row(profile: Profile, place: u32, out: &mut [Symbol])
     requires behind { profile.keep ≤ place }
     requires place { place < profile.size }
     requires out { length out.old ≡ profile.keep }
-    ensures { IsGeneratorRow (plain_profile profile) place out.new }
+    ensures row { IsGeneratorRow (plain_profile profile) place out.new }
+    ensures bytes { EachIndex out.new (λ k. slice_index out.new k < 256) }
 {
     let whole = product_of_sums(point(place), 0, profile.keep);
     for k in 0..profile.keep {
@@ -63,10 +64,12 @@ fn parity_row(profile: Profile, place: u32, out: &mut [Symbol])
 }
 
 /// Fills `out` with the coefficients by which the codeword's symbol at `place` is a sum over the kept symbols.
+/// They are bytes, since the points are.
 pub fn generator_row(profile: Profile, place: u32, out: &mut [Symbol])
     requires place { place < profile.size }
     requires out { length out.old ≡ profile.keep }
-    ensures { IsGeneratorRow (plain_profile profile) place out.new }
+    ensures row { IsGeneratorRow (plain_profile profile) place out.new }
+    ensures bytes { EachIndex out.new (λ k. slice_index out.new k < 256) }
 {
     if place < profile.keep {
         kept_row(place as usize, out);

@@ -2,3 +2,4 @@ pub mod RowSteps
 pub mod PutSteps
 pub mod MakeSteps
 pub mod Blocks
+pub mod ProductSteps

@@ -38,7 +38,7 @@ row_last keep r rows row full long =
     ap (λ n. take keep (drop n (rows ++ row))) (sym full) ∙ ap (take keep) (drop-append_seam rows row) ∙ take_all keep row (omega arith)
 
 -- the last or one before it
-last_or_before : (r n : ℕ) → r < n + 1 → (r ≡ n) ⊎ (r < n)
+pub last_or_before : (r n : ℕ) → r < n + 1 → (r ≡ n) ⊎ (r < n)
 last_or_before r n h = grind arith
 
 -- one row more

@@ -2,8 +2,10 @@ ghost use Rattle.std.specs.Prelude.{◌≡◌};
 ghost use Rattle.hail_codes.specs.Points.{upto};
 ghost use Rattle.code_points.specs.Profile.{plain_profile};
 ghost use Rattle.server_code.specs.Generator.{IsGenerator};
+ghost use Rattle.server_code.specs.Products.{AreProducts};
 
 use crate::make;
+use crate::products::products;
 use crate::rows::{extend, is_extended, put_values};
 use code_points::Profile;
 use hail_field::{Memory, Symbol};
@@ -16,11 +18,13 @@ use std::alloc::Global;
 pub struct ServerCode<const N: usize, const K: usize> {
     pub profile: Profile,
     points: Vec<Symbol>,
-    rows: Vec<Symbol>,
+    rows: Vec<u8>,
+    products: Vec<u8>,
     pub ghost size_is: { profile.size ≡ N },
     pub ghost keep_is: { profile.keep ≡ K },
     ghost points_are: { points.items ≡ upto profile.size },
     ghost rows_are: { IsGenerator (plain_profile profile) rows.items },
+    ghost products_are: { AreProducts products.items },
 }
 
 impl<const N: usize, const K: usize> ServerCode<N, K> {
@@ -35,10 +39,12 @@ impl<const N: usize, const K: usize> ServerCode<N, K> {
     {
         let points = make::points(alloc, profile.size)?;
         let rows = make::rows(alloc, profile)?;
+        let products = products(alloc)?;
         Ok(ServerCode {
             profile,
             points,
             rows,
+            products,
         })
     }
 
@@ -48,7 +54,7 @@ impl<const N: usize, const K: usize> ServerCode<N, K> {
         requires out { length out.old ≡ N }
         ensures { out.new ≡ codeword (plain_profile self.now.profile) kept.now }
     {
-        extend(&self.rows, kept, out);
+        extend(&self.products, &self.rows, kept, out);
     }
 
     /// Corrects up to `fix` wrong symbols of a block, and tells how many it changed. None where no codeword is so near;
@@ -62,7 +68,7 @@ impl<const N: usize, const K: usize> ServerCode<N, K> {
         ensures changed { IfSome result (λ count. count ≡ differences block.old block.new) }
         ensures work { work.new.size ≡ work.old.size }
     {
-        if is_extended(&self.rows, K, block) {
+        if is_extended(&self.products, &self.rows, K, block) {
             return Some(0);
         }
         let fix = self.profile.fix as usize;

@@ -4,6 +4,7 @@
 mod any;
 mod code;
 mod make;
+mod products;
 mod rows;
 #[cfg(test)]
 mod tests;

@@ -1,4 +1,4 @@
-ghost use Rattle.std.specs.Prelude.{◌≡◌, IfOk, length};
+ghost use Rattle.std.specs.Prelude.{◌≡◌, ◌<◌, ◌++◌, IfOk, OnOk, EachIndex, length, slice_index};
 ghost use Rattle.hail_codes.specs.Points.{upto};
 ghost use Rattle.code_points.specs.Profile.{plain_profile};
 ghost use Rattle.server_code.specs.Generator.{IsGenerator};
@@ -19,21 +19,33 @@ pub fn points(alloc: Global, count: u32) -> Result<Vec<Symbol>, AllocError>
     Ok(points)
 }
 
-/// The coefficients of all places behind the kept ones, row by row; each is made in `row` first.
-fn rows_by(alloc: Global, profile: Profile, row: &mut [Symbol]) -> Result<Vec<Symbol>, AllocError>
+/// Adds a row of coefficients, which are bytes.
+fn push_bytes(row: &[Symbol], rows: &mut Vec<u8>) -> Result<(), AllocError>
+    requires { EachIndex row.now (λ k. slice_index row.now k < 256) }
+    ensures { OnOk result (rows.new.items ≡ rows.old.items ++ row.now) }
+{
+    for k in 0..row.len() {
+        let coefficient = row[k];
+        rows.push(coefficient.0 as u8)?;
+    }
+    Ok(())
+}
+
+/// The coefficients of all places behind the kept ones, row by row; each row is made in `row` first.
+fn rows_by(alloc: Global, profile: Profile, row: &mut [Symbol]) -> Result<Vec<u8>, AllocError>
     requires { length row.old ≡ profile.keep }
     ensures { IfOk result (λ rows. IsGenerator (plain_profile profile) rows.items) }
 {
     let mut rows = Vec::new(alloc);
     for place in profile.keep..profile.size {
         generator_row(profile, place, row);
-        rows.extend_from_slice(row)?;
+        push_bytes(row, &mut rows)?;
     }
     Ok(rows)
 }
 
 /// The coefficients of all places behind the kept ones, row by row.
-pub fn rows(alloc: Global, profile: Profile) -> Result<Vec<Symbol>, AllocError>
+pub fn rows(alloc: Global, profile: Profile) -> Result<Vec<u8>, AllocError>
     ensures { IfOk result (λ rows. IsGenerator (plain_profile profile) rows.items) }
 {
     let zero = Symbol::ZERO;

@@ -3,30 +3,34 @@ ghost use Rattle.hail_codes.specs.Polynomials.{value};
 ghost use Rattle.hail_codes.specs.ServerCode.{differences};
 ghost use Rattle.hail_codes.specs.Sums.{dot as dot_of};
 ghost use Rattle.server_code.specs.Generator.{row_at, sums};
+ghost use Rattle.server_code.specs.Products.{AreProducts};
 
+use crate::products::scaled;
 use hail_field::Symbol;
 use hail_poly::eval;
 
 /// The sum of each coefficient times the symbol at its place.
 #[tactic(auto, using(crate::proofs::RowSteps::dot_step, crate::proofs::RowSteps::dot_past))]
-fn dot(coefficients: &[Symbol], symbols: &[Symbol]) -> Symbol
-    requires { length coefficients.now ≡ length symbols.now }
+fn dot(products: &[u8], coefficients: &[u8], symbols: &[Symbol]) -> Symbol
+    requires products { AreProducts products.now }
+    requires even { length coefficients.now ≡ length symbols.now }
     ensures { result ≡ dot_of coefficients.now symbols.now }
 {
     let mut sum = Symbol::ZERO;
     for k in (0..coefficients.len()).rev() {
-        sum = coefficients[k].mul(symbols[k]).add(sum);
+        sum = scaled(products, coefficients[k], symbols[k]).add(sum);
     }
     sum
 }
 
 /// The sum of the kept symbols by a row.
-fn row_sum(rows: &[Symbol], row: usize, kept: &[Symbol]) -> Symbol
-    requires { row * length kept.now + length kept.now ≤ length rows.now }
+fn row_sum(products: &[u8], rows: &[u8], row: usize, kept: &[Symbol]) -> Symbol
+    requires products { AreProducts products.now }
+    requires row { row * length kept.now + length kept.now ≤ length rows.now }
     ensures { result ≡ dot_of (row_at (length kept.now) rows.now row) kept.now }
 {
     let start = row * kept.len();
-    dot(&rows[start..start + kept.len()], kept)
+    dot(products, &rows[start..start + kept.len()], kept)
 }
 
 /// Whether two symbols are one.
@@ -38,23 +42,25 @@ fn same(a: Symbol, b: Symbol) -> bool
 
 /// Fills each place with the sum of the kept symbols by its row.
 #[tactic(auto, using(crate::proofs::RowSteps::row_fits))]
-fn fill_sums(rows: &[Symbol], kept: &[Symbol], out: &mut [Symbol])
-    requires { length rows.now ≡ length out.old * length kept.now }
+fn fill_sums(products: &[u8], rows: &[u8], kept: &[Symbol], out: &mut [Symbol])
+    requires products { AreProducts products.now }
+    requires rows { length rows.now ≡ length out.old * length kept.now }
     ensures { out.new ≡ sums rows.now kept.now (length out.old) }
 {
     for row in 0..out.len() {
-        out[row] = row_sum(rows, row, kept);
+        out[row] = row_sum(products, rows, row, kept);
     }
 }
 
 /// Whether each place is the sum of the kept symbols by its row.
 #[tactic(auto, using(crate::proofs::RowSteps::row_fits))]
-fn are_sums(rows: &[Symbol], kept: &[Symbol], seen: &[Symbol]) -> bool
-    requires { length rows.now ≡ length seen.now * length kept.now }
+fn are_sums(products: &[u8], rows: &[u8], kept: &[Symbol], seen: &[Symbol]) -> bool
+    requires products { AreProducts products.now }
+    requires rows { length rows.now ≡ length seen.now * length kept.now }
     ensures { IsTrue result ↔ (seen.now ≡ sums rows.now kept.now (length seen.now)) }
 {
     for row in 0..seen.len() {
-        if !same(row_sum(rows, row, kept), seen[row]) {
+        if !same(row_sum(products, rows, row, kept), seen[row]) {
             return false;
         }
     }
@@ -62,23 +68,25 @@ fn are_sums(rows: &[Symbol], kept: &[Symbol], seen: &[Symbol]) -> bool
 }
 
 /// Copies the kept symbols to the front, and fills the places behind them with their sums by the rows.
-pub fn extend(rows: &[Symbol], kept: &[Symbol], out: &mut [Symbol])
+pub fn extend(products: &[u8], rows: &[u8], kept: &[Symbol], out: &mut [Symbol])
+    requires products { AreProducts products.now }
     requires room { length kept.now ≤ length out.old }
     requires rows { length rows.now ≡ (length out.old - length kept.now) * length kept.now }
     ensures { out.new ≡ kept.now ++ sums rows.now kept.now (length out.old - length kept.now) }
 {
     let keep = kept.len();
     out[..keep].copy_from_slice(kept);
-    fill_sums(rows, kept, &mut out[keep..]);
+    fill_sums(products, rows, kept, &mut out[keep..]);
 }
 
 /// Whether the symbols behind the first `keep` are the sums of these by the rows.
-pub fn is_extended(rows: &[Symbol], keep: usize, block: &[Symbol]) -> bool
+pub fn is_extended(products: &[u8], rows: &[u8], keep: usize, block: &[Symbol]) -> bool
+    requires products { AreProducts products.now }
     requires room { keep ≤ length block.now }
     requires rows { length rows.now ≡ (length block.now - keep) * keep }
     ensures { IsTrue result ↔ (drop keep block.now ≡ sums rows.now (take keep block.now) (length block.now - keep)) }
 {
-    are_sums(rows, &block[..keep], &block[keep..])
+    are_sums(products, rows, &block[..keep], &block[keep..])
 }
 
 /// 1 where two symbols differ, else 0.

@@ -6,6 +6,7 @@ use Rattle.hail_codes.specs.ServerCode.{IsGeneratorRow}
 use Rattle.hail_codes.proofs.Generators.{coefficient, parity_row}
 use Rattle.hail_codes.proofs.Lagrange.{gap_not_zero}
 use Rattle.code_points.specs.Profile.{plain_profile}
+use Rattle.code_points.proofs.Coefficients.{parity-lt}
 use Rattle.code_points.proofs.generator.parity_row.Goals as goal
 
 pub unwrap-requires : goal.unwrap-requires
@@ -16,7 +17,11 @@ unwrap-requires c =
 
 pub returns : goal.returns
 returns c =
-    let filled : c.loop-k.out ≡ map (coefficient c.args.profile.keep c.args.place) (upto c.args.profile.keep) =
-    fill_by_all (coefficient c.args.profile.keep c.args.place) c.loop-k.out c.args.profile.keep 0 (omega arith) (λ k h. c.loop-k.invariant k (omega arith)) in
-    subst (λ (row : List ℕ). IsGeneratorRow (plain_profile c.args.profile) c.args.place row) (sym filled)
-    (parity_row (plain_profile c.args.profile) c.args.place c.requires.behind c.requires.place)
+    let p = c.args.profile in
+    let filled : c.loop-k.out ≡ map (coefficient p.keep c.args.place) (upto p.keep) =
+    fill_by_all (coefficient p.keep c.args.place) c.loop-k.out p.keep 0 (omega arith) (λ k h. c.loop-k.invariant k (omega arith)) in
+    record {
+      row = subst (λ (row : List ℕ). IsGeneratorRow (plain_profile p) c.args.place row) (sym filled)
+          (parity_row (plain_profile p) c.args.place c.requires.behind c.requires.place);
+      bytes = λ k h. parity-lt p.number p.size p.keep c.args.place c.loop-k.out k p.size_is p.keep_is c.requires.place filled (omega arith);
+    }

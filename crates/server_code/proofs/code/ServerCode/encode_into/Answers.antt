@@ -8,6 +8,6 @@ pub returns : goal.returns
 returns g c =
     let p = c.args.self.now.profile in
     let le = keep_below p.number p.size p.keep p.size_is p.keep_is in
-    let made = rw c.deref.ensures.value at c.extend.ensures in
+    let made = rw c.deref-2.ensures.value at c.extend.ensures in
     made ∙ extended_is_codeword (plain_profile p) c.args.self.now.rows.items c.args.kept.now (length c.args.out.now - length c.args.kept.now)
     c.args.self.now.rows_are (omega (arith, c.args.self.now.keep_is)) (omega (arith, c.args.self.now.keep_is, c.args.self.now.size_is, le))
