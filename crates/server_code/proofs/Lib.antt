@@ -3,3 +3,4 @@ pub mod PutSteps
 pub mod MakeSteps
 pub mod Blocks
 pub mod ProductSteps
+pub mod Linear

@@ -3,6 +3,7 @@
 
 mod any;
 mod code;
+pub mod laws;
 mod make;
 mod products;
 mod rows;
