@@ -3,10 +3,12 @@ use Rattle.std.proofs.Common.{◌≡◌, ℕ, ◌+◌, ◌<◌, ◌≤◌, true,
 use Rattle.std.specs.Option.{option_map}
 use Rattle.hail_records.specs.Records.{Setup, SetUp}
 use Rattle.hail_records.specs.Table.{next_id, setup_of}
-use Rattle.hail_machine.specs.Jobs.{Kind, Job, job_of, with_job, without_job, advanced}
-use Rattle.hail_machine.specs.Actions.{Action, WriteBody, SyncGate, Store, Remove}
+use Rattle.hail_machine.specs.Jobs.{Kind, Job, Fetched, Answered, Worked, job_of, with_job, without_job, advanced}
+use Rattle.hail_machine.specs.Actions.{Action, WriteBody, SyncGate, Store, Fetch, Ask, Work, Remove}
 use Rattle.hail_machine.specs.Events.{Event, Outcome}
-use Rattle.hail_machine.specs.States.{State, Append, Doubt}
+use Rattle.hail_machine.specs.States.{State, Append, Doubt, setup_in, object_in}
+use Rattle.hail_machine.specs.Given.{blocks_given}
+use Rattle.hail_columns.specs.Opened.{GivesSymbols}
 use Rattle.hail_machine.specs.Begins.{begin_refusal, new_job}
 use Rattle.hail_machine.specs.Appends.{Writes, subject_drawn, taken_out}
 use Rattle.hail_machine.specs.Steps.{next_action, block_to_store}
@@ -20,8 +22,22 @@ IsPlain WriteBody = ⊥
 IsPlain SyncGate = ⊥
 IsPlain action = Unit {0}
 
+-- an action that opens nothing
+abbrev pub IsQuiet : Action → Type 0
+IsQuiet (Work object stripe) = ⊥
+IsQuiet action = Unit {0}
+
+-- what an action gave
+pub data Gave (old : State) (before : Job) (action : Action) (job : Job) : Type 0 where
+  nothing : IsQuiet action → job.given ≡ before.given → Gave old before action job
+  fetched : (i o s : ℕ) (block : Option (List ℕ)) → action ≡ Fetch i o s → job.given ≡ Fetched i o s block ∷ before.given → Gave old before action job
+  answered : (i o r : ℕ) (symbol : Option ℕ) → action ≡ Ask i o r → job.given ≡ Answered i o r symbol ∷ before.given → Gave old before action job
+  worked : (o s : ℕ) (symbols : List ℕ) → action ≡ Work o s → GivesSymbols (object_in old o) s (blocks_given before.given (setup_in old).n o s) symbols →
+      job.given ≡ Worked o s symbols ∷ before.given → Gave old before action job
+
 -- a job that has made one more action, and is the same in all that this does not touch
-pub record GoesOn (before job : Job) : Type 0 where
+pub record GoesOn (old : State) (before : Job) (action : Action) (job : Job) : Type 0 where
+  pub gave : Gave old before action job
   pub number : job.number ≡ before.number
   pub kind : job.kind ≡ before.kind
   pub begun : job.begun ≡ before.begun
@@ -43,7 +59,7 @@ pub data Job_is (limit moment : ℕ) (old new : State) (k : ℕ) (job : Job) : T
   begun : (kind : Kind) → job ≡ new_job old moment kind → k ≡ old.next_job → begin_refusal limit old kind ≡ None →
       new.records ≡ old.records → Job_is limit moment old new k job
   plain : (before : Job) (action : Action) → job_of old.jobs k ≡ Some before → next_action old before ≡ Some action → IsPlain action →
-      GoesOn before job → new.records ≡ old.records →
+      GoesOn old before action job → new.records ≡ old.records →
       ((i o s : ℕ) (b : Option (List ℕ)) → action ≡ Store i o s → told_block new i o s ≡ Some b → b ≡ Some (block_to_store old before before.kind i o s)) →
       Job_is limit moment old new k job
   drew : (before : Job) → job_of old.jobs k ≡ Some before → next_action old before ≡ Some WriteBody → old.append ≡ None →
@@ -167,14 +183,14 @@ module _ (limit moment : ℕ) (old : State) (e : Event) (r : Outcome) where
   }
 
   -- a job makes a plain action
-  pub steps_plainly : (new : State) → (IsGated old → IsGated new) → (before job : Job) (action : Action) → job_of old.jobs before.number ≡ Some before → next_action old before ≡ Some action → IsPlain action → GoesOn before job →
+  pub steps_plainly : (new : State) → (IsGated old → IsGated new) → (before job : Job) (action : Action) → job_of old.jobs before.number ≡ Some before → next_action old before ≡ Some action → IsPlain action → GoesOn old before action job →
       new.jobs ≡ with_job old.jobs job → ((a : Append) → new.append ≡ Some a → (b : Append) × (old.append ≡ Some b) × (a.job ≡ b.job) × (a.entry ≡ b.entry)) →
       new.records ≡ old.records → Rest old new →
       ((i o s : ℕ) (b : Option (List ℕ)) → action ≡ Store i o s → told_block new i o s ≡ Some b → b ≡ Some (block_to_store old before before.kind i o s)) →
       ((i o s : ℕ) → Block_is old e r new i o s) → Changes limit moment old e r new
   steps_plainly new gate before job action runs next_is is_plain goes jobs append records rest stores_it block = record {
     job = λ k j h. elim (found_with old.jobs job k j (ap (λ l. job_of l k) (sym jobs) ∙ h)) [
-      | inl p ↦ Job_is.plain before action (at k p.0) next_is is_plain (subst (λ (x : Job). GoesOn before x) (sym p.1) goes) records stores_it
+      | inl p ↦ Job_is.plain before action (at k p.0) next_is is_plain (subst (λ (x : Job). GoesOn old before action x) (sym p.1) goes) records stores_it
       | inr q ↦ Job_is.kept q.1 (Grown.as_before records)
     ];
     append = λ a h. (let b = append a h in Append_is.kept b.0 b.1 b.2 b.3 records);

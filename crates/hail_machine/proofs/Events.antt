@@ -24,7 +24,7 @@ use Rattle.hail_machine.specs.Replacements.{ReplacesAt, ReplacesIf}
 use Rattle.hail_machine.specs.Machine.{Lists, Happens}
 use Rattle.hail_machine.specs.Runs.{is_replacement}
 use Rattle.hail_machine.proofs.JobLists.{cond_true, cond_false, number_of, found_with, found_itself, found_more, found_none}
-use Rattle.hail_machine.proofs.Changes.{IsPlain, GoesOn, Job_is, Append_is, Records_is, Block_is, Rest, Doubt_is, Grown, IsIdle, IsGated, Changes, only_devices, unchanged, gives_up, ends, steps_plainly}
+use Rattle.hail_machine.proofs.Changes.{IsQuiet, Gave, IsPlain, GoesOn, Job_is, Append_is, Records_is, Block_is, Rest, Doubt_is, Grown, IsIdle, IsGated, Changes, only_devices, unchanged, gives_up, ends, steps_plainly}
 
 -- what a provider tells of a block
 abbrev told : Provider → ℕ → ℕ → Option (Option (List ℕ))
@@ -147,11 +147,11 @@ module _ (limit moment : ℕ) (old : State) where
     abbrev Result : Outcome → State → Type 0
     Result r new = Changes limit moment old (Step job.number) r new
 
-    on : (g : Given) → GoesOn job (advanced_with job g)
-    on g = record { number = refl; kind = refl; begun = refl; pinned = refl; flagged = refl; subject = refl; older = refl; place = refl }
+    on : (action : Action) (g : Given) → Gave old job action (advanced_with job g) → GoesOn old job action (advanced_with job g)
+    on action g gave = record { gave = gave; number = refl; kind = refl; begun = refl; pinned = refl; flagged = refl; subject = refl; older = refl; place = refl }
 
-    on_advanced : GoesOn job (advanced job)
-    on_advanced = record { number = refl; kind = refl; begun = refl; pinned = refl; flagged = refl; subject = refl; older = refl; place = refl }
+    on_advanced : (action : Action) → IsQuiet action → GoesOn old job action (advanced job)
+    on_advanced action quiet = record { gave = Gave.nothing quiet refl; number = refl; kind = refl; begun = refl; pinned = refl; flagged = refl; subject = refl; older = refl; place = refl }
 
     same_append : (a : Append) → old.append ≡ Some a → (b : Append) × (old.append ≡ Some b) × (a.job ≡ b.job) × (a.entry ≡ b.entry)
     same_append a h = (a, h, refl, refl)
@@ -160,7 +160,7 @@ module _ (limit moment : ℕ) (old : State) where
     stores : (j object stripe : ℕ) (new : State) → next_action old job ≡ Some (Store j object stripe) →
         ProviderCall old j (Stores object stripe (block_to_store old job job.kind j object stripe)) (going_on old (advanced job)) new → Result More new
     stores j object stripe new next_is (p, call, is) = subst (λ (w : State). Result More w) (sym is)
-        (steps_plainly limit moment old (Step job.number) More (record (going_on old (advanced job)) { providers = with_provider old.providers j p }) (λ g. g) job (advanced job) (Store j object stripe) runs next_is tt on_advanced refl same_append refl (record { next = refl; is_open = refl; bytes = refl; doubt = λ d h. inl h })
+        (steps_plainly limit moment old (Step job.number) More (record (going_on old (advanced job)) { providers = with_provider old.providers j p }) (λ g. g) job (advanced job) (Store j object stripe) runs next_is tt (on_advanced (Store j object stripe) tt) refl same_append refl (record { next = refl; is_open = refl; bytes = refl; doubt = λ d h. inl h })
         (λ i o s b e h. stored_value old job j object stripe p call i o s b e h)
         (λ i o s. elim (called old.providers j p i o s) [
           | inl q ↦ elim (set_block object stripe (block_to_store old job job.kind j object stripe) (old.providers j).held o s) [
@@ -190,22 +190,22 @@ module _ (limit moment : ℕ) (old : State) where
 
     fetches : (j object stripe : ℕ) (new : State) → next_action old job ≡ Some (Fetch j object stripe) → FetchStep old job j object stripe new → Result More new
     fetches j object stripe new next_is (block, (p, call, is)) = subst (λ (w : State). Result More w) (sym is)
-        (steps_plainly limit moment old (Step job.number) More (record (going_on old (advanced_with job (Fetched j object stripe block))) { providers = with_provider old.providers j p }) (λ g. g) job (advanced_with job (Fetched j object stripe block)) (Fetch j object stripe) runs next_is tt (on (Fetched j object stripe block)) refl same_append refl (record { next = refl; is_open = refl; bytes = refl; doubt = λ d h. inl h }) (λ i o s b e h. absurd (not_stored _ i o s tt e))
+        (steps_plainly limit moment old (Step job.number) More (record (going_on old (advanced_with job (Fetched j object stripe block))) { providers = with_provider old.providers j p }) (λ g. g) job (advanced_with job (Fetched j object stripe block)) (Fetch j object stripe) runs next_is tt (on (Fetch j object stripe) (Fetched j object stripe block) (Gave.fetched j object stripe block refl refl)) refl same_append refl (record { next = refl; is_open = refl; bytes = refl; doubt = λ d h. inl h }) (λ i o s b e h. absurd (not_stored _ i o s tt e))
         (leaves (Step job.number) More j p _ call.held refl))
 
     asks : (j object round : ℕ) (new : State) → next_action old job ≡ Some (Ask j object round) → AskStep old job j object round new → Result More new
     asks j object round new next_is (symbol, (p, call, is)) = subst (λ (w : State). Result More w) (sym is)
-        (steps_plainly limit moment old (Step job.number) More (record (going_on old (advanced_with job (Answered j object round symbol))) { providers = with_provider old.providers j p }) (λ g. g) job (advanced_with job (Answered j object round symbol)) (Ask j object round) runs next_is tt (on (Answered j object round symbol)) refl same_append refl (record { next = refl; is_open = refl; bytes = refl; doubt = λ d h. inl h }) (λ i o s b e h. absurd (not_stored _ i o s tt e))
+        (steps_plainly limit moment old (Step job.number) More (record (going_on old (advanced_with job (Answered j object round symbol))) { providers = with_provider old.providers j p }) (λ g. g) job (advanced_with job (Answered j object round symbol)) (Ask j object round) runs next_is tt (on (Ask j object round) (Answered j object round symbol) (Gave.answered j object round symbol refl refl)) refl same_append refl (record { next = refl; is_open = refl; bytes = refl; doubt = λ d h. inl h }) (λ i o s b e h. absurd (not_stored _ i o s tt e))
         (leaves (Step job.number) More j p _ call.held refl))
 
     works : (object stripe : ℕ) (new : State) → next_action old job ≡ Some (Work object stripe) → WorkStep old job object stripe new → Result More new
     works object stripe new next_is (symbols, gives, is) = subst (λ (w : State). Result More w) (sym is)
-        (steps_plainly limit moment old (Step job.number) More (going_on old (advanced_with job (Worked object stripe symbols))) (λ g. g) job (advanced_with job (Worked object stripe symbols)) (Work object stripe) runs next_is tt (on (Worked object stripe symbols)) refl same_append refl (record { next = refl; is_open = refl; bytes = refl; doubt = λ d h. inl h }) (λ i o s b e h. absurd (not_stored _ i o s tt e))
+        (steps_plainly limit moment old (Step job.number) More (going_on old (advanced_with job (Worked object stripe symbols))) (λ g. g) job (advanced_with job (Worked object stripe symbols)) (Work object stripe) runs next_is tt (on (Work object stripe) (Worked object stripe symbols) (Gave.worked object stripe symbols refl gives refl)) refl same_append refl (record { next = refl; is_open = refl; bytes = refl; doubt = λ d h. inl h }) (λ i o s b e h. absurd (not_stored _ i o s tt e))
         (λ i o s. Block_is.same refl))
 
     removes : (j object : ℕ) (new : State) → next_action old job ≡ Some (Remove j object) → ProviderCall old j (Removes object) (going_on old (advanced job)) new → Result More new
     removes j object new next_is (p, call, is) = subst (λ (w : State). Result More w) (sym is)
-        (steps_plainly limit moment old (Step job.number) More (record (going_on old (advanced job)) { providers = with_provider old.providers j p }) (λ g. g) job (advanced job) (Remove j object) runs next_is tt on_advanced refl same_append refl (record { next = refl; is_open = refl; bytes = refl; doubt = λ d h. inl h }) (λ i o s b e h. absurd (not_stored _ i o s tt e))
+        (steps_plainly limit moment old (Step job.number) More (record (going_on old (advanced job)) { providers = with_provider old.providers j p }) (λ g. g) job (advanced job) (Remove j object) runs next_is tt (on_advanced (Remove j object) tt) refl same_append refl (record { next = refl; is_open = refl; bytes = refl; doubt = λ d h. inl h }) (λ i o s b e h. absurd (not_stored _ i o s tt e))
         (λ i o s. elim (called old.providers j p i o s) [
           | inl q ↦ elim (removed_block object (old.providers j) p o s call) [
             | inl hit ↦ Block_is.removed job runs (next_is ∙ ap Some (place i o q.0 hit))
@@ -227,11 +227,11 @@ module _ (limit moment : ℕ) (old : State) where
         (ends limit moment old (Step job.number) r (record left { disk_faults = faults }) gate job.number jobs append records (record { next = rest.next; is_open = rest.is_open; bytes = rest.bytes; doubt = rest.doubt }) (λ i o s. Block_is.same (ap (λ p. told (p i) o s) providers)))
 
     -- moves of the append in flight
-    moves_on : (a : Append) (action : Action) (left new : State) → (IsGated old → IsGated left) → IsNoStore action → old.append ≡ Some a → next_action old job ≡ Some action → IsPlain action →
+    moves_on : (a : Append) (action : Action) (left new : State) → (IsGated old → IsGated left) → IsNoStore action → IsQuiet action → old.append ≡ Some a → next_action old job ≡ Some action → IsPlain action →
         left.jobs ≡ with_job old.jobs (advanced job) → left.append ≡ Some (record a { moves = a.moves + 1 }) → left.records ≡ old.records → Rest old left → left.providers ≡ old.providers →
         (faults : ℕ) → new ≡ record left { disk_faults = faults } → Result More new
-    moves_on a action left new gate stores_not flight next_is is_plain jobs append records rest providers faults is = subst (λ (w : State). Result More w) (sym is)
-        (steps_plainly limit moment old (Step job.number) More (record left { disk_faults = faults }) gate job (advanced job) action runs next_is is_plain on_advanced jobs
+    moves_on a action left new gate stores_not quiet flight next_is is_plain jobs append records rest providers faults is = subst (λ (w : State). Result More w) (sym is)
+        (steps_plainly limit moment old (Step job.number) More (record left { disk_faults = faults }) gate job (advanced job) action runs next_is is_plain (on_advanced action quiet) jobs
         (λ b h. (let e : Some (record a { moves = a.moves + 1 }) ≡ Some b = sym append ∙ h in
         let f : record a { moves = a.moves + 1 } ≡ b = cc in
         (a, flight, sym (ap (λ (x : Append). x.job) f), sym (ap (λ (x : Append). x.entry) f))))
@@ -302,9 +302,9 @@ module _ (limit moment : ℕ) (old : State) where
     moves WriteBody (Some a) r new flight next_is free h = absurd (let e : Some a.job ≡ None = free in cc)
     moves WriteBody None (Ended answer.DiskFault) new flight next_is free (faults, low, rose, is) = ends_barred (Ended answer.DiskFault) (barred (ended old job)) new (λ g b h three. absurd (let e : None ≡ Some b = h in cc)) refl (inr refl) refl (record { next = refl; is_open = refl; bytes = refl; doubt = λ d h. inl h }) refl faults is
     moves WriteBody None (Ended answer.Memory) new flight next_is free (faults, low, is) = ends_barred (Ended answer.Memory) (ended old job) new (λ g. g) refl (inl refl) refl (record { next = refl; is_open = refl; bytes = refl; doubt = λ d h. inl h }) refl faults is
-    moves SyncBody (Some a) More new flight next_is free (at, (faults, low, is)) = moves_on a SyncBody (moved (going_on old (advanced job)) a) new (λ g b h three. absurd (second_move a b at.1 h three)) tt flight next_is tt refl refl refl (record { next = refl; is_open = refl; bytes = refl; doubt = λ d h. inl h }) refl faults is
+    moves SyncBody (Some a) More new flight next_is free (at, (faults, low, is)) = moves_on a SyncBody (moved (going_on old (advanced job)) a) new (λ g b h three. absurd (second_move a b at.1 h three)) tt tt flight next_is tt refl refl refl (record { next = refl; is_open = refl; bytes = refl; doubt = λ d h. inl h }) refl faults is
     moves SyncBody (Some a) (Ended answer.DiskFault) new flight next_is free (at, (faults, low, rose, is)) = ends_barred (Ended answer.DiskFault) (barred (ended old job)) new (λ g b h three. absurd (let e : None ≡ Some b = h in cc)) refl (inr refl) refl (record { next = refl; is_open = refl; bytes = refl; doubt = λ d h. inl h }) refl faults is
-    moves WriteGate (Some a) More new flight next_is free (at, (faults, low, is)) = moves_on a WriteGate (doubted (moved (going_on old (advanced job)) a) a job) new (λ g b h three. (record { entry = a.entry; maker = Some (advanced job) }, refl, moved_entry a b h)) tt flight next_is tt refl refl refl (record { next = refl; is_open = refl; bytes = refl; doubt = λ d h. inr (a, flight, in_doubt a d h) }) refl faults is
+    moves WriteGate (Some a) More new flight next_is free (at, (faults, low, is)) = moves_on a WriteGate (doubted (moved (going_on old (advanced job)) a) a job) new (λ g b h three. (record { entry = a.entry; maker = Some (advanced job) }, refl, moved_entry a b h)) tt tt flight next_is tt refl refl refl (record { next = refl; is_open = refl; bytes = refl; doubt = λ d h. inr (a, flight, in_doubt a d h) }) refl faults is
     moves WriteGate (Some a) (Ended answer.DiskFault) new flight next_is free (at, (faults, low, rose, is)) = ends_barred (Ended answer.DiskFault) (doubted (barred (ended old job)) a job) new (λ g b h three. absurd (let e : None ≡ Some b = h in cc)) refl (inr refl) refl (record { next = refl; is_open = refl; bytes = refl; doubt = λ d h. inr (a, flight, in_doubt a d h) }) refl faults is
     moves WriteGate (Some a) (Ended answer.Memory) new flight next_is free (at, (faults, low, is)) = ends_barred (Ended answer.Memory) (unappended (ended old job)) new (λ g b h three. absurd (let e : None ≡ Some b = h in cc)) refl (inr refl) refl (record { next = refl; is_open = refl; bytes = refl; doubt = λ d h. inl h }) refl faults is
     moves SyncGate (Some a) More new flight next_is free (at, call) = finishes a new next_is flight at.0 at.1 call

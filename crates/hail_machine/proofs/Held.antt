@@ -34,10 +34,10 @@ contains_in xs x h = go xs x h.0 h.1 h.2
     go (y ∷ ys) x zero l e = inl (sym e)
     go (y ∷ ys) x (suc k) l e = inr (go ys x k (omega arith) e)
 
-first_more : (k : ℕ) (m : Moment) (ms : List Moment) → k ≤ length ms → first_moments k (m ∷ ms) ≡ first_moments k ms
+pub first_more : (k : ℕ) (m : Moment) (ms : List Moment) → k ≤ length ms → first_moments k (m ∷ ms) ≡ first_moments k ms
 first_more k m ms l = (let short : k < suc (length ms) = omega arith in rw (lt-leb (suc (length ms)) k short) refl)
 
-first_all : (ms : List Moment) → first_moments (length ms) ms ≡ ms
+pub first_all : (ms : List Moment) → first_moments (length ms) ms ≡ ms
 first_all [] = refl
 first_all (m ∷ ms) = rw (le-leb (suc (length ms)) (suc (length ms)) (omega arith)) refl
 
@@ -66,7 +66,7 @@ remove_kinds job RepairJob i o is h = h
 
 -- ---- the actions of a put
 
-actions_are : (s : Setup) (job : Job) (kind : Kind) → job.kind ≡ kind → actions_of s job ≡ actions_by s job kind
+pub actions_are : (s : Setup) (job : Job) (kind : Kind) → job.kind ≡ kind → actions_of s job ≡ actions_by s job kind
 unfolding actions_of
 actions_are s job kind is = ap (actions_by s job) is
 

@@ -16,3 +16,5 @@ pub mod PinFacts
 pub mod Held
 pub mod Survive
 pub mod Acknowledged
+pub mod Stripes
+pub mod Gets

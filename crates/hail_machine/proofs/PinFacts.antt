@@ -35,7 +35,7 @@ count_is w job bytes = refl
 pub count_same : (v w : State) (i j : Job) (bytes : List ℕ) → setup_of v.records ≡ setup_of w.records → i.subject ≡ j.subject → stores_count v i bytes ≡ stores_count w j bytes
 count_same v w i j bytes s e = count_is v i bytes ∙ (ap (λ x. count_by x i.subject bytes) (setup_same v w s) ∙ (ap (λ n. count_by (setup_in w) n bytes) e ∙ sym (count_is w j bytes)))
 
-wrote_setup : (job : Job) (kind : Kind) (entry : Record) (rs : List Record) → Wrote job kind entry → setup_of (entry ∷ rs) ≡ setup_of rs
+pub wrote_setup : (job : Job) (kind : Kind) (entry : Record) (rs : List Record) → Wrote job kind entry → setup_of (entry ∷ rs) ≡ setup_of rs
 wrote_setup job (PutJob name bytes) entry rs (inl h) = ap (λ (r : Record). setup_of (r ∷ rs)) h.1
 wrote_setup job (PutJob name bytes) entry rs (inr h) = ap (λ (r : Record). setup_of (r ∷ rs)) h.1
 wrote_setup job (GetJob name) entry rs h = absurd h

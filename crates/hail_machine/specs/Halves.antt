@@ -6,9 +6,11 @@
 --   SecondHalf start ms                    == every get of a stored name that ended by a step gave its bytes, unless the count of
 --                                             the disk or of a provider rose since its begin; and its begin was refused for
 --                                             MustReopen, Busy or Memory alone
+--   IsOpenedGet begin_state job name bytes == a get gave the bytes that what it fetched opens to
+--   GotIsOpened                            == every get that ended with bytes did
 --   FirstHalfHolds                         == the first half, of every run
 --   SecondHalfHolds                        == the second half, of every calm run in which no audit missed damage
-use Rattle.std.specs.Prelude.{◌≡◌, ◌⊎◌, ℕ, ◌<◌, List, [], ◌∷◌, Option, None, Some, IsSome}
+use Rattle.std.specs.Prelude.{◌≡◌, ◌⊎◌, ℕ, ◌<◌, List, [], ◌∷◌, Option, None, Some, IsSome, length}
 use Rattle.hail_records.specs.Table.{File}
 use Rattle.hail_devices.specs.Faults.{Rose}
 use Rattle.hail_machine.specs.Jobs.{Kind, GetJob, Job, job_of}
@@ -20,7 +22,9 @@ use Rattle.hail_machine.specs.States.{State, IsStart, IsLimit, setup_in, object_
 use Rattle.hail_machine.specs.Runs.{Moment, now, first_moments, IsRun}
 use Rattle.hail_machine.specs.Calm.{IsCalm, since, relies}
 use Rattle.hail_machine.specs.Missed.{NoneMissed}
-use Rattle.hail_machine.specs.Heard.{heard_by, HoldsForgery}
+use Rattle.hail_machine.specs.Given.{blocks_given}
+use Rattle.hail_machine.specs.Heard.{heard_by, given_to, HoldsForgery}
+use Rattle.hail_columns.specs.Opened.{OpensFile}
 
 -- a get gave the bytes that were in effect under its name at its begin, unless its fetches hold a forgery against them
 pub record IsRightGet (begin_state : State) (job : Job) (name bytes : List ℕ) : Type 0 where
@@ -108,3 +112,23 @@ AllTell w = (j : ℕ) → IsSome (w.providers j).held
 abbrev pub SecondHalfHolds : Type 0
 SecondHalfHolds = (limit : ℕ) (start : State) (ms : List Moment) → IsLimit limit → IsStart start → AllTell start →
     IsRun limit start ms → IsCalm relies (since start) ms → NoneMissed start ms → SecondHalf start ms
+
+-- a get gave the bytes that what it fetched opens to, of the file that was in effect under its name at its begin
+pub record IsOpenedGet (begin_state : State) (job : Job) (name bytes : List ℕ) : Type 0 where
+  pub file : File
+  pub in_effect : file_in begin_state name ≡ Some file
+  pub opens : OpensFile (object_in begin_state file.id) (length (begin_state.bytes file.id))
+      (blocks_given (given_to job.number (heard_by (Some job))) (setup_in begin_state).n file.id) bytes
+
+-- the end of a get with bytes, whose job was this one
+pub record EndsGet (start : State) (m : Moment) (ms : List Moment) (job : Job) (name bytes : List ℕ) : Type 0 where
+  pub event : m.event ≡ Step job.number
+  pub outcome : m.outcome ≡ Ended (Got bytes)
+  pub runs : job_of (now start ms).jobs job.number ≡ Some job
+  pub kind : job.kind ≡ GetJob name
+
+-- every get that ended with bytes gave what its fetches open to
+abbrev pub GotIsOpened : Type 0
+GotIsOpened = (limit : ℕ) (start : State) (m : Moment) (ms : List Moment) (job : Job) (name bytes : List ℕ) →
+    IsStart start → IsRun limit start (m ∷ ms) → EndsGet start m ms job name bytes →
+    IsOpenedGet (now start (first_moments job.begun ms)) job name bytes

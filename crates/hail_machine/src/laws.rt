@@ -8,6 +8,7 @@ ghost use Rattle.hail_machine.specs.States.{State, IsStart, setup_in, object_in}
 ghost use Rattle.hail_machine.specs.Runs.{Moment, IsRun, now, first_moments, is_replaced_since};
 ghost use Rattle.hail_machine.specs.Calm.{IsCalm, since, relies};
 ghost use Rattle.hail_machine.specs.Missed.{NoneMissed};
+ghost use Rattle.hail_machine.specs.Halves.{GotIsOpened};
 ghost use Rattle.hail_machine.specs.Survival.{IsAcknowledged, Survives};
 ghost use Rattle.hail_machine.specs.Deeds.{HasStored, HasAsked, HasMadeStore, told_block};
 
@@ -76,4 +77,10 @@ pub fn ended_puts_came_in()
 /// until a record that takes it out has come to the third move of its append.
 pub fn acknowledged_files_survive()
     ensures { Survives }
+{}
+
+/// A get that ended with bytes gave what its fetches open to: the accepted rows of every stripe of the file that was in effect
+/// under its name at its begin, in layout order and cut to that file's length.
+pub fn got_bytes_are_opened()
+    ensures { GotIsOpened }
 {}
