@@ -1,0 +1,132 @@
+-- A block that is not wrong opens to its provider's column without masks.
+use Rattle.std.specs.Prelude.{◌≡◌, ℕ, suc, ◌+◌, ◌*◌, ◌<◌, ◌≤◌, ◌||◌, ◌==◌, Bool, true, false, not, List, [], ◌∷◌, length, map, nat_lt, nat_eq, slice_get, None, Some, cond, if◌then◌else◌}
+use Rattle.std.proofs.Common.{arith, ap, sym, refl, ◌∙◌}
+use Rattle.std.proofs.lemmas.List.FromFn.{length-range_with_len, length-map-range_with_len}
+use Rattle.hail_field.specs.Nim.{nim_add}
+use Rattle.hail_field.proofs.AllNumbers.{nim_laws, nim_ring}
+use Rattle.poly_laws.specs.Poly.{agree as agree_over, is_seen as is_seen_over}
+use Rattle.hail_codes.specs.Polynomials.{value, agree}
+use Rattle.hail_codes.specs.Points.{upto, values_at}
+use Rattle.hail_codes.specs.Profiles.{profile_of}
+use Rattle.hail_codes.specs.ServerCode.{differences, IsCodeword}
+use Rattle.hail_codes.proofs.Points.{nat_eq-differ}
+use Rattle.hail_columns.specs.Keys.{mask, secret_point}
+use Rattle.hail_columns.specs.Objects.{Object, stripe_symbols, symbol_of, symbols_in, row_number, is_primary, point}
+use Rattle.hail_columns.specs.Columns.{row_polynomial, column_of_symbols, columns, is_wrong_block}
+use Rattle.hail_columns.specs.Opened.{SeenBlock, masked, bare, OpensTo, symbol_in}
+use Rattle.hail_columns.proofs.ColumnLaws.{slice_get-upto, primary-symbol}
+use Rattle.hail_columns.proofs.SecondaryLaws.{column_polynomial, value-column_polynomial, point-outside, bare-secondary, IsCodeword-bare_column}
+use Rattle.column_laws.proofs.UniqueLaws.{opens-unique}
+
+-- a polynomial agrees with a block where the block does not differ from its values
+agree-differences : (p xs ys : List ℕ) → length ys ≡ length xs → agree p xs (map Some ys) + differences ys (values_at xs p) ≡ length xs
+unfolding agree_over is_seen_over
+agree-differences p [] [] even = omega arith
+agree-differences p [] (y ∷ ys) even = absurd (omega (arith, even))
+agree-differences p (x ∷ xs) [] even = absurd (omega (arith, even))
+agree-differences p (x ∷ xs) (y ∷ ys) even = go (nat_eq y (value p x)) (agree-differences p xs ys (omega (arith, even)))
+  where
+    go : (b : Bool) → agree p xs (map Some ys) + differences ys (values_at xs p) ≡ length xs →
+        cond b 1 0 + agree p xs (map Some ys) + cond b (differences ys (values_at xs p)) (suc (differences ys (values_at xs p))) ≡ suc (length xs)
+    go true h = omega (arith, h)
+    go false h = omega (arith, h)
+
+-- a mask put on both sides changes no equality
+same-masked : (x y m : ℕ) → nat_eq (nim_add x m) (nim_add y m) ≡ nat_eq x y
+same-masked x y m = go (nat_eq x y) refl
+  where
+    off : (z : ℕ) → nim_add (nim_add z m) m ≡ z
+    off z = nim_ring.add_assoc z m m ∙ ap (λ u. nim_add z u) (nim_ring.add_self m) ∙ nim_ring.add_zero z
+
+    go : (b : Bool) → nat_eq x y ≡ b → nat_eq (nim_add x m) (nim_add y m) ≡ b
+    go true is = ap (λ z. nat_eq (nim_add x m) (nim_add z m)) (sym (nim_laws.eq_true x y is)) ∙ nim_laws.eq_refl (nim_add x m)
+    go false is = nat_eq-differ (nim_add x m) (nim_add y m) (λ e. differ (sym (off y) ∙ ap (λ z. nim_add z m) e ∙ off x))
+      where
+        differ : y ≡ x → ⊥
+        differ e = absurd (cc (is, ap (λ z. nat_eq x z) e, nim_laws.eq_refl x))
+
+-- masks change no place at which two blocks differ
+differences-masked : (o : Object) (j row : ℕ) (xs ys : List ℕ) → differences (masked o j row xs) (masked o j row ys) ≡ differences xs ys
+differences-masked o j row [] ys = refl
+differences-masked o j row (x ∷ xs) [] = refl
+differences-masked o j row (x ∷ xs) (y ∷ ys) =
+    (λ i. if same-masked x y (mask o.master o.id j row) i then differences-masked o j (row + 1) xs ys i else suc (differences-masked o j (row + 1) xs ys i))
+
+length-masked : (o : Object) (j row : ℕ) (xs : List ℕ) → length (masked o j row xs) ≡ length xs
+length-masked o j row [] = refl
+length-masked o j row (x ∷ xs) = ap suc (length-masked o j (row + 1) xs)
+
+differences-bare : (o : Object) (j stripe : ℕ) (xs ys : List ℕ) → differences (bare o j stripe xs) (bare o j stripe ys) ≡ differences xs ys
+differences-bare o j stripe xs ys =
+    elim (is_primary o j) as (λ b. differences (if b then xs else masked o j (row_number o stripe 0) xs) (if b then ys else masked o j (row_number o stripe 0) ys) ≡ differences xs ys) [
+      | true ↦ refl
+      | false ↦ differences-masked o j (row_number o stripe 0) xs ys
+    ]
+
+length-bare : (o : Object) (j stripe : ℕ) (xs : List ℕ) → length (bare o j stripe xs) ≡ length xs
+length-bare o j stripe xs =
+    elim (is_primary o j) as (λ b. length (if b then xs else masked o j (row_number o stripe 0) xs) ≡ length xs) [
+      | true ↦ refl
+      | false ↦ length-masked o j (row_number o stripe 0) xs
+    ]
+
+-- a stripe has its number of symbols
+pub length-symbols_in : (o : Object) (bytes : List ℕ) (stripe : ℕ) → length (symbols_in o bytes stripe) ≡ stripe_symbols o
+length-symbols_in o bytes stripe = length-map-range_with_len (λ i. symbol_of bytes (stripe * stripe_symbols o + i)) 0 (stripe_symbols o)
+
+-- a block that is not wrong is of the size, and differs at few places
+long-enough : (n size fix d : ℕ) → not (n == size) || nat_lt fix d ≡ false → n ≡ size
+long-enough n size fix d e = grind (arith, e)
+
+few-differences : (n size fix d : ℕ) → not (n == size) || nat_lt fix d ≡ false → d ≤ fix
+few-differences n size fix d e = grind (arith, e)
+
+pub opens-right : (o : Object) (bytes : List ℕ) (j stripe : ℕ) (seen : SeenBlock) → j < 256 →
+    is_wrong_block o bytes j stripe seen ≡ false → OpensTo o j stripe seen (Some (bare o j stripe (columns o bytes j stripe)))
+opens-right o bytes j stripe None below right = absurd (cc right)
+opens-right o bytes j stripe (Some block) below right =
+    let own = columns o bytes j stripe in
+    let word : IsCodeword o.profile (bare o j stripe own) = IsCodeword-bare_column o (symbols_in o bytes stripe) j stripe (length-symbols_in o bytes stripe) below in
+    let seen = bare o j stripe block in
+    let size : length block ≡ o.profile.size = long-enough (length block) o.profile.size o.profile.fix (differences block own) right in
+    let whole : length seen ≡ o.profile.size = length-bare o j stripe block ∙ size in
+    let range : length (upto o.profile.size) ≡ o.profile.size = length-range_with_len 0 o.profile.size in
+    record {
+      polynomial = word.polynomial;
+      near = record {
+        whole = whole;
+        decodes = record {
+          short = word.degree;
+          near = omega (
+            arith,
+            few-differences (length block) o.profile.size o.profile.fix (differences block own) right,
+            differences-bare o j stripe block own,
+            ap (differences seen) word.values,
+            agree-differences word.polynomial (upto o.profile.size) seen (whole ∙ sym range),
+          );
+        };
+      };
+      opened_is = word.values;
+    }
+
+-- the symbol at a place of a column without masks is the value of the row's polynomial at the provider's point
+bare-symbol : (o : Object) (symbols : List ℕ) (j stripe place : ℕ) → j < 256 → place < o.profile.size →
+    slice_get (bare o j stripe (column_of_symbols o symbols j stripe)) place ≡ Some (value (row_polynomial o symbols place) (point o j))
+bare-symbol o symbols j stripe place below within = go (is_primary o j) refl
+  where
+    go : (b : Bool) → is_primary o j ≡ b → slice_get (bare o j stripe (column_of_symbols o symbols j stripe)) place ≡ Some (value (row_polynomial o symbols place) (point o j))
+    go true is =
+        ap (λ b. slice_get (if b then column_of_symbols o symbols j stripe else masked o j (row_number o stripe 0) (column_of_symbols o symbols j stripe)) place) is
+        ∙ primary-symbol o symbols j stripe place is within
+        ∙ ap (λ b. Some (value (row_polynomial o symbols place) (if b then j else secret_point o.master o.id j))) (sym is)
+    go false is =
+        ap (λ word. slice_get word place) (bare-secondary o symbols j stripe is below)
+        ∙ slice_get-upto (value (column_polynomial o symbols (point o j))) o.profile.size place within
+        ∙ ap Some (sym (value-column_polynomial o symbols place (point o j) within (point-outside o j (grind (arith, is)) below)))
+
+pub symbol-right : (o : Object) (bytes : List ℕ) (number j stripe place : ℕ) (seen opened : SeenBlock) → o.profile ≡ profile_of number →
+    j < 256 → is_wrong_block o bytes j stripe seen ≡ false → OpensTo o j stripe seen opened → place < o.profile.size →
+    symbol_in place opened ≡ Some (value (row_polynomial o (symbols_in o bytes stripe) place) (point o j))
+symbol-right o bytes number j stripe place seen opened is below right opens within =
+    ap (symbol_in place) (opens-unique o number j stripe seen opened (Some (bare o j stripe (columns o bytes j stripe))) is opens (opens-right o bytes j stripe seen below right))
+    ∙ bare-symbol o (symbols_in o bytes stripe) j stripe place below within

@@ -1,0 +1,30 @@
+//! What follows for seen blocks from how many of them are wrong.
+ghost use Rattle.std.specs.Prelude.{◌≡◌, ◌<◌, ℕ, false, List, Some};
+ghost use Rattle.hail_field.specs.Shape.{IsShape};
+ghost use Rattle.hail_codes.specs.Polynomials.{value};
+ghost use Rattle.hail_codes.specs.Profiles.{profile_of};
+ghost use Rattle.hail_columns.specs.Objects.{Object, symbols_in, point};
+ghost use Rattle.hail_columns.specs.Columns.{row_polynomial, columns, is_wrong_block};
+ghost use Rattle.hail_columns.specs.Opened.{SeenBlock, bare, OpensTo, symbol_in, AcceptsRow};
+
+/// A seen block opens to one thing.
+pub fn opened_block_is_unique()
+    ensures { (o : Object) (number j stripe : ℕ) (seen a b : SeenBlock) → o.profile ≡ profile_of number →
+        OpensTo o j stripe seen a → OpensTo o j stripe seen b → a ≡ b }
+{}
+
+/// Two polynomials with which a row is accepted have one value everywhere.
+pub fn accepted_row_is_unique()
+    ensures { (o : Object) (opened : List SeenBlock) (place : ℕ) (p q : List ℕ) → IsShape o.shape.n o.shape.l o.shape.b →
+        AcceptsRow o opened place p → AcceptsRow o opened place q → (x : ℕ) → value p x ≡ value q x }
+{}
+
+/// A block that is not wrong opens to its provider's column without masks, so its opened symbol at each place is the value, at the
+/// provider's point, of the row's polynomial.
+pub fn right_block_opens_to_column()
+    ensures opens { (o : Object) (bytes : List ℕ) (j stripe : ℕ) (seen : SeenBlock) → j < 256 →
+        is_wrong_block o bytes j stripe seen ≡ false → OpensTo o j stripe seen (Some (bare o j stripe (columns o bytes j stripe))) }
+    ensures symbols { (o : Object) (bytes : List ℕ) (number j stripe place : ℕ) (seen opened : SeenBlock) → o.profile ≡ profile_of number →
+        j < 256 → is_wrong_block o bytes j stripe seen ≡ false → OpensTo o j stripe seen opened → place < o.profile.size →
+        symbol_in place opened ≡ Some (value (row_polynomial o (symbols_in o bytes stripe) place) (point o j)) }
+{}
