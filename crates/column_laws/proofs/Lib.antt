@@ -1,2 +1,5 @@
 pub mod UniqueLaws
 pub mod RightBlocks
+pub mod Counts
+pub mod RightRows
+pub mod OtherRows

@@ -33,14 +33,20 @@ present-front (suc n) [] = omega arith
 present-front (suc n) (None ∷ ss) = omega (arith, present-front n ss)
 present-front (suc n) (Some s ∷ ss) = omega (arith, present-front n ss)
 
--- two polynomials of few coefficients that agree with the symbols at enough points have one value everywhere
-pub near_same : (p q xs : List ℕ) (ss : List (Option ℕ)) (keep wrong : ℕ) → Apart xs → keep + 2 * wrong ≤ length xs →
+-- two polynomials of few coefficients that agree with the symbols often enough have one value everywhere
+pub often_same : (p q xs : List ℕ) (ss : List (Option ℕ)) (keep : ℕ) → Apart xs → length p ≤ keep → length q ≤ keep →
+    length xs + keep ≤ agree p xs ss + agree q xs ss → (x : ℕ) → value p x ≡ value q x
+often_same p q xs ss keep apart short_p short_q often =
+    same_values nim nim_laws p q
+    (unique nim nim_laws p q xs (take (length xs) ss) keep apart short_p short_q
+    (omega (arith, often, agree-front p xs ss, agree-front q xs ss, present-front (length xs) ss)))
+
+-- as where each agrees at all but few places
+near_same : (p q xs : List ℕ) (ss : List (Option ℕ)) (keep wrong : ℕ) → Apart xs → keep + 2 * wrong ≤ length xs →
     length p ≤ keep → length xs ≤ agree p xs ss + wrong → length q ≤ keep → length xs ≤ agree q xs ss + wrong →
     (x : ℕ) → value p x ≡ value q x
-near_same p q xs ss keep wrong apart room hp ap_p hq ap_q =
-    same_values nim nim_laws p q
-    (unique nim nim_laws p q xs (take (length xs) ss) keep apart hp hq
-    (omega (arith, room, ap_p, ap_q, agree-front p xs ss, agree-front q xs ss, present-front (length xs) ss)))
+near_same p q xs ss keep wrong apart room short_p near_p short_q near_q =
+    often_same p q xs ss keep apart short_p short_q (omega (arith, room, near_p, near_q))
 
 -- polynomials of one value everywhere have the same values
 pub values_same : (p q xs : List ℕ) → ((x : ℕ) → value p x ≡ value q x) → values_at xs p ≡ values_at xs q

@@ -1,0 +1,112 @@
+-- Where few blocks of a stripe are wrong, rows are accepted with the file's own polynomials.
+use Rattle.std.specs.Prelude.{◌≡◌, ℕ, zero, suc, ◌+◌, ◌-◌, ◌*◌, ◌<◌, ◌≤◌, Bool, true, false, List, map, drop, nat_lt, get_or, Option, Some}
+use Rattle.std.proofs.Common.{arith, ap, sym, refl, ◌∙◌, get_or-take, get_or-drop, subst}
+use Rattle.std.proofs.Math.Nat.{mul-le-mul_right}
+use Rattle.std.proofs.lemmas.List.FromFn.{length-map-range_with_len, get_or-map-range_with_len, fill_by_all}
+use Rattle.std.proofs.lemmas.Option.{get_or_from_slice_get}
+use Rattle.hail_field.specs.Shape.{IsShape}
+use Rattle.hail_field.proofs.AllNumbers.{nim_laws}
+use Rattle.poly_laws.specs.Poly.{is_seen as is_seen_over}
+use Rattle.hail_codes.specs.Polynomials.{value, interpolate, is_seen}
+use Rattle.hail_codes.specs.Points.{upto}
+use Rattle.hail_codes.specs.Profiles.{profile_of}
+use Rattle.hail_columns.specs.Objects.{Object, stripe_symbols, symbol_of, symbols_in, kept_by, point}
+use Rattle.hail_columns.specs.Columns.{row_polynomial, is_wrong_block}
+use Rattle.hail_columns.specs.Opened.{SeenBlock, AllOpen, OpensTo, symbol_in, block_at, AcceptsRow, GivesSymbols}
+use Rattle.hail_columns.specs.Forgeries.{count_of, is_agreeing}
+use Rattle.hail_columns.proofs.ColumnLaws.{length-row_polynomial, value-row_polynomial, value-interpolate_upto}
+use Rattle.hail_columns.proofs.SecondaryLaws.{length-kept_by}
+use Rattle.column_laws.proofs.UniqueLaws.{accepted-unique, profile-room}
+use Rattle.column_laws.proofs.RightBlocks.{length-symbols_in, symbol-right}
+use Rattle.column_laws.proofs.Counts.{count_of-cover, agree-row, opens-at}
+
+-- the value is seen where it stands
+seen-itself : (y : ℕ) (s : Option ℕ) → s ≡ Some y → is_seen y s ≡ true
+unfolding is_seen_over
+seen-itself y s e = ap (is_seen y) e ∙ nim_laws.eq_refl y
+
+-- a provider whose block is not wrong has the right symbol
+pub symbol-at : (o : Object) (bytes : List ℕ) (number stripe place j : ℕ) (seen opened : List SeenBlock) → o.profile ≡ profile_of number →
+    AllOpen o stripe 0 seen opened → place < o.profile.size → j < 256 → is_wrong_block o bytes j stripe (block_at seen j) ≡ false →
+    symbol_in place (block_at opened j) ≡ Some (value (row_polynomial o (symbols_in o bytes stripe) place) (point o j))
+symbol-at o bytes number stripe place j seen opened is all within below right =
+    symbol-right o bytes number j stripe place (block_at seen j) (block_at opened j) is below right
+    (subst (λ i. OpensTo o i stripe (block_at seen j) (block_at opened j)) (let e : 0 + j ≡ j = omega arith in e) (opens-at o stripe 0 j seen opened all)) within
+
+pub row-right : (o : Object) (bytes : List ℕ) (number stripe place : ℕ) (seen opened : List SeenBlock) → o.profile ≡ profile_of number →
+    IsShape o.shape.n o.shape.l o.shape.b → count_of (λ j. is_wrong_block o bytes j stripe (block_at seen j)) (upto o.shape.n) ≤ o.shape.b →
+    AllOpen o stripe 0 seen opened → place < o.profile.size → AcceptsRow o opened place (row_polynomial o (symbols_in o bytes stripe) place)
+row-right o bytes number stripe place seen opened is shape few all within =
+    let row = row_polynomial o (symbols_in o bytes stripe) place in
+    let cover : o.shape.n ≤ count_of (λ j. is_wrong_block o bytes j stripe (block_at seen j)) (upto o.shape.n) + count_of (is_agreeing o opened place row) (upto o.shape.n) =
+    count_of-cover (λ j. is_wrong_block o bytes j stripe (block_at seen j)) (is_agreeing o opened place row) 0 o.shape.n
+    (λ j below right. seen-itself (value row (point o j)) (symbol_in place (block_at opened j))
+    (symbol-at o bytes number stripe place j seen opened is all within (omega (arith, below, shape.1)) right)) in
+    record {
+      degree = length-row_polynomial o (symbols_in o bytes stripe) place;
+      agrees = omega (arith, few, cover, agree-row o opened place row, length-map-range_with_len (point o) 0 o.shape.n);
+    }
+
+-- the polynomial of a row takes the file's symbols at the primary points
+row-symbol : (o : Object) (bytes : List ℕ) (stripe place j : ℕ) → place < o.profile.keep → place < o.profile.size → j < o.shape.l →
+    value (row_polynomial o (symbols_in o bytes stripe) place) j ≡ symbol_of bytes (stripe * stripe_symbols o + (j * o.profile.keep + place))
+row-symbol o bytes stripe place j kept within below =
+    let symbols = symbols_in o bytes stripe in
+    let of = λ (i : ℕ). symbol_of bytes (stripe * stripe_symbols o + i) in
+    let own = λ (k : ℕ). of (j * o.profile.keep + k) in
+    let mine = kept_by o symbols j in
+    let more : suc j * o.profile.keep ≤ o.shape.l * o.profile.keep = mul-le-mul_right o.profile.keep below in
+    let split : suc j * o.profile.keep ≡ j * o.profile.keep + o.profile.keep = grind arith in
+    let same : mine ≡ map own (upto o.profile.keep) =
+    fill_by_all own mine o.profile.keep 0 (length-kept_by o symbols j (length-symbols_in o bytes stripe) below)
+    (λ k less. get_or-take o.profile.keep (drop (j * o.profile.keep) symbols) k 0 less
+    ∙ get_or-drop (j * o.profile.keep) symbols k 0
+    ∙ get_or-map-range_with_len of 0 (stripe_symbols o) (j * o.profile.keep + k) (j * o.profile.keep + k) 0 (omega (arith, less, more, split)) (omega arith)) in
+    value-row_polynomial o symbols place j below
+    ∙ get_or-map-range_with_len (value (interpolate (upto o.profile.keep) mine)) 0 o.profile.size place place 0 within (omega arith)
+    ∙ ap (λ ks. value (interpolate (upto o.profile.keep) ks) place) same
+    ∙ value-interpolate_upto own o.profile.keep place kept
+
+-- each number below l * keep is a place of one of l blocks
+record IsPlace (l keep i : ℕ) : Type 0 where
+  block : ℕ
+  place : ℕ
+  block_in : block < l
+  place_in : place < keep
+  sum : i ≡ block * keep + place
+
+place-of : (l keep i : ℕ) → i < l * keep → IsPlace l keep i
+place-of zero keep i below = absurd (omega (arith, below))
+place-of (suc l) keep i below = go (nat_lt i (l * keep)) refl (place-of l keep i)
+  where
+    split : suc l * keep ≡ l * keep + keep
+    split = grind arith
+
+    go : (b : Bool) → nat_lt i (l * keep) ≡ b → (i < l * keep → IsPlace l keep i) → IsPlace (suc l) keep i
+    go true is before =
+        let h = before (grind (arith, is)) in
+        record { block = h.block; place = h.place; block_in = omega (arith, h.block_in); place_in = h.place_in; sum = h.sum }
+    go false is before =
+        let out : l * keep ≤ i = grind (arith, is) in
+        record { block = l; place = i - l * keep; block_in = omega arith; place_in = omega (arith, out, below, split); sum = omega (arith, out) }
+
+pub symbols-right : (o : Object) (bytes : List ℕ) (number stripe : ℕ) (seen : List SeenBlock) (symbols : List ℕ) → o.profile ≡ profile_of number →
+    IsShape o.shape.n o.shape.l o.shape.b → count_of (λ j. is_wrong_block o bytes j stripe (block_at seen j)) (upto o.shape.n) ≤ o.shape.b →
+    GivesSymbols o stripe seen symbols → symbols ≡ symbols_in o bytes stripe
+symbols-right o bytes number stripe seen symbols is shape few given =
+    fill_by_all of symbols (stripe_symbols o) 0 given.size (λ i below. at i (place-of o.shape.l o.profile.keep i below))
+  where
+    of : ℕ → ℕ
+    of i = symbol_of bytes (stripe * stripe_symbols o + i)
+
+    at : (i : ℕ) → IsPlace o.shape.l o.profile.keep i → get_or symbols i 0 ≡ symbol_of bytes (stripe * stripe_symbols o + i)
+    at i h =
+        let within : h.place < o.profile.size = omega (arith, h.place_in, profile-room o number is) in
+        let row = row_polynomial o (symbols_in o bytes stripe) h.place in
+        let one = given.accepted h.place h.place_in in
+        ap (λ k. get_or symbols k 0) h.sum
+        ∙ get_or_from_slice_get symbols (h.block * o.profile.keep + h.place) (value one.row h.block) 0 (one.values h.block h.block_in)
+        ∙ accepted-unique o given.opened h.place one.row row shape one.accepted
+        (row-right o bytes number stripe h.place seen given.opened is shape few given.opens within) h.block
+        ∙ row-symbol o bytes stripe h.place h.block h.place_in within h.block_in
+        ∙ ap (λ k. symbol_of bytes (stripe * stripe_symbols o + k)) (sym h.sum)
