@@ -21,25 +21,22 @@ fn only_sixty_four_digits_spell_a_key(rt: HostRuntime) {
 
 #[test]
 fn keys_are_the_digests_of_their_bytes(rt: HostRuntime) {
-    let master = Master::from_hex(KEY).unwrap();
-    let mut message = [0; 53];
-    message[..32].copy_from_slice(&master.0);
-    message[32..37].copy_from_slice(b"M\x01\x00\x00\x00");
-    message[41..45].copy_from_slice(b"\x03\x00\x00\x00");
-    assert_eq!(rt;
-        file_key(&master, b'M', 1, 3),
-        Sha256::digest(&message[..45])
-    );
-    message[32..34].copy_from_slice(b"C\x02");
-    message[41..45].copy_from_slice(b"\x01\x00\x00\x00");
-    message[49] = 5;
-    assert_eq!(rt; seed(&master, 2, 1, 5), Sha256::digest(&message));
+    let master = Master([7; 32]);
+    let mut hasher = Sha256::new();
+    hasher.update(master.0);
+    hasher.update(b"M\x01\x00\x00\x00\x00\x00\x00\x00\x03\x00\x00\x00".as_slice());
+    assert_eq!(rt; file_key(&master, b'M', 1, 3), hasher.finalize());
+    let mut hasher = Sha256::new();
+    hasher.update(master.0);
+    hasher.update(b"C\x02\x00\x00\x00\x00\x00\x00\x00".as_slice());
+    hasher.update(b"\x01\x00\x00\x00\x00\x00\x00\x00\x05\x00\x00\x00".as_slice());
+    assert_eq!(rt; seed(&master, 2, 1, 5), hasher.finalize());
 }
 
 // Python's hashlib computed these values.
 #[test]
 fn keys_are_as_computed_elsewhere(rt: HostRuntime) {
-    let master = Master::from_hex(KEY).unwrap();
+    let master = Master::from_hex(KEY).expect(&rt, "a key");
     let key = [
         167, 187, 129, 227, 41, 81, 35, 176, 235, 147, 63, 13, 2, 213, 109, 34, 52, 201, 92, 41,
         237, 226, 202, 15, 106, 128, 223, 167, 102, 253, 58, 44,
