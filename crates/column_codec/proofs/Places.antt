@@ -1,0 +1,57 @@
+-- Lists that are filled place by place.
+use Rattle.std.specs.Prelude.{◌≡◌, ℕ, zero, suc, ◌+◌, ◌*◌, ◌<◌, ◌≤◌, ◌++◌, ◌∷◌, [], Bool, true, false, List, length, map, take, nat_eq}
+use Rattle.std.proofs.Common.{arith, ap, sym, refl, ◌∙◌, get_or, set, eqb-true}
+use Rattle.std.proofs.Math.Nat.{mul-le-mul, mul-le-mul_right}
+use Rattle.std.proofs.lemmas.List.{take_more_set}
+use Rattle.std.proofs.lemmas.List.FromFn.{map-range_with_len_more}
+use Rattle.hail_codes.specs.Points.{upto}
+use Rattle.std.proofs.lemmas.List.{get_or-set_other, length-set}
+use Rattle.std.proofs.lemmas.Grind.{get_or-set_at}
+
+-- one place more
+pub each_more : {X : Type 0} (xs : List X) (f : ℕ → X) (i at : ℕ) (x d : X) → ((j : ℕ) → j < i → get_or xs j d ≡ f j) → at ≡ i → i < length xs → x ≡ f i →
+    (j : ℕ) → j < i + 1 → get_or (set xs at x) j d ≡ f j
+each_more {X} xs f i at x d each is below e j within = go (nat_eq j i) refl
+  where
+    go : (b : Bool) → nat_eq j i ≡ b → get_or (set xs at x) j d ≡ f j
+    go true same =
+        let here : j ≡ i = eqb-true j i same in
+        get_or-set_at xs at j x d (omega arith) (omega arith) ∙ e ∙ ap f (sym here)
+    go false differ =
+        let other : j ≡ i → ⊥ = λ h. grind (arith, differ, h) in
+        get_or-set_other xs at j x d (λ h. other (omega (arith, h))) ∙ each j (let n : j ≡ i → ⊥ = other in omega arith)
+
+-- the place of a symbol among the blocks
+pub index_within : (l keep j place n : ℕ) → n ≡ l * keep → j < l → place < keep → j * keep + place < n
+index_within l keep j place n long below within =
+    let more : suc j * keep ≤ l * keep = mul-le-mul_right keep below in
+    let split : suc j * keep ≡ j * keep + keep = grind arith in
+    omega (arith, long, more, split, within)
+
+-- one place more of a list that a function makes
+pub filled_more : {X : Type 0} (out : List X) (f : ℕ → X) (i : ℕ) (x : X) → i < length out → take i out ≡ map f (upto i) → x ≡ f i →
+    take (i + 1) (set out i x) ≡ map f (upto (i + 1))
+filled_more {X} out f i x below filled e =
+    take_more_set out i x below
+    ∙ ap (λ (l : List X). l ++ x ∷ []) filled
+    ∙ ap (λ (y : X). map f (upto i) ++ y ∷ []) e
+    ∙ sym (map-range_with_len_more f 0 i i (omega arith))
+
+-- what is left in the place of a list of the same length
+pub rewritten : {X : Type 0} (new rest : List X) (len : ℕ) → len ≡ length new → take len (new ++ rest) ≡ new
+rewritten [] rest len e = ap (λ (n : ℕ). take n rest) e
+rewritten {X} (x ∷ xs) rest zero e = absurd (omega (arith, e))
+rewritten {X} (x ∷ xs) rest (suc n) e = ap (λ (l : List X). x ∷ l) (rewritten xs rest n (omega (arith, e)))
+
+-- the other places keep their sizes
+pub sizes_stay : (out : List (List ℕ)) (size j : ℕ) (x : List ℕ) → ((k : ℕ) → j ≤ k → k < length out → length (get_or out k []) ≡ size) →
+    (k : ℕ) → j + 1 ≤ k → k < length (set out j x) → length (get_or (set out j x) k []) ≡ size
+sizes_stay out size j x sizes k above below =
+    ap length (get_or-set_other out j k x [] (λ e. absurd (omega (arith, e, above)))) ∙ sizes k (omega (arith, above)) (omega (arith, below, length-set out j x))
+
+-- a stripe has at most 1,248 symbols
+pub stripe_small : (n l b keep : ℕ) → n ≤ 16 → 1 ≤ b → l + 2 * b + 1 ≤ n → keep ≤ 96 → l * keep ≤ 1248
+stripe_small n l b keep few some fits small =
+    let wide : l ≤ 13 = omega (arith, few, some, fits) in
+    let most : l * keep ≤ 13 * 96 = mul-le-mul wide small in
+    omega (arith, most)

@@ -1,0 +1,176 @@
+-- The primary symbols of a row, and the points that they stand at.
+use Rattle.std.specs.Prelude.{◌≡◌, ℕ, zero, suc, ◌+◌, ◌*◌, ◌<◌, ◌≤◌, true, false, List, [], ◌∷◌, ◌++◌, length, map, take, drop, nat_lt, slice_index, if◌then◌else◌}
+use Rattle.std.proofs.Common.{arith, ap, sym, refl, ◌∙◌, get_or, zero-add}
+use Rattle.std.specs.List.{range_with_len}
+use Rattle.std.proofs.lemmas.List.{ext_get_or, get_or-take, get_or-drop, length-take-le}
+use Rattle.std.proofs.lemmas.List.FromFn.{length-range_with_len, length-map-range_with_len, get_or-range_with_len, get_or-map-range_with_len}
+use Rattle.field_laws.specs.Field.{Apart}
+use Rattle.hail_field.specs.Nim.{nim, nim_add}
+use Rattle.hail_field.proofs.AllNumbers.{nim_laws}
+use Rattle.poly_laws.proofs.Trim.{value-trim}
+use Rattle.hail_codes.specs.Polynomials.{value, interpolate, trim}
+use Rattle.hail_codes.specs.Points.{upto, values_at}
+use Rattle.hail_codes.specs.Profiles.{Profile, profile_of}
+use Rattle.hail_codes.proofs.Profiles.{size_is}
+use Rattle.hail_codes.specs.ServerCode.{codeword}
+use Rattle.hail_codes.proofs.Points.{Apart-range}
+use Rattle.hail_columns.specs.Keys.{mask, mask_of, masks_from, file_key, secret_point, point_of}
+use Rattle.hail_columns.specs.Objects.{Object, stripe_symbols, kept_by, is_primary, point}
+use Rattle.hail_columns.specs.Columns.{primary_row, row_polynomial, secondary_symbol, column_of_symbols}
+use Rattle.hail_columns.specs.Opened.{masked}
+use Rattle.hail_columns.proofs.ColumnLaws.{value-interpolate_upto}
+use Rattle.hail_columns.proofs.SecondaryLaws.{column_polynomial, value-column_polynomial, length-column_polynomial, length-kept_by, codeword-values, point-outside, secondary-column}
+use Rattle.column_codec.specs.ObjectKeys.{ArePoints}
+use Rattle.column_codec.specs.Rows.{symbols_at, row_value}
+
+map-range-same : (f g : ℕ → ℕ) (a n : ℕ) → ((j : ℕ) → j < a + n → f j ≡ g j) → map f (range_with_len a n) ≡ map g (range_with_len a n)
+map-range-same f g a zero h = refl
+map-range-same f g a (suc n) h = (λ i. h a (omega arith) i ∷ map-range-same f g (a + 1) n (λ j below. h j (omega (arith, below))) i)
+
+primary-point : (l id i : ℕ) (master : List ℕ) → i < l → point_of l master id i ≡ i
+primary-point l id i master below =
+    let is : nat_lt i l ≡ true = grind (arith, below) in
+    ap (λ b. if b then i else secret_point master id i) is
+
+-- the first points are the numbers of the primary providers
+pub take-points : (n l id : ℕ) (master ps : List ℕ) → ArePoints n l master id ps → l ≤ n → l ≤ length ps → take l ps ≡ upto l
+take-points n l id master ps are few long =
+    ext_get_or 0 (take l ps) (upto l) (length-take-le l ps long ∙ sym (length-range_with_len 0 l))
+    (λ i below. let within : i < l = omega (arith, below, length-take-le l ps long) in
+    get_or-take l ps i 0 within ∙ are i (omega (arith, within, few)) ∙ primary-point l id i master within
+    ∙ sym (get_or-range_with_len 0 l i 0 within ∙ zero-add i))
+
+-- they are apart
+pub Apart-taken : (n l id m : ℕ) (master ps : List ℕ) → ArePoints n l master id ps → m ≡ l → l ≤ n → l ≤ length ps → Apart (take m ps)
+Apart-taken n l id m master ps are e few long = rw (e, take-points n l id master ps are few long) (Apart-range 0 l)
+
+-- a list by its places
+listed : (xs : List ℕ) (n : ℕ) → length xs ≡ n → xs ≡ map (λ i. get_or xs i 0) (upto n)
+listed xs n long =
+    ext_get_or 0 xs (map (λ i. get_or xs i 0) (upto n)) (long ∙ sym (length-map-range_with_len (λ i. get_or xs i 0) 0 n))
+    (λ i below. sym (get_or-map-range_with_len (λ i. get_or xs i 0) 0 n i i 0 (omega (arith, below, long)) (omega arith)))
+
+-- a codeword begins with the kept symbols
+codeword-front : (profile : Profile) (kept : List ℕ) (place : ℕ) → length kept ≡ profile.keep → place < profile.keep → profile.keep ≤ profile.size →
+    slice_index (codeword profile kept) place ≡ get_or kept place 0
+codeword-front profile kept place long within fits =
+    get_or-map-range_with_len (value (interpolate (upto profile.keep) kept)) 0 profile.size place place 0 (omega (arith, within, fits)) (omega arith)
+    ∙ ap (λ ys. value (interpolate (upto profile.keep) ys) place) (listed kept profile.keep long)
+    ∙ value-interpolate_upto (λ i. get_or kept i 0) profile.keep place within
+
+-- the symbols at a kept place of a stripe are the row's primary symbols
+pub symbols_at-row : (o : Object) (symbols : List ℕ) (place : ℕ) → length symbols ≡ stripe_symbols o → place < o.profile.keep → o.profile.keep ≤ o.profile.size →
+    symbols_at o.shape.l o.profile.keep place symbols ≡ primary_row o symbols place
+symbols_at-row o symbols place long within fits =
+    map-range-same (λ j. slice_index symbols (j * o.profile.keep + place)) (λ j. slice_index (codeword o.profile (kept_by o symbols j)) place) 0 o.shape.l
+    (λ j below. sym (codeword-front o.profile (kept_by o symbols j) place (length-kept_by o symbols j long (omega (arith, below))) within fits
+    ∙ get_or-take o.profile.keep (drop (j * o.profile.keep) symbols) place 0 within ∙ get_or-drop (j * o.profile.keep) symbols place 0))
+
+-- what is loaded with them has the row's values
+pub loaded-row : (o : Object) (symbols ps primary : List ℕ) (place x : ℕ) → length symbols ≡ stripe_symbols o → place < o.profile.keep → o.profile.keep ≤ o.profile.size →
+    ps ≡ upto o.shape.l → primary ≡ symbols_at o.shape.l o.profile.keep place symbols →
+    value (trim (interpolate ps primary)) x ≡ value (row_polynomial o symbols place) x
+loaded-row o symbols ps primary place x long within fits e f =
+    value-trim nim nim_laws (interpolate ps primary) x
+    ∙ (λ i. value (interpolate (e i) ((f ∙ symbols_at-row o symbols place long within fits) i)) x)
+
+-- a secondary column is the codeword of its kept rows with the masks
+masked-on : (o : Object) (j row : ℕ) (f : ℕ → ℕ) (a n : ℕ) →
+    masked o j (row + a) (map f (range_with_len a n)) ≡ map (λ place. nim_add (f place) (mask o.master o.id j (row + place))) (range_with_len a n)
+masked-on o j row f a zero = refl
+masked-on o j row f a (suc n) =
+    let next : row + a + 1 ≡ row + (a + 1) = omega arith in
+    (λ i. nim_add (f a) (mask o.master o.id j (row + a)) ∷ (ap (λ r. masked o j r (map f (range_with_len (a + 1) n))) next ∙ masked-on o j row f (a + 1) n) i)
+
+pub secondary-encoded : (o : Object) (symbols : List ℕ) (j stripe : ℕ) → length symbols ≡ stripe_symbols o → o.profile.keep ≤ o.profile.size → o.shape.l ≤ j → j < 256 →
+    masked o j (stripe * o.profile.size) (codeword o.profile (map (row_value o symbols j) (upto o.profile.keep))) ≡ column_of_symbols o symbols j stripe
+secondary-encoded o symbols j stripe long fits second below =
+    let q = column_polynomial o symbols (point o j) in
+    let kept : map (row_value o symbols j) (upto o.profile.keep) ≡ values_at (upto o.profile.keep) q =
+    map-range-same (row_value o symbols j) (value q) 0 o.profile.keep
+    (λ place within. value-column_polynomial o symbols place (point o j) (omega (arith, within, fits)) (point-outside o j second below)) in
+    let zero_row : stripe * o.profile.size ≡ stripe * o.profile.size + 0 = omega arith in
+    let is : is_primary o j ≡ false = grind (arith, second) in
+    (λ i. masked o j (zero_row i) (codeword o.profile (kept i)))
+    ∙ ap (masked o j (stripe * o.profile.size + 0)) (codeword-values o.profile q (length-column_polynomial o symbols (point o j) long))
+    ∙ masked-on o j (stripe * o.profile.size) (value q) 0 o.profile.size
+    ∙ sym (secondary-column o symbols j stripe is below)
+
+-- masks put on place by place
+length-masked : (o : Object) (j row : ℕ) (block : List ℕ) → length (masked o j row block) ≡ length block
+length-masked o j row [] = refl
+length-masked o j row (x ∷ xs) = ap suc (length-masked o j (row + 1) xs)
+
+get_or-masked : (o : Object) (j row i : ℕ) (block : List ℕ) → i < length block → get_or (masked o j row block) i 0 ≡ nim_add (get_or block i 0) (mask o.master o.id j (row + i))
+get_or-masked o j row i [] below = absurd (omega (arith, below))
+get_or-masked o j row zero (x ∷ xs) below = let e : row ≡ row + 0 = omega arith in ap (λ r. nim_add x (mask o.master o.id j r)) e
+get_or-masked o j row (suc i) (x ∷ xs) below =
+    let e : row + 1 + i ≡ row + suc i = omega arith in
+    get_or-masked o j (row + 1) i xs (omega (arith, below)) ∙ ap (λ r. nim_add (get_or xs i 0) (mask o.master o.id j r)) e
+
+pub masked-each : (o : Object) (j row : ℕ) (old new masks : List ℕ) → length new ≡ length old → masks ≡ masks_from (file_key o.master 77 o.id j) row (length old) →
+    ((i : ℕ) → i < length old → get_or new i 0 ≡ nim_add (get_or old i 0) (get_or masks i 0)) → new ≡ masked o j row old
+masked-each o j row old new masks long are each =
+    ext_get_or 0 new (masked o j row old) (long ∙ sym (length-masked o j row old))
+    (λ i below. let within : i < length old = omega (arith, below, long) in
+    each i within
+    ∙ ap (λ m. nim_add (get_or old i 0) m) (ap (λ ms. get_or ms i 0) are
+    ∙ get_or-map-range_with_len (mask_of (file_key o.master 77 o.id j)) row (length old) i (row + i) 0 within refl)
+    ∙ sym (get_or-masked o j row i old within))
+
+-- a primary column is the codeword of what the provider keeps
+pub primary-final : (o : Object) (symbols block kept : List ℕ) (j stripe : ℕ) (p : Profile) → j < o.shape.l → p ≡ o.profile → block ≡ codeword p kept → kept ≡ kept_by o symbols j →
+    block ≡ column_of_symbols o symbols j stripe
+unfolding column_of_symbols
+primary-final o symbols block kept j stripe p below e is kept_is =
+    let primary : is_primary o j ≡ true = grind (arith, below) in
+    is ∙ (λ i. codeword (e i) (kept_is i))
+    ∙ sym (ap (λ b. if b then codeword o.profile (kept_by o symbols j) else map (secondary_symbol o symbols j stripe) (upto o.profile.size)) primary)
+
+-- a profile keeps no more symbols than a block has
+pub profile_fits : (number size keep : ℕ) → size ≡ (profile_of number).size → keep ≡ (profile_of number).keep → keep ≤ size
+profile_fits number size keep e f = omega (arith, e, f, size_is number)
+
+-- no block is longer than 128 symbols, and at most 96 are kept
+pub profile_small : (number size keep : ℕ) → size ≡ (profile_of number).size → keep ≡ (profile_of number).keep → (size ≤ 128) × (keep ≤ 96)
+profile_small zero size keep e f = (omega (arith, e), omega (arith, f))
+profile_small (suc zero) size keep e f = (omega (arith, e), omega (arith, f))
+profile_small (suc (suc zero)) size keep e f = (omega (arith, e), omega (arith, f))
+profile_small (suc (suc (suc zero))) size keep e f = (omega (arith, e), omega (arith, f))
+profile_small (suc (suc (suc (suc more)))) size keep e f = (omega (arith, e), omega (arith, f))
+
+-- the front of a joined list
+front : (xs rest : List ℕ) (n : ℕ) → length xs ≡ n → take n (xs ++ rest) ≡ xs
+front [] rest n e = let z : n ≡ 0 = omega (arith, e) in ap (λ m. take m rest) z
+front (x ∷ xs) rest zero e = absurd (omega (arith, e))
+front (x ∷ xs) rest (suc n) e = ap (λ (l : List ℕ). x ∷ l) (front xs rest n (omega (arith, e)))
+
+-- what was gathered into the front of a longer list
+pub gathered : (out zeros rest symbols : List ℕ) (m l keep place : ℕ) → m ≡ l → m ≤ length zeros →
+    out ≡ symbols_at (length (take m zeros)) keep place symbols → take m (out ++ rest) ≡ symbols_at l keep place symbols
+gathered out zeros rest symbols m l keep place e fits is =
+    let whole : out ≡ symbols_at l keep place symbols = is ∙ ap (λ n. symbols_at n keep place symbols) (length-take-le m zeros fits ∙ e) in
+    front out rest m (ap length whole ∙ length-map-range_with_len (λ j. slice_index symbols (j * keep + place)) 0 l ∙ sym e) ∙ whole
+
+-- the masks that were read into the front of a longer list
+pub masks_front : (out zeros rest key : List ℕ) (m stripe : ℕ) → m ≤ length zeros →
+    out ≡ masks_from key (stripe * length (take m zeros)) (length (take m zeros)) → take m (out ++ rest) ≡ masks_from key (stripe * m) m
+masks_front out zeros rest key m stripe fits is =
+    let whole : out ≡ masks_from key (stripe * m) m = is ∙ ap (λ n. masks_from key (stripe * n) n) (length-take-le m zeros fits) in
+    front out rest m (ap length whole ∙ length-map-range_with_len (mask_of key) (stripe * m) m) ∙ whole
+
+-- what is read within a list does not depend on what is read past its end
+pub get_or-within : {X : Type 0} (xs : List X) (i : ℕ) (d e : X) → i < length xs → get_or xs i d ≡ get_or xs i e
+get_or-within [] i d e h = absurd (omega (arith, h))
+get_or-within (x ∷ xs) zero d e h = refl
+get_or-within (x ∷ xs) (suc i) d e h = get_or-within xs i d e (omega (arith, h))
+
+-- what is encoded from kept rows, with the masks
+pub secondary-final : (o : Object) (symbols block kept : List ℕ) (j stripe : ℕ) (p : Profile) → length symbols ≡ stripe_symbols o → o.profile.keep ≤ o.profile.size → o.shape.l ≤ j → j < 256 →
+    p ≡ o.profile → block ≡ codeword p kept → kept ≡ map (row_value o symbols j) (upto o.profile.keep) →
+    masked o j (stripe * length block) block ≡ column_of_symbols o symbols j stripe
+secondary-final o symbols block kept j stripe p long fits second below e is kept_is =
+    let rows = map (row_value o symbols j) (upto o.profile.keep) in
+    let whole : block ≡ codeword o.profile rows = is ∙ (λ i. codeword (e i) (kept_is i)) in
+    let size : length block ≡ o.profile.size = ap length whole ∙ length-map-range_with_len (value (interpolate (upto o.profile.keep) rows)) 0 o.profile.size in
+    (λ i. masked o j (stripe * size i) (whole i)) ∙ secondary-encoded o symbols j stripe long fits second below

@@ -1,0 +1,3 @@
+pub mod ObjectKeys
+pub mod Lending
+pub mod Rows

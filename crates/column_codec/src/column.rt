@@ -1,0 +1,143 @@
+use crate::gather::{add_each, gather};
+use crate::keys::ObjectKeys;
+use hail_field::Symbol;
+use hail_poly::Work;
+use mask_tag::mask_block;
+use server_code::AnyCode;
+
+impl ObjectKeys {
+    ghost use Rattle.std.specs.Prelude.{◌≡◌, ◌≤◌, ◌<◌, ◌*◌, length, map};
+    ghost use Rattle.hail_codes.specs.Points.{upto};
+    ghost use Rattle.hail_columns.specs.Columns.{column_of_symbols};
+    ghost use Rattle.hail_columns.specs.Opened.{masked};
+    ghost use Rattle.file_layout.specs.Files.{object_of};
+    ghost use Rattle.server_code.specs.Any.{profile_of};
+    ghost use Rattle.column_codec.specs.Rows.{row_value};
+
+    /// The value of a row's polynomial at a provider's point.
+    fn row_value(
+        &self,
+        symbols: &[Symbol],
+        place: usize,
+        provider: usize,
+        work: &mut Work,
+    ) -> Symbol
+        requires provider { provider < self.now.file.shape.n }
+        requires symbols { length symbols.now ≡ self.now.file.shape.l * self.now.file.profile.keep }
+        requires place { place < self.now.file.profile.keep }
+        requires room { 16 ≤ work.old.size }
+        ensures value { result ≡ row_value (object_of self.now.master.0 self.now.file) symbols.now provider place }
+        ensures room { work.new.size ≡ work.old.size }
+    {
+        let l = usize::from(self.file.shape.l);
+        let mut primary = [Symbol::ZERO; 16];
+        gather(
+            symbols,
+            self.file.profile.keep as usize,
+            place,
+            &mut primary[..l],
+        );
+        work.load(&self.points[..l], &primary[..l]);
+        work.value(self.points[provider])
+    }
+
+    /// The values of a stripe's kept rows at a provider's point.
+    fn kept_into(&self, symbols: &[Symbol], provider: usize, kept: &mut [Symbol], work: &mut Work)
+        requires provider { provider < self.now.file.shape.n }
+        requires symbols { length symbols.now ≡ self.now.file.shape.l * self.now.file.profile.keep }
+        requires kept { length kept.old ≡ self.now.file.profile.keep }
+        requires room { 16 ≤ work.old.size }
+        ensures kept { kept.new ≡ map (row_value (object_of self.now.master.0 self.now.file) symbols.now provider)
+            (upto self.now.file.profile.keep) }
+        ensures room { work.new.size ≡ work.old.size }
+    {
+        for place in 0..kept.len() {
+            kept[place] = self.row_value(symbols, place, provider, work);
+        }
+    }
+
+    /// Adds a provider's masks to a block of a stripe, which also takes them off.
+    pub fn add_masks(&self, stripe: u32, provider: usize, block: &mut [Symbol])
+        requires provider { provider < self.now.file.shape.n }
+        requires block { length block.old ≤ 128 }
+        ensures { block.new ≡ masked (object_of self.now.master.0 self.now.file) provider (stripe * length block.old) block.old }
+    {
+        let mut masks = [Symbol::ZERO; 128];
+        let size = block.len();
+        mask_block(&self.mask_keys[provider], stripe, &mut masks[..size]);
+        add_each(block, &masks[..size]);
+    }
+
+    /// The block of a primary provider: the codeword of the symbols that it keeps.
+    fn primary_column(
+        &self,
+        code: &AnyCode,
+        stripe: u32,
+        symbols: &[Symbol],
+        provider: usize,
+        out: &mut [Symbol],
+    )
+        requires provider { provider < self.now.file.shape.l }
+        requires symbols { length symbols.now ≡ self.now.file.shape.l * self.now.file.profile.keep }
+        requires code { profile_of code.now ≡ self.now.file.profile }
+        requires out { length out.old ≡ self.now.file.profile.size }
+        ensures { out.new ≡ column_of_symbols (object_of self.now.master.0 self.now.file) symbols.now provider stripe }
+    {
+        let _ = stripe;
+        let keep = self.file.profile.keep as usize;
+        let start = provider * keep;
+        code.encode_into(&symbols[start..start + keep], out);
+    }
+
+    /// The block of a secondary provider: the codeword of its kept rows, with its masks.
+    fn secondary_column(
+        &self,
+        code: &AnyCode,
+        stripe: u32,
+        symbols: &[Symbol],
+        provider: usize,
+        out: &mut [Symbol],
+        work: &mut Work,
+    )
+        requires secondary { self.now.file.shape.l ≤ provider }
+        requires provider { provider < self.now.file.shape.n }
+        requires symbols { length symbols.now ≡ self.now.file.shape.l * self.now.file.profile.keep }
+        requires code { profile_of code.now ≡ self.now.file.profile }
+        requires out { length out.old ≡ self.now.file.profile.size }
+        requires room { 16 ≤ work.old.size }
+        ensures column { out.new ≡ column_of_symbols (object_of self.now.master.0 self.now.file) symbols.now provider stripe }
+        ensures room { work.new.size ≡ work.old.size }
+    {
+        let keep = self.file.profile.keep as usize;
+        let mut buffer = [Symbol::ZERO; 96];
+        let kept = &mut buffer[..keep];
+        self.kept_into(symbols, provider, kept, work);
+        code.encode_into(kept, out);
+        self.add_masks(stripe, provider, out);
+    }
+
+    /// Fills `out` with one provider's block of a stripe with these symbols, which lie in layout order.
+    pub fn column_into(
+        &self,
+        code: &AnyCode,
+        stripe: u32,
+        symbols: &[Symbol],
+        provider: usize,
+        out: &mut [Symbol],
+        work: &mut Work,
+    )
+        requires provider { provider < self.now.file.shape.n }
+        requires symbols { length symbols.now ≡ self.now.file.shape.l * self.now.file.profile.keep }
+        requires code { profile_of code.now ≡ self.now.file.profile }
+        requires out { length out.old ≡ self.now.file.profile.size }
+        requires room { 16 ≤ work.old.size }
+        ensures column { out.new ≡ column_of_symbols (object_of self.now.master.0 self.now.file) symbols.now provider stripe }
+        ensures room { work.new.size ≡ work.old.size }
+    {
+        if provider < usize::from(self.file.shape.l) {
+            self.primary_column(code, stripe, symbols, provider, out);
+        } else {
+            self.secondary_column(code, stripe, symbols, provider, out, work);
+        }
+    }
+}

@@ -1,0 +1,113 @@
+ghost use Rattle.std.specs.Prelude.{◌≡◌, ◌≤◌, ◌<◌, ◌*◌, All, length, map};
+ghost use Rattle.hail_codes.specs.Points.{upto};
+ghost use Rattle.hail_columns.specs.Columns.{columns, column_of_symbols};
+ghost use Rattle.file_layout.specs.Files.{object_of};
+ghost use Rattle.server_code.specs.Any.{profile_of};
+
+use crate::block::Block;
+use crate::gather::stripe_symbols_into;
+use crate::keys::ObjectKeys;
+use file_layout::FileShape;
+use hail_field::Symbol;
+use hail_poly::Work;
+use key_schedule::Master;
+use server_code::AnyCode;
+
+impl ObjectKeys {
+    /// Fills each provider's block of a stripe with these symbols.
+    fn columns_into(
+        &self,
+        code: &AnyCode,
+        stripe: u32,
+        symbols: &[Symbol],
+        out: &mut [Block],
+        work: &mut Work,
+    )
+        requires symbols { length symbols.now ≡ self.now.file.shape.l * self.now.file.profile.keep }
+        requires code { profile_of code.now ≡ self.now.file.profile }
+        requires out { length out.old ≡ self.now.file.shape.n }
+        requires blocks { All (λ block. length block ≡ self.now.file.profile.size) out.old }
+        requires room { 16 ≤ work.old.size }
+        ensures blocks { out.new ≡ map (λ j. column_of_symbols (object_of self.now.master.0 self.now.file) symbols.now j stripe)
+            (upto self.now.file.shape.n) }
+        ensures room { work.new.size ≡ work.old.size }
+    {
+        for j in 0..out.len() {
+            let block = &mut out[j];
+            self.column_into(code, stripe, symbols, j, &mut block.symbols, work);
+        }
+    }
+
+    /// Fills the blocks of all providers of a stripe of a file of these bytes, with masks.
+    #[tactic(auto, using(crate::proofs::Places::stripe_small, crate::proofs::RowLemmas::profile_small))]
+    pub fn encode_stripe(
+        &self,
+        code: &AnyCode,
+        stripe: u32,
+        bytes: &[u8],
+        out: &mut [Block],
+        work: &mut Work,
+    )
+        requires code { profile_of code.now ≡ self.now.file.profile }
+        requires out { length out.old ≡ self.now.file.shape.n }
+        requires blocks { All (λ block. length block ≡ self.now.file.profile.size) out.old }
+        requires room { 16 ≤ work.old.size }
+        ensures blocks { out.new ≡ map (λ j. columns (object_of self.now.master.0 self.now.file) bytes.now j stripe)
+            (upto self.now.file.shape.n) }
+        ensures room { work.new.size ≡ work.old.size }
+    {
+        let count = usize::from(self.file.shape.l) * self.file.profile.keep as usize;
+        let mut buffer = [Symbol::ZERO; 1248];
+        let symbols = &mut buffer[..count];
+        stripe_symbols_into(&self.file, stripe, bytes, symbols);
+        self.columns_into(code, stripe, symbols, out, work);
+    }
+}
+
+/// Leaves in `out` the blocks that the providers are to hold of a stripe of a file of these bytes, with masks. It takes
+/// no memory. Where more stripes of one object are made, `ObjectKeys` saves deriving its keys each time.
+pub fn encode_stripe(
+    master: &Master,
+    file: &FileShape,
+    code: &AnyCode,
+    stripe: u32,
+    bytes: &[u8],
+    out: &mut [Block],
+    work: &mut Work,
+)
+    requires code { profile_of code.now ≡ file.now.profile }
+    requires out { length out.old ≡ file.now.shape.n }
+    requires blocks { All (λ block. length block ≡ file.now.profile.size) out.old }
+    requires room { 16 ≤ work.old.size }
+    ensures blocks { out.new ≡ map (λ j. columns (object_of master.now.0 file.now) bytes.now j stripe) (upto file.now.shape.n) }
+    ensures room { work.new.size ≡ work.old.size }
+{
+    let keys = ObjectKeys::new(master, file);
+    keys.encode_stripe(code, stripe, bytes, out, work);
+}
+
+/// Fills `out` with one provider's block of the stripe whose symbols are `rows`, in layout order. It takes no memory.
+pub fn column_block(
+    master: &Master,
+    file: &FileShape,
+    code: &AnyCode,
+    stripe: u32,
+    rows: &[Symbol],
+    provider: u32,
+    out: &mut [Symbol],
+    scratch: &mut [Block],
+    work: &mut Work,
+)
+    requires code { profile_of code.now ≡ file.now.profile }
+    requires rows { length rows.now ≡ file.now.shape.l * file.now.profile.keep }
+    requires provider { provider < file.now.shape.n }
+    requires out { length out.old ≡ file.now.profile.size }
+    requires room { 16 ≤ work.old.size }
+    ensures block { out.new ≡ column_of_symbols (object_of master.now.0 file.now) rows.now provider stripe }
+    ensures scratch { scratch.new ≡ scratch.old }
+    ensures room { work.new.size ≡ work.old.size }
+{
+    let _ = scratch;
+    let keys = ObjectKeys::new(master, file);
+    keys.column_into(code, stripe, rows, provider as usize, out, work);
+}

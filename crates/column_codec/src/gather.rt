@@ -1,0 +1,44 @@
+ghost use Rattle.std.specs.Prelude.{◌≡◌, ◌≤◌, ◌<◌, ◌*◌, ℕ, List, length, slice_index};
+ghost use Rattle.hail_field.specs.Nim.{nim_add};
+ghost use Rattle.hail_columns.specs.Objects.{symbols_in, stripe_symbols};
+ghost use Rattle.file_layout.specs.Files.{object_of};
+ghost use Rattle.column_codec.specs.Rows.{symbols_at};
+
+use file_layout::FileShape;
+use hail_field::Symbol;
+
+/// Fills `out` with the symbols at a place of blocks of `keep` symbols, which lie one after the other.
+#[tactic(auto, using(crate::proofs::Places::index_within, crate::proofs::Places::filled_more))]
+pub fn gather(symbols: &[Symbol], keep: usize, place: usize, out: &mut [Symbol])
+    requires place { place < keep }
+    requires fits { length symbols.now ≡ length out.old * keep }
+    ensures { out.new ≡ symbols_at (length out.old) keep place symbols.now }
+{
+    for j in 0..out.len() {
+        out[j] = symbols[j * keep + place];
+    }
+}
+
+/// Fills `out` with the symbols of a stripe of a file.
+#[tactic(auto, using(crate::proofs::Places::filled_more))]
+pub fn stripe_symbols_into(file: &FileShape, stripe: u32, bytes: &[u8], out: &mut [Symbol])
+    requires fits { length out.old ≡ file.now.shape.l * file.now.profile.keep }
+    requires few { length out.old ≤ 2048 }
+    ensures { (master : List ℕ) → out.new ≡ symbols_in (object_of master file.now) bytes.now stripe }
+{
+    let first = u64::from(stripe) * out.len() as u64;
+    for i in 0..out.len() {
+        out[i] = file.symbol_at(bytes, first + i as u64);
+    }
+}
+
+/// Adds to each symbol the one at its place.
+pub fn add_each(out: &mut [Symbol], other: &[Symbol])
+    requires { length out.old ≡ length other.now }
+    ensures { (i : ℕ) → i < length out.old
+        → slice_index out.new i ≡ nim_add (slice_index out.old i) (slice_index other.now i) }
+{
+    for k in 0..out.len() {
+        out[k] = out[k].add(other[k]);
+    }
+}

@@ -1,0 +1,15 @@
+//! What providers hold of a stripe, made from a file's bytes and opened from what was seen.
+#![tactic(auto)]
+
+mod block;
+mod column;
+mod encode;
+mod gather;
+mod keys;
+
+pub use block::Block;
+pub use encode::{column_block, encode_stripe};
+pub use keys::ObjectKeys;
+
+#[cfg(test)]
+mod tests;

@@ -1,0 +1,77 @@
+use super::*;
+use code_points::find_profile;
+use file_layout::FileShape;
+use hail_field::{Shape, Symbol};
+use hail_poly::Work;
+use key_schedule::Master;
+use server_code::AnyCode;
+
+fn numbered_key() -> Master {
+    let mut bytes = [0; 32];
+    for (place, byte) in bytes.iter_mut().enumerate() {
+        *byte = place as u8;
+    }
+    Master(bytes)
+}
+
+// Keys, codewords and nim products written in Python from their definitions gave these values.
+#[test]
+fn columns_are_as_computed_elsewhere(rt: HostRuntime) {
+    let alloc = rt.alloc();
+    let master = numbered_key();
+    let profile = find_profile(0).expect(&rt, "a profile");
+    let file = FileShape {
+        id: 1,
+        length: 3,
+        shape: Shape::new(4, 1, 1).expect(&rt, "a shape"),
+        profile,
+    };
+    let code = AnyCode::new(alloc, profile).expect(&rt, "memory");
+    let mut work = Work::new(alloc, 128).expect(&rt, "memory");
+    let zeros = Block::zeros(alloc, 6).expect(&rt, "memory");
+    assert_eq!(rt; zeros.symbols(), [Symbol::ZERO; 6].as_slice());
+    let mut out = [
+        zeros,
+        Block::zeros(alloc, 6).expect(&rt, "memory"),
+        Block::zeros(alloc, 6).expect(&rt, "memory"),
+        Block::zeros(alloc, 6).expect(&rt, "memory"),
+    ];
+    encode_stripe(&master, &file, &code, 0, b"new", &mut out, &mut work);
+    let first = [
+        Symbol(7_824_750),
+        Symbol(0),
+        Symbol(15_654_873),
+        Symbol(10_074_807),
+        Symbol(14_518_155),
+        Symbol(11_199_205),
+    ];
+    let last = [
+        Symbol(282_905_808_488_562_616_506_113_456_627_209_237_923),
+        Symbol(323_934_546_121_161_916_499_072_006_326_475_908_507),
+        Symbol(151_322_141_131_856_566_946_823_700_598_199_692_651),
+        Symbol(202_290_741_015_850_316_008_317_975_201_110_089_391),
+        Symbol(183_027_609_732_547_300_064_243_595_800_746_461_548),
+        Symbol(132_404_573_127_933_671_675_181_182_103_186_996_486),
+    ];
+    assert_eq!(rt; out[0].symbols(), first.as_slice());
+    assert_eq!(rt; out[3].symbols(), last.as_slice());
+    let mut block = [Symbol::ZERO; 6];
+    let rows = [Symbol(7_824_750), Symbol::ZERO];
+    column_block(
+        &master,
+        &file,
+        &code,
+        0,
+        &rows,
+        3,
+        &mut block,
+        &mut [],
+        &mut work,
+    );
+    assert_eq!(rt; block, last);
+    let mut ones = Block::zeros(alloc, 2).expect(&rt, "memory");
+    for symbol in ones.symbols_mut() {
+        *symbol = Symbol::ONE;
+    }
+    assert_eq!(rt; ones.symbols(), [Symbol::ONE; 2].as_slice());
+}
