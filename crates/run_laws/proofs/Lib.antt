@@ -1,1 +1,3 @@
 pub mod SymbolBytes
+pub mod Direct
+pub mod InEffect

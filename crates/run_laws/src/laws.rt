@@ -1,12 +1,34 @@
 //! Laws over runs, and the laws of layout that they rest on.
-ghost use Rattle.std.specs.Prelude.{◌≡◌, ◌≤◌, ℕ, List, length, take};
+ghost use Rattle.std.specs.Prelude.{◌≡◌, ◌≤◌, ℕ, IsTrue, List, Some, length, take};
 ghost use Rattle.std.specs.List.{flat_map};
 ghost use Rattle.hail_codes.specs.Points.{upto};
 ghost use Rattle.hail_columns.specs.Objects.{Object, stripes, symbols_in, bytes_of_symbols};
+ghost use Rattle.hail_field.specs.Shape.{IsShape};
+ghost use Rattle.hail_records.specs.Records.{Setup, SetUp, is_in_grammar};
+ghost use Rattle.hail_records.specs.Table.{File, setup_of};
 ghost use Rattle.hail_machine.specs.Events.{AreBytes};
+ghost use Rattle.hail_machine.specs.States.{State, IsStart, file_in};
+ghost use Rattle.hail_machine.specs.Runs.{Moment, IsRun, now};
 
 /// The bytes of the symbols of all stripes of a file, cut to its length, are the file.
 pub fn symbols_give_bytes_back()
     ensures { (o : Object) (bytes : List ℕ) → 1 ≤ o.shape.l → 1 ≤ o.profile.keep → AreBytes bytes →
         take (length bytes) (flat_map (λ stripe. bytes_of_symbols (symbols_in o bytes stripe)) (upto (stripes o (length bytes)))) ≡ bytes }
+{}
+
+/// A setup in effect is in the grammar of records: each of its numbers is within its limits and its master key has 32 bytes, so its
+/// providers are a shape.
+pub fn setup_in_effect_is_valid()
+    ensures grammar { (limit : ℕ) (start : State) (ms : List Moment) (s : Setup) → IsStart start → IsRun limit start ms →
+        setup_of (now start ms).records ≡ Some s → IsTrue (is_in_grammar (SetUp s)) }
+    ensures shape { (limit : ℕ) (start : State) (ms : List Moment) (s : Setup) → IsStart start → IsRun limit start ms →
+        setup_of (now start ms).records ≡ Some s → IsShape s.n s.l s.b }
+{}
+
+/// What a state keeps of the object number of a file in effect are bytes, and as many as the file has.
+pub fn object_bytes_are_bytes()
+    ensures bytes { (limit : ℕ) (start : State) (ms : List Moment) (name : List ℕ) (file : File) → IsStart start → IsRun limit start ms →
+        file_in (now start ms) name ≡ Some file → AreBytes ((now start ms).bytes file.id) }
+    ensures size { (limit : ℕ) (start : State) (ms : List Moment) (name : List ℕ) (file : File) → IsStart start → IsRun limit start ms →
+        file_in (now start ms) name ≡ Some file → length ((now start ms).bytes file.id) ≡ file.size }
 {}
