@@ -1,3 +1,5 @@
 pub mod SymbolBytes
 pub mod Direct
 pub mod InEffect
+pub mod Files
+pub mod FirstHalf

@@ -1,14 +1,19 @@
 //! Laws over runs, and the laws of layout that they rest on.
-ghost use Rattle.std.specs.Prelude.{◌≡◌, ◌≤◌, ℕ, IsTrue, List, Some, length, take};
+ghost use Rattle.std.specs.Prelude.{◌≡◌, ◌⊎◌, ◌≤◌, ℕ, IsTrue, List, ◌∷◌, Some, length, take};
 ghost use Rattle.std.specs.List.{flat_map};
 ghost use Rattle.hail_codes.specs.Points.{upto};
 ghost use Rattle.hail_columns.specs.Objects.{Object, stripes, symbols_in, bytes_of_symbols};
 ghost use Rattle.hail_field.specs.Shape.{IsShape};
 ghost use Rattle.hail_records.specs.Records.{Setup, SetUp, is_in_grammar};
 ghost use Rattle.hail_records.specs.Table.{File, setup_of};
+ghost use Rattle.hail_codes.specs.Profiles.{profile_of};
+ghost use Rattle.hail_columns.specs.Opened.{SeenBlock, OpensFile};
+ghost use Rattle.hail_columns.specs.Forgeries.{IsForgery};
 ghost use Rattle.hail_machine.specs.Events.{AreBytes};
+ghost use Rattle.hail_machine.specs.Jobs.{Job};
+ghost use Rattle.hail_machine.specs.Halves.{IsRightGet, EndsGet, FirstHalfHolds};
 ghost use Rattle.hail_machine.specs.States.{State, IsStart, file_in};
-ghost use Rattle.hail_machine.specs.Runs.{Moment, IsRun, now};
+ghost use Rattle.hail_machine.specs.Runs.{Moment, IsRun, now, first_moments};
 
 /// The bytes of the symbols of all stripes of a file, cut to its length, are the file.
 pub fn symbols_give_bytes_back()
@@ -31,4 +36,24 @@ pub fn object_bytes_are_bytes()
         file_in (now start ms) name ≡ Some file → AreBytes ((now start ms).bytes file.id) }
     ensures size { (limit : ℕ) (start : State) (ms : List Moment) (name : List ℕ) (file : File) → IsStart start → IsRun limit start ms →
         file_in (now start ms) name ≡ Some file → length ((now start ms).bytes file.id) ≡ file.size }
+{}
+
+/// What seen blocks open to, as bytes of a file's size, is the file, or the blocks hold a forgery against it.
+pub fn opened_file_is_right_or_forged()
+    ensures { (o : Object) (bytes : List ℕ) (number : ℕ) → o.profile ≡ profile_of number → IsShape o.shape.n o.shape.l o.shape.b →
+        (seen : ℕ → List SeenBlock) (got : List ℕ) → AreBytes bytes → OpensFile o (length bytes) seen got →
+        (got ≡ bytes) ⊎ ((stripe : ℕ) × (place : ℕ) × IsForgery o bytes seen stripe place) }
+{}
+
+/// A get that ended with bytes gave those that were in effect under its name at its begin, or what it fetched holds a forgery
+/// against them.
+pub fn got_bytes_are_right()
+    ensures { (limit : ℕ) (start : State) (m : Moment) (ms : List Moment) (job : Job) (name bytes : List ℕ) → IsStart start →
+        IsRun limit start (m ∷ ms) → EndsGet start m ms job name bytes → IsRightGet (now start (first_moments job.begun ms)) job name bytes }
+{}
+
+/// The first half of the main theorem: in every run, calm or not, every get that ended with bytes gave those that were in effect under
+/// its name at its begin, or what it fetched holds a forgery against them.
+pub fn first_half()
+    ensures { FirstHalfHolds }
 {}
