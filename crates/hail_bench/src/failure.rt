@@ -1,3 +1,4 @@
+use hail_field::Memory;
 use std::alloc::AllocError;
 use std::io;
 
@@ -12,6 +13,12 @@ pub enum Failure {
 
 impl From<AllocError> for Failure {
     fn from(_: AllocError) -> Failure {
+        Failure::Fault
+    }
+}
+
+impl From<Memory> for Failure {
+    fn from(_: Memory) -> Failure {
         Failure::Fault
     }
 }

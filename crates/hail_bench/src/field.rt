@@ -1,7 +1,8 @@
 //! Products, squares and inverses of symbols.
-ghost use Rattle.std.specs.Prelude.{◌≡◌, ◌+◌, ◌*◌, ◌%◌, ◌^◌};
-ghost use Rattle.hail_bench.specs.Checksum.{number_after, answer, checksum_of};
+ghost use Rattle.std.specs.Prelude.{◌≡◌};
+ghost use Rattle.hail_bench.specs.Checksum.{answer, checksum_of};
 
+use crate::numbers::after;
 use crate::outcome::Outcome;
 use hail_field::Symbol;
 use std::fmt::{self, Display, Formatter, Write};
@@ -51,15 +52,6 @@ impl Display for Operation {
             Operation::Inverse => "inverse",
         })
     }
-}
-
-/// The number after a number, in a row that looks like chance.
-fn after(number: u128) -> u128
-    ensures { result ≡ number_after number }
-{
-    number
-        .wrapping_mul(290_540_817_353_171_031_345_215_227_939_350_468_789)
-        .wrapping_add(1)
 }
 
 /// An operation on the first numbers of the row, this many of them.

@@ -1,8 +1,12 @@
 //! `hail_bench WORK COUNT ..`: does a piece of hail's work, writes a checksum of its answers, and tells how long it took.
 #![tactic(auto)]
 
+mod blocks;
+mod decode;
+mod encode;
 mod failure;
 mod field;
+mod numbers;
 mod outcome;
 mod work;
 
@@ -24,7 +28,7 @@ fn asked(rt: &(impl Env + AllocGlobal)) -> Result<Work, Failure> {
         return Err(Failure::Usage);
     };
     let words: Vec<String> = all.skip(1).collect(rt.alloc())?;
-    Work::from_words(&words).ok_or(Failure::Usage)
+    Work::from_words(rt.alloc(), &words)?.ok_or(Failure::Usage)
 }
 
 /// Does the work; its answers go to standard output, the time to standard error.

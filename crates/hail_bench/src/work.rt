@@ -1,3 +1,5 @@
+use crate::decode::DecodeWork;
+use crate::encode::EncodeWork;
 use crate::failure::Failure;
 use crate::field::FieldWork;
 use crate::outcome::Outcome;
@@ -5,7 +7,8 @@ use std::alloc::Global;
 use std::fmt::{self, Display, Formatter, Write};
 
 /// The forms of a command line, a kind of work after another.
-pub const FORMS: &str = "product|square|inverse COUNT";
+pub const FORMS: &str =
+    "product|square|inverse COUNT, encode PROFILE BLOCKS, or decode PROFILE BLOCKS ERRORS";
 
 /// A piece of work that the words of a command line name. Each kind of work stands in a file of its own, as a type with `from_words`,
 /// `run` and `Display`; a further kind is one more variant here, and its forms in `FORMS`.
@@ -13,21 +16,33 @@ pub const FORMS: &str = "product|square|inverse COUNT";
 pub enum Work {
     /// Products, squares or inverses of symbols.
     Field(FieldWork),
+    /// Encoding of blocks.
+    Encode(EncodeWork),
+    /// Correcting of blocks.
+    Decode(DecodeWork),
 }
 
 impl Work {
-    /// The work that these words name, if they name one.
-    pub fn from_words(words: &[String]) -> Option<Work> {
+    /// The work that these words name, if they name one. It is made ready, which may take memory.
+    pub fn from_words(alloc: Global, words: &[String]) -> Result<Option<Work>, Failure> {
         if let Some(work) = FieldWork::from_words(words) {
-            return Some(Work::Field(work));
+            return Ok(Some(Work::Field(work)));
         }
-        None
+        if let Some(work) = EncodeWork::from_words(alloc, words)? {
+            return Ok(Some(Work::Encode(work)));
+        }
+        if let Some(work) = DecodeWork::from_words(alloc, words)? {
+            return Ok(Some(Work::Decode(work)));
+        }
+        Ok(None)
     }
 
     /// Does the work, which may take memory.
-    pub fn run(&self, _alloc: Global) -> Result<Outcome, Failure> {
+    pub fn run(&self, alloc: Global) -> Result<Outcome, Failure> {
         match self {
             Work::Field(work) => Ok(work.run()),
+            Work::Encode(work) => work.run(alloc),
+            Work::Decode(work) => work.run(alloc),
         }
     }
 }
@@ -36,6 +51,58 @@ impl Display for Work {
     fn fmt<W: Write>(&self, f: &mut Formatter<W>) -> fmt::Result {
         match self {
             Work::Field(work) => write!(f, "{work}"),
+            Work::Encode(work) => write!(f, "{work}"),
+            Work::Decode(work) => write!(f, "{work}"),
+        }
+    }
+}
+
+#[cfg(test)]
+mod tests {
+    use super::*;
+
+    #[test]
+    fn does_the_work_that_is_named(rt: HostRuntime) {
+        let rows: [(&[&str], Option<u128>); 11] = [
+            (&["product", "60"], Some(0xe7978f9a0a8b55eba3b120ca83c1579f)),
+            (&["square", "60"], Some(0xf24dc31f95ee265573f96b936b77cfc9)),
+            (
+                &["encode", "0", "3"],
+                Some(0x4fd96d88103b4ce6a4806f5e6c3cb66b),
+            ),
+            (
+                &["encode", "1", "2"],
+                Some(0x1228af07096c1da4fe966f39d46292fe),
+            ),
+            (&["encode", "5", "1"], None),
+            (&["encode", "1"], None),
+            (
+                &["decode", "0", "3", "2"],
+                Some(0x6f6b3d7b3a64bda483453943a9d07dae),
+            ),
+            (
+                &["decode", "1", "2", "0"],
+                Some(0xa921bc115b1fcb726bd00a665fb7a286),
+            ),
+            (
+                &["decode", "1", "2", "4"],
+                Some(0xb8cabd0bba42dc9a02364c6b0ad86616),
+            ),
+            (&["decode", "1", "2", "5"], None),
+            (&["decode", "256", "1", "0"], None),
+        ];
+        for (words, want) in rows {
+            let mut owned = Vec::new(rt.alloc());
+            for word in words {
+                let text = String::from_str(rt.alloc(), word).expect(&rt, "no memory");
+                owned.push(text).expect(&rt, "no memory");
+            }
+            let work = Work::from_words(rt.alloc(), &owned).expect(&rt, "no fault");
+            let checksum = match work {
+                Some(work) => Some(work.run(rt.alloc()).expect(&rt, "no fault").checksum),
+                None => None,
+            };
+            assert_eq!(rt; checksum, want);
         }
     }
 }

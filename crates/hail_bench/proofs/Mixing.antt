@@ -1,0 +1,41 @@
+-- The steps of the checksums of blocks.
+use Rattle.std.proofs.Common.{◌≡◌, ◌≤◌, ◌<◌, ◌+◌, ℕ, zero, suc, List, [], ◌∷◌, length, drop, get_or, add-one, sym, ap, ◌∙◌, refl, arith}
+use Rattle.std.proofs.lemmas.List.{drop_all}
+use Rattle.std.proofs.lemmas.List.FromFn.{length-map-range_with_len}
+use Rattle.hail_bench.specs.Checksum.{number_after}
+use Rattle.hail_codes.specs.Profiles.{Profile}
+use Rattle.hail_codes.specs.ServerCode.{codeword}
+use Rattle.hail_bench.specs.Blocks.{kept_symbols, mixed, mixed_all, encoding_checksum}
+
+-- the checksum from a place on
+mixed_all-drop : (sum : ℕ) (block : List ℕ) (k : ℕ) → k < length block →
+    mixed_all sum (drop k block) ≡ mixed (mixed_all sum (drop (suc k) block)) (get_or block k 0)
+unfolding mixed_all
+mixed_all-drop sum [] k h = absurd (omega arith)
+mixed_all-drop sum (s ∷ block) zero h = refl
+mixed_all-drop sum (s ∷ block) (suc k) h = mixed_all-drop sum block k (omega arith)
+
+-- one symbol more
+pub mixed_step : (sum : ℕ) (block : List ℕ) (k : ℕ) → k < length block →
+    mixed_all sum (drop k block) ≡ mixed (mixed_all sum (drop (k + 1) block)) (get_or block k 0)
+mixed_step sum block k h = mixed_all-drop sum block k h ∙ ap (λ m. mixed (mixed_all sum (drop m block)) (get_or block k 0)) (sym (add-one k))
+
+-- the checksum of nothing
+nothing : (sum : ℕ) → mixed_all sum [] ≡ sum
+unfolding mixed_all
+nothing sum = refl
+
+-- no symbol is left
+pub mixed_past : (sum : ℕ) (block : List ℕ) (k : ℕ) → length block ≤ k → mixed_all sum (drop k block) ≡ sum
+mixed_past sum block k h = rw (drop_all k block h) (nothing sum)
+
+-- as many kept symbols as are asked for
+pub length-kept_symbols : (n keep : ℕ) → length (kept_symbols n keep) ≡ keep
+length-kept_symbols n keep = length-map-range_with_len (λ k. number_after (n + k)) 0 keep
+
+-- one block more is encoded
+pub encoding_more : (profile : Profile) (n sum next : ℕ) (kept block : List ℕ) → next ≡ mixed_all sum block → sum ≡ encoding_checksum profile n →
+    block ≡ codeword profile kept → kept ≡ kept_symbols n profile.keep → next ≡ encoding_checksum profile (n + 1)
+encoding_more profile n sum next kept block is_next is_sum is_block is_kept =
+    is_next ∙ ap (λ s. mixed_all s block) is_sum ∙ ap (mixed_all (encoding_checksum profile n)) (is_block ∙ ap (codeword profile) is_kept) ∙
+    ap (encoding_checksum profile) (sym (add-one n))

@@ -1,0 +1,75 @@
+//! Encoding of blocks.
+ghost use Rattle.std.specs.Prelude.{◌≡◌, IfOk, length};
+ghost use Rattle.code_points.specs.Profile.{plain_profile};
+ghost use Rattle.server_code.specs.Any.{profile_of};
+ghost use Rattle.hail_bench.specs.Blocks.{encoding_checksum};
+
+use crate::blocks::{fill, mix_all, profile_named};
+use crate::failure::Failure;
+use crate::outcome::Outcome;
+use hail_field::Symbol;
+use server_code::AnyCode;
+use std::alloc::Global;
+use std::fmt::{self, Display, Formatter, Write};
+
+/// Encoding of this many blocks, by the code of a profile.
+#[derive(Drop)]
+pub struct EncodeWork {
+    code: AnyCode,
+    count: u32,
+}
+
+impl EncodeWork {
+    /// The work that these words name: `encode`, a profile and a count of blocks. Makes the code, which takes memory.
+    pub fn from_words(alloc: Global, words: &[String]) -> Result<Option<EncodeWork>, Failure> {
+        let [name, profile, count] = words else {
+            return Ok(None);
+        };
+        if name.as_str() != "encode" {
+            return Ok(None);
+        }
+        let (Some(profile), Ok(count)) = (profile_named(profile), count.parse::<u32>()) else {
+            return Ok(None);
+        };
+        let code = AnyCode::new(alloc, profile)?;
+        Ok(Some(EncodeWork { code, count }))
+    }
+
+    /// Encodes each block, with room for its kept symbols and for its codeword, and gives the checksum.
+    fn encode_all(&self, kept: &mut [Symbol], block: &mut [Symbol]) -> u128
+        requires kept { length kept.old ≡ (profile_of self.now.code).keep }
+        requires block { length block.old ≡ (profile_of self.now.code).size }
+        ensures { result ≡ encoding_checksum (plain_profile (profile_of self.now.code)) self.now.count }
+    {
+        let mut sum = 0;
+        for number in 0..self.count {
+            fill(number, kept);
+            self.code.encode_into(kept, block);
+            sum = mix_all(sum, block);
+        }
+        sum
+    }
+
+    /// Encodes the blocks. The checksum is of each symbol of each codeword.
+    pub fn run(&self, alloc: Global) -> Result<Outcome, Failure>
+        ensures count { IfOk result (λ outcome. outcome.count ≡ self.now.count) }
+        ensures checksum { IfOk result (λ outcome.
+            outcome.checksum ≡ encoding_checksum (plain_profile (profile_of self.now.code)) self.now.count) }
+    {
+        let profile = self.code.profile();
+        let zero = Symbol::ZERO;
+        let mut kept = vec![in alloc; zero; profile.keep as usize]?;
+        let mut block = vec![in alloc; zero; profile.size as usize]?;
+        Ok(Outcome {
+            count: self.count,
+            checksum: self.encode_all(&mut kept, &mut block),
+        })
+    }
+}
+
+impl Display for EncodeWork {
+    fn fmt<W: Write>(&self, f: &mut Formatter<W>) -> fmt::Result {
+        let profile = self.code.profile();
+        write!(f, "encode {} {}", profile.number, self.count)
+    }
+}
