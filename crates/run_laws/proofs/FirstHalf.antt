@@ -21,7 +21,7 @@ use Rattle.run_laws.proofs.InEffect.{valid_setup, valid_shape, held_file}
 use Rattle.run_laws.proofs.Files.{file_or_forged}
 
 -- the first moments of a run are a run
-first_run : (limit : ℕ) (start : State) (k : ℕ) (ms : List Moment) → IsRun limit start ms → IsRun limit start (first_moments k ms)
+pub first_run : (limit : ℕ) (start : State) (k : ℕ) (ms : List Moment) → IsRun limit start ms → IsRun limit start (first_moments k ms)
 first_run limit start k [] run = tt
 first_run limit start k (m ∷ ms) run = elim (cases_Bool (nat_le (length (m ∷ ms)) k)) [
   | inl t ↦ subst (IsRun limit start) (sym (cond_true (nat_le (length (m ∷ ms)) k) (m ∷ ms) (first_moments k ms) t)) run

@@ -3,3 +3,4 @@ pub mod Direct
 pub mod InEffect
 pub mod Files
 pub mod FirstHalf
+pub mod PutBytes

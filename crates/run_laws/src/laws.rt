@@ -1,5 +1,5 @@
 //! Laws over runs, and the laws of layout that they rest on.
-ghost use Rattle.std.specs.Prelude.{◌≡◌, ◌⊎◌, ◌≤◌, ℕ, IsTrue, List, ◌∷◌, Some, length, take};
+ghost use Rattle.std.specs.Prelude.{◌≡◌, ◌⊎◌, ◌≤◌, ℕ, IsTrue, List, ◌∷◌, ◌++◌, Some, length, take};
 ghost use Rattle.std.specs.List.{flat_map};
 ghost use Rattle.hail_codes.specs.Points.{upto};
 ghost use Rattle.hail_columns.specs.Objects.{Object, stripes, symbols_in, bytes_of_symbols};
@@ -12,7 +12,9 @@ ghost use Rattle.hail_columns.specs.Forgeries.{IsForgery};
 ghost use Rattle.hail_machine.specs.Events.{AreBytes};
 ghost use Rattle.hail_machine.specs.Jobs.{Job};
 ghost use Rattle.hail_machine.specs.Halves.{IsRightGet, EndsGet, FirstHalfHolds};
-ghost use Rattle.hail_machine.specs.States.{State, IsStart, file_in};
+ghost use Rattle.hail_machine.specs.Heard.{heard_by, HoldsForgery};
+ghost use Rattle.hail_machine.specs.States.{State, IsStart, object_in, file_in};
+ghost use Rattle.hail_machine.specs.Survival.{EndsPut};
 ghost use Rattle.hail_machine.specs.Runs.{Moment, IsRun, now, first_moments};
 
 /// The bytes of the symbols of all stripes of a file, cut to its length, are the file.
@@ -56,4 +58,21 @@ pub fn got_bytes_are_right()
 /// its name at its begin, or what it fetched holds a forgery against them.
 pub fn first_half()
     ensures { FirstHalfHolds }
+{}
+
+/// From the end of a put that ended well on, what each state keeps of its object number are the bytes of that put.
+pub fn put_bytes_stay()
+    ensures { (limit : ℕ) (start : State) (later ms : List Moment) (m : Moment) (job : Job) (name bytes : List ℕ) → IsStart start →
+        IsRun limit start (later ++ m ∷ ms) → EndsPut start m ms job name bytes →
+        (now start (later ++ m ∷ ms)).bytes job.subject ≡ bytes }
+{}
+
+/// A get that ended with bytes, and at whose begin the file in effect under its name was that of a put that had ended well, gave the
+/// bytes of that put, or what it fetched holds a forgery against them.
+pub fn put_bytes_are_got()
+    ensures { (limit : ℕ) (start : State) (m p : Moment) (ms later before : List Moment) (put get : Job) (name bytes got : List ℕ)
+        (file : File) → IsStart start → IsRun limit start (m ∷ ms) → EndsGet start m ms get name got →
+        first_moments get.begun ms ≡ later ++ p ∷ before → EndsPut start p before put name bytes →
+        file_in (now start (first_moments get.begun ms)) name ≡ Some file → file.id ≡ put.subject →
+        (got ≡ bytes) ⊎ HoldsForgery (object_in (now start (first_moments get.begun ms)) file.id) bytes get.number (heard_by (Some get)) }
 {}
