@@ -1,3 +1,4 @@
 pub mod ObjectKeys
 pub mod Lending
 pub mod Rows
+pub mod OpenedBlocks

@@ -6,10 +6,13 @@ mod column;
 mod encode;
 mod gather;
 mod keys;
+mod open_block;
+mod open_stripe;
 
 pub use block::Block;
 pub use encode::{column_block, encode_stripe};
 pub use keys::ObjectKeys;
+pub use open_stripe::RowLost;
 
 #[cfg(test)]
 mod tests;

@@ -1,0 +1,100 @@
+use crate::keys::ObjectKeys;
+use crate::Block;
+use hail_field::Symbol;
+use hail_poly::Work;
+use server_code::AnyCode;
+
+impl ObjectKeys {
+    ghost use Rattle.std.specs.Prelude.{◌≡◌, ◌≤◌, ◌<◌, ◌*◌, Some, None, length};
+    ghost use Rattle.std.specs.Bool.{OnTrue, OnFalse};
+    ghost use Rattle.hail_columns.specs.Opened.{bare, OpensTo};
+    ghost use Rattle.file_layout.specs.Files.{object_of};
+    ghost use Rattle.server_code.specs.Any.{profile_of};
+
+    /// Takes a provider's masks off a block of a stripe, which a primary one has none of.
+    fn take_masks_off(&self, stripe: u32, provider: usize, block: &mut [Symbol])
+        requires provider { provider < self.now.file.shape.n }
+        requires block { length block.old ≡ self.now.file.profile.size }
+        ensures { block.new ≡ bare (object_of self.now.master.0 self.now.file) provider stripe block.old }
+    {
+        if provider >= usize::from(self.file.shape.l) {
+            self.add_masks(stripe, provider, block);
+        }
+    }
+
+    /// Opens a block of the right size into `out`.
+    fn open_whole(
+        &self,
+        code: &AnyCode,
+        stripe: u32,
+        provider: usize,
+        seen: &[Symbol],
+        out: &mut [Symbol],
+        work: &mut Work,
+    ) -> bool
+        requires provider { provider < self.now.file.shape.n }
+        requires code { profile_of code.now ≡ self.now.file.profile }
+        requires seen { length seen.now ≡ self.now.file.profile.size }
+        requires out { length out.old ≡ self.now.file.profile.size }
+        requires room { 128 ≤ work.old.size }
+        ensures yes { OnTrue result (OpensTo (object_of self.now.master.0 self.now.file) provider stripe (Some seen.now) (Some out.new)) }
+        ensures no { OnFalse result (OpensTo (object_of self.now.master.0 self.now.file) provider stripe (Some seen.now) None) }
+        ensures room { work.new.size ≡ work.old.size }
+    {
+        out.copy_from_slice(seen);
+        self.take_masks_off(stripe, provider, out);
+        match code.decode_in(out, work) {
+            Some(_) => true,
+            None => false,
+        }
+    }
+
+    /// Opens a seen block of any size into `out`.
+    fn open_sized(
+        &self,
+        code: &AnyCode,
+        stripe: u32,
+        provider: usize,
+        seen: &[Symbol],
+        out: &mut [Symbol],
+        work: &mut Work,
+    ) -> bool
+        requires provider { provider < self.now.file.shape.n }
+        requires code { profile_of code.now ≡ self.now.file.profile }
+        requires out { length out.old ≡ self.now.file.profile.size }
+        requires room { 128 ≤ work.old.size }
+        ensures yes { OnTrue result (OpensTo (object_of self.now.master.0 self.now.file) provider stripe (Some seen.now) (Some out.new)) }
+        ensures no { OnFalse result (OpensTo (object_of self.now.master.0 self.now.file) provider stripe (Some seen.now) None) }
+        ensures room { work.new.size ≡ work.old.size }
+    {
+        if seen.len() == out.len() {
+            self.open_whole(code, stripe, provider, seen, out, work)
+        } else {
+            false
+        }
+    }
+
+    /// Opens a seen block of a provider into `out`, and answers whether it opened to a codeword.
+    pub fn open_block(
+        &self,
+        code: &AnyCode,
+        stripe: u32,
+        provider: usize,
+        seen: &Option<Block>,
+        out: &mut [Symbol],
+        work: &mut Work,
+    ) -> bool
+        requires provider { provider < self.now.file.shape.n }
+        requires code { profile_of code.now ≡ self.now.file.profile }
+        requires out { length out.old ≡ self.now.file.profile.size }
+        requires room { 128 ≤ work.old.size }
+        ensures yes { OnTrue result (OpensTo (object_of self.now.master.0 self.now.file) provider stripe seen.now (Some out.new)) }
+        ensures no { OnFalse result (OpensTo (object_of self.now.master.0 self.now.file) provider stripe seen.now None) }
+        ensures room { work.new.size ≡ work.old.size }
+    {
+        match seen {
+            Some(block) => self.open_sized(code, stripe, provider, block.symbols(), out, work),
+            None => false,
+        }
+    }
+}

@@ -1,0 +1,150 @@
+ghost use Rattle.std.specs.Prelude.{◌≡◌, ◌≤◌, ◌<◌, ◌*◌, ◌%◌, ◌≢◌, ◌+◌, ℕ, Some, None, length, map, All, slice_index, slice_index_or, [], replicate, OnOk, OnErr, IfErr, if◌then◌else◌};
+ghost use Rattle.std.specs.Bool.{OnTrue, OnFalse};
+ghost use Rattle.hail_codes.specs.Polynomials.{value};
+ghost use Rattle.hail_codes.specs.Points.{upto};
+ghost use Rattle.hail_columns.specs.Opened.{AllOpen, AcceptsRow, AcceptsNoRow, GivesSymbols, LosesRow, symbol_in};
+ghost use Rattle.file_layout.specs.Files.{object_of};
+ghost use Rattle.server_code.specs.Any.{profile_of};
+ghost use Rattle.column_codec.specs.OpenedBlocks.{opened_at, opened_of, HasRow, LosesPlace};
+
+use crate::block::Block;
+use crate::keys::ObjectKeys;
+use dispersal_code::open_row;
+use hail_field::Symbol;
+use hail_poly::Work;
+use server_code::AnyCode;
+
+// The symbol at a place of a block, none where the block did not open.
+fn marked_symbol(mark: bool, block: &Block, place: usize) -> Option<Symbol>
+    requires { place < length block.now }
+    ensures { result ≡ symbol_in place (if mark then Some block.now else None) }
+{
+    if mark {
+        Some(block.symbols()[place])
+    } else {
+        None
+    }
+}
+
+// The opened symbols of a row.
+#[tactic(auto, using(crate::proofs::Places::filled_more))]
+fn seen_row(marks: &[bool; 16], blocks: &[Block], place: usize, out: &mut [Option<Symbol>])
+    requires few { length blocks.now ≤ 16 }
+    requires fits { length out.old ≡ length blocks.now }
+    requires place { (j : ℕ) → j < length blocks.now → place < length (slice_index_or blocks.now j []) }
+    ensures { out.new ≡ map (λ j. symbol_in place (opened_at marks.now blocks.now j)) (upto (length out.old)) }
+{
+    for j in 0..out.len() {
+        out[j] = marked_symbol(marks[j], &blocks[j], place);
+    }
+}
+
+// Makes all symbols zero.
+fn clear(out: &mut [Symbol])
+    ensures { out.new ≡ replicate (length out.old) 0 }
+{
+    for symbol in out.iter_mut() {
+        *symbol = Symbol::ZERO;
+    }
+}
+
+// Puts the values of a polynomial at the points 0 to l - 1 to a place of each of l blocks of keep symbols.
+#[tactic(auto, using(crate::proofs::Places::index_within))]
+fn put_row(work: &Work, keep: usize, place: usize, l: usize, out: &mut [Symbol])
+    requires place { place < keep }
+    requires fits { length out.old ≡ l * keep }
+    ensures here { (j : ℕ) → j < l → slice_index out.new (j * keep + place) ≡ value work.now.rest j }
+    ensures others { (i : ℕ) → i % keep ≢ place → slice_index out.new i ≡ slice_index out.old i }
+{
+    for j in 0..l {
+        out[j * keep + place] = work.value(Symbol(j as u128));
+    }
+}
+
+/// The row of this number is not accepted: no polynomial of degree below `l` agrees with enough providers' blocks.
+#[derive(Clone, Copy, Debug, PartialEq, Eq)]
+pub struct RowLost {
+    pub row: u64,
+}
+
+impl ObjectKeys {
+    /// Opens the seen blocks of all providers into `out`, and marks those that opened to a codeword.
+    fn open_blocks(
+        &self,
+        code: &AnyCode,
+        stripe: u32,
+        seen: &[Option<Block>],
+        out: &mut [Block],
+        work: &mut Work,
+    ) -> [bool; 16]
+        requires code { profile_of code.now ≡ self.now.file.profile }
+        requires seen { length seen.now ≡ self.now.file.shape.n }
+        requires out { length out.old ≡ self.now.file.shape.n }
+        requires blocks { All (λ block. length block ≡ self.now.file.profile.size) out.old }
+        requires room { 128 ≤ work.old.size }
+        ensures opens { AllOpen (object_of self.now.master.0 self.now.file) stripe 0 seen.now (opened_of result out.new self.now.file.shape.n) }
+        ensures sizes { (j : ℕ) → j < length out.new → length (slice_index_or out.new j []) ≡ self.now.file.profile.size }
+        ensures room { work.new.size ≡ work.old.size }
+    {
+        let mut marks = [false; 16];
+        for j in 0..out.len() {
+            let block = &mut out[j];
+            marks[j] = self.open_block(code, stripe, j, &seen[j], &mut block.symbols, work);
+        }
+        marks
+    }
+
+    /// Looks for the polynomial that a row is accepted with, which is then the rest of `work`.
+    fn open_place(&self, marks: &[bool; 16], blocks: &[Block], place: usize, work: &mut Work) -> bool
+        requires blocks { length blocks.now ≡ self.now.file.shape.n }
+        requires place { (j : ℕ) → j < length blocks.now → place < length (slice_index_or blocks.now j []) }
+        requires room { 16 ≤ work.old.size }
+        ensures yes { OnTrue result (AcceptsRow (object_of self.now.master.0 self.now.file)
+            (opened_of marks.now blocks.now self.now.file.shape.n) place work.new.rest) }
+        ensures no { OnFalse result (AcceptsNoRow (object_of self.now.master.0 self.now.file)
+            (opened_of marks.now blocks.now self.now.file.shape.n) place) }
+        ensures room { work.new.size ≡ work.old.size }
+    {
+        let n = blocks.len();
+        let mut buffer = [None; 16];
+        let row = &mut buffer[..n];
+        seen_row(marks, blocks, place, row);
+        match open_row(&self.points[..n], row, self.file.shape, work) {
+            Some(_) => true,
+            None => false,
+        }
+    }
+
+    /// Fills `rows` with the values of the accepted rows at the kept places, in layout order.
+    fn open_rows(
+        &self,
+        stripe: u32,
+        marks: &[bool; 16],
+        blocks: &[Block],
+        rows: &mut [Symbol],
+        work: &mut Work,
+    ) -> Result<(), RowLost>
+        requires blocks { length blocks.now ≡ self.now.file.shape.n }
+        requires sizes { (j : ℕ) → j < length blocks.now → length (slice_index_or blocks.now j []) ≡ self.now.file.profile.size }
+        requires rows { length rows.old ≡ self.now.file.shape.l * self.now.file.profile.keep }
+        requires room { 16 ≤ work.old.size }
+        ensures ok { OnOk result ((place : ℕ) → place < self.now.file.profile.keep →
+            HasRow (object_of self.now.master.0 self.now.file) (opened_of marks.now blocks.now self.now.file.shape.n) place rows.new) }
+        ensures err { IfErr result (λ lost. LosesPlace (object_of self.now.master.0 self.now.file)
+            (opened_of marks.now blocks.now self.now.file.shape.n) stripe lost.row) }
+        ensures zeros { OnErr result (rows.new ≡ replicate (length rows.old) 0) }
+        ensures room { work.new.size ≡ work.old.size }
+    {
+        let keep = self.file.profile.keep as usize;
+        let l = usize::from(self.file.shape.l);
+        for place in 0..keep {
+            if !self.open_place(marks, blocks, place, work) {
+                clear(rows);
+                let row = u64::from(stripe) * u64::from(self.file.profile.size) + place as u64;
+                return Err(RowLost { row });
+            }
+            put_row(work, keep, place, l, rows);
+        }
+        Ok(())
+    }
+}
