@@ -1,5 +1,5 @@
 -- Seen blocks, one by one and all together.
-use Rattle.std.specs.Prelude.{◌≡◌, ◌≢◌, ℕ, zero, suc, ◌+◌, ◌*◌, ◌/◌, ◌%◌, ◌<◌, ◌≤◌, Bool, true, false, List, [], ◌∷◌, length, map, take, nat_eq, slice_index, Option, None, Some, if◌then◌else◌}
+use Rattle.std.specs.Prelude.{All, OnOk, Result, Ok, Err, ◌≡◌, ◌≢◌, ℕ, zero, suc, ◌+◌, ◌*◌, ◌/◌, ◌%◌, ◌<◌, ◌≤◌, Bool, true, false, List, [], ◌∷◌, length, map, take, nat_eq, slice_index, Option, None, Some, if◌then◌else◌}
 use Rattle.std.proofs.Common.{arith, ap, sym, refl, ◌∙◌, get_or, set, subst, eqb-true}
 use Rattle.std.specs.Bool.{OnTrue, OnFalse}
 use Rattle.std.specs.List.{range_with_len}
@@ -12,12 +12,15 @@ use Rattle.hail_codes.specs.Points.{upto}
 use Rattle.hail_codes.specs.Profiles.{Profile}
 use Rattle.hail_codes.specs.ServerCode.{Opens, OpensToNone}
 use Rattle.hail_codes.specs.DispersalCode.{Accepts, AcceptsNone}
-use Rattle.hail_columns.specs.Objects.{Object, row_number, is_primary, point, points}
-use Rattle.hail_columns.specs.Opened.{SeenBlock, masked, bare, OpensTo, AllOpen, AcceptsRow, AcceptsNoRow, symbol_in}
+use Rattle.hail_columns.specs.Objects.{Object, stripe_symbols, row_number, is_primary, point, points}
+use Rattle.hail_columns.specs.Opened.{SeenBlock, masked, bare, OpensTo, AllOpen, AcceptsRow, AcceptsNoRow, GivesSymbols, LosesRow, symbol_in}
 use Rattle.field_laws.specs.Field.{Apart}
 use Rattle.hail_columns.proofs.PointLaws.{Apart-points}
+use Rattle.std.proofs.lemmas.Option.{slice_get-get_or}
+use Rattle.column_codec.proofs.Places.{index_within}
+use Rattle.column_codec.proofs.RowLemmas.{get_or-within}
 use Rattle.column_codec.specs.ObjectKeys.{ArePoints}
-use Rattle.column_codec.specs.OpenedBlocks.{opened_at, opened_of, HasRow}
+use Rattle.column_codec.specs.OpenedBlocks.{opened_at, opened_of, HasRow, LosesPlace}
 
 -- masks change no length
 length-masked : (o : Object) (j row : ℕ) (block : List ℕ) → length (masked o j row block) ≡ length block
@@ -96,7 +99,7 @@ opened_more o stripe seen marks blocks j s b x new in_marks in_blocks at is hold
     here : OpensTo o j stripe (get_or seen j None) (opened_at (set marks j b) (set blocks j x) j)
     here =
         let f : opened_at (set marks j b) (set blocks j x) j ≡ (if b then Some new else None) =
-            (λ i. if get_or-set_same marks j b false in_marks i then Some ((get_or-set_same blocks j x [] in_blocks ∙ is) i) else None) in
+        (λ i. if get_or-set_same marks j b false in_marks i then Some ((get_or-set_same blocks j x [] in_blocks ∙ is) i) else None) in
         subst (λ (t : SeenBlock). OpensTo o j stripe (get_or seen j None) t) (sym f)
         (subst (λ (t : SeenBlock). OpensTo o j stripe t (if b then Some new else None)) at (opened-here (λ t. OpensTo o j stripe s t) b new holds fails))
 
@@ -106,7 +109,7 @@ opened_more o stripe seen marks blocks j s b x new in_marks in_blocks at is hold
     go false differ =
         let other : k ≡ j → ⊥ = λ h. grind (arith, differ, h) in
         let f : opened_at marks blocks k ≡ opened_at (set marks j b) (set blocks j x) k =
-            (λ i. if sym (get_or-set_other marks j k b false other) i then Some (sym (get_or-set_other blocks j k x [] other) i) else None) in
+        (λ i. if sym (get_or-set_other marks j k b false other) i then Some (sym (get_or-set_other blocks j k x [] other) i) else None) in
         subst (λ (t : SeenBlock). OpensTo o k stripe (get_or seen k None) t) f (before k (let n : k ≡ j → ⊥ = other in omega arith))
 
 -- all sizes stay
@@ -127,7 +130,7 @@ all-open o stripe a [] f each = tt
 all-open o stripe a (s ∷ seen) f each = (
   subst (λ (n : ℕ). OpensTo o n stripe s (f n)) (let e : a + 0 ≡ a = omega arith in e) (each 0 (omega arith)),
   all-open o stripe (a + 1) seen f
-  (λ k below. subst (λ (n : ℕ). OpensTo o n stripe (get_or seen k None) (f n)) (let e : a + suc k ≡ a + 1 + k = omega arith in e) (each (suc k) (omega (arith, below)))),
+      (λ k below. subst (λ (n : ℕ). OpensTo o n stripe (get_or seen k None) (f n)) (let e : a + suc k ≡ a + 1 + k = omega arith in e) (each (suc k) (omega (arith, below)))),
 )
 
 pub AllOpen-each : (o : Object) (stripe n : ℕ) (seen : List SeenBlock) (marks : List Bool) (blocks : List (List ℕ)) → length seen ≡ n →
@@ -186,5 +189,42 @@ rows_more o opened old new row place within accepted here others before p below 
           row = old_row.row;
           accepted = old_row.accepted;
           values = λ j inside. others (j * o.profile.keep + p)
-          (λ h. other (sym (mod-mul-add j o.profile.keep p (omega (arith, less, within))) ∙ h)) ∙ old_row.values j inside;
+              (λ h. other (sym (mod-mul-add j o.profile.keep p (omega (arith, less, within))) ∙ h)) ∙ old_row.values j inside;
         }
+
+-- what stands at the places of all kept rows is what the seen blocks give
+pub gives : (o : Object) (stripe : ℕ) (seen opened : List SeenBlock) (symbols : List ℕ) → AllOpen o stripe 0 seen opened → length symbols ≡ stripe_symbols o →
+    ((place : ℕ) → place < o.profile.keep → HasRow o opened place symbols) → GivesSymbols o stripe seen symbols
+gives o stripe seen opened symbols opens long has = record {
+  opened = opened;
+  opens = opens;
+  size = long;
+  accepted = λ place within.
+      let h = has place within in
+      record {
+        row = h.row;
+        accepted = h.accepted;
+        values = λ j below. slice_get-get_or symbols (j * o.profile.keep + place) 0 (index_within o.shape.l o.profile.keep j place (length symbols) long below within)
+            ∙ ap Some (h.values j below);
+      };
+}
+
+pub loses : (o : Object) (stripe row : ℕ) (seen opened : List SeenBlock) → AllOpen o stripe 0 seen opened → LosesPlace o opened stripe row → LosesRow o stripe seen row
+loses o stripe row seen opened opens h = record {
+  opened = opened;
+  opens = opens;
+  place = h.place;
+  kept = h.kept;
+  number = h.number;
+  lost = h.lost;
+  lowest = h.lowest;
+}
+
+-- the sizes of all blocks, whatever is read past the end
+pub all-blocks : (blocks : List (List ℕ)) (size : ℕ) → ((k : ℕ) → k < length blocks → length (get_or blocks k []) ≡ size) → All (λ block. length block ≡ size) blocks
+all-blocks blocks size each k d below = ap length (get_or-within blocks k d [] below) ∙ each k below
+
+-- a fact that holds where a call succeeded gives another there
+pub on_ok : {T E : Type 0} (P Q : Type 0) (r : Result T E) → (P → Q) → OnOk r P → OnOk r Q
+on_ok P Q (Ok x) f h = f h
+on_ok P Q (Err e) f h = h

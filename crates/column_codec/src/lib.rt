@@ -7,12 +7,12 @@ mod encode;
 mod gather;
 mod keys;
 mod open_block;
-mod open_stripe;
+mod opening;
 
 pub use block::Block;
 pub use encode::{column_block, encode_stripe};
 pub use keys::ObjectKeys;
-pub use open_stripe::RowLost;
+pub use opening::{RowLost, open_stripe};
 
 #[cfg(test)]
 mod tests;

@@ -1,5 +1,5 @@
-use crate::keys::ObjectKeys;
 use crate::Block;
+use crate::keys::ObjectKeys;
 use hail_field::Symbol;
 use hail_poly::Work;
 use server_code::AnyCode;

@@ -1,3 +1,5 @@
+ghost use Rattle.std.specs.Prelude.{◌≡◌, replicate};
+
 use super::*;
 use code_points::find_profile;
 use file_layout::FileShape;
@@ -5,6 +7,8 @@ use hail_field::{Shape, Symbol};
 use hail_poly::Work;
 use key_schedule::Master;
 use server_code::AnyCode;
+use std::alloc::Global;
+use std::process::Abort;
 
 fn numbered_key() -> Master {
     let mut bytes = [0; 32];
@@ -74,4 +78,79 @@ fn columns_are_as_computed_elsewhere(rt: HostRuntime) {
         *symbol = Symbol::ONE;
     }
     assert_eq!(rt; ones.symbols(), [Symbol::ONE; 2].as_slice());
+}
+
+// A block of zeros.
+fn zeros(rt: &impl Abort, alloc: Global, size: usize) -> Block
+    ensures { result ≡ replicate size 0 }
+{
+    Block::zeros(alloc, size).expect(rt, "memory")
+}
+
+// A block of the same first six symbols.
+fn copy_of(rt: &impl Abort, alloc: Global, block: &Block) -> Block {
+    let mut copy = zeros(rt, alloc, 6);
+    for (to, from) in copy.symbols_mut().iter_mut().zip(block.symbols().iter()) {
+        *to = *from;
+    }
+    copy
+}
+
+#[test]
+fn stripes_open_with_one_block_absent(rt: HostRuntime) {
+    let master = numbered_key();
+    let profile = find_profile(0).expect(&rt, "a profile");
+    let file = FileShape {
+        id: 1,
+        length: 33,
+        shape: Shape::new(4, 1, 1).expect(&rt, "a shape"),
+        profile,
+    };
+    let alloc = rt.alloc();
+    let code = AnyCode::new(alloc, profile).expect(&rt, "memory");
+    let mut work = Work::new(alloc, 128).expect(&rt, "memory");
+    let mut out = [
+        zeros(&rt, alloc, 6),
+        zeros(&rt, alloc, 6),
+        zeros(&rt, alloc, 6),
+        zeros(&rt, alloc, 6),
+    ];
+    let mut scratch = [
+        zeros(&rt, alloc, 6),
+        zeros(&rt, alloc, 6),
+        zeros(&rt, alloc, 6),
+        zeros(&rt, alloc, 6),
+    ];
+    let mut rows = [Symbol::ONE; 2];
+    encode_stripe(&master, &file, &code, 1, &[1; 33], &mut out, &mut work);
+    let seen = [
+        None,
+        Some(copy_of(&rt, alloc, &out[1])),
+        Some(copy_of(&rt, alloc, &out[2])),
+        Some(copy_of(&rt, alloc, &out[3])),
+    ];
+    let opened = open_stripe(
+        &master,
+        &file,
+        &code,
+        1,
+        &seen,
+        &mut rows,
+        &mut scratch,
+        &mut work,
+    );
+    assert_eq!(rt; opened, Ok(()));
+    assert_eq!(rt; rows, [Symbol::ONE, Symbol::ZERO]);
+    let lost = open_stripe(
+        &master,
+        &file,
+        &code,
+        1,
+        &[None, None, None, None],
+        &mut rows,
+        &mut scratch,
+        &mut work,
+    );
+    assert_eq!(rt; lost, Err(RowLost { row: 6 }));
+    assert_eq!(rt; rows, [Symbol::ZERO; 2]);
 }

@@ -22,9 +22,9 @@ loop-j-preserved c =
     let len : c.block.inside.symbols.len ≡ length new = omega (arith, c.deref_mut.ensures.len, c.open_block.auto.out) in
     record {
       each = opened_more o c.args.stripe c.args.seen.now c.loop-j.marks c.loop-j.out j c.index-seen-j.result c.open_block.result _ new
-      (omega (arith, c.loop-j.invariant.many, keys.file.shape.fits.1)) inside
-      (c.index-seen-j.is ∙ get_or-within c.args.seen.now j c.index-seen-j.result None (omega (arith, c.requires.seen)))
-      (rewritten new _ c.block.inside.symbols.len len) c.open_block.ensures.yes c.open_block.ensures.no c.loop-j.invariant.each;
+          (omega (arith, c.loop-j.invariant.many, keys.file.shape.fits.1)) inside
+          (c.index-seen-j.is ∙ get_or-within c.args.seen.now j c.index-seen-j.result None (omega (arith, c.requires.seen)))
+          (rewritten new _ c.block.inside.symbols.len len) c.open_block.ensures.yes c.open_block.ensures.no c.loop-j.invariant.each;
       sizes = all_sizes c.loop-j.out keys.file.profile.size j _ new inside (rewritten new _ c.block.inside.symbols.len len) size c.loop-j.invariant.sizes;
       many = length-set c.loop-j.marks j c.open_block.result ∙ c.loop-j.invariant.many;
       room = c.open_block.ensures.room ∙ c.loop-j.invariant.room;

@@ -1,6 +1,6 @@
 use Rattle.std.proofs.Common.{◌≡◌, ◌≢◌, ◌<◌, ◌+◌, ◌*◌, ◌%◌, ℕ, get_or}
 use Rattle.hail_codes.specs.Polynomials.{value}
-use Rattle.column_codec.proofs.open_stripe.put_row.Given as goal
+use Rattle.column_codec.proofs.opening.put_row.Given as goal
 
 -- the blocks before this one have their value, and the other places are as they were
 abbrev pub invariant-loop-j : goal.invariant-loop-j

@@ -10,8 +10,10 @@ ghost use Rattle.column_codec.specs.OpenedBlocks.{opened_at, opened_of, HasRow, 
 use crate::block::Block;
 use crate::keys::ObjectKeys;
 use dispersal_code::open_row;
+use file_layout::FileShape;
 use hail_field::Symbol;
 use hail_poly::Work;
+use key_schedule::Master;
 use server_code::AnyCode;
 
 // The symbol at a place of a block, none where the block did not open.
@@ -95,7 +97,13 @@ impl ObjectKeys {
     }
 
     /// Looks for the polynomial that a row is accepted with, which is then the rest of `work`.
-    fn open_place(&self, marks: &[bool; 16], blocks: &[Block], place: usize, work: &mut Work) -> bool
+    fn open_place(
+        &self,
+        marks: &[bool; 16],
+        blocks: &[Block],
+        place: usize,
+        work: &mut Work,
+    ) -> bool
         requires blocks { length blocks.now ≡ self.now.file.shape.n }
         requires place { (j : ℕ) → j < length blocks.now → place < length (slice_index_or blocks.now j []) }
         requires room { 16 ≤ work.old.size }
@@ -147,4 +155,61 @@ impl ObjectKeys {
         }
         Ok(())
     }
+
+    /// Opens the seen blocks of a stripe, and fills `rows` with its symbols in layout order. `RowLost` names the lowest row
+    /// at a kept place that is not accepted; `rows` is then all zero.
+    pub fn open_stripe(
+        &self,
+        code: &AnyCode,
+        stripe: u32,
+        seen: &[Option<Block>],
+        rows: &mut [Symbol],
+        scratch: &mut [Block],
+        work: &mut Work,
+    ) -> Result<(), RowLost>
+        requires code { profile_of code.now ≡ self.now.file.profile }
+        requires seen { length seen.now ≡ self.now.file.shape.n }
+        requires rows { length rows.old ≡ self.now.file.shape.l * self.now.file.profile.keep }
+        requires scratch { length scratch.old ≡ self.now.file.shape.n }
+        requires blocks { All (λ block. length block ≡ self.now.file.profile.size) scratch.old }
+        requires room { 128 ≤ work.old.size }
+        ensures ok { OnOk result (GivesSymbols (object_of self.now.master.0 self.now.file) stripe seen.now rows.new) }
+        ensures lost { IfErr result (λ lost. LosesRow (object_of self.now.master.0 self.now.file) stripe seen.now lost.row) }
+        ensures zeros { OnErr result (rows.new ≡ replicate (length rows.old) 0) }
+        ensures blocks { All (λ block. length block ≡ self.now.file.profile.size) scratch.new }
+        ensures room { work.new.size ≡ work.old.size }
+    {
+        let marks = self.open_blocks(code, stripe, seen, scratch, work);
+        self.open_rows(stripe, &marks, scratch, rows, work)
+    }
+}
+
+/// Fills `rows` with the symbols of a stripe in layout order, opened from the blocks that were seen of all providers: each
+/// to the codeword near it, each row to the polynomial of degree below `l` that agrees with enough of them. `RowLost`
+/// comes exactly where some row at a kept place is not accepted, with the lowest such row; `rows` is then all zero.
+/// It takes no memory. Where more stripes of one object are opened, `ObjectKeys` saves deriving its keys each time.
+pub fn open_stripe(
+    master: &Master,
+    file: &FileShape,
+    code: &AnyCode,
+    stripe: u32,
+    seen: &[Option<Block>],
+    rows: &mut [Symbol],
+    scratch: &mut [Block],
+    work: &mut Work,
+) -> Result<(), RowLost>
+    requires code { profile_of code.now ≡ file.now.profile }
+    requires seen { length seen.now ≡ file.now.shape.n }
+    requires rows { length rows.old ≡ file.now.shape.l * file.now.profile.keep }
+    requires scratch { length scratch.old ≡ file.now.shape.n }
+    requires blocks { All (λ block. length block ≡ file.now.profile.size) scratch.old }
+    requires room { 128 ≤ work.old.size }
+    ensures ok { OnOk result (GivesSymbols (object_of master.now.0 file.now) stripe seen.now rows.new) }
+    ensures lost { IfErr result (λ lost. LosesRow (object_of master.now.0 file.now) stripe seen.now lost.row) }
+    ensures zeros { OnErr result (rows.new ≡ replicate (length rows.old) 0) }
+    ensures blocks { All (λ block. length block ≡ file.now.profile.size) scratch.new }
+    ensures room { work.new.size ≡ work.old.size }
+{
+    let keys = ObjectKeys::new(master, file);
+    keys.open_stripe(code, stripe, seen, rows, scratch, work)
 }

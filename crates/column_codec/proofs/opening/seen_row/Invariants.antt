@@ -2,7 +2,7 @@ use Rattle.std.proofs.Common.{◌≡◌, ℕ, take, map}
 use Rattle.hail_codes.specs.Points.{upto}
 use Rattle.hail_columns.specs.Opened.{symbol_in}
 use Rattle.column_codec.specs.OpenedBlocks.{opened_at}
-use Rattle.column_codec.proofs.open_stripe.seen_row.Given as goal
+use Rattle.column_codec.proofs.opening.seen_row.Given as goal
 
 -- the providers before this one are filled in
 abbrev pub invariant-loop-j : goal.invariant-loop-j

@@ -1,5 +1,5 @@
 use Rattle.std.proofs.Common.{◌≡◌, take, replicate}
-use Rattle.column_codec.proofs.open_stripe.clear.Given as goal
+use Rattle.column_codec.proofs.opening.clear.Given as goal
 
 -- the symbols before this one are zero
 abbrev pub invariant-loop-symbol : goal.invariant-loop-symbol
