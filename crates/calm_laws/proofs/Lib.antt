@@ -1,1 +1,5 @@
 pub mod Names
+pub mod GetEnds
+pub mod Kept
+pub mod Onward
+pub mod Fetches

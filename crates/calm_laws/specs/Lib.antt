@@ -1,0 +1,3 @@
+pub mod FewWrong
+pub mod Stays
+pub mod Fetching
