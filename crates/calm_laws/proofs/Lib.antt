@@ -3,3 +3,4 @@ pub mod GetEnds
 pub mod Kept
 pub mod Onward
 pub mod Fetches
+pub mod Absent

@@ -1,7 +1,13 @@
 //! Laws over runs for the second half of the main theorem.
 ghost use Rattle.std.specs.Prelude.{◌≡◌, ◌⊎◌, ℕ, ◌<◌, ◌≤◌, List, ◌∷◌, length, Some, IsTrue};
 ghost use Rattle.std.specs.List.{Contains};
-ghost use Rattle.hail_columns.specs.Objects.{stripes};
+ghost use Rattle.hail_field.specs.Shape.{IsShape};
+ghost use Rattle.hail_codes.specs.Points.{upto, values_at};
+ghost use Rattle.hail_codes.specs.Profiles.{profile_of};
+ghost use Rattle.hail_columns.specs.Objects.{Object, stripes, symbols_in};
+ghost use Rattle.hail_columns.specs.Columns.{primary_row};
+ghost use Rattle.hail_columns.specs.Opened.{SeenBlock, AllOpen, AcceptsRow, GivesSymbols, block_at};
+ghost use Rattle.hail_columns.specs.Forgeries.{count_of, IsRow};
 ghost use Rattle.hail_records.specs.Records.{is_name};
 ghost use Rattle.hail_records.specs.Table.{File};
 ghost use Rattle.hail_machine.specs.Jobs.{GetJob, Pinned, Job, job_of};
@@ -11,7 +17,7 @@ ghost use Rattle.hail_machine.specs.Events.{Begin, Step, Refused, Ended};
 ghost use Rattle.hail_machine.specs.States.{State, IsStart, object_in, file_in};
 ghost use Rattle.hail_machine.specs.Runs.{Moment, IsRun, now, first_moments};
 ghost use Rattle.hail_machine.specs.Halves.{IsGetRefusal, AllTell};
-ghost use Rattle.calm_laws.specs.FewWrong.{IsFewWrong};
+ghost use Rattle.calm_laws.specs.FewWrong.{is_wrong_seen, IsFewWrong};
 ghost use Rattle.hail_machine.specs.Actions.{Fetch};
 ghost use Rattle.hail_machine.specs.Deeds.{Makes};
 ghost use Rattle.calm_laws.specs.Stays.{Stays};
@@ -86,4 +92,18 @@ pub fn telling_goes_on()
 pub fn fetches_give_held_blocks()
     ensures { (limit : ℕ) (start : State) (m : Moment) (ms : List Moment) (job : Job) (j object stripe : ℕ) → IsRun limit start (m ∷ ms) →
         Makes (now start ms) m job (Fetch j object stripe) → GaveFetched (now start ms) m.state job j object stripe }
+{}
+
+/// Blocks that are absent do no harm to accepted rows: where at most b providers' blocks of a stripe are there and wrong, however many
+/// are absent, each accepted row has the file's own primary symbols, and what the blocks give, if anything, are the file's symbols.
+pub fn absent_blocks_leave_rows_right()
+    ensures rows { (o : Object) (bytes : List ℕ) (number stripe place : ℕ) (seen opened : List SeenBlock) (p : List ℕ) →
+        o.profile ≡ profile_of number → IsShape o.shape.n o.shape.l o.shape.b → IsRow o bytes stripe place →
+        count_of (λ j. is_wrong_seen o bytes j stripe (block_at seen j)) (upto o.shape.n) ≤ o.shape.b →
+        AllOpen o stripe 0 seen opened → AcceptsRow o opened place p →
+        values_at (upto o.shape.l) p ≡ primary_row o (symbols_in o bytes stripe) place }
+    ensures symbols { (o : Object) (bytes : List ℕ) (number stripe : ℕ) (seen : List SeenBlock) (symbols : List ℕ) →
+        o.profile ≡ profile_of number → IsShape o.shape.n o.shape.l o.shape.b → stripe < stripes o (length bytes) →
+        count_of (λ j. is_wrong_seen o bytes j stripe (block_at seen j)) (upto o.shape.n) ≤ o.shape.b →
+        GivesSymbols o stripe seen symbols → symbols ≡ symbols_in o bytes stripe }
 {}
