@@ -4,3 +4,4 @@ pub mod Kept
 pub mod Onward
 pub mod Fetches
 pub mod Absent
+pub mod Origin

@@ -1,5 +1,5 @@
 //! Laws over runs for the second half of the main theorem.
-ghost use Rattle.std.specs.Prelude.{◌≡◌, ◌⊎◌, ℕ, ◌<◌, ◌≤◌, List, ◌∷◌, length, Some, IsTrue};
+ghost use Rattle.std.specs.Prelude.{◌≡◌, ◌⊎◌, ℕ, ◌<◌, ◌≤◌, List, ◌∷◌, length, Option, Some, IsTrue};
 ghost use Rattle.std.specs.List.{Contains};
 ghost use Rattle.hail_field.specs.Shape.{IsShape};
 ghost use Rattle.hail_codes.specs.Points.{upto, values_at};
@@ -10,7 +10,7 @@ ghost use Rattle.hail_columns.specs.Opened.{SeenBlock, AllOpen, AcceptsRow, Give
 ghost use Rattle.hail_columns.specs.Forgeries.{count_of, IsRow};
 ghost use Rattle.hail_records.specs.Records.{is_name};
 ghost use Rattle.hail_records.specs.Table.{File};
-ghost use Rattle.hail_machine.specs.Jobs.{GetJob, Pinned, Job, job_of};
+ghost use Rattle.hail_machine.specs.Jobs.{GetJob, Pinned, Fetched, Job, job_of};
 ghost use Rattle.hail_machine.specs.Refusals.{Refusal};
 ghost use Rattle.hail_machine.specs.Answers.{Answer, Got, Lost};
 ghost use Rattle.hail_machine.specs.Events.{Begin, Step, Refused, Ended};
@@ -22,6 +22,7 @@ ghost use Rattle.hail_machine.specs.Actions.{Fetch};
 ghost use Rattle.hail_machine.specs.Deeds.{Makes};
 ghost use Rattle.calm_laws.specs.Stays.{Stays};
 ghost use Rattle.calm_laws.specs.Fetching.{GaveFetched};
+ghost use Rattle.calm_laws.specs.Origins.{CameOf};
 
 /// In every run a name in effect is a name of the grammar.
 pub fn stored_names_are_names()
@@ -106,4 +107,13 @@ pub fn absent_blocks_leave_rows_right()
         o.profile ≡ profile_of number → IsShape o.shape.n o.shape.l o.shape.b → stripe < stripes o (length bytes) →
         count_of (λ j. is_wrong_seen o bytes j stripe (block_at seen j)) (upto o.shape.n) ≤ o.shape.b →
         GivesSymbols o stripe seen symbols → symbols ≡ symbols_in o bytes stripe }
+{}
+
+/// Each block or none that a running job was given by a fetch, it was given at a moment since its begin: what the provider held then, if
+/// it was of the size, or none and the provider's count of failed calls rose. Of a provider that does not tell what it holds it is any
+/// block of the size or none.
+pub fn given_blocks_were_held()
+    ensures { (limit : ℕ) (start : State) (ms : List Moment) (number : ℕ) (job : Job) (j object stripe : ℕ) (block : Option (List ℕ)) →
+        IsStart start → IsRun limit start ms → job_of (now start ms).jobs number ≡ Some job →
+        Contains job.given (Fetched j object stripe block) → CameOf start ms job.begun j object stripe block }
 {}
