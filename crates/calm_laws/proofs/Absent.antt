@@ -1,0 +1,140 @@
+-- Blocks that are absent take nothing from accepted rows: only wrong ones that are there could forge one.
+use Rattle.std.proofs.Common.{◌≡◌, ℕ, zero, suc, ◌+◌, ◌-◌, ◌*◌, ◌<◌, ◌≤◌, ◌&&◌, Bool, true, false, ◌⊎◌, List, [], ◌∷◌, length, drop, map, get_or, Some, None, refl, ap, sym, ◌∙◌, inl, inr, arith, get_or-take, get_or-drop}
+use Rattle.std.specs.Prelude.{is_some, nat_lt, slice_index}
+use Rattle.std.specs.List.{range_with_len}
+use Rattle.std.proofs.lemmas.Bool.{cases_eq, and_parts, and_from, false≢true}
+use Rattle.std.proofs.Math.Nat.{mul-le-mul_right}
+use Rattle.std.proofs.lemmas.List.FromFn.{get_or-map-range_with_len, fill_by_all}
+use Rattle.std.proofs.lemmas.Option.{get_or_from_slice_get}
+use Rattle.hail_field.specs.Shape.{IsShape}
+use Rattle.poly_laws.specs.Poly.{is_seen as is_seen_over}
+use Rattle.hail_codes.specs.Polynomials.{value, interpolate, is_seen}
+use Rattle.hail_codes.specs.Points.{upto, values_at}
+use Rattle.hail_codes.specs.Profiles.{profile_of}
+use Rattle.hail_codes.specs.ServerCode.{codeword}
+use Rattle.hail_columns.specs.Objects.{Object, stripes, stripe_symbols, symbol_of, symbols_in, kept_by, point}
+use Rattle.hail_columns.specs.Columns.{primary_row, is_wrong_block}
+use Rattle.hail_columns.specs.Opened.{SeenBlock, OpensTo, AllOpen, symbol_in, block_at, AcceptsRow, AcceptsSymbols, GivesSymbols}
+use Rattle.hail_columns.specs.Forgeries.{count_of, is_agreeing, IsRow, IsStripeForgery}
+use Rattle.hail_columns.proofs.ColumnLaws.{value-interpolate_upto}
+use Rattle.hail_columns.proofs.SecondaryLaws.{length-kept_by}
+use Rattle.column_laws.proofs.UniqueLaws.{profile-room}
+use Rattle.column_laws.proofs.RightBlocks.{length-symbols_in}
+use Rattle.column_laws.proofs.Counts.{count_of-within, opens-at}
+use Rattle.column_laws.proofs.OtherRows.{forgery-of_other}
+use Rattle.calm_laws.specs.FewWrong.{is_wrong_seen}
+
+-- two lists of numbers are equal or they are not
+same_or_other : (xs ys : List ℕ) → (xs ≡ ys) ⊎ (xs ≡ ys → ⊥)
+same_or_other [] [] = inl refl
+same_or_other [] (y ∷ ys) = inr (λ e. cc)
+same_or_other (x ∷ xs) [] = inr (λ e. cc)
+same_or_other (x ∷ xs) (y ∷ ys) = elim (cases_eq x y) [
+  | inr other ↦ inr (λ e. other (let f : x ≡ y = cc in f))
+  | inl same ↦ elim (same_or_other xs ys) [
+    | inl rest ↦ inl (let f : x ∷ xs ≡ y ∷ ys = cc in f)
+    | inr other ↦ inr (λ e. other (let f : xs ≡ ys = cc in f))
+  ]
+]
+
+-- two lists of values are equal at each place
+map_at : (f g : ℕ → ℕ) (a n : ℕ) → map f (range_with_len a n) ≡ map g (range_with_len a n) → (j : ℕ) → a ≤ j → j < a + n → f j ≡ g j
+map_at f g a zero e j low high = absurd (omega (arith, low, high))
+map_at f g a (suc n) e j low high =
+    let parts : f a ∷ map f (range_with_len (a + 1) n) ≡ g a ∷ map g (range_with_len (a + 1) n) = e in
+    let first : f a ≡ g a = cc in
+    let rest : map f (range_with_len (a + 1) n) ≡ map g (range_with_len (a + 1) n) = cc in
+    elim (cases_eq j a) [
+      | inl here ↦ ap f here ∙ (first ∙ ap g (sym here))
+      | inr other ↦ map_at f g (a + 1) n rest j (omega (arith, low, other)) (omega (arith, high))
+    ]
+
+-- each number below l * keep is a place of one of l blocks
+record IsPlace (l keep i : ℕ) : Type 0 where
+  block : ℕ
+  place : ℕ
+  block_in : block < l
+  place_in : place < keep
+  sum : i ≡ block * keep + place
+
+place-of : (l keep i : ℕ) → i < l * keep → IsPlace l keep i
+place-of zero keep i below = absurd (omega (arith, below))
+place-of (suc l) keep i below = go (nat_lt i (l * keep)) refl (place-of l keep i)
+  where
+    split : suc l * keep ≡ l * keep + keep
+    split = grind arith
+
+    go : (b : Bool) → nat_lt i (l * keep) ≡ b → (i < l * keep → IsPlace l keep i) → IsPlace (suc l) keep i
+    go true is before =
+        let h = before (grind (arith, is)) in
+        record { block = h.block; place = h.place; block_in = omega (arith, h.block_in); place_in = h.place_in; sum = h.sum }
+    go false is before =
+        let out : l * keep ≤ i = grind (arith, is) in
+        record { block = l; place = i - l * keep; block_in = omega arith; place_in = omega (arith, out, below, split); sum = omega (arith, out) }
+
+module _ (o : Object) (bytes : List ℕ) where
+  -- a symbol of a stripe, in layout order
+  abbrev own : ℕ → ℕ → ℕ
+  own stripe i = symbol_of bytes (stripe * stripe_symbols o + i)
+
+  -- a primary symbol at a kept place is the file's
+  primary-symbol : (stripe place j : ℕ) → place < o.profile.keep → place < o.profile.size → j < o.shape.l →
+      slice_index (codeword o.profile (kept_by o (symbols_in o bytes stripe) j)) place ≡ own stripe (j * o.profile.keep + place)
+  primary-symbol stripe place j kept within below =
+      let symbols = symbols_in o bytes stripe in
+      let mine = kept_by o symbols j in
+      let more : suc j * o.profile.keep ≤ o.shape.l * o.profile.keep = mul-le-mul_right o.profile.keep below in
+      let split : suc j * o.profile.keep ≡ j * o.profile.keep + o.profile.keep = grind arith in
+      let same : mine ≡ map (λ k. own stripe (j * o.profile.keep + k)) (upto o.profile.keep) =
+      fill_by_all (λ k. own stripe (j * o.profile.keep + k)) mine o.profile.keep 0 (length-kept_by o symbols j (length-symbols_in o bytes stripe) below)
+      (λ k less. get_or-take o.profile.keep (drop (j * o.profile.keep) symbols) k 0 less
+      ∙ get_or-drop (j * o.profile.keep) symbols k 0
+      ∙ get_or-map-range_with_len (own stripe) 0 (stripe_symbols o) (j * o.profile.keep + k) (j * o.profile.keep + k) 0 (omega (arith, less, more, split)) (omega arith)) in
+      get_or-map-range_with_len (value (interpolate (upto o.profile.keep) mine)) 0 o.profile.size place place 0 within (omega arith)
+      ∙ ap (λ ks. value (interpolate (upto o.profile.keep) ks) place) same
+      ∙ value-interpolate_upto (λ k. own stripe (j * o.profile.keep + k)) o.profile.keep place kept
+
+  -- the symbols of a row are the file's
+  abbrev IsRightRow : ℕ → List ℕ → ℕ → Type 0
+  IsRightRow stripe symbols place = (j : ℕ) → j < o.shape.l → get_or symbols (j * o.profile.keep + place) 0 ≡ own stripe (j * o.profile.keep + place)
+
+  right-symbols : (stripe : ℕ) (symbols : List ℕ) → length symbols ≡ stripe_symbols o → ((place : ℕ) → place < o.profile.keep → IsRightRow stripe symbols place) → symbols ≡ symbols_in o bytes stripe
+  right-symbols stripe symbols size rows =
+      fill_by_all (own stripe) symbols (stripe_symbols o) 0 size (λ i below. at i (place-of o.shape.l o.profile.keep i below))
+    where
+      at : (i : ℕ) → IsPlace o.shape.l o.profile.keep i → get_or symbols i 0 ≡ own stripe i
+      at i h = ap (λ k. get_or symbols k 0) h.sum ∙ rows h.place h.place_in h.block h.block_in ∙ ap (own stripe) (sym h.sum)
+
+-- a provider that agrees with a polynomial gave a block
+agrees_seen : (o : Object) (j stripe place v : ℕ) (seen opened : SeenBlock) → OpensTo o j stripe seen opened → is_seen v (symbol_in place opened) ≡ true → is_some seen ≡ true
+unfolding is_seen_over
+agrees_seen o j stripe place v None opened e h = absurd (false≢true (ap (λ (x : SeenBlock). is_seen v (symbol_in place x)) (sym e) ∙ h))
+agrees_seen o j stripe place v (Some block) opened e h = refl
+
+pub own_row : (o : Object) (bytes : List ℕ) (number stripe place : ℕ) (seen opened : List SeenBlock) (p : List ℕ) → o.profile ≡ profile_of number → IsShape o.shape.n o.shape.l o.shape.b →
+    IsRow o bytes stripe place → count_of (λ j. is_wrong_seen o bytes j stripe (block_at seen j)) (upto o.shape.n) ≤ o.shape.b → AllOpen o stripe 0 seen opened → AcceptsRow o opened place p →
+    values_at (upto o.shape.l) p ≡ primary_row o (symbols_in o bytes stripe) place
+own_row o bytes number stripe place seen opened p is shape row few opens accepted = elim (same_or_other (values_at (upto o.shape.l) p) (primary_row o (symbols_in o bytes stripe) place)) [
+  | inl same ↦ same
+  | inr other ↦ absurd (too_few (forgery-of_other o bytes number (λ s. seen) stripe place opened p is shape row opens accepted other))
+]
+  where
+    too_few : IsStripeForgery o bytes (λ s. seen) stripe place → ⊥
+    too_few f =
+        (let w = count_of-within (λ j. is_agreeing o f.opened place f.row j && is_wrong_block o bytes j stripe (block_at seen j)) (λ j. is_wrong_seen o bytes j stripe (block_at seen j)) 0 o.shape.n
+        (λ j l h. (let q = and_parts (is_agreeing o f.opened place f.row j) (is_wrong_block o bytes j stripe (block_at seen j)) h in
+        and_from (is_some (block_at seen j)) (is_wrong_block o bytes j stripe (block_at seen j))
+        (agrees_seen o (0 + j) stripe place (value f.row (point o j)) (block_at seen j) (block_at f.opened j) (opens-at o stripe 0 j seen f.opened f.opens) q.0) q.1)) in
+        let many = f.forged.wrong_ones in
+        omega (arith, w, many, few))
+
+pub own_symbols : (o : Object) (bytes : List ℕ) (number stripe : ℕ) (seen : List SeenBlock) (symbols : List ℕ) → o.profile ≡ profile_of number → IsShape o.shape.n o.shape.l o.shape.b →
+    stripe < stripes o (length bytes) → count_of (λ j. is_wrong_seen o bytes j stripe (block_at seen j)) (upto o.shape.n) ≤ o.shape.b → GivesSymbols o stripe seen symbols → symbols ≡ symbols_in o bytes stripe
+own_symbols o bytes number stripe seen symbols is shape below few gives = right-symbols o bytes stripe symbols gives.size (λ place kept. by_row place kept (gives.accepted place kept))
+  where
+    by_row : (place : ℕ) → place < o.profile.keep → AcceptsSymbols o gives.opened place symbols → IsRightRow o bytes stripe symbols place
+    by_row place kept one = λ j l.
+        get_or_from_slice_get symbols (j * o.profile.keep + place) (value one.row j) 0 (one.values j l)
+        ∙ map_at (value one.row) (λ k. slice_index (codeword o.profile (kept_by o (symbols_in o bytes stripe) k)) place) 0 o.shape.l
+        (own_row o bytes number stripe place seen gives.opened one.row is shape (record { stripe_in = below; place_in = kept }) few gives.opens one.accepted) j (omega arith) (omega (arith, l))
+        ∙ primary-symbol o bytes stripe place j kept (omega (arith, kept, profile-room o number is)) l

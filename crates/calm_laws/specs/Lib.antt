@@ -1,0 +1,4 @@
+pub mod FewWrong
+pub mod Stays
+pub mod Fetching
+pub mod Origins
