@@ -1,5 +1,6 @@
 //! What follows for seen blocks from how many of them are wrong.
-ghost use Rattle.std.specs.Prelude.{◌≡◌, ◌≢◌, ◌<◌, ◌≤◌, ℕ, false, List, Some};
+ghost use Rattle.std.specs.Prelude.{◌≡◌, ◌≢◌, ◌<◌, ◌≤◌, ◌+◌, ◌*◌, ℕ, false, List, Some};
+ghost use Rattle.field_laws.specs.Field.{Apart};
 ghost use Rattle.hail_field.specs.Shape.{IsShape};
 ghost use Rattle.hail_codes.specs.Polynomials.{value};
 ghost use Rattle.hail_codes.specs.Points.{upto, values_at};
@@ -8,6 +9,12 @@ ghost use Rattle.hail_columns.specs.Objects.{Object, symbols_in, point};
 ghost use Rattle.hail_columns.specs.Columns.{primary_row, row_polynomial, columns, is_wrong_block};
 ghost use Rattle.hail_columns.specs.Opened.{SeenBlock, bare, OpensTo, AllOpen, symbol_in, block_at, AcceptsRow, GivesSymbols};
 ghost use Rattle.hail_columns.specs.Forgeries.{count_of, IsRow, IsStripeForgery};
+
+/// In each profile a block has the kept symbols and two more for each wrong one that is corrected, and the points 0 to size - 1 differ.
+pub fn profiles_are_sound()
+    ensures size { (number : ℕ) → (profile_of number).size ≡ (profile_of number).keep + 2 * (profile_of number).fix }
+    ensures points { (number : ℕ) → Apart (upto (profile_of number).size) }
+{}
 
 /// A seen block opens to one thing.
 pub fn opened_block_is_unique()
