@@ -79,7 +79,7 @@ mod tests {
 
     #[test]
     fn does_the_work_that_is_named(rt: HostRuntime) {
-        let rows: [(&[&str], Option<u128>); 11] = [
+        let rows: [(&[&str], Option<u128>); 16] = [
             (&["product", "60"], Some(0xe7978f9a0a8b55eba3b120ca83c1579f)),
             (&["square", "60"], Some(0xf24dc31f95ee265573f96b936b77cfc9)),
             (
@@ -106,6 +106,14 @@ mod tests {
             ),
             (&["decode", "1", "2", "5"], None),
             (&["decode", "256", "1", "0"], None),
+            (&["put-stripes", "4", "1", "1", "0", "0"], Some(0)),
+            (
+                &["get-stripes", "4", "1", "1", "0", "33"],
+                Some(0x1653e1af53e8be3373ac8e9f9a14da9f),
+            ),
+            (&["put-stripes", "5", "2", "2", "0", "1"], None),
+            (&["put-stripes", "4", "1", "1", "5", "1"], None),
+            (&["get-stripes", "4", "1", "1", "0", "4194305"], None),
         ];
         for (words, want) in rows {
             let mut owned = Vec::new(rt.alloc());
