@@ -1,5 +1,5 @@
 use hail_field::Memory;
-use std::alloc::AllocError;
+use std::alloc::{AllocError, AllocFailed};
 use std::io;
 
 /// Why nothing was measured.
@@ -13,6 +13,12 @@ pub enum Failure {
 
 impl From<AllocError> for Failure {
     fn from(_: AllocError) -> Failure {
+        Failure::Fault
+    }
+}
+
+impl<T: Drop> From<AllocFailed<T>> for Failure {
+    fn from(_: AllocFailed<T>) -> Failure {
         Failure::Fault
     }
 }

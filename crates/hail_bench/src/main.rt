@@ -6,8 +6,11 @@ mod decode;
 mod encode;
 mod failure;
 mod field;
+mod get;
 mod numbers;
 mod outcome;
+mod put;
+mod stripes;
 mod work;
 
 use failure::Failure;

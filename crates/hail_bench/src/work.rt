@@ -2,13 +2,15 @@ use crate::decode::DecodeWork;
 use crate::encode::EncodeWork;
 use crate::failure::Failure;
 use crate::field::FieldWork;
+use crate::get::GetWork;
 use crate::outcome::Outcome;
+use crate::put::PutWork;
 use std::alloc::Global;
 use std::fmt::{self, Display, Formatter, Write};
 
 /// The forms of a command line, a kind of work after another.
 pub const FORMS: &str =
-    "product|square|inverse COUNT, encode PROFILE BLOCKS, or decode PROFILE BLOCKS ERRORS";
+    "product|square|inverse COUNT, encode PROFILE BLOCKS, decode PROFILE BLOCKS ERRORS, or put-stripes|get-stripes N L B PROFILE BYTES";
 
 /// A piece of work that the words of a command line name. Each kind of work stands in a file of its own, as a type with `from_words`,
 /// `run` and `Display`; a further kind is one more variant here, and its forms in `FORMS`.
@@ -20,6 +22,10 @@ pub enum Work {
     Encode(EncodeWork),
     /// Correcting of blocks.
     Decode(DecodeWork),
+    /// Making of a file's blocks.
+    Put(PutWork),
+    /// Opening of a file's stripes.
+    Get(GetWork),
 }
 
 impl Work {
@@ -34,6 +40,12 @@ impl Work {
         if let Some(work) = DecodeWork::from_words(alloc, words)? {
             return Ok(Some(Work::Decode(work)));
         }
+        if let Some(work) = PutWork::from_words(alloc, words)? {
+            return Ok(Some(Work::Put(work)));
+        }
+        if let Some(work) = GetWork::from_words(alloc, words)? {
+            return Ok(Some(Work::Get(work)));
+        }
         Ok(None)
     }
 
@@ -43,6 +55,8 @@ impl Work {
             Work::Field(work) => Ok(work.run()),
             Work::Encode(work) => work.run(alloc),
             Work::Decode(work) => work.run(alloc),
+            Work::Put(work) => work.run(alloc),
+            Work::Get(work) => work.run(alloc),
         }
     }
 }
@@ -53,6 +67,8 @@ impl Display for Work {
             Work::Field(work) => write!(f, "{work}"),
             Work::Encode(work) => write!(f, "{work}"),
             Work::Decode(work) => write!(f, "{work}"),
+            Work::Put(work) => write!(f, "{work}"),
+            Work::Get(work) => write!(f, "{work}"),
         }
     }
 }
@@ -63,7 +79,7 @@ mod tests {
 
     #[test]
     fn does_the_work_that_is_named(rt: HostRuntime) {
-        let rows: [(&[&str], Option<u128>); 11] = [
+        let rows: [(&[&str], Option<u128>); 16] = [
             (&["product", "60"], Some(0xe7978f9a0a8b55eba3b120ca83c1579f)),
             (&["square", "60"], Some(0xf24dc31f95ee265573f96b936b77cfc9)),
             (
@@ -90,6 +106,14 @@ mod tests {
             ),
             (&["decode", "1", "2", "5"], None),
             (&["decode", "256", "1", "0"], None),
+            (&["put-stripes", "4", "1", "1", "0", "0"], Some(0)),
+            (
+                &["get-stripes", "4", "1", "1", "0", "33"],
+                Some(0x1653e1af53e8be3373ac8e9f9a14da9f),
+            ),
+            (&["put-stripes", "5", "2", "2", "0", "1"], None),
+            (&["put-stripes", "4", "1", "1", "5", "1"], None),
+            (&["get-stripes", "4", "1", "1", "0", "4194305"], None),
         ];
         for (words, want) in rows {
             let mut owned = Vec::new(rt.alloc());
