@@ -1,0 +1,82 @@
+ghost use Rattle.std.specs.Prelude.{◌≡◌, ◌≤◌, None, length, IfOk, OnOk, OnErr, IsErrOf};
+ghost use Rattle.stream_model.specs.declared.fault.WriteFault.TheVariants as write_fault;
+ghost use Rattle.hail_devices.specs.Faults.{one_more};
+
+use crate::kept_file::KeptFile;
+use crate::tried::{tried, tried_writing};
+use disk_model::Disk;
+use hail_field::Memory;
+use std::alloc::Global;
+use std::marker::Model;
+use std::rt::Runtime;
+use stream_model::{Failed, WriteFault};
+
+/// A file as a disk, seen in contracts as its count of faults. It tells nothing of what it holds.
+#[derive(Drop)]
+pub struct FileDisk<R: Runtime> {
+    file: KeptFile<R>,
+    faults: u64,
+}
+
+impl<R: Runtime> Model for FileDisk<R> {
+    ghost use Rattle.std.specs.Prelude.{ℕ};
+
+    ghost Value = { ℕ };
+
+    ghost view = { λ disk. disk.faults };
+}
+
+impl<R: Runtime> FileDisk<R> {
+    /// The file at this path, which may be missing. Opens nothing; want of memory is its one refusal.
+    pub fn new(rt: &R, alloc: Global, path: &str) -> Result<FileDisk<R>, Memory>
+        ensures { IfOk result (λ disk. disk ≡ 0) }
+    {
+        Ok(FileDisk {
+            file: KeptFile::new(rt, alloc, path)?,
+            faults: 0,
+        })
+    }
+}
+
+impl<R: Runtime> Disk for FileDisk<R> {
+    ghost holds = { λ _. None };
+
+    ghost faults = { λ disk. disk };
+
+    fn len(&mut self) -> Result<u64, Failed>
+        ensures ok { OnOk result (self.new ≡ self.old) }
+        ensures failed { OnErr result (self.new ≡ one_more self.old) }
+    {
+        tried(self.file.len(), &mut self.faults)
+    }
+
+    fn read_at(&mut self, at: u64, out: &mut [u8]) -> Result<usize, Failed>
+        ensures at_most { IfOk result (λ n. n ≤ length out.old) }
+        ensures ok { OnOk result (self.new ≡ self.old) }
+        ensures failed { OnErr result (self.new ≡ one_more self.old) }
+    {
+        tried(self.file.read_at(at, out), &mut self.faults)
+    }
+
+    fn write_at(&mut self, at: u64, bytes: &[u8]) -> Result<(), WriteFault>
+        ensures ok { OnOk result (self.new ≡ self.old) }
+        ensures failed { IsErrOf result write_fault.Failed → self.new ≡ one_more self.old }
+        ensures memory { IsErrOf result write_fault.Memory → self.new ≡ self.old }
+    {
+        tried_writing(self.file.write_at(at, bytes), &mut self.faults)
+    }
+
+    fn sync(&mut self) -> Result<(), Failed>
+        ensures ok { OnOk result (self.new ≡ self.old) }
+        ensures failed { OnErr result (self.new ≡ one_more self.old) }
+    {
+        tried(self.file.sync(), &mut self.faults)
+    }
+
+    /// A real file keeps what it reads.
+    fn stop(&mut self, picks: &[u8])
+        ensures { self.new ≡ self.old }
+    {
+        let _ = picks;
+    }
+}

@@ -1,0 +1,140 @@
+ghost use Rattle.std.specs.Prelude.{◌≡◌, ◌≤◌, ◌⊎◌, None, false, length, replicate, IfOk, OnOk, OnErr, IsErrOf, IsTrue};
+ghost use Rattle.provider_model.specs.declared.fault.StoreFault.TheVariants as store_fault;
+ghost use Rattle.hail_adapters.specs.FolderCounts.{no_counts, with_store_fault, with_other_fault, with_fetch};
+
+use crate::folder::Folder;
+use crate::tried::{tried, tried_writing};
+use challenge::Challenge;
+use hail_field::{Memory, Symbol};
+use provider_model::{Provider, StoreFault, Tamper};
+use std::alloc::{AllocError, Global};
+use std::marker::Model;
+use std::rt::Runtime;
+use stream_model::{Failed, WriteFault};
+
+/// A folder as a provider, seen in contracts as its counts. It tells nothing of what it holds. The block of object I and
+/// stripe S is the file `I-S` in it, 16 bytes a symbol.
+#[derive(Drop)]
+pub struct FolderProvider<R: Runtime> {
+    folder: Folder<R>,
+    store_faults: u64,
+    other_faults: u64,
+    fetches: u64,
+}
+
+impl<R: Runtime> Model for FolderProvider<R> {
+    ghost use Rattle.hail_adapters.specs.FolderCounts.{FolderCounts};
+
+    ghost Value = { FolderCounts };
+
+    ghost view = { λ provider. record {
+      store_faults = provider.store_faults;
+      other_faults = provider.other_faults;
+      fetches = provider.fetches;
+    } };
+}
+
+impl<R: Runtime> FolderProvider<R> {
+    /// The folder at this path, which the first store makes. Opens nothing; want of memory is its one refusal.
+    pub fn new(rt: &R, alloc: Global, path: &str) -> Result<FolderProvider<R>, Memory>
+        ensures { IfOk result (λ provider. provider ≡ no_counts) }
+    {
+        Ok(FolderProvider {
+            folder: Folder::new(rt, alloc, path)?,
+            store_faults: 0,
+            other_faults: 0,
+            fetches: 0,
+        })
+    }
+}
+
+impl<R: Runtime> Provider for FolderProvider<R> {
+    ghost held = { λ _. None };
+
+    ghost store_faults = { λ provider. provider.store_faults };
+
+    ghost other_faults = { λ provider. provider.other_faults };
+
+    ghost fetches = { λ provider. provider.fetches };
+
+    fn store(&mut self, object: u64, stripe: u32, block: &[Symbol]) -> Result<(), StoreFault>
+        requires { length block.now ≤ 128 }
+        ensures ok { OnOk result (self.new ≡ self.old) }
+        ensures failed { IsErrOf result store_fault.Failed → self.new ≡ with_store_fault self.old }
+        ensures memory { IsErrOf result store_fault.Memory → self.new ≡ self.old }
+    {
+        let stored = self.folder.store(object, stripe, block);
+        match tried_writing(stored, &mut self.store_faults) {
+            Ok(()) => Ok(()),
+            Err(WriteFault::Failed) => Err(StoreFault::Failed),
+            Err(WriteFault::Memory) => Err(StoreFault::Memory),
+        }
+    }
+
+    fn fetch(&mut self, object: u64, stripe: u32, out: &mut [Symbol]) -> Result<bool, Failed>
+        requires { length out.old ≤ 128 }
+        ensures not_found { IfOk result (λ found. found ≡ false → out.new ≡ out.old) }
+        ensures err { OnErr result (out.new ≡ out.old) }
+        ensures ok { OnOk result (self.new ≡ with_fetch self.old) }
+        ensures failed { OnErr result (self.new ≡ with_other_fault (with_fetch self.old)) }
+    {
+        self.fetches = self.fetches.saturating_add(1);
+        tried(
+            self.folder.fetch(object, stripe, out),
+            &mut self.other_faults,
+        )
+    }
+
+    fn ask(&mut self, object: u64, challenge: &Challenge) -> Result<Option<Symbol>, Failed>
+        ensures ok { OnOk result (self.new ≡ self.old) }
+        ensures failed { OnErr result (self.new ≡ with_other_fault self.old) }
+    {
+        tried(
+            self.folder.answer(object, challenge),
+            &mut self.other_faults,
+        )
+    }
+
+    fn remove(&mut self, object: u64) -> Result<(), Failed>
+        ensures ok { OnOk result (self.new ≡ self.old) }
+        ensures failed { OnErr result (self.new ≡ with_other_fault self.old) }
+    {
+        tried(self.folder.remove(object), &mut self.other_faults)
+    }
+}
+
+impl<R: Runtime> Tamper for FolderProvider<R> {
+    /// Where a call of std fails this counts as a fault, and the answer is false.
+    fn alter(&mut self, object: u64, stripe: u32, place: u32, symbol: Symbol) -> bool
+        ensures there { IsTrue result → self.new ≡ self.old }
+        ensures not_there { result ≡ false → (self.new ≡ self.old) ⊎ (self.new ≡ with_other_fault self.old) }
+    {
+        let altered = self.folder.alter(object, stripe, place, symbol);
+        tried(altered, &mut self.other_faults).unwrap_or(false)
+    }
+
+    /// Where a call of std fails this counts as a fault, and the answer is false.
+    fn lose(&mut self, object: u64, stripe: u32) -> bool
+        ensures there { IsTrue result → self.new ≡ self.old }
+        ensures not_there { result ≡ false → (self.new ≡ self.old) ⊎ (self.new ≡ with_other_fault self.old) }
+    {
+        tried(self.folder.lose(object, stripe), &mut self.other_faults).unwrap_or(false)
+    }
+}
+
+/// The sixteen providers of a home: its folders `provider-0` to `provider-15`.
+pub fn folder_providers<R: Runtime>(
+    rt: &R,
+    alloc: Global,
+    home: &str,
+) -> Result<Vec<FolderProvider<R>>, Memory>
+    ensures { IfOk result (λ providers. providers.items ≡ replicate 16 no_counts) }
+{
+    let mut providers = Vec::new(alloc);
+    for k in 0..16u8 {
+        let path = format!(in alloc; "{home}/provider-{k}")?;
+        let provider = FolderProvider::new(rt, alloc, &path)?;
+        providers.push(provider).map_err(AllocError::from)?;
+    }
+    Ok(providers)
+}

@@ -1,0 +1,104 @@
+ghost use Rattle.std.specs.Prelude.{◌≤◌, length, IfOk};
+
+use crate::found::found;
+use crate::transfer::fill;
+use hail_field::Memory;
+use std::alloc::Global;
+use std::fs::{self, OpenFile, OpenOptions};
+use std::io::{self, Seek, SeekFrom, Write};
+use std::rt::Runtime;
+
+/// A file that is opened when it is first needed, and then kept open. One that isn't there reads as empty, and the first
+/// write makes it.
+#[derive(Drop)]
+pub struct KeptFile<R: Runtime> {
+    rt: R,
+    path: String,
+    reading: Option<R::File>,
+    writing: Option<R::File>,
+}
+
+impl<R: Runtime> KeptFile<R> {
+    /// Opens nothing.
+    pub fn new(rt: &R, alloc: Global, path: &str) -> Result<KeptFile<R>, Memory> {
+        Ok(KeptFile {
+            path: String::from_str(alloc, path)?,
+            rt: rt.clone()?,
+            reading: None,
+            writing: None,
+        })
+    }
+
+    fn open_to_read(&mut self) -> io::Result<()> {
+        if self.reading.is_none() {
+            self.reading = found(fs::open(&self.rt, &self.path))?;
+        }
+        Ok(())
+    }
+
+    fn open_to_write(&mut self) -> io::Result<()> {
+        if self.writing.is_none() {
+            let mut how = OpenOptions::new();
+            how.write(true);
+            how.create(true);
+            self.writing = Some(how.open(&self.rt, &self.path)?);
+        }
+        Ok(())
+    }
+
+    /// How many bytes the file has.
+    pub fn len(&mut self) -> io::Result<u64> {
+        self.open_to_read()?;
+        match &self.reading {
+            Some(file) => Ok(file.metadata()?.len()),
+            None => Ok(0),
+        }
+    }
+
+    /// Reads the bytes from the offset on, as many as fit or are there.
+    pub fn read_at(&mut self, at: u64, out: &mut [u8]) -> io::Result<usize>
+        ensures { IfOk result (λ n. n ≤ length out.old) }
+    {
+        self.open_to_read()?;
+        match &mut self.reading {
+            Some(file) => {
+                file.seek(SeekFrom::Start(at))?;
+                fill(file, out)
+            }
+            None => Ok(0),
+        }
+    }
+
+    /// Writes the bytes from the offset on. The system fills a gap before them with zero bytes.
+    pub fn write_at(&mut self, at: u64, bytes: &[u8]) -> io::Result<()> {
+        self.open_to_write()?;
+        match &mut self.writing {
+            Some(file) => put(file, at, bytes),
+            None => Ok(()),
+        }
+    }
+
+    /// Brings what was written to the medium.
+    pub fn sync(&mut self) -> io::Result<()> {
+        if let Some(file) = &self.writing {
+            return file.sync_all();
+        }
+        self.open_to_read()?;
+        match &self.reading {
+            Some(file) => file.sync_all(),
+            None => Ok(()),
+        }
+    }
+}
+
+/// Writes at an offset. Where nothing is to be written past the end, the gap before it is all that there is to fill.
+fn put<F: Seek + Write + OpenFile>(file: &mut F, at: u64, bytes: &[u8]) -> io::Result<()> {
+    if bytes.is_empty() {
+        if file.metadata()?.len() < at {
+            file.set_len(at)?;
+        }
+        return Ok(());
+    }
+    file.seek(SeekFrom::Start(at))?;
+    file.write_all(bytes)
+}

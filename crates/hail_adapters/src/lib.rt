@@ -1,0 +1,23 @@
+//! Real devices: a file as a disk, folders as providers, and the standard streams as a source and a sink.
+#![tactic(auto)]
+
+mod block_bytes;
+mod block_name;
+mod file_disk;
+mod folder;
+mod folder_provider;
+mod found;
+mod kept_file;
+mod seen_rows;
+mod std_sink;
+mod std_source;
+mod transfer;
+mod tried;
+
+pub use file_disk::FileDisk;
+pub use folder_provider::{FolderProvider, folder_providers};
+pub use std_sink::StdSink;
+pub use std_source::StdSource;
+
+#[cfg(test)]
+mod tests;

@@ -1,0 +1,51 @@
+// Reads and writes that begin anew where a signal cut them off.
+ghost use Rattle.std.specs.Prelude.{◌≤◌, ◌<◌, length, IfOk};
+
+use std::io;
+use std::io::{ErrorKind, Print, Read};
+
+/// One read.
+pub fn read_some<F: Read>(reader: &mut F, out: &mut [u8]) -> io::Result<usize>
+    ensures { IfOk result (λ n. n ≤ length out.old) }
+{
+    for _ in 0..u64::MAX {
+        match reader.read(out) {
+            Err(error) if error.kind() == ErrorKind::Interrupted => {}
+            answer => return answer,
+        }
+    }
+    Err(ErrorKind::Interrupted.into())
+}
+
+/// Reads until `out` is full or the input ends, and says how many bytes it read.
+pub fn fill<F: Read>(reader: &mut F, out: &mut [u8]) -> io::Result<usize>
+    ensures { IfOk result (λ n. n ≤ length out.old) }
+{
+    let mut done = 0;
+    for _ in 0..u64::MAX {
+        if done >= out.len() {
+            break;
+        }
+        let n = read_some(reader, &mut out[done..])?;
+        if n == 0 {
+            break;
+        }
+        done += n;
+    }
+    Ok(done)
+}
+
+/// One write, which takes something of a piece that is not empty.
+pub fn write_some<R: Print>(rt: &R, bytes: &[u8]) -> io::Result<usize>
+    ensures at_most { IfOk result (λ n. n ≤ length bytes.now) }
+    ensures some { IfOk result (λ n. 0 < length bytes.now → 0 < n) }
+{
+    for _ in 0..u64::MAX {
+        match rt.write_some(bytes) {
+            Ok(0) if !bytes.is_empty() => return Err(ErrorKind::WriteZero.into()),
+            Err(error) if error.kind() == ErrorKind::Interrupted => {}
+            answer => return answer,
+        }
+    }
+    Err(ErrorKind::Interrupted.into())
+}
