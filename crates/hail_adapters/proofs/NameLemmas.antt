@@ -40,6 +40,7 @@ refused object name none = (λ t. absurd (search rules), λ is. absurd (none is)
 -- a test by the name that was spelled anew
 pub spelled_anew : (object stripe : ℕ) (name spelled : List ℕ) (test : Bool) → test ≡ bytes_eq name spelled → spelled ≡ block_name object stripe →
     stripe < 2 ^ 32 → ((is : IsBlockName object name) → is.0 ≡ stripe) → IsTrue test ↔ IsBlockName object name
-spelled_anew object stripe name spelled test e is small read =
-    (λ t. (stripe, small, (bytes_eq-Decides name spelled).0 (sym e ∙ t) ∙ is),
-     λ same. e ∙ (bytes_eq-Decides name spelled).1 (same.2 ∙ ap (block_name object) (read same) ∙ sym is))
+spelled_anew object stripe name spelled test e is small read = (
+  λ t. (stripe, small, (bytes_eq-Decides name spelled).0 (sym e ∙ t) ∙ is),
+  λ same. e ∙ (bytes_eq-Decides name spelled).1 (same.2 ∙ ap (block_name object) (read same) ∙ sym is),
+)
