@@ -1,3 +1,4 @@
 pub mod ByteLemmas
 pub mod NameLemmas
+pub mod ReadLemmas
 pub mod SeenLemmas

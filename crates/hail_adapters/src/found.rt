@@ -1,16 +1,26 @@
+ghost use Rattle.std.specs.Prelude.{◌≡◌, ◌⊎◌, ◌↔◌, Ok, Some, None, IfOk, IfErr, IsErr, IsTrue};
+ghost use Rattle.std.specs.IoError.{error_kind};
+
 use std::io;
 use std::io::ErrorKind;
 
+/// Nothing is at a path, or what should be a folder on the way to it is a file.
+fn is_missing(kind: ErrorKind) -> bool
+    ensures { IsTrue result ↔ ((kind ≡ ErrorKind.NotFound) ⊎ (kind ≡ ErrorKind.NotADirectory)) }
+{
+    matches!(kind, ErrorKind::NotFound | ErrorKind::NotADirectory)
+}
+
 /// What a call of std found; none where there is no such file or folder.
-pub fn found<T: Drop>(answer: io::Result<T>) -> io::Result<Option<T>> {
+pub fn found<T: Drop>(answer: io::Result<T>) -> io::Result<Option<T>>
+    ensures there { IfOk answer (λ value. result ≡ Ok (Some value)) }
+    ensures no_file { IfErr answer (λ error. error_kind error ≡ ErrorKind.NotFound → result ≡ Ok None) }
+    ensures no_folder { IfErr answer (λ error. error_kind error ≡ ErrorKind.NotADirectory → result ≡ Ok None) }
+    ensures missing { result ≡ Ok None → IsErr answer }
+{
     match answer {
         Ok(value) => Ok(Some(value)),
         Err(error) if is_missing(error.kind()) => Ok(None),
         Err(error) => Err(error),
     }
-}
-
-/// Nothing is at a path, or what should be a folder on the way to it is a file.
-fn is_missing(kind: ErrorKind) -> bool {
-    matches!(kind, ErrorKind::NotFound | ErrorKind::NotADirectory)
 }

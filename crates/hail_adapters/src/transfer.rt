@@ -1,12 +1,14 @@
 // Reads and writes that begin anew where a signal cut them off.
-ghost use Rattle.std.specs.Prelude.{◌≤◌, ◌<◌, length, IfOk};
+ghost use Rattle.std.specs.Prelude.{◌≤◌, ◌<◌, length, take, IfOk};
+ghost use Rattle.std.specs.Io.KnownBytes.{Consumes, IsAtEnd, ReadConsumes};
 
 use std::io;
 use std::io::{ErrorKind, Print, Read};
 
 /// One read.
 pub fn read_some<F: Read>(reader: &mut F, out: &mut [u8]) -> io::Result<usize>
-    ensures { IfOk result (λ n. n ≤ length out.old) }
+    ensures at_most { IfOk result (λ n. n ≤ length out.old) }
+    ensures bytes { ReadConsumes (F.remaining reader.old) (F.remaining reader.new) result out.new }
 {
     for _ in 0..u64::MAX {
         match reader.read(out) {
@@ -17,18 +19,17 @@ pub fn read_some<F: Read>(reader: &mut F, out: &mut [u8]) -> io::Result<usize>
     Err(ErrorKind::Interrupted.into())
 }
 
-/// Reads until `out` is full or the input ends, and says how many bytes it read.
+/// Reads as many bytes as fit or are left, and says how many.
 pub fn fill<F: Read>(reader: &mut F, out: &mut [u8]) -> io::Result<usize>
-    ensures { IfOk result (λ n. n ≤ length out.old) }
+    ensures at_most { IfOk result (λ n. n ≤ length out.old) }
+    ensures given { IfOk result (λ n. Consumes (F.remaining reader.old) (F.remaining reader.new) (take n out.new)) }
+    ensures as_many { IfOk result (λ n. n < length out.old → IsAtEnd (F.remaining reader.new)) }
 {
     let mut done = 0;
-    for _ in 0..u64::MAX {
-        if done >= out.len() {
-            break;
-        }
+    while done < out.len() {
         let n = read_some(reader, &mut out[done..])?;
         if n == 0 {
-            break;
+            return Ok(done);
         }
         done += n;
     }

@@ -1,5 +1,6 @@
 // How the answers of std become those of the devices, whose faults are counted.
-ghost use Rattle.std.specs.Prelude.{◌≡◌, Ok, IfOk, OnOk, OnErr, IsErr, IsErrOf};
+ghost use Rattle.std.specs.Prelude.{◌≡◌, Ok, IfOk, OnOk, OnErr, IsErr, IsErrAnd, IsErrOf};
+ghost use Rattle.std.specs.IoError.{error_kind};
 ghost use Rattle.stream_model.specs.declared.fault.WriteFault.TheVariants as write_fault;
 ghost use Rattle.hail_devices.specs.Faults.{one_more};
 
@@ -37,6 +38,7 @@ pub fn tried_writing<T: Drop>(answer: io::Result<T>, faults: &mut u64) -> Result
     ensures ok { OnOk result (faults.new ≡ faults.old) }
     ensures failed { IsErrOf result write_fault.Failed → faults.new ≡ one_more faults.old }
     ensures memory { IsErrOf result write_fault.Memory → faults.new ≡ faults.old }
+    ensures cause { IsErrOf result write_fault.Memory → IsErrAnd answer (λ error. error_kind error ≡ ErrorKind.OutOfMemory) }
 {
     match answer {
         Ok(value) => Ok(value),
