@@ -79,27 +79,24 @@ impl<R: Runtime> Provider for FolderProvider<R> {
         ensures failed { OnErr result (self.new ≡ with_other_fault (with_fetch self.old)) }
     {
         self.fetches = self.fetches.saturating_add(1);
-        tried(
-            self.folder.fetch(object, stripe, out),
-            &mut self.other_faults,
-        )
+        let fetched = self.folder.fetch(object, stripe, out);
+        tried(fetched, &mut self.other_faults)
     }
 
     fn ask(&mut self, object: u64, challenge: &Challenge) -> Result<Option<Symbol>, Failed>
         ensures ok { OnOk result (self.new ≡ self.old) }
         ensures failed { OnErr result (self.new ≡ with_other_fault self.old) }
     {
-        tried(
-            self.folder.answer(object, challenge),
-            &mut self.other_faults,
-        )
+        let answered = self.folder.answer(object, challenge);
+        tried(answered, &mut self.other_faults)
     }
 
     fn remove(&mut self, object: u64) -> Result<(), Failed>
         ensures ok { OnOk result (self.new ≡ self.old) }
         ensures failed { OnErr result (self.new ≡ with_other_fault self.old) }
     {
-        tried(self.folder.remove(object), &mut self.other_faults)
+        let removed = self.folder.remove(object);
+        tried(removed, &mut self.other_faults)
     }
 }
 
@@ -118,7 +115,8 @@ impl<R: Runtime> Tamper for FolderProvider<R> {
         ensures there { IsTrue result → self.new ≡ self.old }
         ensures not_there { result ≡ false → (self.new ≡ self.old) ⊎ (self.new ≡ with_other_fault self.old) }
     {
-        tried(self.folder.lose(object, stripe), &mut self.other_faults).unwrap_or(false)
+        let lost = self.folder.lose(object, stripe);
+        tried(lost, &mut self.other_faults).unwrap_or(false)
     }
 }
 
