@@ -1,4 +1,4 @@
-ghost use Rattle.std.specs.Prelude.{◌≡◌, ◌≤◌, ◌⊎◌, None, false, length, replicate, IfOk, OnOk, OnErr, IsErrOf, IsTrue};
+ghost use Rattle.std.specs.Prelude.{◌≡◌, ◌≤◌, ◌⊎◌, None, false, length, IfOk, OnOk, OnErr, IsErrOf, IsTrue};
 ghost use Rattle.provider_model.specs.declared.fault.StoreFault.TheVariants as store_fault;
 ghost use Rattle.hail_adapters.specs.FolderCounts.{no_counts, with_store_fault, with_other_fault, with_fetch};
 
@@ -7,7 +7,7 @@ use crate::tried::{tried, tried_writing};
 use challenge::Challenge;
 use hail_field::{Memory, Symbol};
 use provider_model::{Provider, StoreFault, Tamper};
-use std::alloc::{AllocError, Global};
+use std::alloc::Global;
 use std::marker::Model;
 use std::rt::Runtime;
 use stream_model::{Failed, WriteFault};
@@ -118,21 +118,4 @@ impl<R: Runtime> Tamper for FolderProvider<R> {
         let lost = self.folder.lose(object, stripe);
         tried(lost, &mut self.other_faults).unwrap_or(false)
     }
-}
-
-/// The sixteen providers of a home: its folders `provider-0` to `provider-15`.
-pub fn folder_providers<R: Runtime>(
-    rt: &R,
-    alloc: Global,
-    home: &str,
-) -> Result<Vec<FolderProvider<R>>, Memory>
-    ensures { IfOk result (λ providers. providers.items ≡ replicate 16 no_counts) }
-{
-    let mut providers = Vec::new(alloc);
-    for k in 0..16u8 {
-        let path = format!(in alloc; "{home}/provider-{k}")?;
-        let provider = FolderProvider::new(rt, alloc, &path)?;
-        providers.push(provider).map_err(AllocError::from)?;
-    }
-    Ok(providers)
 }

@@ -7,6 +7,7 @@ mod file_disk;
 mod folder;
 mod folder_provider;
 mod found;
+mod home;
 mod kept_file;
 mod seen_rows;
 mod std_sink;
@@ -15,7 +16,8 @@ mod transfer;
 mod tried;
 
 pub use file_disk::FileDisk;
-pub use folder_provider::{FolderProvider, folder_providers};
+pub use folder_provider::FolderProvider;
+pub use home::{folder_providers, journal_disk};
 pub use std_sink::StdSink;
 pub use std_source::StdSource;
 

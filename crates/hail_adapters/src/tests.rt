@@ -178,12 +178,16 @@ fn a_folder_that_is_a_file_holds_nothing(rt: HostRuntime) -> Result<(), Fail> {
 }
 
 #[test]
-fn a_home_has_sixteen_providers(rt: HostRuntime) -> Result<(), Fail> {
+fn a_home_has_a_journal_and_sixteen_providers(rt: HostRuntime) -> Result<(), Fail> {
     let mut providers = folder_providers(&rt, rt.alloc(), "home")?;
     assert_eq!(rt; providers.len(), 16);
     let last = &mut providers[15];
     assert_eq!(rt; last.store(1, 0, &[Symbol(1)]), Err(StoreFault::Failed));
+    let mut disk = journal_disk(&rt, rt.alloc(), "home")?;
+    assert_eq!(rt; disk.write_at(0, b"a"), Err(WriteFault::Failed));
     fs::create_dir(&rt, "home")?;
+    assert_eq!(rt; disk.write_at(0, b"a"), Ok(()));
+    fs::remove_file(&rt, "home/journal")?;
     assert_eq!(rt; last.store(1, 0, &[Symbol(1)]), Ok(()));
     assert_eq!(rt; fs::exists(&rt, "home/provider-15/1-0")?, true);
     assert_eq!(rt; last.remove(1), Ok(()));

@@ -1,4 +1,4 @@
-use Rattle.std.proofs.Common.{arith, length, length-take, length-drop, ◌∙◌}
+use Rattle.std.proofs.Common.{arith, length-take, length-drop, ◌∙◌}
 use Rattle.hail_adapters.proofs.ByteLemmas.{written_more}
 use Rattle.hail_adapters.proofs.block_bytes.put_symbols.Goals as goal
 

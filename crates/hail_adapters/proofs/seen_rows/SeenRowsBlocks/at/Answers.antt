@@ -1,4 +1,4 @@
-use Rattle.std.proofs.Common.{ℕ, ◌≡◌, arith, sym, ap, subst, ◌∙◌, ◌+◌, ◌*◌, Option, Some}
+use Rattle.std.proofs.Common.{ℕ, ◌≡◌, arith, sym, ap, ◌∙◌, ◌+◌, ◌*◌, Some}
 use Rattle.hail_columns.specs.Challenges.{symbol_at}
 use Rattle.hail_adapters.specs.SeenRows.{seen_symbol, seen_blocks}
 use Rattle.hail_adapters.proofs.SeenLemmas.{symbol_at-map, symbol_at-other}
