@@ -1,0 +1,1 @@
+//! What holds at each moment of a run of what providers hold.
