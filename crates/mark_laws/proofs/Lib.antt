@@ -1,3 +1,5 @@
 pub mod Turns
 pub mod Blocks
 pub mod Places
+pub mod Files
+pub mod Points
