@@ -33,7 +33,7 @@ use Rattle.run_laws.proofs.InEffect as eff
 use Rattle.mark_laws.specs.Damage.{IsBad, IsReplaced, RoseSince}
 use Rattle.mark_laws.proofs.Turns.{Stay_is, Doubt_now, Audits_are, Gift_is, Turns}
 use Rattle.mark_laws.proofs.Blocks.{clash, since_more, since_now, since_earlier, right_block, file_done, setup_left, up_before, up_more}
-use Rattle.mark_laws.proofs.Places.{IsReader, Passed, worked_before_store}
+use Rattle.mark_laws.proofs.Places.{IsReader, Passed, worked_before_store, write_gate_place, put_gate, stored_before_gate}
 
 -- a provider was wrong for a file of an object in a state
 pub record WasWrong (w : State) (i o : ℕ) : Type 0 where
@@ -367,3 +367,121 @@ module _ (limit : ℕ) (start : State) (m : Moment) (ms : List Moment) (A : All 
                 ])
             | inr (d, size, at, e) ↦ inl (since_earlier from (begun_of d.maker) i (m ∷ ms) (P.doubts d f.id size at e) (put_bad d f.id size i s at e setup l k bad))
           ])
+
+  -- ---- the record in doubt
+
+  pub setup_doubt_step : (d : Doubt) (s : Setup) → m.state.doubt ≡ Some d → d.entry ≡ SetUp s → setup_of m.state.records ≡ None
+  setup_doubt_step d s h e = elim (T.doubt d h) [
+    | Doubt_now.kept was rec ↦ ap setup_of rec ∙ F.setup_doubt d s was e
+    | Doubt_now.gated job a runs next_is flight mine entry_is maker rec on ↦
+        absurd (wrote_no_setup job job.kind a.entry s (A.pins.wrote a job flight (subst (λ n. job_of (now start ms).jobs n ≡ Some job) (sym mine) runs)) (sym entry_is ∙ e))
+    | Doubt_now.set_up t entry_is none ↦ none
+  ]
+
+  -- while a job runs, a setup is in effect
+  runs_up : (k : ℕ) (j : Job) → job_of (now start ms).jobs k ≡ Some j → is_some (setup_of (now start ms).records) ≡ true
+  runs_up k j runs = elim (cases_Bool (now start ms).is_open) [
+    | inl t ↦ I.opened t
+    | inr f ↦ absurd (found_none (now start ms).jobs k j (A.numbers.idle f).0 runs)
+  ]
+
+  put_number : (job : Job) (name bytes : List ℕ) → job.kind ≡ PutJob name bytes → 4 ≤ job.place → HasNumber objects job
+  put_number job name bytes kind late = (subst (Draws objects) (sym kind) tt, late)
+
+  pub put_held_step : (d : Doubt) (id size : ℕ) → m.state.doubt ≡ Some d → d.entry ≡ PutDone id size → PutHeld m.state id (suc (length ms)) d.maker
+  put_held_step d id size h e = elim (T.doubt d h) [
+    | Doubt_now.kept was rec ↦ (let g = F.put_held d id size was e in record {
+        below = (let l = g.below in let r = ap next_id rec in omega arith);
+        up = ap (λ l. is_some (setup_of l)) rec ∙ g.up;
+        name = g.name;
+        started = ap (λ l. started_as l id) rec ∙ g.started;
+        early = (let l = g.early in omega arith);
+      })
+    | Doubt_now.gated job a runs next_is flight mine entry_is maker rec on ↦ by_put job a runs next_is flight mine maker rec (gated_put job a id size runs flight mine (sym entry_is ∙ e))
+    | Doubt_now.set_up t entry_is none ↦ absurd (let z : SetUp t ≡ PutDone id size = sym entry_is ∙ e in cc)
+  ]
+    where
+      by_put : (job : Job) (a : Append) → job_of (now start ms).jobs job.number ≡ Some job → next_action (now start ms) job ≡ Some WriteGate → (now start ms).append ≡ Some a → a.job ≡ job.number →
+          d.maker ≡ Some (advanced job) → m.state.records ≡ (now start ms).records → (name : List ℕ) × (bytes : List ℕ) × (job.kind ≡ PutJob name bytes) × (4 ≤ job.place) × (job.subject ≡ id) →
+          PutHeld m.state id (suc (length ms)) d.maker
+      by_put job a runs next_is flight mine maker rec (name, bytes, kind, late, subject) =
+          (let place = write_gate_place (now start ms) job name bytes kind next_is late in
+          record {
+            below = (let l = A.numbers.below job.number job runs (put_number job name bytes kind late) in let r = ap next_id rec in omega arith);
+            up = ap (λ l. is_some (setup_of l)) rec ∙ runs_up job.number job runs;
+            name = name;
+            started = ap (λ l. started_as l id) rec ∙ (ap (started_as (now start ms).records) (sym subject) ∙ A.pins.started job.number job name bytes runs kind late (omega arith));
+            early = subst (λ (o : Option Job). begun_of o ≤ suc (length ms)) (sym maker) (let l = A.held.begun job.number job runs in let z : job.begun ≤ suc (length ms) = omega arith in z);
+          })
+
+  pub put_doubt_step : (d : Doubt) (id size i s : ℕ) → m.state.doubt ≡ Some d → d.entry ≡ PutDone id size → i < (setup_in m.state).n →
+      s < stripes_of (setup_in m.state) (length (m.state.bytes id)) → IsBad m.state id i s → IsReplaced (begun_of d.maker) i (m ∷ ms)
+  put_doubt_step d id size i s h e l k bad = elim (T.doubt d h) [
+    | Doubt_now.kept was rec ↦ put_bad d id size i s was e (setup_same m.state (now start ms) (ap setup_of rec)) l k bad
+    | Doubt_now.gated job a runs next_is flight mine entry_is maker rec on ↦
+        subst (λ (o : Option Job). IsReplaced (begun_of o) i (m ∷ ms)) (sym maker)
+        (by_put job runs next_is (setup_same m.state (now start ms) (ap setup_of rec)) (gated_put job a id size runs flight mine (sym entry_is ∙ e)))
+    | Doubt_now.set_up t entry_is none ↦ absurd (let z : SetUp t ≡ PutDone id size = sym entry_is ∙ e in cc)
+  ]
+    where
+      by_put : (job : Job) → job_of (now start ms).jobs job.number ≡ Some job → next_action (now start ms) job ≡ Some WriteGate → setup_in m.state ≡ setup_in (now start ms) →
+          (name : List ℕ) × (bytes : List ℕ) × (job.kind ≡ PutJob name bytes) × (4 ≤ job.place) × (job.subject ≡ id) → IsReplaced job.begun i (m ∷ ms)
+      by_put job runs next_is setup (name, bytes, kind, late, subject) =
+          (let place = write_gate_place (now start ms) job name bytes kind next_is late in
+          let own = A.numbers.below job.number job runs (put_number job name bytes kind late) in
+          let below : id < next_id (now start ms).records = subst (λ o. o < next_id (now start ms).records) subject own in
+          let started_job = A.pins.started job.number job name bytes runs kind late (omega arith) in
+          let started : started_as (now start ms).records id ≡ Some name = ap (started_as (now start ms).records) (sym subject) ∙ started_job in
+          let bytes_are : (now start ms).bytes id ≡ bytes = ap (now start ms).bytes (sym subject) ∙ I.kept job.number job name bytes runs kind late in
+          let n = bounds id i s setup below l k in
+          elim (bad_before id i s setup below (λ x runs_x o. clash (started_as (now start ms).records id) name started (A.pins.older x.number x id runs_x o).1) bad) [
+            | inr r ↦ since_now job.begun i m ms r (A.held.begun job.number job runs)
+            | inl (b, told, wrong) ↦ elim (cases_Bool (is_replaced_since job.begun i ms)) [
+              | inl t ↦ since_more job.begun i m ms t
+              | inr f ↦
+                  (let made = stored_before_gate (now start ms) job name bytes i s kind next_is late n.0 (subst (λ (y : List ℕ). s < stripes_of (setup_in (now start ms)) (length y)) bytes_are n.1) in
+                  let column = A.held.stored job.number job name bytes i job.subject s b runs kind started_job made f (ap (λ o. told_block (now start ms) i o s) subject ∙ told) in
+                  absurd (right_block (object_in (now start ms) id) ((now start ms).bytes id) i s
+                  (subst (λ y. is_wrong_block (object_in (now start ms) id) ((now start ms).bytes id) i s y ≡ true)
+                  (column ∙ (ap (λ o. Some (columns (object_in (now start ms) o) bytes i s)) subject ∙ ap (λ y. Some (columns (object_in (now start ms) id) y i s)) (sym bytes_are))) wrong)))
+            ]
+          ])
+
+  -- while a vault goes on, the put whose record is in doubt has only its last move to make
+  pub doubt_runs_step : (d : Doubt) (id size : ℕ) → m.state.is_open ≡ true → m.state.is_barred ≡ false → m.state.doubt ≡ Some d → d.entry ≡ PutDone id size → AtGate m.state
+  doubt_runs_step d id size is_open unbarred h e = elim (T.doubt d h) [
+    | Doubt_now.kept was rec ↦ (let o = T.opened d h is_open in goes_on rec (F.doubt_runs d id size o.0 (o.1 unbarred) was e))
+    | Doubt_now.gated job a runs next_is flight mine entry_is maker rec on ↦ (let g = gated_put job a id size runs flight mine (sym entry_is ∙ e) in
+        elim on [
+          | inr b ↦ absurd (false≢true (sym unbarred ∙ b))
+          | inl runs_on ↦ record {
+              number = job.number;
+              job = advanced job;
+              name = g.0;
+              bytes = g.1;
+              runs = runs_on;
+              kind = g.2;
+              place = (let p = write_gate_place (now start ms) job g.0 g.1 g.2 next_is g.3 in let c = count_same m.state (now start ms) (advanced job) job g.1 (ap setup_of rec) refl in omega arith);
+            }
+        ])
+    | Doubt_now.set_up t entry_is none ↦ absurd (let z : SetUp t ≡ PutDone id size = sym entry_is ∙ e in cc)
+  ]
+    where
+      goes_on : m.state.records ≡ (now start ms).records → AtGate (now start ms) → AtGate m.state
+      goes_on rec g = elim (T.stay g.number g.job g.runs) [
+        | Stay_is.stayed runs_on ↦ record {
+            number = g.number;
+            job = g.job;
+            name = g.name;
+            bytes = g.bytes;
+            runs = runs_on;
+            kind = g.kind;
+            place = (let p = g.place in let c = count_same m.state (now start ms) g.job g.job g.bytes (ap setup_of rec) refl in omega arith);
+          }
+        | Stay_is.steps action next_is gate ↦ absurd (elim (gate (put_gate (now start ms) g.job g.name g.bytes action g.kind g.place next_is)) [
+          | inl none ↦ clash m.state.doubt d h none
+          | inr b ↦ false≢true (sym unbarred ∙ b)
+        ])
+        | Stay_is.shut closed ↦ absurd (false≢true (sym closed ∙ is_open))
+        | Stay_is.undoubted none ↦ absurd (clash m.state.doubt d h none)
+      ]

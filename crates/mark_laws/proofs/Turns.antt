@@ -80,7 +80,7 @@ pub data Gift_is (old new : State) (k : ℕ) (j : Job) : Type 0 where
 
 -- a job that ran goes on as it was, or makes an action, or the vault is closed
 pub data Stay_is (old new : State) (k : ℕ) (j : Job) : Type 0 where
-  stays : job_of new.jobs k ≡ Some j → Stay_is old new k j
+  stayed : job_of new.jobs k ≡ Some j → Stay_is old new k j
   steps : (action : Action) → next_action old j ≡ Some action → (action ≡ SyncGate → (new.doubt ≡ None) ⊎ (new.is_barred ≡ true)) → Stay_is old new k j
   shut : new.is_open ≡ false → Stay_is old new k j
   undoubted : new.doubt ≡ None → Stay_is old new k j
@@ -121,7 +121,7 @@ module _ (old : State) where
   same_jobs new jobs k j h = Gift_is.had j (ap (λ l. job_of l k) (sym jobs) ∙ h) refl (record { kind = refl; begun = refl; pinned = refl })
 
   stay_all : (new : State) → new.jobs ≡ old.jobs → (k : ℕ) (j : Job) → job_of old.jobs k ≡ Some j → Stay_is old new k j
-  stay_all new jobs k j h = Stay_is.stays (ap (λ l. job_of l k) jobs ∙ h)
+  stay_all new jobs k j h = Stay_is.stayed (ap (λ l. job_of l k) jobs ∙ h)
 
   unchanged : (new : State) → new ≡ old → Turns old new
   unchanged new is = subst (λ (w : State). Turns old w) (sym is) (record {
@@ -150,7 +150,7 @@ module _ (old : State) where
         ((k : ℕ) → (k ≡ job.number → ⊥) → job_of new.jobs k ≡ job_of old.jobs k) → (k : ℕ) (j : Job) → job_of old.jobs k ≡ Some j → Stay_is old new k j
     stay_by action new next_is gate others k j h = elim (cases_eq k job.number) [
       | inl e ↦ Stay_is.steps action (subst (λ (x : Job). next_action old x ≡ Some action) (sym (it_is k j h e)) next_is) gate
-      | inr n ↦ Stay_is.stays (others k n ∙ h)
+      | inr n ↦ Stay_is.stayed (others k n ∙ h)
     ]
 
     went : (js : List Job) (y : Job) → js ≡ with_job old.jobs y → y.number ≡ job.number → (k : ℕ) → (k ≡ job.number → ⊥) → job_of js k ≡ job_of old.jobs k
@@ -332,7 +332,7 @@ module _ (old : State) where
     doubt = λ d g. Doubt_now.kept g refl;
     audits = Audits_are.undrawn refl no_new;
     opened = λ d g. same_open;
-    stay = λ k j g. Stay_is.stays (more_with old.jobs (new_job old moment kind) k j g);
+    stay = λ k j g. Stay_is.stayed (more_with old.jobs (new_job old moment kind) k j g);
     gift = λ k j g. elim (found_more old.jobs (new_job old moment kind) k j g) [
       | inl p ↦ Gift_is.empty (ap (λ (x : Job). x.given) p.1)
       | inr q ↦ Gift_is.had j q refl (record { kind = refl; begun = refl; pinned = refl })
@@ -407,14 +407,14 @@ module _ (old : State) where
     doubt = λ d h. Doubt_now.kept (sym e ∙ h) refl;
     audits = Audits_are.undrawn refl no_new;
     opened = λ d h. same_open;
-    stay = λ k j h. Stay_is.stays h;
+    stay = λ k j h. Stay_is.stayed h;
     gift = λ k j h. Gift_is.had j h refl (record { kind = refl; begun = refl; pinned = refl });
   })
   failed s doubt faults new (inr (none, e)) is = subst (λ (w : State). Turns old w) (sym is) (record {
     doubt = λ d h. (let f : record { entry = SetUp s; maker = None } ≡ d = same_value doubt _ d e h in Doubt_now.set_up s (sym (ap (λ (x : Doubt). x.entry) f)) (none_up (setup_of old.records) none));
     audits = Audits_are.undrawn refl no_new;
     opened = λ d h. same_open;
-    stay = λ k j h. Stay_is.stays h;
+    stay = λ k j h. Stay_is.stayed h;
     gift = λ k j h. Gift_is.had j h refl (record { kind = refl; begun = refl; pinned = refl });
   })
 
@@ -444,7 +444,7 @@ module _ (old : State) where
     doubt = λ d h. Doubt_now.kept h refl;
     audits = Audits_are.undrawn refl no_new;
     opened = λ d h. same_open;
-    stay = λ k j h. Stay_is.stays h;
+    stay = λ k j h. Stay_is.stayed h;
     gift = λ k j h. Gift_is.had j h refl (record { kind = refl; begun = refl; pinned = refl });
   })
 
