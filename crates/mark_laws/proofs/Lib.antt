@@ -3,3 +3,4 @@ pub mod Blocks
 pub mod Places
 pub mod Files
 pub mod Points
+pub mod Audits
