@@ -306,3 +306,218 @@ module _ (limit : ℕ) (start : State) (m : Moment) (ms : List Moment) (A : All 
         subst (λ n. Point start (m ∷ ms) n (WrongAt start (m ∷ ms) n)) (sym (ap (λ (x : Job). x.begun) is))
         (audit_new k j h (subst (λ kk. begin_refusal limit (now start ms) kk ≡ None) kd_is allowed) rec))
   ]
+
+  -- ---- repairs
+
+  rest_on : (x j : Job) (k : ℕ) (action : Action) → job_of (now start ms).jobs k ≡ Some x → next_action (now start ms) x ≡ Some action → x.kind ≡ RepairJob → j.kind ≡ RepairJob → j.pinned ≡ x.pinned → j.flagged ≡ x.flagged →
+      j.subject ≡ x.subject → j.place ≡ x.place + 1 →
+      ((i o s : ℕ) (b : Option (List ℕ)) → action ≡ Store i o s → told_block m.state i o s ≡ Some b → b ≡ Some (block_to_store (now start ms) x x.kind i o s)) →
+      (j.subject < next_audit m.state.records) × Point start (m ∷ ms) (m.state.audits j.subject) (Remains m.state j)
+  rest_on x j k action runs next_is kx kj pinned flagged subject place stores =
+      (let P = F.repair k x runs kx in
+      (
+        (let g = grows in let l = P.0 in omega arith),
+        subst (λ n. Point start (m ∷ ms) n (Remains m.state j)) (sym (ap m.state.audits subject ∙ audits_below x.subject P.0))
+        (on ((now start ms).audits x.subject) (Remains (now start ms) x) (Remains m.state j) P.1 more),
+      ))
+    where
+      at_number : job_of (now start ms).jobs x.number ≡ Some x
+      at_number = subst (λ n. job_of (now start ms).jobs n ≡ Some x) (sym (number_of (now start ms).jobs k x runs)) runs
+
+      more : (q : List ℕ) (f : File) (i s : ℕ) → file_in (now start ms) q ≡ Some f → file_in m.state q ≡ Some f → setup_in m.state ≡ setup_in (now start ms) → i < (setup_in m.state).n →
+          s < stripes_of (setup_in m.state) (length (m.state.bytes f.id)) → IsBad m.state f.id i s → Remains (now start ms) x i f.id s →
+          IsReplaced ((now start ms).audits x.subject) i (m ∷ ms) ⊎ Remains m.state j i f.id s
+      more q f i s stood h setup l b bad (marked, (p, low, at)) = elim (cases_eq p x.place) [
+        | inl here ↦
+            (let act : action ≡ Store i f.id s = same_value (next_action (now start ms) x) action (Store i f.id s) next_is
+            (next_reads (now start ms) x RepairJob kx tt ∙ subst (λ n. slice_get (actions_of (setup_in (now start ms)) x) n ≡ Some (Store i f.id s)) here at) in
+            absurd (pt.stored_right limit start m ms A I F X T x i f.id s bad.0 at_number (next_is ∙ ap Some act) (stores i f.id s bad.0 act bad.1)
+            (pt.wrong_old limit start m ms A I F X T f.id i s bad.0 setup (X.bytes f.id (pt.file_below limit start m ms A I F X T q f stood)) bad.2)))
+        | inr other ↦ inr (
+            ap (λ g. g i) flagged ∙ marked,
+            (
+              p,
+              omega (arith, low, other, place),
+              ap (λ (t : Setup). slice_get (actions_of t j) p) setup ∙ (ap (λ xs. slice_get xs p) (same_actions (setup_in (now start ms)) x j RepairJob tt kx kj pinned flagged) ∙ at),
+            ),
+          )
+      ]
+
+  -- a repair that has just begun
+  repair_new : (j : Job) → j ≡ new_job (now start ms) (length ms) RepairJob → begin_refusal limit (now start ms) RepairJob ≡ None → m.state.records ≡ (now start ms).records →
+      (j.subject < next_audit m.state.records) × Point start (m ∷ ms) (m.state.audits j.subject) (Remains m.state j)
+  repair_new j is allowed rec =
+      (let u = repair_due limit (now start ms) (due_of (now start ms).records) refl allowed in
+      let P = F.due u.0 u.1 in
+      let subject : j.subject ≡ u.0.number = ap (λ (x : Job). x.subject) is ∙ ap due_number u.1 in
+      (
+        (let g = grows in let l = P.0 in omega arith),
+        subst (λ n. Point start (m ∷ ms) n (Remains m.state j)) (sym (ap m.state.audits subject ∙ audits_below u.0.number P.0))
+        (on ((now start ms).audits u.0.number) (IsMarked (now start ms) u.0.counts) (Remains m.state j) P.1 (more u.0 u.1)),
+      ))
+    where
+      more : (u : Due) → due_of (now start ms).records ≡ Some u → (q : List ℕ) (f : File) (i s : ℕ) → file_in (now start ms) q ≡ Some f → file_in m.state q ≡ Some f → setup_in m.state ≡ setup_in (now start ms) → i < (setup_in m.state).n →
+          s < stripes_of (setup_in m.state) (length (m.state.bytes f.id)) → IsBad m.state f.id i s → IsMarked (now start ms) u.counts i f.id s →
+          IsReplaced ((now start ms).audits u.number) i (m ∷ ms) ⊎ Remains m.state j i f.id s
+      more u due q f i s stood h setup l b bad marked =
+          (let flagged : j.flagged i ≡ true = ap (λ (x : Job). x.flagged i) is ∙ (ap (λ o. due_flags (setup_in (now start ms)).tolerance o i) due ∙ marked) in
+          let bytes : m.state.bytes f.id ≡ (now start ms).bytes f.id = X.bytes f.id (pt.file_below limit start m ms A I F X T q f stood) in
+          let st = store_stands (setup_in m.state) j (pinned_file (now start ms) f) i s (ap (λ (x : Job). x.kind) is)
+          (subst (λ (x : Job). In (pinned_file (now start ms) f) x.pinned) (sym is) (all_pinned (now start ms) q f stood)) flagged l
+          (subst (λ (y : List ℕ). s < stripes_of (setup_in m.state) (length y)) bytes b) in
+          inr (flagged, (st.0, (let z : j.place ≡ 0 = ap (λ (x : Job). x.place) is in omega arith), st.1)))
+
+  pub repair_step : (k : ℕ) (j : Job) → job_of m.state.jobs k ≡ Some j → j.kind ≡ RepairJob → (j.subject < next_audit m.state.records) × Point start (m ∷ ms) (m.state.audits j.subject) (Remains m.state j)
+  repair_step k j h kind = elim (X.job k j h) [
+    | Job_is.kept r grown ↦ (let P = F.repair k j r kind in (
+        (let g = grows in let l = P.0 in omega arith),
+        subst (λ n. Point start (m ∷ ms) n (Remains m.state j)) (sym (audits_below j.subject P.0))
+        (on ((now start ms).audits j.subject) (Remains (now start ms) j) (Remains m.state j) P.1
+        (λ q f i s stood h2 setup l b bad x. inr (x.0, (x.1.0, x.1.1, ap (λ (t : Setup). slice_get (actions_of t j) x.1.0) setup ∙ x.1.2)))),
+      ))
+    | Job_is.begun kd is k_is allowed rec ↦ (let kd_is : kd ≡ RepairJob = sym (ap (λ (x : Job). x.kind) is) ∙ kind in
+        repair_new j (is ∙ ap (new_job (now start ms) (length ms)) kd_is) (subst (λ kk. begin_refusal limit (now start ms) kk ≡ None) kd_is allowed) rec)
+    | Job_is.plain x action runs next_is is_plain goes rec st ↦ rest_on x j k action runs next_is (sym goes.kind ∙ kind) kind goes.pinned goes.flagged goes.subject goes.place st
+    | Job_is.drew x runs next_is free is rec ↦ (let kx : x.kind ≡ RepairJob = sym (ap (λ (y : Job). y.kind) is) ∙ kind in
+        rest_on x j k WriteBody runs next_is kx kind (ap (λ (y : Job). y.pinned) is) (ap (λ (y : Job). y.flagged) is) (ap (λ (y : Job). y.subject) is ∙ ap (subject_drawn (now start ms) x) kx) (ap (λ (y : Job). y.place) is)
+        (λ i o s b e told. absurd (let z : WriteBody ≡ Store i o s = e in cc)))
+    | Job_is.finished x a runs next_is flight mine is rec free ↦
+        rest_on x j k SyncGate runs next_is (sym (ap (λ (y : Job). y.kind) is) ∙ kind) kind (ap (λ (y : Job). y.pinned) is) (ap (λ (y : Job). y.flagged) is) (ap (λ (y : Job). y.subject) is) (ap (λ (y : Job). y.place) is)
+        (λ i o s b e told. absurd (let z : SyncGate ≡ Store i o s = e in cc))
+  ]
+
+  pub repair_doubt_step : (d : Doubt) (number : ℕ) → m.state.doubt ≡ Some d → d.entry ≡ RepairDone number → (number < next_audit m.state.records) × Point start (m ∷ ms) (m.state.audits number) Never
+  repair_doubt_step d number h e = elim (T.doubt d h) [
+    | Doubt_now.kept was rec ↦ (let P = F.repair_doubt d number was e in (
+        (let g = grows in let l = P.0 in omega arith),
+        subst (λ n. Point start (m ∷ ms) n Never) (sym (audits_below number P.0)) (on ((now start ms).audits number) Never Never P.1 (λ q f i s stood h2 setup l b bad x. absurd x)),
+      ))
+    | Doubt_now.gated job a runs next_is flight mine entry_is maker rec on_ ↦
+        (let at_job = subst (λ n. job_of (now start ms).jobs n ≡ Some job) (sym mine) runs in
+        let kind = wrote_repair job job.kind a.entry number (A.pins.wrote a job flight at_job) (sym entry_is ∙ e) in
+        let subject : number ≡ job.subject = F.repair_entry a job number flight at_job kind (sym entry_is ∙ e) in
+        let P = F.repair job.number job runs kind in
+        (
+          (let g = grows in let l = P.0 in omega arith),
+          subst (λ n. Point start (m ∷ ms) n Never) (sym (ap m.state.audits subject ∙ audits_below job.subject P.0))
+          (on ((now start ms).audits job.subject) (Remains (now start ms) job) Never P.1
+          (λ q f i s stood h2 setup l b bad x. absurd (let z = gate_behind (now start ms) job x.1.0 i f.id s kind next_is x.1.2 in let low = x.1.1 in omega (arith, z, low)))),
+        ))
+    | Doubt_now.set_up t entry_is none ↦ absurd (let z : SetUp t ≡ RepairDone number = sym entry_is ∙ e in cc)
+  ]
+
+  -- ---- what comes into effect
+
+  longer : (rs : List Record) (r : Record) → m.state.records ≡ r ∷ rs → rs ≡ (now start ms).records → came (now start ms) m.state ≡ Some r
+  longer rs r rec e = cond_true (length m.state.records == suc (length (now start ms).records)) (newest m.state.records) None (eq-eqb _ _ (ap length rec ∙ ap (λ l. suc (length l)) e)) ∙ ap newest rec
+
+  not_longer : (n : ℕ) → length m.state.records ≡ n → (n ≡ suc (length (now start ms).records) → ⊥) → came (now start ms) m.state ≡ None
+  not_longer n e other = cond_false (length m.state.records == suc (length (now start ms).records)) (newest m.state.records) None (ne_eqb _ _ (λ z. other (sym e ∙ z)))
+
+  -- the record that came into effect was in doubt, or is a setup
+  data Came_is : Type 0 where
+    no_record : came (now start ms) m.state ≡ None → Came_is
+    setup : (s : Setup) → came (now start ms) m.state ≡ Some (SetUp s) → Came_is
+    doubted : (d : Doubt) → (now start ms).doubt ≡ Some d → came (now start ms) m.state ≡ Some d.entry → Came_is
+
+  came_is : Came_is
+  came_is = elim (pt.effect limit start m ms A I F X T) [
+    | pt.Effect_is.nothing rec ↦ no_record (not_longer (length (now start ms).records) (ap length rec) (λ z. omega (arith, z)))
+    | pt.Effect_is.entry d at rec ↦ doubted d at (longer (now start ms).records d.entry rec refl)
+    | pt.Effect_is.set_up s rs rec none (inl e) ↦ setup s (longer rs (SetUp s) rec e)
+    | pt.Effect_is.set_up s rs rec none (inr (d, at, e)) ↦ no_record (not_longer (suc (suc (length (now start ms).records))) (ap length rec ∙ ap (λ l. suc (length l)) e) (λ z. omega (arith, z)))
+  ]
+
+  module _ (missed : MissesNone start ms m.state (came (now start ms) m.state)) where
+    -- where the end of an audit comes into effect, one that was wrong at its begin and is not flagged was replaced since
+    unmissed : (number u : ℕ) (c : List ℕ) (i o : ℕ) → came (now start ms) m.state ≡ Some (AuditDone number u c) → number < next_audit (now start ms).records → i < (setup_in (now start ms)).n →
+        is_flagged (setup_in (now start ms)).tolerance c i ≡ false → WasWrong (now start (first_moments ((now start ms).audits number) ms)) i o → IsReplaced ((now start ms).audits number) i ms
+    unmissed number u c i o came_in below l unflagged w = elim (cases_Bool (is_replaced_since ((now start ms).audits number) i ms)) [
+      | inl t ↦ t
+      | inr f ↦ absurd (by_begin (subst (MissesNone start ms m.state) came_in missed i) f)
+    ]
+      where
+        by_begin : (Misses start ms c (m.state.audits number) i → ⊥) → is_replaced_since ((now start ms).audits number) i ms ≡ false → ⊥
+        by_begin none f = subst (λ n. Misses start ms c n i → ⊥) (audits_below number below) none
+            (record { provider = l; unflagged = unflagged; unreplaced = f; name = w.name; file = w.file; in_effect = w.in_effect; wrong = w.was })
+
+    -- ---- what is due
+
+    old_due : (u : Due) → due_of (now start ms).records ≡ Some u → (u.number < next_audit m.state.records) × Point start (m ∷ ms) (m.state.audits u.number) (IsMarked m.state u.counts)
+    old_due u was = (let P = F.due u was in (
+      (let g = grows in let l = P.0 in omega arith),
+      subst (λ n. Point start (m ∷ ms) n (IsMarked m.state u.counts)) (sym (audits_below u.number P.0))
+      (on ((now start ms).audits u.number) (IsMarked (now start ms) u.counts) (IsMarked m.state u.counts) P.1
+      (λ q f i s stood h setup l b bad x. inr (ap (λ (t : Setup). is_flagged t.tolerance u.counts i) setup ∙ x))),
+    ))
+
+    new_due : (u : Due) (d : Doubt) (und : ℕ) → (now start ms).doubt ≡ Some d → d.entry ≡ AuditDone u.number und u.counts →
+        ((q : List ℕ) (f : File) (i s : ℕ) → file_in (now start ms) q ≡ Some f → file_in m.state q ≡ Some f → setup_in m.state ≡ setup_in (now start ms) → i < (setup_in m.state).n →
+        s < stripes_of (setup_in m.state) (length (m.state.bytes f.id)) → IsBad m.state f.id i s → u.number < next_audit (now start ms).records → WrongAt start ms ((now start ms).audits u.number) i f.id s →
+        IsReplaced ((now start ms).audits u.number) i (m ∷ ms) ⊎ IsMarked m.state u.counts i f.id s) →
+        (u.number < next_audit m.state.records) × Point start (m ∷ ms) (m.state.audits u.number) (IsMarked m.state u.counts)
+    new_due u d und at e more = (let P = F.audit_doubt d u.number und u.counts at e in (
+      (let g = grows in let l = P.0 in omega arith),
+      subst (λ n. Point start (m ∷ ms) n (IsMarked m.state u.counts)) (sym (audits_below u.number P.0))
+      (on ((now start ms).audits u.number) (WrongAt start ms ((now start ms).audits u.number)) (IsMarked m.state u.counts) P.1
+      (λ q f i s stood h setup l b bad x. more q f i s stood h setup l b bad P.0 x)),
+    ))
+
+    pub due_step : (u : Due) → due_of m.state.records ≡ Some u → (u.number < next_audit m.state.records) × Point start (m ∷ ms) (m.state.audits u.number) (IsMarked m.state u.counts)
+    due_step u h = elim (pt.effect limit start m ms A I F X T) [
+      | pt.Effect_is.nothing rec ↦ old_due u (ap due_of (sym rec) ∙ h)
+      | pt.Effect_is.entry d at rec ↦ elim (due_done d.entry (now start ms).records u (ap due_of (sym rec) ∙ h)) [
+        | inl was ↦ old_due u was
+        | inr (und, e) ↦ new_due u d und at e
+            (λ q f i s stood h2 setup l b bad below w. elim (cases_Bool (is_flagged (setup_in (now start ms)).tolerance u.counts i)) [
+              | inl t ↦ inr (ap (λ (t2 : Setup). is_flagged t2.tolerance u.counts i) setup ∙ t)
+              | inr f2 ↦ inl (since_more ((now start ms).audits u.number) i m ms
+                  (unmissed u.number und u.counts i f.id (longer (now start ms).records d.entry rec refl ∙ ap Some e) below (subst (λ (t2 : Setup). i < t2.n) setup l) f2 w))
+            ])
+      ]
+      | pt.Effect_is.set_up s rs rec none (inl e) ↦ old_due u (ap due_of (sym e) ∙ (ap due_of (sym rec) ∙ h))
+      | pt.Effect_is.set_up s rs rec none (inr (d, at, e)) ↦ elim (due_done d.entry (now start ms).records u (ap due_of (sym e) ∙ (ap due_of (sym rec) ∙ h))) [
+        | inl was ↦ old_due u was
+        | inr (und, e2) ↦ new_due u d und at e2
+            (λ q f i t stood h2 setup l b bad below w. absurd (pt.no_file limit start m ms A I F X T rs q f none (inr (d, at, e)) (ap (λ l2. file_of l2 q) (sym rec) ∙ h2)))
+      ]
+    ]
+
+    -- ---- the mark
+
+    mark_stays : (o : Option Record) → settled_by (setup_in m.state).tolerance o ≡ None → Point start (m ∷ ms) (mark_after m.state (settled_by (setup_in m.state).tolerance o) (since start ms)) Never
+    mark_stays o e = subst (λ z. Point start (m ∷ ms) (mark_after m.state z (since start ms)) Never) (sym e) (on (since start ms) Never Never F.mark (λ q f i s stood h setup l b bad x. absurd x))
+
+    mark_audit : (d : Doubt) (number u : ℕ) (c : List ℕ) → (now start ms).doubt ≡ Some d → d.entry ≡ AuditDone number u c → came (now start ms) m.state ≡ Some (AuditDone number u c) → flags_some (setup_in m.state).tolerance c ≡ false →
+        Point start (m ∷ ms) (m.state.audits number) Never
+    mark_audit d number u c at e came_in none = (let P = F.audit_doubt d number u c at e in
+        subst (λ n. Point start (m ∷ ms) n Never) (sym (audits_below number P.0))
+        (on ((now start ms).audits number) (WrongAt start ms ((now start ms).audits number)) Never P.1
+        (λ q f i s stood h setup l b bad w. inl (since_more ((now start ms).audits number) i m ms
+        (unmissed number u c i f.id came_in P.0 (subst (λ (t : Setup). i < t.n) setup l) (subst (λ (t : Setup). is_flagged t.tolerance c i ≡ false) setup (none_flagged (setup_in m.state).tolerance c i none)) w)))))
+
+    mark_repair : (d : Doubt) (number : ℕ) → (now start ms).doubt ≡ Some d → d.entry ≡ RepairDone number → Point start (m ∷ ms) (m.state.audits number) Never
+    mark_repair d number at e = (let P = F.repair_doubt d number at e in
+        subst (λ n. Point start (m ∷ ms) n Never) (sym (audits_below number P.0)) (on ((now start ms).audits number) Never Never P.1 (λ q f i s stood h setup l b bad x. absurd x)))
+
+    mark_by : (d : Doubt) → (now start ms).doubt ≡ Some d → (r : Record) → d.entry ≡ r → came (now start ms) m.state ≡ Some r → Point start (m ∷ ms) (mark_after m.state (settled_by (setup_in m.state).tolerance (Some r)) (since start ms)) Never
+    mark_by d at (AuditDone number u c) e came_in = elim (cases_Bool (flags_some (setup_in m.state).tolerance c)) [
+      | inl t ↦ mark_stays (Some (AuditDone number u c)) (cond_true (flags_some (setup_in m.state).tolerance c) None (Some number) t)
+      | inr f ↦ subst (λ z. Point start (m ∷ ms) (mark_after m.state z (since start ms)) Never) (sym (cond_false (flags_some (setup_in m.state).tolerance c) None (Some number) f)) (mark_audit d number u c at e came_in f)
+    ]
+    mark_by d at (RepairDone number) e came_in = mark_repair d number at e
+    mark_by d at (SetUp s) e came_in = mark_stays (Some (SetUp s)) refl
+    mark_by d at (PutStart k name) e came_in = mark_stays (Some (PutStart k name)) refl
+    mark_by d at (PutDone k size) e came_in = mark_stays (Some (PutDone k size)) refl
+    mark_by d at (Drop name) e came_in = mark_stays (Some (Drop name)) refl
+    mark_by d at (AuditStart number) e came_in = mark_stays (Some (AuditStart number)) refl
+
+    pub mark_step : Point start (m ∷ ms) (since start (m ∷ ms)) Never
+    mark_step = elim came_is [
+      | no_record e ↦ settled None e (mark_stays None refl)
+      | setup s e ↦ settled (Some (SetUp s)) e (mark_stays (Some (SetUp s)) refl)
+      | doubted d at e ↦ settled (Some d.entry) e (mark_by d at d.entry refl e)
+    ]
+      where
+        settled : (o : Option Record) → came (now start ms) m.state ≡ o → Point start (m ∷ ms) (mark_after m.state (settled_by (setup_in m.state).tolerance o) (since start ms)) Never → Point start (m ∷ ms) (since start (m ∷ ms)) Never
+        settled o e P = subst (λ z. Point start (m ∷ ms) (mark_after m.state (settled_by (setup_in m.state).tolerance z) (since start ms)) Never) (sym e) P

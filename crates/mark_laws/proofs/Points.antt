@@ -247,7 +247,7 @@ module _ (limit : ℕ) (start : State) (m : Moment) (ms : List Moment) (A : All 
     pub setup : setup_of m.state.records ≡ setup_of (now start ms).records
     pub how : (file_in (now start ms) q ≡ Some f) ⊎ ((d : Doubt) × (size : ℕ) × ((now start ms).doubt ≡ Some d) × (d.entry ≡ PutDone f.id size))
 
-  no_file : (rs : List Record) (q : List ℕ) (f : File) → setup_of rs ≡ None → (rs ≡ (now start ms).records) ⊎ ((d : Doubt) × ((now start ms).doubt ≡ Some d) × (rs ≡ d.entry ∷ (now start ms).records)) → file_of rs q ≡ Some f → ⊥
+  pub no_file : (rs : List Record) (q : List ℕ) (f : File) → setup_of rs ≡ None → (rs ≡ (now start ms).records) ⊎ ((d : Doubt) × ((now start ms).doubt ≡ Some d) × (rs ≡ d.entry ∷ (now start ms).records)) → file_of rs q ≡ Some f → ⊥
   no_file rs q f none (inl e) h = false≢true (sym (ap is_some (ap setup_of (sym e) ∙ none)) ∙ held_up q f (ap (λ l. file_of l q) (sym e) ∙ h))
   no_file rs q f none (inr (d, at, e)) h =
       up_more d.entry (now start ms).records (entry_up d q f at (ap (λ l. file_of l q) (sym e) ∙ h)) (ap setup_of (sym e) ∙ none)
@@ -262,7 +262,7 @@ module _ (limit : ℕ) (start : State) (m : Moment) (ms : List Moment) (A : All 
 
   -- ---- blocks
 
-  wrong_old : (o i s : ℕ) (b : Option (List ℕ)) → setup_in m.state ≡ setup_in (now start ms) → m.state.bytes o ≡ (now start ms).bytes o → is_wrong_block (object_in m.state o) (m.state.bytes o) i s b ≡ true →
+  pub wrong_old : (o i s : ℕ) (b : Option (List ℕ)) → setup_in m.state ≡ setup_in (now start ms) → m.state.bytes o ≡ (now start ms).bytes o → is_wrong_block (object_in m.state o) (m.state.bytes o) i s b ≡ true →
       is_wrong_block (object_in (now start ms) o) ((now start ms).bytes o) i s b ≡ true
   wrong_old o i s b setup bytes h =
       subst (λ t. is_wrong_block (object_of t o) ((now start ms).bytes o) i s b ≡ true) setup
