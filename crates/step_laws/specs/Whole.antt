@@ -16,7 +16,7 @@ use Rattle.hail_machine.specs.Given.{answer_given}
 use Rattle.hail_machine.specs.Audits.{HasSums}
 use Rattle.hail_machine.specs.Runs.{Moment, now}
 use Rattle.hail_machine.specs.Deeds.{HasMadeStore}
-use Rattle.step_laws.specs.Made.{HasMade}
+use Rattle.step_laws.specs.Made.{WasMade}
 use Rattle.step_laws.specs.Gave.{WasAsked}
 
 -- a put made its store of each stripe on each provider
@@ -27,14 +27,14 @@ pub record PutIsWhole (start : State) (ms : List Moment) (job : Job) (id size : 
   pub subject : job.subject ≡ id
   pub length_is : length bytes ≡ size
   pub stored : (j stripe : ℕ) → j < (setup_in (now start ms)).n → stripe < stripes_of (setup_in (now start ms)) size →
-      HasMade start ms job (Store j id stripe)
+      WasMade start ms job (Store j id stripe)
   pub placed : (j stripe : ℕ) → j < (setup_in (now start ms)).n → stripe < stripes_of (setup_in (now start ms)) size →
       HasMadeStore (setup_in (now start ms)) job j id stripe
 
 -- a repair made its store of a stripe on a provider, after its work on the stripe
 pub record Rewrote (start : State) (ms : List Moment) (job : Job) (object j stripe : ℕ) : Type 0 where
-  pub store : HasMade start ms job (Store j object stripe)
-  pub work : HasMade start store.before store.maker (Work object stripe)
+  pub store : WasMade start ms job (Store j object stripe)
+  pub work : WasMade start store.before store.maker (Work object stripe)
   pub placed : HasMadeStore (setup_in (now start ms)) job j object stripe
 
 -- a repair rewrote each stripe of each of its files on each flagged provider

@@ -13,7 +13,7 @@ ghost use Rattle.hail_machine.specs.Given.{block_given, symbols_given};
 ghost use Rattle.hail_machine.specs.Steps.{next_action};
 ghost use Rattle.hail_machine.specs.Left.{most_left};
 ghost use Rattle.hail_machine.specs.Runs.{Moment, IsRun, now, first_moments, came};
-ghost use Rattle.step_laws.specs.Made.{HasMade};
+ghost use Rattle.step_laws.specs.Made.{WasMade};
 ghost use Rattle.step_laws.specs.Gave.{WasFetched, WasAsked, WasOpened};
 ghost use Rattle.step_laws.specs.Whole.{PutIsWhole, RepairIsWhole, AuditIsWhole};
 
@@ -28,10 +28,10 @@ pub fn setups_stay()
 pub fn passed_actions_were_made()
     ensures running { (limit : ℕ) (start : State) (ms : List Moment) (number : ℕ) (job : Job) (place : ℕ) (action : Action) →
         IsStart start → IsRun limit start ms → job_of (now start ms).jobs number ≡ Some job → place < job.place →
-        slice_get (actions_of (setup_in (now start ms)) job) place ≡ Some action → HasMade start ms job action }
+        slice_get (actions_of (setup_in (now start ms)) job) place ≡ Some action → WasMade start ms job action }
     ensures in_doubt { (limit : ℕ) (start : State) (ms : List Moment) (d : Doubt) (job : Job) (place : ℕ) (action : Action) →
         IsStart start → IsRun limit start ms → (now start ms).doubt ≡ Some d → d.maker ≡ Some job → place < job.place →
-        slice_get (actions_of (setup_in (now start ms)) job) place ≡ Some action → HasMade start ms job action }
+        slice_get (actions_of (setup_in (now start ms)) job) place ≡ Some action → WasMade start ms job action }
 {}
 
 /// Each block or none that a running job was given, it was given by a fetch that it made at a moment since its begin; and each answer by
