@@ -1,2 +1,5 @@
 pub mod Lists
 pub mod Places
+pub mod Walk
+pub mod Passing
+pub mod MadeFacts

@@ -80,3 +80,12 @@ stands_before xs ys a b p s none e = elim (split_get xs ys p b e) [
   | inl u ↦ absurd (each_get (λ x. x ≡ b → ⊥) xs p b none u.1 refl)
   | inr u ↦ (s.0, (let l = slice_get_within xs s.0 a s.1 in let k = u.0 in omega arith), get_left xs ys s.0 a s.1)
 ]
+
+get_map_range : {X : Type 0} (f : ℕ → X) (n a i : ℕ) → i < n → slice_get (map f (range_with_len a n)) i ≡ Some (f (a + i))
+get_map_range f zero a i l = absurd (omega (arith, l))
+get_map_range f (suc n) a zero l = ap (λ k. Some (f k)) (let e : a ≡ a + 0 = omega arith in e)
+get_map_range f (suc n) a (suc i) l = get_map_range f n (a + 1) i (omega (arith, l)) ∙ ap (λ k. Some (f k)) (let e : a + 1 + i ≡ a + suc i = omega arith in e)
+
+-- what stands at a place of a list that a function makes of 0 to n - 1
+pub get_map_upto : {X : Type 0} (f : ℕ → X) (n i : ℕ) → i < n → slice_get (map f (upto n)) i ≡ Some (f i)
+get_map_upto f n i l = get_map_range f n 0 i l ∙ ap (λ k. Some (f k)) (let e : 0 + i ≡ i = omega arith in e)

@@ -28,10 +28,10 @@ next_stands w job action h other = elim (cases_Bool (is_idle_drop w job job.kind
   | inr f ↦ sym (cond_false (is_idle_drop w job job.kind) (Some End) (slice_get (actions_of (setup_in w) job) job.place) f) ∙ h
 ]
 
-by_kind : (s : Setup) (job : Job) (kind : Kind) (p : ℕ) (action : Action) → job.kind ≡ kind → slice_get (actions_of s job) p ≡ Some action → slice_get (actions_by s job kind) p ≡ Some action
+pub by_kind : (s : Setup) (job : Job) (kind : Kind) (p : ℕ) (action : Action) → job.kind ≡ kind → slice_get (actions_of s job) p ≡ Some action → slice_get (actions_by s job kind) p ≡ Some action
 by_kind s job kind p action is h = ap (λ l. slice_get l p) (sym (actions_are s job kind is)) ∙ h
 
-of_kind : (s : Setup) (job : Job) (kind : Kind) (p : ℕ) (action : Action) → job.kind ≡ kind → slice_get (actions_by s job kind) p ≡ Some action → slice_get (actions_of s job) p ≡ Some action
+pub of_kind : (s : Setup) (job : Job) (kind : Kind) (p : ℕ) (action : Action) → job.kind ≡ kind → slice_get (actions_by s job kind) p ≡ Some action → slice_get (actions_of s job) p ≡ Some action
 of_kind s job kind p action is h = ap (λ l. slice_get l p) (actions_are s job kind is) ∙ h
 
 -- ---- kinds of actions
@@ -112,22 +112,22 @@ piece_stores t job id st i o s p h = elim (split_get (open_actions t id st) (rew
 no_work_moves : Each NoWork append_actions
 no_work_moves = (tt, (tt, (tt, (tt, tt))))
 
-removals : (t : Setup) (job : Job) (P : Action → Type 0) → ((j o : ℕ) → P (Remove j o)) → Each P (remove_actions t job)
+pub removals : (t : Setup) (job : Job) (P : Action → Type 0) → ((j o : ℕ) → P (Remove j o)) → Each P (remove_actions t job)
 removals t job P h = each_flat P (λ object. on_each_provider t (λ j. Remove j object)) job.older (λ o. each_map P (λ j. Remove j o) (upto t.n) (λ j. h j o))
 
-stores_all : (t : Setup) (job : Job) (bytes : List ℕ) (P : Action → Type 0) → ((j s : ℕ) → P (Store j job.subject s)) → Each P (store_actions t job bytes)
+pub stores_all : (t : Setup) (job : Job) (bytes : List ℕ) (P : Action → Type 0) → ((j s : ℕ) → P (Store j job.subject s)) → Each P (store_actions t job bytes)
 stores_all t job bytes P h = each_flat P (λ stripe. on_each_provider t (λ j. Store j job.subject stripe)) (upto (stripes_of t (length bytes)))
     (λ stripe. each_map P (λ j. Store j job.subject stripe) (upto t.n) (λ j. h j stripe))
 
-asks_all : (t : Setup) (job : Job) (P : Action → Type 0) → ((j o r : ℕ) → P (Ask j o r)) → Each P (ask_actions t job)
+pub asks_all : (t : Setup) (job : Job) (P : Action → Type 0) → ((j o r : ℕ) → P (Ask j o r)) → Each P (ask_actions t job)
 asks_all t job P h = each_flat P (λ (f : Pinned). flat_map (λ round. on_each_provider t (λ j. Ask j f.id round)) (rounds_of t (length f.bytes))) job.pinned
     (λ f. each_flat P (λ round. on_each_provider t (λ j. Ask j f.id round)) (rounds_of t (length f.bytes))
     (λ round. each_map P (λ j. Ask j f.id round) (upto t.n) (λ j. h j f.id round)))
 
-tail_all : (t : Setup) (job : Job) (P : Action → Type 0) → ((j o : ℕ) → P (Remove j o)) → P End → Each P (remove_actions t job ++ End ∷ [])
+pub tail_all : (t : Setup) (job : Job) (P : Action → Type 0) → ((j o : ℕ) → P (Remove j o)) → P End → Each P (remove_actions t job ++ End ∷ [])
 tail_all t job P h e = each_append P (remove_actions t job) (End ∷ []) (removals t job P h) (e, tt)
 
-moves_all : (P : Action → Type 0) (more : List Action) → Each P append_actions → Each P more → Each P (append_actions ++ more)
+pub moves_all : (P : Action → Type 0) (more : List Action) → Each P append_actions → Each P more → Each P (append_actions ++ more)
 moves_all P more a b = each_append P append_actions more a b
 
 -- ---- what stands before the work on a stripe
@@ -160,9 +160,12 @@ fetched_before_work w job o s i h l = (let r = fetch_before_work (setup_in w) jo
 
 -- ---- what stands before the end of a get
 
+pub reads_all : (t : Setup) (pinned : List Pinned) (P : Action → Type 0) → ((j o st : ℕ) → P (Fetch j o st)) → ((o st : ℕ) → P (Work o st)) → Each P (read_actions t pinned)
+reads_all t pinned P f g = each_flat P (λ (f : Pinned). on_each_stripe t (length f.bytes) (open_actions t f.id)) pinned
+    (λ h. each_flat P (open_actions t h.id) (upto (stripes_of t (length h.bytes))) (λ st. opens_nothing t P h.id st (λ j. f j h.id st) (g h.id st)))
+
 reads_call : (t : Setup) (pinned : List Pinned) → Each IsCall (read_actions t pinned)
-reads_call t pinned = each_flat IsCall (λ (f : Pinned). on_each_stripe t (length f.bytes) (open_actions t f.id)) pinned
-    (λ f. each_flat IsCall (open_actions t f.id) (upto (stripes_of t (length f.bytes))) (λ st. opens_nothing t IsCall f.id st (λ j. tt) tt))
+reads_call t pinned = reads_all t pinned IsCall (λ j o st. tt) (λ o st. tt)
 
 pub fetch_stands : (t : Setup) (job : Job) (name : List ℕ) (f : Pinned) (s i : ℕ) → In f job.pinned → s < stripes_of t (length f.bytes) → i < t.n → Stands (Fetch i f.id s) (read_actions t job.pinned)
 fetch_stands t job name f s i in_f l k = stands_flat (λ (g : Pinned). on_each_stripe t (length g.bytes) (open_actions t g.id)) job.pinned f (Fetch i f.id s) in_f
@@ -187,7 +190,7 @@ abbrev IsPinnedStore : Setup → Job → Action → Type 0
 IsPinnedStore t job (Store j o s) = (f : Pinned) × In f job.pinned × (f.id ≡ o) × (s < stripes_of t (length f.bytes))
 IsPinnedStore t job action = Unit {0}
 
-repairs_all : (t : Setup) (job : Job) (P : Action → Type 0) → ((f : Pinned) (st : ℕ) → In f job.pinned → st < stripes_of t (length f.bytes) → ((j : ℕ) → P (Fetch j f.id st)) × P (Work f.id st) × ((j : ℕ) → P (Store j f.id st))) → Each P (repair_actions t job)
+pub repairs_all : (t : Setup) (job : Job) (P : Action → Type 0) → ((f : Pinned) (st : ℕ) → In f job.pinned → st < stripes_of t (length f.bytes) → ((j : ℕ) → P (Fetch j f.id st)) × P (Work f.id st) × ((j : ℕ) → P (Store j f.id st))) → Each P (repair_actions t job)
 repairs_all t job P h = each_flat_in P (λ (f : Pinned). on_each_stripe t (length f.bytes) (λ stripe. open_actions t f.id stripe ++ rewrite_actions t job f.id stripe)) job.pinned
     (λ f in_f. each_flat_in P (λ stripe. open_actions t f.id stripe ++ rewrite_actions t job f.id stripe) (upto (stripes_of t (length f.bytes)))
     (λ st in_st. (let g = h f st in_f (upto_in (stripes_of t (length f.bytes)) st in_st) in
