@@ -3,3 +3,4 @@ pub mod Places
 pub mod Walk
 pub mod Passing
 pub mod MadeFacts
+pub mod GetFetches
