@@ -1,0 +1,4 @@
+pub mod Made
+pub mod Gave
+pub mod Whole
+pub mod Behind
