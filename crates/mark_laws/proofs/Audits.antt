@@ -11,11 +11,11 @@ use Rattle.hail_machine.specs.Actions.{Action, WriteBody, SyncBody, WriteGate, S
 use Rattle.hail_machine.specs.Refusals as refusal
 use Rattle.hail_machine.specs.Refusals.{Refusal}
 use Rattle.hail_machine.specs.Setups.{stripes_of}
-use Rattle.hail_machine.specs.States.{State, Append, Doubt, setup_in, object_in, file_in}
+use Rattle.hail_machine.specs.States.{State, Append, Doubt, IsStart, setup_in, object_in, file_in}
 use Rattle.hail_machine.specs.Begins.{is_check, is_put_or_check, is_busy, begin_refusal, pinned_file, pin_all, pinned_for, due_number, due_flags, new_job}
 use Rattle.hail_machine.specs.Appends.{Writes, is_first_append, subject_drawn, audits_drawn}
 use Rattle.hail_machine.specs.Steps.{next_action, block_to_store}
-use Rattle.hail_machine.specs.Runs.{Moment, now, first_moments, is_replacement, is_replaced_since, newest, came}
+use Rattle.hail_machine.specs.Runs.{Moment, now, first_moments, is_replacement, is_replaced_since, newest, came, IsRun}
 use Rattle.hail_machine.specs.Calm.{settled_by, mark_after, since}
 use Rattle.hail_machine.specs.Missed.{Misses, MissesNone}
 use Rattle.hail_machine.specs.Halves.{begun_of}
@@ -32,7 +32,8 @@ use Rattle.run_laws.proofs.InEffect as eff
 use Rattle.mark_laws.specs.Damage.{IsBad, IsReplaced}
 use Rattle.mark_laws.proofs.Turns.{Doubt_now, Audits_are, Turns}
 use Rattle.mark_laws.proofs.Blocks.{clash, since_more, since_now, bad_wrong, due_done, none_flagged}
-use Rattle.mark_laws.proofs.Places.{next_reads, store_stands, gate_behind, same_actions}
+use Rattle.step_laws.proofs.Places.{store_stands, gate_behind}
+use Rattle.mark_laws.proofs.Places.{next_repairs, same_actions}
 use Rattle.mark_laws.proofs.Files.{all_pinned}
 use Rattle.mark_laws.proofs.Points as pt
 use Rattle.mark_laws.proofs.Points.{WasWrong, WrongAt, Remains, IsMarked, Never, Point, AtGate, Facts, wrote_audit, wrote_repair}
@@ -98,13 +99,13 @@ repair_due limit w (Some u) is h = (u, is)
 repair_due limit w None is h = absurd (let a = not_barred limit w RepairJob h in let b = not_busy limit w RepairJob h in
     let e = rw (a, b, is) at h in let f : Some refusal.NothingDue ≡ None = e in cc)
 
-module _ (limit : ℕ) (start : State) (m : Moment) (ms : List Moment) (A : All start ms) (U : num.Facts audits start ms) (I : eff.Facts (now start ms)) (F : Facts start ms)
+module _ (limit : ℕ) (start : State) (m : Moment) (ms : List Moment) (clean : IsStart start) (run : IsRun limit start ms) (A : All start ms) (U : num.Facts audits start ms) (I : eff.Facts (now start ms)) (F : Facts start ms)
     (X : Changes limit (length ms) (now start ms) m.event m.outcome m.state) (T : Turns (now start ms) m.state) where
   on : (from : ℕ) (Old New : ℕ → ℕ → ℕ → Type 0) → Point start ms from Old →
       ((q : List ℕ) (f : File) (i s : ℕ) → file_in (now start ms) q ≡ Some f → file_in m.state q ≡ Some f → setup_in m.state ≡ setup_in (now start ms) → i < (setup_in m.state).n →
       s < stripes_of (setup_in m.state) (length (m.state.bytes f.id)) → IsBad m.state f.id i s → Old i f.id s → IsReplaced from i (m ∷ ms) ⊎ New i f.id s) →
       Point start (m ∷ ms) from New
-  on = pt.point_on limit start m ms A I F X T
+  on = pt.point_on limit start m ms clean run A I F X T
 
   -- ---- begins of audit numbers
 
@@ -290,9 +291,9 @@ module _ (limit : ℕ) (start : State) (m : Moment) (ms : List Moment) (A : All 
       clear q f i s h l b bad =
           (let stood : file_in (now start ms) q ≡ Some f = ap (λ rs. file_of rs q) (sym rec) ∙ h in
           let setup = setup_same m.state (now start ms) (ap setup_of rec) in
-          let below = pt.file_below limit start m ms A I F X T q f stood in
-          let n = pt.bounds limit start m ms A I F X T f.id i s setup below l b in
-          elim (pt.bad_before limit start m ms A I F X T f.id i s setup below (pt.no_remover limit start m ms A I F X T q f stood) bad) [
+          let below = pt.file_below limit start m ms clean run A I F X T q f stood in
+          let n = pt.bounds limit start m ms clean run A I F X T f.id i s setup below l b in
+          elim (pt.bad_before limit start m ms clean run A I F X T f.id i s setup below (pt.no_remover limit start m ms clean run A I F X T q f stood) bad) [
             | inl old ↦ inr (subst (λ hs. WasWrong (now start hs) i f.id) (sym (first_more (length ms) m ms (omega arith) ∙ first_all ms))
                 (record { name = q; file = f; in_effect = stood; id_is = refl; was = bad_wrong (now start ms) f i s n.1 old }))
             | inr r ↦ inl (since_now (length ms) i m ms r (omega arith))
@@ -330,15 +331,15 @@ module _ (limit : ℕ) (start : State) (m : Moment) (ms : List Moment) (A : All 
       more q f i s stood h setup l b bad (marked, (p, low, at)) = elim (cases_eq p x.place) [
         | inl here ↦
             (let act : action ≡ Store i f.id s = same_value (next_action (now start ms) x) action (Store i f.id s) next_is
-            (next_reads (now start ms) x RepairJob kx tt ∙ subst (λ n. slice_get (actions_of (setup_in (now start ms)) x) n ≡ Some (Store i f.id s)) here at) in
-            absurd (pt.stored_right limit start m ms A I F X T x i f.id s bad.0 at_number (next_is ∙ ap Some act) (stores i f.id s bad.0 act bad.1)
-            (pt.wrong_old limit start m ms A I F X T f.id i s bad.0 setup (X.bytes f.id (pt.file_below limit start m ms A I F X T q f stood)) bad.2)))
+            (next_repairs (now start ms) x kx ∙ subst (λ n. slice_get (actions_of (setup_in (now start ms)) x) n ≡ Some (Store i f.id s)) here at) in
+            absurd (pt.stored_right limit start m ms clean run A I F X T x i f.id s bad.0 at_number (next_is ∙ ap Some act) (stores i f.id s bad.0 act bad.1)
+            (pt.wrong_old limit start m ms clean run A I F X T f.id i s bad.0 setup (X.bytes f.id (pt.file_below limit start m ms clean run A I F X T q f stood)) bad.2)))
         | inr other ↦ inr (
             ap (λ g. g i) flagged ∙ marked,
             (
               p,
               omega (arith, low, other, place),
-              ap (λ (t : Setup). slice_get (actions_of t j) p) setup ∙ (ap (λ xs. slice_get xs p) (same_actions (setup_in (now start ms)) x j RepairJob tt kx kj pinned flagged) ∙ at),
+              ap (λ (t : Setup). slice_get (actions_of t j) p) setup ∙ (ap (λ xs. slice_get xs p) (same_actions (setup_in (now start ms)) x j kx kj pinned flagged) ∙ at),
             ),
           )
       ]
@@ -361,7 +362,7 @@ module _ (limit : ℕ) (start : State) (m : Moment) (ms : List Moment) (A : All 
           IsReplaced ((now start ms).audits u.number) i (m ∷ ms) ⊎ Remains m.state j i f.id s
       more u due q f i s stood h setup l b bad marked =
           (let flagged : j.flagged i ≡ true = ap (λ (x : Job). x.flagged i) is ∙ (ap (λ o. due_flags (setup_in (now start ms)).tolerance o i) due ∙ marked) in
-          let bytes : m.state.bytes f.id ≡ (now start ms).bytes f.id = X.bytes f.id (pt.file_below limit start m ms A I F X T q f stood) in
+          let bytes : m.state.bytes f.id ≡ (now start ms).bytes f.id = X.bytes f.id (pt.file_below limit start m ms clean run A I F X T q f stood) in
           let st = store_stands (setup_in m.state) j (pinned_file (now start ms) f) i s (ap (λ (x : Job). x.kind) is)
           (subst (λ (x : Job). In (pinned_file (now start ms) f) x.pinned) (sym is) (all_pinned (now start ms) q f stood)) flagged l
           (subst (λ (y : List ℕ). s < stripes_of (setup_in m.state) (length y)) bytes b) in
@@ -421,7 +422,7 @@ module _ (limit : ℕ) (start : State) (m : Moment) (ms : List Moment) (A : All 
     doubted : (d : Doubt) → (now start ms).doubt ≡ Some d → came (now start ms) m.state ≡ Some d.entry → Came_is
 
   came_is : Came_is
-  came_is = elim (pt.effect limit start m ms A I F X T) [
+  came_is = elim (pt.effect limit start m ms clean run A I F X T) [
     | pt.Effect_is.nothing rec ↦ no_record (not_longer (length (now start ms).records) (ap length rec) (λ z. omega (arith, z)))
     | pt.Effect_is.entry d at rec ↦ doubted d at (longer (now start ms).records d.entry rec refl)
     | pt.Effect_is.set_up s rs rec none (inl e) ↦ setup s (longer rs (SetUp s) rec e)
@@ -464,7 +465,7 @@ module _ (limit : ℕ) (start : State) (m : Moment) (ms : List Moment) (A : All 
     ))
 
     pub due_step : (u : Due) → due_of m.state.records ≡ Some u → (u.number < next_audit m.state.records) × Point start (m ∷ ms) (m.state.audits u.number) (IsMarked m.state u.counts)
-    due_step u h = elim (pt.effect limit start m ms A I F X T) [
+    due_step u h = elim (pt.effect limit start m ms clean run A I F X T) [
       | pt.Effect_is.nothing rec ↦ old_due u (ap due_of (sym rec) ∙ h)
       | pt.Effect_is.entry d at rec ↦ elim (due_done d.entry (now start ms).records u (ap due_of (sym rec) ∙ h)) [
         | inl was ↦ old_due u was
@@ -479,7 +480,7 @@ module _ (limit : ℕ) (start : State) (m : Moment) (ms : List Moment) (A : All 
       | pt.Effect_is.set_up s rs rec none (inr (d, at, e)) ↦ elim (due_done d.entry (now start ms).records u (ap due_of (sym e) ∙ (ap due_of (sym rec) ∙ h))) [
         | inl was ↦ old_due u was
         | inr (und, e2) ↦ new_due u d und at e2
-            (λ q f i t stood h2 setup l b bad below w. absurd (pt.no_file limit start m ms A I F X T rs q f none (inr (d, at, e)) (ap (λ l2. file_of l2 q) (sym rec) ∙ h2)))
+            (λ q f i t stood h2 setup l b bad below w. absurd (pt.no_file limit start m ms clean run A I F X T rs q f none (inr (d, at, e)) (ap (λ l2. file_of l2 q) (sym rec) ∙ h2)))
       ]
     ]
 

@@ -14,7 +14,7 @@ use Rattle.hail_machine.specs.Setups.{object_of, stripes_of}
 use Rattle.hail_machine.specs.States.{State, Append, Doubt, IsStart, setup_in, object_in, file_in}
 use Rattle.hail_machine.specs.Given.{symbols_given}
 use Rattle.hail_machine.specs.Steps.{next_action, block_to_store}
-use Rattle.hail_machine.specs.Runs.{Moment, now, first_moments, is_replacement, is_replaced_since, newest, came}
+use Rattle.hail_machine.specs.Runs.{Moment, now, first_moments, is_replacement, is_replaced_since, newest, came, IsRun}
 use Rattle.hail_machine.specs.Calm.{relies, replaced_count, settled_by, mark_after, since}
 use Rattle.hail_machine.specs.Missed.{is_wrong_now, Misses, MissesNone}
 use Rattle.hail_machine.specs.Halves.{begun_of}
@@ -33,7 +33,9 @@ use Rattle.run_laws.proofs.InEffect as eff
 use Rattle.mark_laws.specs.Damage.{IsBad, IsReplaced, RoseSince}
 use Rattle.mark_laws.proofs.Turns.{Stay_is, Doubt_now, Audits_are, Gift_is, Turns}
 use Rattle.mark_laws.proofs.Blocks.{clash, since_more, since_now, since_earlier, right_block, file_done, setup_left, up_before, up_more}
-use Rattle.mark_laws.proofs.Places.{IsReader, Passed, worked_before_store, write_gate_place, put_gate, stored_before_gate}
+use Rattle.step_laws.proofs.Places.{worked_before_store, stored_before_gate}
+use Rattle.step_laws.proofs.MadeFacts.{given_symbols, made_work_gave}
+use Rattle.mark_laws.proofs.Places.{write_gate_place, put_gate}
 
 -- a provider was wrong for a file of an object in a state
 pub record WasWrong (w : State) (i o : ℕ) : Type 0 where
@@ -125,8 +127,6 @@ pub record Facts (start : State) (ms : List Moment) : Type 0 where
       IsReplaced (mark_of start ms j) i ms ⊎ ((block ≡ None) × RoseSince (begin_of start ms j) (now start ms) i)
   pub rows : (k : ℕ) (j : Job) (o s : ℕ) (symbols : List ℕ) → job_of (now start ms).jobs k ≡ Some j → j.kind ≡ RepairJob → In (Worked o s symbols) j.given →
       (o < next_id (now start ms).records) × (symbols ≡ symbols_in (object_in (now start ms) o) ((now start ms).bytes o) s)
-  pub fetched : (k : ℕ) (j : Job) (i o s : ℕ) → job_of (now start ms).jobs k ≡ Some j → IsReader j.kind → Passed (setup_in (now start ms)) j (Fetch i o s) → (block : Option (List ℕ)) × In (Fetched i o s block) j.given
-  pub worked : (k : ℕ) (j : Job) (o s : ℕ) → job_of (now start ms).jobs k ≡ Some j → IsReader j.kind → Passed (setup_in (now start ms)) j (Work o s) → (symbols : List ℕ) × In (Worked o s symbols) j.given
 
 -- ---- what records are of which job
 
@@ -181,25 +181,7 @@ remove_kinds job (DropJob name) i o h = h
 remove_kinds job AuditJob i o h = h
 remove_kinds job RepairJob i o h = h
 
--- what a stripe's symbols are looked up as
-symbols_newest : (given : List Given) (o s : ℕ) (z : List ℕ) → In (Worked o s z) given → (y : List ℕ) × In (Worked o s y) given × (symbols_given given o s ≡ y)
-symbols_newest [] o s z h = absurd h
-symbols_newest (Fetched i p t block ∷ more) o s z (inl e) = absurd (let f : Worked o s z ≡ Fetched i p t block = e in cc)
-symbols_newest (Answered i p r symbol ∷ more) o s z (inl e) = absurd (let f : Worked o s z ≡ Answered i p r symbol = e in cc)
-symbols_newest (Worked p t x ∷ more) o s z (inl e) = (let f : Worked o s z ≡ Worked p t x = e in let po : p ≡ o = cc in let ts : t ≡ s = cc in
-    (x, inl (λ n. Worked (sym po n) (sym ts n) x), cond_true ((p == o) && (t == s)) x (symbols_given more o s) (and_from (p == o) (t == s) (eq-eqb p o po) (eq-eqb t s ts))))
-symbols_newest (Fetched i p t block ∷ more) o s z (inr h) = (let r = symbols_newest more o s z h in (r.0, inr r.1, r.2))
-symbols_newest (Answered i p k symbol ∷ more) o s z (inr h) = (let r = symbols_newest more o s z h in (r.0, inr r.1, r.2))
-symbols_newest (Worked p t x ∷ more) o s z (inr h) = by_test (symbols_newest more o s z h)
-  where
-    by_test : (y : List ℕ) × In (Worked o s y) more × (symbols_given more o s ≡ y) → (y : List ℕ) × In (Worked o s y) (Worked p t x ∷ more) × (symbols_given (Worked p t x ∷ more) o s ≡ y)
-    by_test r = elim (cases_Bool ((p == o) && (t == s))) [
-      | inl same ↦ (let q = and_parts (p == o) (t == s) same in let po = eqb-true p o q.0 in let ts = eqb-true t s q.1 in
-          (x, inl (λ n. Worked (sym po n) (sym ts n) x), cond_true ((p == o) && (t == s)) x (symbols_given more o s) same))
-      | inr other ↦ (r.0, inr r.1, cond_false ((p == o) && (t == s)) x (symbols_given more o s) other ∙ r.2)
-    ]
-
-module _ (limit : ℕ) (start : State) (m : Moment) (ms : List Moment) (A : All start ms) (I : eff.Facts (now start ms)) (F : Facts start ms)
+module _ (limit : ℕ) (start : State) (m : Moment) (ms : List Moment) (clean : IsStart start) (run : IsRun limit start ms) (A : All start ms) (I : eff.Facts (now start ms)) (F : Facts start ms)
     (X : Changes limit (length ms) (now start ms) m.event m.outcome m.state) (T : Turns (now start ms) m.state) where
   -- the setup stays while a job runs on
   setup_kept : (k : ℕ) (j : Job) → job_of m.state.jobs k ≡ Some j → setup_of m.state.records ≡ setup_of (now start ms).records
@@ -279,12 +261,10 @@ module _ (limit : ℕ) (start : State) (m : Moment) (ms : List Moment) (A : All 
         b_is ∙ (ap (λ kd. Some (block_to_store (now start ms) x kd i o s)) kind ∙ ap (λ l. Some (columns (object_in (now start ms) o) l i s)) (sym bytes_are)) in
         right_block (object_in (now start ms) o) ((now start ms).bytes o) i s (subst (λ y. is_wrong_block (object_in (now start ms) o) ((now start ms).bytes o) i s y ≡ true) column wrong))
     | inr repairs ↦
-        (let reader : IsReader x.kind = subst IsReader (sym repairs) tt in
-        let g = F.worked x.number x o s runs reader (worked_before_store (now start ms) x i o s reader next_is) in
-        let y = symbols_newest x.given o s g.0 g.1 in
-        let rows = (F.rows x.number x o s y.0 runs repairs y.1).1 in
+        (let g = made_work_gave limit start clean ms run x.number x o s runs (worked_before_store (now start ms) x i o s repairs next_is).0 in
+        let rows = (F.rows x.number x o s (symbols_given x.given o s) runs repairs (given_symbols x.given o s g.0 g.1)).1 in
         let column : b ≡ Some (columns (object_in (now start ms) o) ((now start ms).bytes o) i s) =
-        b_is ∙ (ap (λ kd. Some (block_to_store (now start ms) x kd i o s)) repairs ∙ ap (λ l. Some (column_of_symbols (object_in (now start ms) o) l i s)) (y.2 ∙ rows)) in
+        b_is ∙ (ap (λ kd. Some (block_to_store (now start ms) x kd i o s)) repairs ∙ ap (λ l. Some (column_of_symbols (object_in (now start ms) o) l i s)) rows) in
         right_block (object_in (now start ms) o) ((now start ms).bytes o) i s (subst (λ z. is_wrong_block (object_in (now start ms) o) ((now start ms).bytes o) i s z ≡ true) column wrong))
   ]
 
