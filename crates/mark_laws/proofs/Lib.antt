@@ -4,3 +4,4 @@ pub mod Places
 pub mod Files
 pub mod Points
 pub mod Audits
+pub mod Readers

@@ -22,7 +22,7 @@ use Rattle.hail_machine.specs.Deeds.{told_block}
 use Rattle.hail_machine.proofs.JobLists.{cond_true, cond_false, same_value, found_none}
 use Rattle.hail_machine.proofs.Changes.{IsPlain, IsGated, Grown, Job_is, Append_is, Records_is, Block_is, Changes}
 use Rattle.hail_machine.proofs.Events.{some_told}
-use Rattle.hail_machine.proofs.Numbers.{objects, audits, Draws, HasNumber}
+use Rattle.hail_machine.proofs.Numbers.{objects, audits, Draws, HasNumber, next_of_records}
 use Rattle.hail_machine.proofs.Numbers as num
 use Rattle.hail_machine.proofs.RecordFacts.{In}
 use Rattle.hail_machine.proofs.Fair.{IsFair, is_fair, stores_count, store_place}
@@ -359,7 +359,7 @@ module _ (limit : ℕ) (start : State) (m : Moment) (ms : List Moment) (clean : 
   ]
 
   -- while a job runs, a setup is in effect
-  runs_up : (k : ℕ) (j : Job) → job_of (now start ms).jobs k ≡ Some j → is_some (setup_of (now start ms).records) ≡ true
+  pub runs_up : (k : ℕ) (j : Job) → job_of (now start ms).jobs k ≡ Some j → is_some (setup_of (now start ms).records) ≡ true
   runs_up k j runs = elim (cases_Bool (now start ms).is_open) [
     | inl t ↦ I.opened t
     | inr f ↦ absurd (found_none (now start ms).jobs k j (A.numbers.idle f).0 runs)
@@ -465,3 +465,6 @@ module _ (limit : ℕ) (start : State) (m : Moment) (ms : List Moment) (clean : 
         | Stay_is.shut closed ↦ absurd (false≢true (sym closed ∙ is_open))
         | Stay_is.undoubted none ↦ absurd (clash m.state.doubt d h none)
       ]
+
+  pub ids_grow : next_id (now start ms).records ≤ next_id m.state.records
+  ids_grow = next_of_records objects (now start ms) m.state X.records

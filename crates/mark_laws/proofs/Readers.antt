@@ -1,0 +1,285 @@
+-- What gets and repairs read, in a calm run in which no audit missed damage.
+use Rattle.std.proofs.Common.{◌≡◌, ℕ, zero, suc, ◌+◌, ◌-◌, ◌≤◌, ◌<◌, ◌==◌, Bool, true, false, cond, ◌⊎◌, ◌&&◌, List, [], ◌∷◌, ◌++◌, length, Option, Some, None, refl, ap, sym, subst, ◌∙◌, inl, inr, arith}
+use Rattle.std.specs.Prelude.{IsTrue, IsSome, is_some, option_and_then}
+use Rattle.std.specs.Option.{option_map}
+use Rattle.std.proofs.lemmas.Bool.{cases_Bool, cases_lt, and_parts, eqb-true, false≢true}
+use Rattle.hail_field.specs.Shape.{IsShape}
+use Rattle.hail_codes.specs.Points.{upto}
+use Rattle.hail_columns.specs.Objects.{symbols_in}
+use Rattle.hail_columns.specs.Columns.{is_wrong_block}
+use Rattle.hail_columns.specs.Opened.{GivesSymbols, block_at}
+use Rattle.hail_columns.specs.Forgeries.{count_of}
+use Rattle.column_laws.proofs.Counts.{count_of-within}
+use Rattle.hail_records.specs.Records.{Setup}
+use Rattle.hail_records.specs.Table.{File, setup_of, next_id}
+use Rattle.hail_devices.specs.Faults.{Rose, last_count}
+use Rattle.hail_devices.specs.Providers.{Held, sized}
+use Rattle.hail_devices.specs.ProviderCalls.{FetchGives, FailsToGive}
+use Rattle.hail_machine.specs.Jobs.{Kind, RepairJob, Pinned, Given, Fetched, Answered, Worked, Job, job_of}
+use Rattle.hail_machine.specs.Actions.{Action, Work}
+use Rattle.hail_machine.specs.Setups.{setup_or_none, object_of, stripes_of}
+use Rattle.hail_machine.specs.States.{State, IsStart, setup_in, object_in, file_in}
+use Rattle.hail_machine.specs.Begins.{pinned_file}
+use Rattle.hail_machine.specs.Given.{block_given, blocks_given}
+use Rattle.hail_machine.specs.Steps.{next_action}
+use Rattle.hail_machine.specs.Runs.{Moment, now, first_moments, is_replacement, is_replaced_since, IsRun}
+use Rattle.hail_machine.specs.Calm.{relies, replaced_count, since}
+use Rattle.hail_machine.specs.Halves.{AllTell}
+use Rattle.hail_machine.proofs.JobLists.{cond_true, cond_false, found_none}
+use Rattle.hail_machine.proofs.Changes.{Gave, Job_is, Changes}
+use Rattle.hail_machine.proofs.RecordFacts.{In}
+use Rattle.hail_machine.proofs.Pins.{Stands, pinned_stands}
+use Rattle.hail_machine.proofs.PinFacts.{Pins_is, pins_is}
+use Rattle.hail_machine.proofs.Held.{All, first_more, first_all}
+use Rattle.run_laws.proofs.InEffect.{valid_shape}
+use Rattle.run_laws.proofs.InEffect as eff
+use Rattle.calm_laws.specs.FewWrong.{is_wrong_seen}
+use Rattle.calm_laws.specs.Origins.{IsHeldThen}
+use Rattle.calm_laws.proofs.Absent.{own_symbols}
+use Rattle.calm_laws.proofs.Onward.{AllOnward}
+use Rattle.step_laws.proofs.Lists.{get_map_upto}
+use Rattle.mark_laws.specs.Damage.{IsBad, IsReplaced, RoseSince}
+use Rattle.mark_laws.proofs.Turns.{IsSame, IsFound, Gift_is, Turns}
+use Rattle.mark_laws.proofs.Blocks.{clash, since_more, since_now, sized_wrong}
+use Rattle.mark_laws.proofs.Places.{work_within}
+use Rattle.mark_laws.proofs.Points as pt
+use Rattle.mark_laws.proofs.Points.{Facts, begin_of, mark_of}
+
+-- a count that rose stays so
+pub rose_on : (a b c : ℕ) → Rose a b → b ≤ c → Rose a c
+rose_on a b c h l below = (let g = h below in omega (arith, g, l))
+
+rose_since : (a b c : ℕ) → a ≤ b → Rose b c → b ≤ c → Rose a c
+rose_since a b c early h l below = elim (cases_lt b last_count) [
+  | inl k ↦ (let g = h k in omega (arith, g, early))
+  | inr k ↦ omega (arith, k, l, below)
+]
+
+-- a block that was given is among what was given
+block_in : (given : List Given) (o s i : ℕ) (block : List ℕ) → block_given given o s i ≡ Some block → In (Fetched i o s (Some block)) given
+block_in [] o s i block h = absurd (let e : None ≡ Some block = h in cc)
+block_in (Fetched k p t b ∷ more) o s i block h = by_test (block_in more o s i block)
+  where
+    by_test : (block_given more o s i ≡ Some block → In (Fetched i o s (Some block)) more) → In (Fetched i o s (Some block)) (Fetched k p t b ∷ more)
+    by_test rest = elim (cases_Bool (((k == i) && (p == o)) && (t == s))) [
+      | inl same ↦ (let q = and_parts ((k == i) && (p == o)) (t == s) same in let r = and_parts (k == i) (p == o) q.0 in
+          let b_is : b ≡ Some block = sym (cond_true (((k == i) && (p == o)) && (t == s)) b (block_given more o s i) same) ∙ h in
+          inl (λ z. Fetched (sym (eqb-true k i r.0) z) (sym (eqb-true p o r.1) z) (sym (eqb-true t s q.1) z) (sym b_is z)))
+      | inr other ↦ inr (rest (sym (cond_false (((k == i) && (p == o)) && (t == s)) b (block_given more o s i) other) ∙ h))
+    ]
+block_in (Answered k p r symbol ∷ more) o s i block h = inr (block_in more o s i block h)
+block_in (Worked p t symbols ∷ more) o s i block h = inr (block_in more o s i block h)
+
+pub given_at : (given : List Given) (n o s i : ℕ) → i < n → block_at (blocks_given given n o s) i ≡ block_given given o s i
+given_at given n o s i l = ap (λ x. option_and_then (λ block. block) x) (get_map_upto (block_given given o s) n i l)
+
+-- a setup in effect makes a shape
+shape_in : (w : State) → ((s : Setup) → setup_of w.records ≡ Some s → IsShape s.n s.l s.b) → is_some (setup_of w.records) ≡ true → IsShape (setup_in w).n (setup_in w).l (setup_in w).b
+unfolding setup_in
+shape_in w valid up = go (setup_of w.records) valid up
+  where
+    go : (o : Option Setup) → ((s : Setup) → o ≡ Some s → IsShape s.n s.l s.b) → is_some o ≡ true → IsShape (setup_or_none o).n (setup_or_none o).l (setup_or_none o).b
+    go None f h = absurd (false≢true h)
+    go (Some s) f h = f s refl
+
+module _ (limit : ℕ) (start : State) (m : Moment) (ms : List Moment) (clean : IsStart start) (run : IsRun limit start ms) (A : All start ms) (I : eff.Facts (now start ms)) (F : Facts start ms)
+    (X : Changes limit (length ms) (now start ms) m.event m.outcome m.state) (T : Turns (now start ms) m.state) (O : AllOnward (now start ms) m.state) (tell : AllTell (now start ms))
+    (calm : (k : ℕ) (j : Job) → job_of (now start ms).jobs k ≡ Some j → IsTrue (relies j.kind) → replaced_count (now start ms) (mark_of start ms j) ms ≤ (setup_in (now start ms)).b) where
+  -- ---- the mark and the state at the begin of a job
+
+  first_had : (j x : Job) → j.begun ≡ x.begun → x.begun ≤ length ms → first_moments j.begun (m ∷ ms) ≡ first_moments x.begun ms
+  first_had j x begun l = ap (λ n. first_moments n (m ∷ ms)) begun ∙ first_more x.begun m ms l
+
+  first_new : (j : Job) → j.begun ≡ length ms → first_moments j.begun (m ∷ ms) ≡ ms
+  first_new j begun = ap (λ n. first_moments n (m ∷ ms)) begun ∙ (first_more (length ms) m ms (omega arith) ∙ first_all ms)
+
+  pub pinned_step : (k : ℕ) (j : Job) (f : Pinned) → job_of m.state.jobs k ≡ Some j → In f j.pinned → f.bytes ≡ m.state.bytes f.id
+  pinned_step k j f h in_f = elim (pins_is limit start m ms A.numbers A.pins X k j h) [
+    | Pins_is.had x runs pinned kind begun g ↦ (let in_x = subst (In f) pinned in_f in F.pinned k x f runs in_x ∙ sym (X.bytes f.id (A.pins.pins k x f runs in_x).0))
+    | Pins_is.new_one kd is k_is allowed rec ↦
+        (let st = pinned_stands (now start ms) kd f (subst (λ (x : Job). In f x.pinned) is in_f) in
+        let id_is : f.id ≡ st.file.id = ap (λ (x : Pinned). x.id) st.is in
+        ap (λ (x : Pinned). x.bytes) st.is ∙ (ap (now start ms).bytes (sym id_is)
+        ∙ sym (X.bytes f.id (let l = pt.file_below limit start m ms clean run A I F X T st.name st.file st.in_effect in omega arith))))
+  ]
+
+  pub marked_step : (k : ℕ) (j : Job) → job_of m.state.jobs k ≡ Some j → mark_of start (m ∷ ms) j ≤ suc (length ms)
+  marked_step k j h = elim (pins_is limit start m ms A.numbers A.pins X k j h) [
+    | Pins_is.had x runs pinned kind begun g ↦ (let e = ap (since start) (first_had j x begun (A.held.begun k x runs)) in let l = F.marked k x runs in omega arith)
+    | Pins_is.new_one kd is k_is allowed rec ↦ (let e = ap (since start) (first_new j (ap (λ (x : Job). x.begun) is)) in let l = F.mark.early in omega arith)
+  ]
+
+  pub reads_step : (k : ℕ) (j : Job) (f : Pinned) (i s : ℕ) → job_of m.state.jobs k ≡ Some j → In f j.pinned → i < (setup_in m.state).n →
+      s < stripes_of (setup_in m.state) (length (m.state.bytes f.id)) → IsBad m.state f.id i s → IsReplaced (mark_of start (m ∷ ms) j) i (m ∷ ms)
+  reads_step k j f i s h in_f l b bad = elim (pins_is limit start m ms A.numbers A.pins X k j h) [
+    | Pins_is.had x runs pinned kind begun g ↦
+        (let in_x = subst (In f) pinned in_f in
+        let below = (A.pins.pins k x f runs in_x).0 in
+        let n = pt.bounds limit start m ms clean run A I F X T f.id i s setup below l b in
+        subst (λ z. IsReplaced z i (m ∷ ms)) (sym (ap (since start) (first_had j x begun (A.held.begun k x runs))))
+        (elim (pt.bad_before limit start m ms clean run A I F X T f.id i s setup below (λ y runs_y o. A.pins.older_free y.number k y x f.id f runs_y o runs in_x refl) bad) [
+          | inl old ↦ since_more (mark_of start ms x) i m ms (F.reads k x f i s runs in_x n.0 n.1 old)
+          | inr r ↦ since_now (mark_of start ms x) i m ms r (F.marked k x runs)
+        ]))
+    | Pins_is.new_one kd is k_is allowed rec ↦
+        (let st = pinned_stands (now start ms) kd f (subst (λ (x : Job). In f x.pinned) is in_f) in
+        let id_is : f.id ≡ st.file.id = ap (λ (x : Pinned). x.id) st.is in
+        let below : f.id < next_id (now start ms).records = (let z = pt.file_below limit start m ms clean run A I F X T st.name st.file st.in_effect in omega arith) in
+        let n = pt.bounds limit start m ms clean run A I F X T f.id i s setup below l b in
+        subst (λ z. IsReplaced z i (m ∷ ms)) (sym (ap (since start) (first_new j (ap (λ (x : Job). x.begun) is))))
+        (elim (pt.bad_before limit start m ms clean run A I F X T f.id i s setup below (λ y runs_y o. A.pins.older_out y.number y f.id st.name st.file runs_y o st.in_effect (sym id_is)) bad) [
+          | inl old ↦ elim (F.mark.clear st.name st.file i s st.in_effect n.0 (subst (λ o. s < stripes_of (setup_in (now start ms)) (length ((now start ms).bytes o))) id_is n.1) (subst (λ o. IsBad (now start ms) o i s) id_is old)) [
+            | inl r ↦ since_more (since start ms) i m ms r
+            | inr never ↦ absurd never
+          ]
+          | inr r ↦ since_now (since start ms) i m ms r F.mark.early
+        ]))
+  ]
+    where
+      setup : setup_in m.state ≡ setup_in (now start ms)
+      setup = pt.setup_job limit start m ms clean run A I F X T k j h
+
+  pub counts_step : (k : ℕ) (j : Job) (i : ℕ) → job_of m.state.jobs k ≡ Some j → ((begin_of start (m ∷ ms) j).providers i).other_faults ≤ (m.state.providers i).other_faults
+  counts_step k j i h = elim (pins_is limit start m ms A.numbers A.pins X k j h) [
+    | Pins_is.had x runs pinned kind begun g ↦
+        (let e = ap (λ hs. ((now start hs).providers i).other_faults) (first_had j x begun (A.held.begun k x runs)) in let l = F.counts k x i runs in let n = (O.provider i).others in omega arith)
+    | Pins_is.new_one kd is k_is allowed rec ↦
+        (let e = ap (λ hs. ((now start hs).providers i).other_faults) (first_new j (ap (λ (x : Job). x.begun) is)) in let n = (O.provider i).others in omega arith)
+  ]
+
+  -- ---- what was fetched
+
+  abbrev Excused : List Moment → Job → ℕ → Option (List ℕ) → Type 0
+  Excused hs j i block = IsReplaced (mark_of start hs j) i hs ⊎ ((block ≡ None) × RoseSince (begin_of start hs j) (now start hs) i)
+
+  excused_on : (k : ℕ) (x j : Job) (i : ℕ) (block : Option (List ℕ)) → job_of (now start ms).jobs k ≡ Some x → j.begun ≡ x.begun → Excused ms x i block → Excused (m ∷ ms) j i block
+  excused_on k x j i block runs begun (inl r) = inl (subst (λ z. IsReplaced z i (m ∷ ms)) (sym (ap (since start) (first_had j x begun (A.held.begun k x runs)))) (since_more (mark_of start ms x) i m ms r))
+  excused_on k x j i block runs begun (inr (none, rose)) = inr (
+    none,
+    subst (λ hs. RoseSince (now start hs) m.state i) (sym (first_had j x begun (A.held.begun k x runs))) (rose_on _ _ _ rose (O.provider i).others),
+  )
+
+  -- a block that a fetch gives is wrong where what is held is, or a count rose
+  fetched_now : (k : ℕ) (x j : Job) (f : Pinned) (i s : ℕ) (block : Option (List ℕ)) → job_of (now start ms).jobs k ≡ Some x → j.begun ≡ x.begun → In f x.pinned → i < (setup_in (now start ms)).n →
+      s < stripes_of (setup_in (now start ms)) (length ((now start ms).bytes f.id)) → is_wrong_block (object_in (now start ms) f.id) ((now start ms).bytes f.id) i s block ≡ true →
+      IsHeldThen (now start ms) m.state i f.id s block → Excused (m ∷ ms) j i block
+  fetched_now k x j f i s block runs begun in_x l b wrong (inr (none, rose)) = inr (
+    none,
+    subst (λ hs. RoseSince (now start hs) m.state i) (sym (first_had j x begun (A.held.begun k x runs))) (rose_since _ _ _ (F.counts k x i runs) rose (O.provider i).others),
+  )
+  fetched_now k x j f i s block runs begun in_x l b wrong (inl g) = by_told ((now start ms).providers i).held refl (tell i) g
+    where
+      by_told : (held : Option Held) → ((now start ms).providers i).held ≡ held → IsSome held → FetchGives (object_in (now start ms) f.id).profile.size f.id s held block → Excused (m ∷ ms) j i block
+      by_told None is some gives = absurd (false≢true some)
+      by_told (Some held) is some gives = excused_on k x j i block runs begun (inl (F.reads k x f i s runs in_x l b
+          (held f.id s, ap (option_map (λ (y : Held). y f.id s)) is,
+          sized_wrong (object_in (now start ms) f.id) ((now start ms).bytes f.id) i s (held f.id s) (subst (λ y. is_wrong_block (object_in (now start ms) f.id) ((now start ms).bytes f.id) i s y ≡ true) gives wrong))))
+
+  pub gave_step : (k : ℕ) (j : Job) (f : Pinned) (i s : ℕ) (block : Option (List ℕ)) → job_of m.state.jobs k ≡ Some j → In f j.pinned → i < (setup_in m.state).n →
+      s < stripes_of (setup_in m.state) (length (m.state.bytes f.id)) → In (Fetched i f.id s block) j.given →
+      is_wrong_block (object_in m.state f.id) (m.state.bytes f.id) i s block ≡ true → Excused (m ∷ ms) j i block
+  gave_step k j f i s block h in_f l b given wrong = elim (T.gift k j h) [
+    | Gift_is.had x runs given_is same ↦ before x runs same (subst (In (Fetched i f.id s block)) given_is given)
+    | Gift_is.empty none ↦ absurd (subst (In (Fetched i f.id s block)) none given)
+    | Gift_is.one x gift runs given_is same found ↦ elim (subst (In (Fetched i f.id s block)) given_is given) [
+      | inl e ↦
+          (let in_x = subst (In f) same.pinned in_f in
+          let below = (A.pins.pins k x f runs in_x).0 in
+          let n = pt.bounds limit start m ms clean run A I F X T f.id i s setup below l b in
+          fetched_now k x j f i s block runs same.begun in_x n.0 n.1 (pt.wrong_old limit start m ms clean run A I F X T f.id i s block setup (X.bytes f.id below) wrong)
+          (subst (IsFound (now start ms) m.state x) (sym e) found))
+      | inr in_given ↦ before x runs same in_given
+    ]
+  ]
+    where
+      setup : setup_in m.state ≡ setup_in (now start ms)
+      setup = pt.setup_job limit start m ms clean run A I F X T k j h
+
+      before : (x : Job) → job_of (now start ms).jobs k ≡ Some x → IsSame x j → In (Fetched i f.id s block) x.given → Excused (m ∷ ms) j i block
+      before x runs same in_given =
+          (let in_x = subst (In f) same.pinned in_f in
+          let below = (A.pins.pins k x f runs in_x).0 in
+          let n = pt.bounds limit start m ms clean run A I F X T f.id i s setup below l b in
+          excused_on k x j i block runs same.begun
+          (F.gave k x f i s block runs in_x n.0 n.1 in_given (pt.wrong_old limit start m ms clean run A I F X T f.id i s block setup (X.bytes f.id below) wrong)))
+
+  -- ---- what the work of a repair gave
+
+  -- while a job runs, the setup makes a shape
+  runs_shape : (k : ℕ) (j : Job) → job_of (now start ms).jobs k ≡ Some j → IsShape (setup_in (now start ms)).n (setup_in (now start ms)).l (setup_in (now start ms)).b
+  runs_shape k j runs = shape_in (now start ms) (λ s e. valid_shape s (I.setup s e)) (pt.runs_up limit start m ms clean run A I F X T k j runs)
+
+  few_wrong : (k : ℕ) (x : Job) (f : Pinned) (s : ℕ) → job_of (now start ms).jobs k ≡ Some x → x.kind ≡ RepairJob → In f x.pinned → s < stripes_of (setup_in (now start ms)) (length ((now start ms).bytes f.id)) →
+      count_of (λ i. is_wrong_seen (object_in (now start ms) f.id) ((now start ms).bytes f.id) i s (block_at (blocks_given x.given (setup_in (now start ms)).n f.id s) i)) (upto (setup_in (now start ms)).n) ≤ (setup_in (now start ms)).b
+  few_wrong k x f s runs kind in_x b =
+      (let w = count_of-within (λ i. is_wrong_seen (object_in (now start ms) f.id) ((now start ms).bytes f.id) i s (block_at (blocks_given x.given (setup_in (now start ms)).n f.id s) i)) (λ i. is_replaced_since (mark_of start ms x) i ms) 0 (setup_in (now start ms)).n
+      (λ i l wrong. one i (omega (arith, l)) (subst (λ y. is_wrong_seen (object_in (now start ms) f.id) ((now start ms).bytes f.id) i s y ≡ true) (given_at x.given (setup_in (now start ms)).n f.id s i (omega (arith, l))) wrong)) in
+      let c : count_of (λ i. is_replaced_since (mark_of start ms x) i ms) (upto (setup_in (now start ms)).n) ≤ (setup_in (now start ms)).b = calm k x runs (subst (λ (kd : Kind). IsTrue (relies kd)) (sym kind) refl) in
+      omega (arith, w, c))
+    where
+      one : (i : ℕ) → i < (setup_in (now start ms)).n → is_wrong_seen (object_in (now start ms) f.id) ((now start ms).bytes f.id) i s (block_given x.given f.id s i) ≡ true → is_replaced_since (mark_of start ms x) i ms ≡ true
+      one i l wrong = by_seen (block_given x.given f.id s i) refl wrong
+        where
+          by_seen : (seen : Option (List ℕ)) → block_given x.given f.id s i ≡ seen → is_wrong_seen (object_in (now start ms) f.id) ((now start ms).bytes f.id) i s seen ≡ true → is_replaced_since (mark_of start ms x) i ms ≡ true
+          by_seen None is w = absurd (false≢true w)
+          by_seen (Some block) is w = elim (F.gave k x f i s (Some block) runs in_x l b (block_in x.given f.id s i block is) w) [
+            | inl r ↦ r
+            | inr q ↦ absurd (let z : Some block ≡ None = q.0 in cc)
+          ]
+
+  rows_now : (k : ℕ) (x : Job) (o s : ℕ) (symbols : List ℕ) → job_of (now start ms).jobs k ≡ Some x → x.kind ≡ RepairJob → next_action (now start ms) x ≡ Some (Work o s) →
+      GivesSymbols (object_in (now start ms) o) s (blocks_given x.given (setup_in (now start ms)).n o s) symbols → (o < next_id (now start ms).records) × (symbols ≡ symbols_in (object_in (now start ms) o) ((now start ms).bytes o) s)
+  rows_now k x o s symbols runs kind next_is gives = by_file (work_within (now start ms) x o s kind next_is)
+    where
+      by_file : (f : Pinned) × In f x.pinned × (f.id ≡ o) × (s < stripes_of (setup_in (now start ms)) (length f.bytes)) → (o < next_id (now start ms).records) × (symbols ≡ symbols_in (object_in (now start ms) o) ((now start ms).bytes o) s)
+      by_file (f, in_x, id_is, l) =
+          (let b : s < stripes_of (setup_in (now start ms)) (length ((now start ms).bytes f.id)) = subst (λ (y : List ℕ). s < stripes_of (setup_in (now start ms)) (length y)) (F.pinned k x f runs in_x) l in
+          subst (λ n. (n < next_id (now start ms).records) × (symbols ≡ symbols_in (object_in (now start ms) n) ((now start ms).bytes n) s)) id_is
+          (
+            (A.pins.pins k x f runs in_x).0,
+            own_symbols (object_in (now start ms) f.id) ((now start ms).bytes f.id) (setup_in (now start ms)).profile s (blocks_given x.given (setup_in (now start ms)).n f.id s) symbols refl (runs_shape k x runs) b
+                (few_wrong k x f s runs kind in_x b) (subst (λ n. GivesSymbols (object_in (now start ms) n) s (blocks_given x.given (setup_in (now start ms)).n n s) symbols) (sym id_is) gives),
+          ))
+
+  pub rows_step : (k : ℕ) (j : Job) (o s : ℕ) (symbols : List ℕ) → job_of m.state.jobs k ≡ Some j → j.kind ≡ RepairJob → In (Worked o s symbols) j.given →
+      (o < next_id m.state.records) × (symbols ≡ symbols_in (object_in m.state o) (m.state.bytes o) s)
+  rows_step k j o s symbols h kind given = rows_on (elim (X.job k j h) [
+    | Job_is.kept r grown ↦ F.rows k j o s symbols r kind given
+    | Job_is.begun kd is k_is allowed rec ↦ absurd (subst (λ (x : Job). In (Worked o s symbols) x.given) is given)
+    | Job_is.plain x action runs next_is is_plain goes rec st ↦ by_gave x action runs next_is (sym goes.kind ∙ kind) goes.gave
+    | Job_is.drew x runs next_is free is rec ↦ F.rows k x o s symbols runs (sym (ap (λ (y : Job). y.kind) is) ∙ kind) (subst (λ (y : Job). In (Worked o s symbols) y.given) is given)
+    | Job_is.finished x a runs next_is flight mine is rec free ↦ F.rows k x o s symbols runs (sym (ap (λ (y : Job). y.kind) is) ∙ kind) (subst (λ (y : Job). In (Worked o s symbols) y.given) is given)
+  ])
+    where
+      setup : setup_in m.state ≡ setup_in (now start ms)
+      setup = pt.setup_job limit start m ms clean run A I F X T k j h
+
+      rows_on : (o < next_id (now start ms).records) × (symbols ≡ symbols_in (object_in (now start ms) o) ((now start ms).bytes o) s) → (o < next_id m.state.records) × (symbols ≡ symbols_in (object_in m.state o) (m.state.bytes o) s)
+      rows_on r = (
+        (let g = pt.ids_grow limit start m ms clean run A I F X T in let l = r.0 in omega arith),
+        r.1 ∙ (ap (λ y. symbols_in (object_in (now start ms) o) y s) (sym (X.bytes o r.0)) ∙ ap (λ t. symbols_in (object_of t o) (m.state.bytes o) s) (sym setup)),
+      )
+
+      by_gave : (x : Job) (action : Action) → job_of (now start ms).jobs k ≡ Some x → next_action (now start ms) x ≡ Some action → x.kind ≡ RepairJob → Gave (now start ms) x action j →
+          (o < next_id (now start ms).records) × (symbols ≡ symbols_in (object_in (now start ms) o) ((now start ms).bytes o) s)
+      by_gave x action runs next_is kx (Gave.nothing quiet g) = F.rows k x o s symbols runs kx (subst (In (Worked o s symbols)) g given)
+      by_gave x action runs next_is kx (Gave.fetched i p t block act g) = elim (subst (In (Worked o s symbols)) g given) [
+        | inl e ↦ absurd (let z : Worked o s symbols ≡ Fetched i p t block = e in cc)
+        | inr old ↦ F.rows k x o s symbols runs kx old
+      ]
+      by_gave x action runs next_is kx (Gave.answered i p t symbol act g) = elim (subst (In (Worked o s symbols)) g given) [
+        | inl e ↦ absurd (let z : Worked o s symbols ≡ Answered i p t symbol = e in cc)
+        | inr old ↦ F.rows k x o s symbols runs kx old
+      ]
+      by_gave x action runs next_is kx (Gave.worked p t found act gives g) = elim (subst (In (Worked o s symbols)) g given) [
+        | inl e ↦
+            (let z : Worked o s symbols ≡ Worked p t found = e in let po : p ≡ o = cc in let ts : t ≡ s = cc in let fs : found ≡ symbols = cc in
+            now_worked p t found po ts fs (next_is ∙ ap Some act) gives)
+        | inr old ↦ F.rows k x o s symbols runs kx old
+      ]
+        where
+          now_worked : (p t : ℕ) (found : List ℕ) → p ≡ o → t ≡ s → found ≡ symbols → next_action (now start ms) x ≡ Some (Work p t) → GivesSymbols (object_in (now start ms) p) t (blocks_given x.given (setup_in (now start ms)).n p t) found →
+              (o < next_id (now start ms).records) × (symbols ≡ symbols_in (object_in (now start ms) o) ((now start ms).bytes o) s)
+          now_worked p t found po ts fs next_w gives_w =
+              (let r = rows_now k x p t found runs kx next_w gives_w in
+              (subst (λ n. n < next_id (now start ms).records) po r.0, sym fs ∙ (r.1 ∙ (λ z. symbols_in (object_in (now start ms) (po z)) ((now start ms).bytes (po z)) (ts z)))))
