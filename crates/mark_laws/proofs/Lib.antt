@@ -5,3 +5,4 @@ pub mod Files
 pub mod Points
 pub mod Audits
 pub mod Readers
+pub mod SecondHalf

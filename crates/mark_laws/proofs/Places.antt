@@ -4,8 +4,8 @@ use Rattle.std.specs.Prelude.{slice_get}
 use Rattle.std.specs.List.{flat_map}
 use Rattle.hail_codes.specs.Points.{upto}
 use Rattle.hail_records.specs.Records.{Setup}
-use Rattle.hail_machine.specs.Jobs.{PutJob, RepairJob, Pinned, Job}
-use Rattle.hail_machine.specs.Actions.{Action, WriteBody, SyncBody, WriteGate, SyncGate, Store, Work, Remove, End, append_actions, on_each_provider, on_each_stripe, open_actions, store_actions, remove_actions, repair_actions, actions_by, actions_of}
+use Rattle.hail_machine.specs.Jobs.{PutJob, GetJob, RepairJob, Pinned, Job}
+use Rattle.hail_machine.specs.Actions.{Action, WriteBody, SyncBody, WriteGate, SyncGate, Store, Fetch, Work, Remove, End, append_actions, on_each_provider, on_each_stripe, open_actions, store_actions, read_actions, remove_actions, repair_actions, actions_by, actions_of}
 use Rattle.hail_machine.specs.Setups.{stripes_of}
 use Rattle.hail_machine.specs.States.{State, setup_in}
 use Rattle.hail_machine.specs.Steps.{next_action}
@@ -14,6 +14,7 @@ use Rattle.hail_machine.proofs.Numbers.{next_by, next_is_by}
 use Rattle.hail_machine.proofs.RecordFacts.{In}
 use Rattle.hail_machine.proofs.Fair.{stores_count, PutAt, put_next}
 use Rattle.hail_machine.proofs.Held.{actions_are}
+use Rattle.step_laws.proofs.Lists.{each_flat_in, upto_in}
 use Rattle.step_laws.proofs.Places.{next_stands, by_kind, repairs_all}
 
 -- ---- puts
@@ -80,6 +81,18 @@ work_within w job o s kind h =
     (repairs_all (setup_in w) job (IsWithin (setup_in w) job) (λ f st in_f l. (λ j. tt, (f, in_f, refl, l), λ j. tt)))
     (tt, (tt, (tt, (tt, (tt, tt))))))
     (by_kind (setup_in w) job RepairJob job.place (Work o s) kind (next_stands w job (Work o s) h (λ e. cc)))
+
+-- so is that of a get
+pub read_within : (w : State) (job : Job) (name : List ℕ) (o s : ℕ) → job.kind ≡ GetJob name → next_action w job ≡ Some (Work o s) → (f : Pinned) × In f job.pinned × (f.id ≡ o) × (s < stripes_of (setup_in w) (length f.bytes))
+read_within w job name o s kind h =
+    each_get (IsWithin (setup_in w) job) (actions_by (setup_in w) job (GetJob name)) job.place (Work o s)
+    (each_append (IsWithin (setup_in w) job) (read_actions (setup_in w) job.pinned) (End ∷ [])
+    (each_flat_in (IsWithin (setup_in w) job) (λ (f : Pinned). on_each_stripe (setup_in w) (length f.bytes) (open_actions (setup_in w) f.id)) job.pinned
+    (λ f i. each_flat_in (IsWithin (setup_in w) job) (open_actions (setup_in w) f.id) (upto (stripes_of (setup_in w) (length f.bytes)))
+    (λ st l. each_append (IsWithin (setup_in w) job) (on_each_provider (setup_in w) (λ j. Fetch j f.id st)) (Work f.id st ∷ []) (each_map (IsWithin (setup_in w) job) (λ j. Fetch j f.id st) (upto (setup_in w).n) (λ j. tt))
+    ((f, i, refl, upto_in (stripes_of (setup_in w) (length f.bytes)) st l), tt))))
+    (tt, tt))
+    (by_kind (setup_in w) job (GetJob name) job.place (Work o s) kind (next_stands w job (Work o s) h (λ e. cc)))
 
 -- the actions of a repair hang on its files and on what it flags
 abbrev repair_list : Setup → (ℕ → Bool) → List Pinned → List Action

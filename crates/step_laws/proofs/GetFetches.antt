@@ -73,7 +73,7 @@ module _ (old : State) (job : Job) (new : State) (bytes : List ℕ) where
   step_end true runs h = open_end old.is_barred runs h
   step_end false runs h = absurd h
 
-ends_at : (limit : ℕ) (start : State) (m : Moment) (ms : List Moment) (job : Job) (bytes : List ℕ) → IsRun limit start (m ∷ ms) → m.event ≡ Step job.number → m.outcome ≡ Ended (Got bytes) → job_of (now start ms).jobs job.number ≡ Some job →
+pub ends_at : (limit : ℕ) (start : State) (m : Moment) (ms : List Moment) (job : Job) (bytes : List ℕ) → IsRun limit start (m ∷ ms) → m.event ≡ Step job.number → m.outcome ≡ Ended (Got bytes) → job_of (now start ms).jobs job.number ≡ Some job →
     next_action (now start ms) job ≡ Some End
 ends_at limit start m ms job bytes run event outcome runs =
     (let h : Happens limit (length ms) (now start ms) (Step job.number) (Ended (Got bytes)) m.state =

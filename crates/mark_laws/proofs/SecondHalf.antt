@@ -1,0 +1,261 @@
+-- The second half of the main theorem.
+use Rattle.std.proofs.Common.{◌≡◌, ℕ, zero, suc, ◌+◌, ◌≤◌, ◌<◌, Bool, true, false, ◌⊎◌, List, [], ◌∷◌, length, Option, Some, None, refl, ap, sym, subst, ◌∙◌, inl, inr, arith}
+use Rattle.std.specs.Prelude.{IsTrue}
+use Rattle.std.proofs.lemmas.Bool.{cases_lt}
+use Rattle.hail_codes.specs.Points.{upto}
+use Rattle.hail_columns.specs.Objects.{stripes}
+use Rattle.hail_columns.specs.Columns.{is_wrong_block}
+use Rattle.hail_columns.specs.Forgeries.{count_of}
+use Rattle.column_laws.proofs.Counts.{count_of-within}
+use Rattle.hail_records.specs.Records.{Record, Setup, SetUp}
+use Rattle.hail_records.specs.Table.{File, Due, setup_of, file_of, due_of}
+use Rattle.hail_devices.specs.Faults.{Rose, last_count}
+use Rattle.hail_machine.specs.Jobs.{Kind, PutJob, GetJob, DropJob, AuditJob, RepairJob, Pinned, Fetched, Job, job_of}
+use Rattle.hail_machine.specs.Actions.{Work, Fetch, End}
+use Rattle.hail_machine.specs.Answers as answer
+use Rattle.hail_machine.specs.Answers.{Answer}
+use Rattle.hail_machine.specs.Events.{Event, Begin, Step, Outcome, Refused, Ended}
+use Rattle.hail_machine.specs.Setups.{object_of, stripes_of}
+use Rattle.hail_machine.specs.States.{State, AreFirst, IsStart, IsLimit, setup_in, object_in, file_in}
+use Rattle.hail_machine.specs.Begins.{pinned_file}
+use Rattle.hail_machine.specs.Given.{block_given}
+use Rattle.hail_machine.specs.Steps.{next_action}
+use Rattle.hail_machine.specs.Runs.{Moment, now, first_moments, is_replaced_since, IsRun}
+use Rattle.hail_machine.specs.Calm.{relies, replaced_count, since, IsCalm}
+use Rattle.hail_machine.specs.Missed.{NoneMissed}
+use Rattle.hail_machine.specs.Halves.{begun_of, CountRose, GivesOrRose, EndsWell, KeepsSecondHalf, SecondHalf, AllTell, SecondHalfHolds}
+use Rattle.hail_machine.proofs.JobLists.{number_of, found_none}
+use Rattle.hail_machine.proofs.Changes.{Changes}
+use Rattle.hail_machine.proofs.Events.{changes}
+use Rattle.hail_machine.proofs.Numbers.{audits}
+use Rattle.hail_machine.proofs.Numbers as num
+use Rattle.hail_machine.proofs.RecordFacts.{In}
+use Rattle.hail_machine.proofs.PinFacts.{setup_same}
+use Rattle.hail_machine.proofs.Held.{All, all}
+use Rattle.run_laws.proofs.InEffect as eff
+use Rattle.calm_laws.specs.FewWrong.{is_wrong_given, IsFewWrong}
+use Rattle.calm_laws.proofs.GetEnds.{have_files, Get_ends, get_ends, few_give, few_not_lost}
+use Rattle.calm_laws.proofs.Names.{begins_stored}
+use Rattle.calm_laws.proofs.Onward.{run_onward, all_tell}
+use Rattle.step_laws.proofs.Places.{fetched_before_work, fetched_before_end}
+use Rattle.step_laws.proofs.MadeFacts.{given_block, made_fetch_gave}
+use Rattle.step_laws.proofs.GetFetches.{ends_at}
+use Rattle.step_laws.specs.Behind.{HasMade}
+use Rattle.mark_laws.specs.Damage.{IsReplaced, RoseSince}
+use Rattle.mark_laws.proofs.Turns.{turns}
+use Rattle.mark_laws.proofs.Blocks.{clash}
+use Rattle.mark_laws.proofs.Places.{read_within}
+use Rattle.mark_laws.proofs.Points as pt
+use Rattle.mark_laws.proofs.Points.{Point, Facts, begin_of, mark_of}
+use Rattle.mark_laws.proofs.Audits as aud
+use Rattle.mark_laws.proofs.Readers as rd
+
+-- ---- the facts, at each moment
+
+no_first_file : (rs : List Record) (q : List ℕ) (f : File) → AreFirst rs → file_of rs q ≡ Some f → ⊥
+no_first_file rs q f (inl e) h = (let g : None ≡ Some f = ap (λ l. file_of l q) (sym e) ∙ h in cc)
+no_first_file rs q f (inr p) h = (let g : None ≡ Some f = ap (λ l. file_of l q) (sym p.2) ∙ h in cc)
+
+no_first_due : (rs : List Record) (u : Due) → AreFirst rs → due_of rs ≡ Some u → ⊥
+no_first_due rs u (inl e) h = (let g : None ≡ Some u = ap due_of (sym e) ∙ h in cc)
+no_first_due rs u (inr p) h = (let g : None ≡ Some u = ap due_of (sym p.2) ∙ h in cc)
+
+start_facts : (start : State) → IsStart start → Facts start []
+start_facts start clean = record {
+  gated = λ a h. absurd (clash start.append a h clean.append);
+  setup_doubt = λ d s h e. absurd (clash start.doubt d h clean.doubt);
+  put_held = λ d id size h e. absurd (clash start.doubt d h clean.doubt);
+  put_doubt = λ d id size i s h e l k bad. absurd (clash start.doubt d h clean.doubt);
+  doubt_runs = λ d id size o b h e. absurd (clash start.doubt d h clean.doubt);
+  audit_doubt = λ d number u c h e. absurd (clash start.doubt d h clean.doubt);
+  repair_doubt = λ d number h e. absurd (clash start.doubt d h clean.doubt);
+  audit_entry = λ a j number u c h. absurd (clash start.append a h clean.append);
+  repair_entry = λ a j number h. absurd (clash start.append a h clean.append);
+  audit_fresh = λ a j h. absurd (clash start.append a h clean.append);
+  audit_kept = λ k j h kind late. absurd (found_none start.jobs k j clean.jobs h);
+  audit = λ k j h kind. absurd (found_none start.jobs k j clean.jobs h);
+  due = λ u h. absurd (no_first_due start.records u clean.records h);
+  repair = λ k j h kind. absurd (found_none start.jobs k j clean.jobs h);
+  mark = record {
+    early = omega arith;
+    puts = λ k j name bytes h kind. absurd (found_none start.jobs k j clean.jobs h);
+    doubts = λ d id size h e. absurd (clash start.doubt d h clean.doubt);
+    clear = λ q f i s h l k bad. absurd (no_first_file start.records q f clean.records h);
+  };
+  pinned = λ k j f h in_f. absurd (found_none start.jobs k j clean.jobs h);
+  marked = λ k j h. absurd (found_none start.jobs k j clean.jobs h);
+  reads = λ k j f i s h in_f l b bad. absurd (found_none start.jobs k j clean.jobs h);
+  counts = λ k j i h. absurd (found_none start.jobs k j clean.jobs h);
+  gave = λ k j f i s block h in_f l b given wrong. absurd (found_none start.jobs k j clean.jobs h);
+  rows = λ k j o s symbols h kind given. absurd (found_none start.jobs k j clean.jobs h);
+}
+
+-- calm, of a job that runs now
+pub calm_now : (start : State) → IsStart start → (ms : List Moment) → IsCalm relies (since start) ms → (k : ℕ) (j : Job) → job_of (now start ms).jobs k ≡ Some j → IsTrue (relies j.kind) →
+    replaced_count (now start ms) (mark_of start ms j) ms ≤ (setup_in (now start ms)).b
+calm_now start clean [] calm k j h reads = absurd (found_none start.jobs k j clean.jobs h)
+calm_now start clean (m ∷ ms) calm k j h reads = calm.0 k j h reads
+
+pub facts : (limit : ℕ) (start : State) → IsStart start → AllTell start → (ms : List Moment) → IsRun limit start ms → IsCalm relies (since start) ms → NoneMissed start ms → Facts start ms
+facts limit start clean tell [] run calm missed = start_facts start clean
+facts limit start clean tell (m ∷ ms) run calm missed = step (facts limit start clean tell ms run.2 calm.1 missed.1)
+  where
+    A : All start ms
+    A = all limit start clean ms run.2
+
+    U : num.Facts audits start ms
+    U = num.facts audits limit start clean ms run.2
+
+    I : eff.Facts (now start ms)
+    I = eff.facts limit start ms clean run.2
+
+    step : Facts start ms → Facts start (m ∷ ms)
+    step F =
+        (let X = changes limit (length ms) (now start ms) m.event m.outcome m.state A.numbers.idle run.1 in
+        let T = turns (now start ms) limit (length ms) m.event m.outcome m.state run.1 in
+        let O = run_onward limit start m ms run in
+        let told = all_tell limit start ms tell run.2 in
+        let quiet = calm_now start clean ms calm.1 in
+        record {
+          gated = X.gated F.gated;
+          setup_doubt = pt.setup_doubt_step limit start m ms clean run.2 A I F X T;
+          put_held = pt.put_held_step limit start m ms clean run.2 A I F X T;
+          put_doubt = pt.put_doubt_step limit start m ms clean run.2 A I F X T;
+          doubt_runs = pt.doubt_runs_step limit start m ms clean run.2 A I F X T;
+          audit_doubt = aud.audit_doubt_step limit start m ms clean run.2 A U I F X T;
+          repair_doubt = aud.repair_doubt_step limit start m ms clean run.2 A U I F X T;
+          audit_entry = aud.audit_entry_step limit start m ms clean run.2 A U I F X T;
+          repair_entry = aud.repair_entry_step limit start m ms clean run.2 A U I F X T;
+          audit_fresh = aud.audit_fresh_step limit start m ms clean run.2 A U I F X T;
+          audit_kept = aud.audit_kept_step limit start m ms clean run.2 A U I F X T;
+          audit = aud.audit_step limit start m ms clean run.2 A U I F X T;
+          due = aud.due_step limit start m ms clean run.2 A U I F X T missed.0;
+          repair = aud.repair_step limit start m ms clean run.2 A U I F X T;
+          mark = aud.mark_step limit start m ms clean run.2 A U I F X T missed.0;
+          pinned = rd.pinned_step limit start m ms clean run.2 A I F X T O told quiet;
+          marked = rd.marked_step limit start m ms clean run.2 A I F X T O told quiet;
+          reads = rd.reads_step limit start m ms clean run.2 A I F X T O told quiet;
+          counts = rd.counts_step limit start m ms clean run.2 A I F X T O told quiet;
+          gave = rd.gave_step limit start m ms clean run.2 A I F X T O told quiet;
+          rows = rd.rows_step limit start m ms clean run.2 A I F X T O told quiet;
+        })
+
+-- ---- a count rose, or did not
+
+rose_or_not : (a b : ℕ) → Rose a b ⊎ (Rose a b → ⊥)
+rose_or_not a b = elim (cases_lt a last_count) [
+  | inr k ↦ inl (λ l. omega (arith, k, l))
+  | inl k ↦ elim (cases_lt a b) [
+    | inl l ↦ inl (λ z. l)
+    | inr l ↦ inr (λ rose. (let g = rose k in omega (arith, g, l)))
+  ]
+]
+
+some_rose : (w v : State) (n : ℕ) → ((i : ℕ) × (i < n) × RoseSince w v i) ⊎ ((i : ℕ) → i < n → RoseSince w v i → ⊥)
+some_rose w v zero = inr (λ i l rose. omega (arith, l))
+some_rose w v (suc n) = elim (some_rose w v n) [
+  | inl p ↦ inl (p.0, (let l = p.1 in omega (arith, l)), p.2)
+  | inr none ↦ elim (rose_or_not (w.providers n).other_faults (v.providers n).other_faults) [
+    | inl rose ↦ inl (n, omega arith, rose)
+    | inr other ↦ inr (λ i l rose. elim (cases_lt i n) [
+      | inl k ↦ none i k rose
+      | inr k ↦ other (subst (RoseSince w v) (let e : i ≡ n = omega (arith, l, k) in e) rose)
+    ])
+  ]
+]
+
+-- ---- gets
+
+module _ (limit : ℕ) (start : State) (m : Moment) (ms : List Moment) (clean : IsStart start) (tell : AllTell start) (run : IsRun limit start (m ∷ ms)) (calm : IsCalm relies (since start) (m ∷ ms)) (missed : NoneMissed start (m ∷ ms)) where
+  module _ (job : Job) (name : List ℕ) (runs : job_of (now start ms).jobs job.number ≡ Some job) (kind : job.kind ≡ GetJob name) (file : File) (in_effect : file_in (begin_of start ms job) name ≡ Some file)
+      (pinned : job.pinned ≡ pinned_file (begin_of start ms job) file ∷ []) (setup : setup_in (now start ms) ≡ setup_in (begin_of start ms job)) where
+    F : Facts start ms
+    F = facts limit start clean tell ms run.2 calm.1 missed.1
+
+    abbrev b : State
+    b = begin_of start ms job
+
+    in_file : In (pinned_file (begin_of start ms job) file) job.pinned
+    in_file = subst (In (pinned_file (begin_of start ms job) file)) (sym pinned) (inl refl)
+
+    own_bytes : (begin_of start ms job).bytes file.id ≡ (now start ms).bytes file.id
+    own_bytes = F.pinned job.number job (pinned_file (begin_of start ms job) file) runs in_file
+
+    -- where no count rose, few providers gave a wrong block of a stripe of which all were asked
+    few : ((i : ℕ) → i < (setup_in (begin_of start ms job)).n → RoseSince (begin_of start ms job) (now start ms) i → ⊥) → (stripe : ℕ) → stripe < stripes (object_in (begin_of start ms job) file.id) (length ((begin_of start ms job).bytes file.id)) →
+        ((i : ℕ) → i < (setup_in (now start ms)).n → HasMade (setup_in (now start ms)) job (Fetch i file.id stripe)) → IsFewWrong (begin_of start ms job) file job stripe
+    few none stripe below asked =
+        (let w = count_of-within (is_wrong_given (begin_of start ms job) file job stripe) (λ i. is_replaced_since (mark_of start ms job) i ms) 0 (setup_in (begin_of start ms job)).n (λ i l wrong. one i (omega (arith, l)) wrong) in
+        let c = calm_now start clean ms calm.1 job.number job runs (subst (λ (kd : Kind). IsTrue (relies kd)) (sym kind) refl) in
+        let d : count_of (λ i. is_replaced_since (mark_of start ms job) i ms) (upto (setup_in (begin_of start ms job)).n) ≤ (setup_in (begin_of start ms job)).b =
+        subst (λ (t : Setup). count_of (λ i. is_replaced_since (mark_of start ms job) i ms) (upto t.n) ≤ t.b) setup c in
+        omega (arith, w, d))
+      where
+        one : (i : ℕ) → i < (setup_in (begin_of start ms job)).n → is_wrong_given (begin_of start ms job) file job stripe i ≡ true → is_replaced_since (mark_of start ms job) i ms ≡ true
+        one i l wrong =
+            (let k : i < (setup_in (now start ms)).n = subst (λ (t : Setup). i < t.n) (sym setup) l in
+            let g = made_fetch_gave limit start clean ms run.2 job.number job i file.id stripe runs (asked i k) in
+            let given = given_block job.given i file.id stripe g.0 g.1 in
+            let s : stripe < stripes_of (setup_in (now start ms)) (length ((now start ms).bytes file.id)) =
+            subst (λ (t : Setup). stripe < stripes_of t (length ((now start ms).bytes file.id))) (sym setup) (subst (λ (y : List ℕ). stripe < stripes_of (setup_in (begin_of start ms job)) (length y)) own_bytes below) in
+            let now_wrong : is_wrong_block (object_in (now start ms) file.id) ((now start ms).bytes file.id) i stripe (block_given job.given file.id stripe i) ≡ true =
+            subst (λ (t : Setup). is_wrong_block (object_of t file.id) ((now start ms).bytes file.id) i stripe (block_given job.given file.id stripe i) ≡ true) (sym setup)
+            (subst (λ (y : List ℕ). is_wrong_block (object_in (begin_of start ms job) file.id) y i stripe (block_given job.given file.id stripe i) ≡ true) own_bytes wrong) in
+            elim (F.gave job.number job (pinned_file (begin_of start ms job) file) i stripe (block_given job.given file.id stripe i) runs in_file k s given now_wrong) [
+              | inl r ↦ r
+              | inr q ↦ absurd (none i l q.1)
+            ])
+
+    gives : (how : Answer) → m.event ≡ Step job.number → m.outcome ≡ Ended how → GivesOrRose (begin_of start ms job) m.state name how
+    gives how event outcome = record { file = file; in_effect = in_effect; gives = by_rose (some_rose (begin_of start ms job) (now start ms) (setup_in (begin_of start ms job)).n) }
+      where
+        in_stripes : (stripe : ℕ) → (f : Pinned) × In f job.pinned × (f.id ≡ file.id) × (stripe < stripes_of (setup_in (now start ms)) (length f.bytes)) →
+            stripe < stripes (object_in (begin_of start ms job) file.id) (length ((begin_of start ms job).bytes file.id))
+        in_stripes stripe (f, in_f, id_is, l) = elim (subst (In f) pinned in_f) [
+          | inl e ↦ subst (λ (t : Setup). stripe < stripes_of t (length ((begin_of start ms job).bytes file.id))) setup (subst (λ (y : List ℕ). stripe < stripes_of (setup_in (now start ms)) (length y)) (ap (λ (x : Pinned). x.bytes) e) l)
+          | inr none ↦ absurd none
+        ]
+
+        by_end : ((i : ℕ) → i < (setup_in (begin_of start ms job)).n → RoseSince (begin_of start ms job) (now start ms) i → ⊥) → Get_ends (now start ms) job file.id how → how ≡ answer.Got ((begin_of start ms job).bytes file.id)
+        by_end none (Get_ends.with_bytes bytes is) =
+            is ∙ ap answer.Got (few_give limit start m ms job name clean run runs kind event file in_effect bytes (outcome ∙ ap Ended is)
+            (λ stripe below. few none stripe below (λ i l. fetched_before_end (now start ms) job name (pinned_file (begin_of start ms job) file) stripe i kind
+            (ends_at limit start m ms job bytes run event (outcome ∙ ap Ended is) runs) in_file (subst (λ (t : Setup). stripe < stripes_of t (length ((begin_of start ms job).bytes file.id))) (sym setup) below) l)))
+        by_end none (Get_ends.is_lost stripe row is next_is lost) = absurd (few_not_lost limit start m ms job name clean run runs kind event file in_effect stripe row (outcome ∙ ap Ended is) (few none stripe (in_stripes stripe (read_within (now start ms) job name file.id stripe kind next_is)) (λ i l. fetched_before_work (now start ms) job file.id stripe i next_is l)))
+
+        by_rose : ((i : ℕ) × (i < (setup_in (begin_of start ms job)).n) × RoseSince (begin_of start ms job) (now start ms) i) ⊎ ((i : ℕ) → i < (setup_in (begin_of start ms job)).n → RoseSince (begin_of start ms job) (now start ms) i → ⊥) →
+            (how ≡ answer.Got ((begin_of start ms job).bytes file.id)) ⊎ CountRose (begin_of start ms job) m.state
+        by_rose (inl (i, l, rose)) = inr (inr (i, l, inr (rd.rose_on _ _ _ rose ((run_onward limit start m ms run).provider i).others)))
+        by_rose (inr none) = inl (by_end none (get_ends limit start m ms job name (pinned_file (begin_of start ms job) file) how run event outcome runs kind pinned))
+
+  get_gives : (job : Job) (name : List ℕ) (how : Answer) → job_of (now start ms).jobs job.number ≡ Some job → job.kind ≡ GetJob name → m.event ≡ Step job.number → m.outcome ≡ Ended how → GivesOrRose (begin_of start ms job) m.state name how
+  get_gives job name how runs kind event outcome =
+      (let H = have_files limit start clean ms run.2 job.number job name runs kind in
+      gives job name runs kind H.file H.in_effect H.pinned (setup_same (now start ms) (begin_of start ms job) H.setup) how event outcome)
+
+  by_job : (number : ℕ) (how : Answer) → m.event ≡ Step number → m.outcome ≡ Ended how → KeepsSecondHalf start ms (Step number) (Ended how) m.state
+  by_job number how event outcome = go (job_of (now start ms).jobs number) refl
+    where
+      by_kind : (job : Job) → job_of (now start ms).jobs number ≡ Some job → (kd : Kind) → job.kind ≡ kd → EndsWell (begin_of start ms job) m.state (Some (record job { kind = kd })) how
+      by_kind job runs (GetJob name) is = (let n = number_of (now start ms).jobs number job runs in
+          get_gives job name how (subst (λ z. job_of (now start ms).jobs z ≡ Some job) (sym n) runs) is (event ∙ ap Step (sym n)) outcome)
+      by_kind job runs (PutJob name bytes) is = tt
+      by_kind job runs (DropJob name) is = tt
+      by_kind job runs AuditJob is = tt
+      by_kind job runs RepairJob is = tt
+
+      go : (found : Option Job) → job_of (now start ms).jobs number ≡ found → EndsWell (now start (first_moments (begun_of found) ms)) m.state found how
+      go None is = tt
+      go (Some job) is = by_kind job is job.kind refl
+
+  keeps : (e : Event) (r : Outcome) → m.event ≡ e → m.outcome ≡ r → KeepsSecondHalf start ms e r m.state
+  keeps (Step number) (Ended how) event outcome = by_job number how event outcome
+  keeps (Begin (GetJob name)) (Refused why) event outcome = λ file h. begins_stored limit start m ms name file why clean run event outcome h
+  keeps e r event outcome = tt
+
+pub second_half : SecondHalfHolds
+second_half limit start ms is_limit clean tell run calm missed = by_moments ms run calm missed
+  where
+    by_moments : (hs : List Moment) → IsRun limit start hs → IsCalm relies (since start) hs → NoneMissed start hs → SecondHalf start hs
+    by_moments [] run_h calm_h missed_h = tt
+    by_moments (m ∷ hs) run_h calm_h missed_h = (keeps limit start m hs clean tell run_h calm_h missed_h m.event m.outcome refl refl, by_moments hs run_h.2 calm_h.1 missed_h.1)
