@@ -16,7 +16,7 @@ use Rattle.hail_machine.specs.Begins.{is_check, is_put_or_check, is_busy, begin_
 use Rattle.hail_machine.specs.Appends.{Writes, is_first_append, subject_drawn, audits_drawn}
 use Rattle.hail_machine.specs.Steps.{next_action, block_to_store}
 use Rattle.hail_machine.specs.Runs.{Moment, now, first_moments, is_replacement, is_replaced_since, newest, came, IsRun}
-use Rattle.hail_machine.specs.Calm.{settled_by, mark_after, since}
+use Rattle.hail_machine.specs.Calm.{Mark, settled_by, mark_after, since}
 use Rattle.hail_machine.specs.Missed.{Misses, MissesNone}
 use Rattle.hail_machine.specs.Halves.{begun_of}
 use Rattle.hail_machine.specs.Deeds.{told_block}
@@ -36,7 +36,7 @@ use Rattle.step_laws.proofs.Places.{store_stands, gate_behind}
 use Rattle.mark_laws.proofs.Places.{next_repairs, same_actions}
 use Rattle.mark_laws.proofs.Files.{all_pinned}
 use Rattle.mark_laws.proofs.Points as pt
-use Rattle.mark_laws.proofs.Points.{WasWrong, WrongAt, Remains, IsMarked, Never, Point, AtGate, Facts, wrote_audit, wrote_repair}
+use Rattle.mark_laws.proofs.Points.{WasWrong, WrongAt, Remains, IsMarked, Never, Point, AtGate, Facts, Audited, wrote_audit, wrote_repair}
 
 -- a number that is not drawn keeps its begin
 drawn_other : (w : State) (job : Job) (kind : Kind) (number : ℕ) → (number ≡ next_audit w.records → ⊥) → audits_drawn w job kind number ≡ w.audits number
@@ -99,13 +99,13 @@ repair_due limit w (Some u) is h = (u, is)
 repair_due limit w None is h = absurd (let a = not_barred limit w RepairJob h in let b = not_busy limit w RepairJob h in
     let e = rw (a, b, is) at h in let f : Some refusal.NothingDue ≡ None = e in cc)
 
-module _ (limit : ℕ) (start : State) (m : Moment) (ms : List Moment) (clean : IsStart start) (run : IsRun limit start ms) (A : All start ms) (U : num.Facts audits start ms) (I : eff.Facts (now start ms)) (F : Facts start ms)
+module _ (limit : ℕ) (mark : Mark) (start : State) (m : Moment) (ms : List Moment) (clean : IsStart start) (run : IsRun limit start ms) (A : All start ms) (U : num.Facts audits start ms) (I : eff.Facts (now start ms)) (F : Facts mark start ms) (G : Audited start ms)
     (X : Changes limit (length ms) (now start ms) m.event m.outcome m.state) (T : Turns (now start ms) m.state) where
   on : (from : ℕ) (Old New : ℕ → ℕ → ℕ → Type 0) → Point start ms from Old →
       ((q : List ℕ) (f : File) (i s : ℕ) → file_in (now start ms) q ≡ Some f → file_in m.state q ≡ Some f → setup_in m.state ≡ setup_in (now start ms) → i < (setup_in m.state).n →
       s < stripes_of (setup_in m.state) (length (m.state.bytes f.id)) → IsBad m.state f.id i s → Old i f.id s → IsReplaced from i (m ∷ ms) ⊎ New i f.id s) →
       Point start (m ∷ ms) from New
-  on = pt.point_on limit start m ms clean run A I F X T
+  on = pt.point_on limit mark start m ms clean run A I F X T
 
   -- ---- begins of audit numbers
 
@@ -165,7 +165,7 @@ module _ (limit : ℕ) (start : State) (m : Moment) (ms : List Moment) (clean : 
   ]
     where
       carried : (b : Append) → (now start ms).append ≡ Some b → (x : Job) → j.subject ≡ x.subject → j.begun ≡ x.begun → x.kind ≡ AuditJob → x.place < 4 → job_of (now start ms).jobs b.job ≡ Some x → m.state.audits j.subject ≡ j.begun
-      carried b flight x subject begun kx small_x runs = ap (λ f. f j.subject) (audits_stay b flight) ∙ (ap (now start ms).audits subject ∙ (F.audit_fresh b x flight runs kx small_x ∙ sym begun))
+      carried b flight x subject begun kx small_x runs = ap (λ f. f j.subject) (audits_stay b flight) ∙ (ap (now start ms).audits subject ∙ (G.audit_fresh b x flight runs kx small_x ∙ sym begun))
 
   audit_number : (job : Job) → job.kind ≡ AuditJob → 4 ≤ job.place → HasNumber audits job
   audit_number job kind late = (subst (Draws audits) (sym kind) tt, late)
@@ -193,22 +193,22 @@ module _ (limit : ℕ) (start : State) (m : Moment) (ms : List Moment) (clean : 
         let subject : j.subject ≡ x.subject = ap (λ (z : Job). z.subject) is in
         let begun : j.begun ≡ x.begun = ap (λ (z : Job). z.begun) is in
         elim (cases_lt x.place 4) [
-          | inl l ↦ ap (λ f. f j.subject) (audits_stay a flight) ∙ (ap (now start ms).audits subject ∙ (F.audit_fresh a x flight (subst (λ n. job_of (now start ms).jobs n ≡ Some x) (sym mine) runs) kx l ∙ sym begun))
+          | inl l ↦ ap (λ f. f j.subject) (audits_stay a flight) ∙ (ap (now start ms).audits subject ∙ (G.audit_fresh a x flight (subst (λ n. job_of (now start ms).jobs n ≡ Some x) (sym mine) runs) kx l ∙ sym begun))
           | inr l ↦ carried x runs subject begun kx l
         ])
   ]
     where
       carried : (x : Job) → job_of (now start ms).jobs k ≡ Some x → j.subject ≡ x.subject → j.begun ≡ x.begun → x.kind ≡ AuditJob → 4 ≤ x.place → m.state.audits j.subject ≡ j.begun
       carried x runs subject begun kx l =
-          ap m.state.audits subject ∙ (audits_below x.subject (U.below k x runs (audit_number x kx l)) ∙ (F.audit_kept k x runs kx l ∙ sym begun))
+          ap m.state.audits subject ∙ (audits_below x.subject (U.below k x runs (audit_number x kx l)) ∙ (G.audit_kept k x runs kx l ∙ sym begun))
 
   pub audit_entry_step : (a : Append) (j : Job) (number u : ℕ) (c : List ℕ) → m.state.append ≡ Some a → job_of m.state.jobs a.job ≡ Some j → j.kind ≡ AuditJob → a.entry ≡ AuditDone number u c → (number ≡ j.subject) × (4 ≤ j.place)
   audit_entry_step a j number u c h hj kind e = elim (X.append a h) [
     | Append_is.kept b flight job_is entry rec ↦ elim (X.job a.job j hj) [
-      | Job_is.kept r grown ↦ F.audit_entry b j number u c flight (subst (λ n. job_of (now start ms).jobs n ≡ Some j) job_is r) kind (sym entry ∙ e)
+      | Job_is.kept r grown ↦ G.audit_entry b j number u c flight (subst (λ n. job_of (now start ms).jobs n ≡ Some j) job_is r) kind (sym entry ∙ e)
       | Job_is.begun kd is k_is allowed rec2 ↦ absurd (let l = A.numbers.holder b flight in omega arith)
       | Job_is.plain x action runs next_is is_plain goes rec2 st ↦
-          (let g = F.audit_entry b x number u c flight (subst (λ n. job_of (now start ms).jobs n ≡ Some x) job_is runs) (sym goes.kind ∙ kind) (sym entry ∙ e) in
+          (let g = G.audit_entry b x number u c flight (subst (λ n. job_of (now start ms).jobs n ≡ Some x) job_is runs) (sym goes.kind ∙ kind) (sym entry ∙ e) in
           (g.0 ∙ sym goes.subject, (let p = goes.place in let l = g.1 in omega arith)))
       | Job_is.drew x runs next_is free is rec2 ↦ absurd (clash (now start ms).append b flight free)
       | Job_is.finished x d runs next_is flight_d mine is rec2 free ↦ absurd (clash m.state.append a h free)
@@ -224,10 +224,10 @@ module _ (limit : ℕ) (start : State) (m : Moment) (ms : List Moment) (clean : 
   pub repair_entry_step : (a : Append) (j : Job) (number : ℕ) → m.state.append ≡ Some a → job_of m.state.jobs a.job ≡ Some j → j.kind ≡ RepairJob → a.entry ≡ RepairDone number → number ≡ j.subject
   repair_entry_step a j number h hj kind e = elim (X.append a h) [
     | Append_is.kept b flight job_is entry rec ↦ elim (X.job a.job j hj) [
-      | Job_is.kept r grown ↦ F.repair_entry b j number flight (subst (λ n. job_of (now start ms).jobs n ≡ Some j) job_is r) kind (sym entry ∙ e)
+      | Job_is.kept r grown ↦ G.repair_entry b j number flight (subst (λ n. job_of (now start ms).jobs n ≡ Some j) job_is r) kind (sym entry ∙ e)
       | Job_is.begun kd is k_is allowed rec2 ↦ absurd (let l = A.numbers.holder b flight in omega arith)
       | Job_is.plain x action runs next_is is_plain goes rec2 st ↦
-          F.repair_entry b x number flight (subst (λ n. job_of (now start ms).jobs n ≡ Some x) job_is runs) (sym goes.kind ∙ kind) (sym entry ∙ e) ∙ sym goes.subject
+          G.repair_entry b x number flight (subst (λ n. job_of (now start ms).jobs n ≡ Some x) job_is runs) (sym goes.kind ∙ kind) (sym entry ∙ e) ∙ sym goes.subject
       | Job_is.drew x runs next_is free is rec2 ↦ absurd (clash (now start ms).append b flight free)
       | Job_is.finished x d runs next_is flight_d mine is rec2 free ↦ absurd (clash m.state.append a h free)
     ]
@@ -246,13 +246,13 @@ module _ (limit : ℕ) (start : State) (m : Moment) (ms : List Moment) (clean : 
   pub audit_doubt_step : (d : Doubt) (number u : ℕ) (c : List ℕ) → m.state.doubt ≡ Some d → d.entry ≡ AuditDone number u c →
       (number < next_audit m.state.records) × Point start (m ∷ ms) (m.state.audits number) (WrongAt start (m ∷ ms) (m.state.audits number))
   audit_doubt_step d number u c h e = elim (T.doubt d h) [
-    | Doubt_now.kept was rec ↦ (let g = F.audit_doubt d number u c was e in moved (g.0) ((now start ms).audits number) refl g.1)
+    | Doubt_now.kept was rec ↦ (let g = G.audit_doubt d number u c was e in moved (g.0) ((now start ms).audits number) refl g.1)
     | Doubt_now.gated job a runs next_is flight mine entry_is maker rec on_ ↦
         (let at_job = subst (λ n. job_of (now start ms).jobs n ≡ Some job) (sym mine) runs in
         let kind = wrote_audit job job.kind a.entry number u c (A.pins.wrote a job flight at_job) (sym entry_is ∙ e) in
-        let g = F.audit_entry a job number u c flight at_job kind (sym entry_is ∙ e) in
+        let g = G.audit_entry a job number u c flight at_job kind (sym entry_is ∙ e) in
         let below : number < next_audit (now start ms).records = subst (λ n. n < next_audit (now start ms).records) (sym g.0) (U.below job.number job runs (audit_number job kind g.1)) in
-        moved below job.begun (sym (ap (now start ms).audits g.0 ∙ F.audit_kept job.number job runs kind g.1)) (F.audit job.number job runs kind))
+        moved below job.begun (sym (ap (now start ms).audits g.0 ∙ G.audit_kept job.number job runs kind g.1)) (G.audit job.number job runs kind))
     | Doubt_now.set_up t entry_is none ↦ absurd (let z : SetUp t ≡ AuditDone number u c = sym entry_is ∙ e in cc)
   ]
     where
@@ -291,9 +291,9 @@ module _ (limit : ℕ) (start : State) (m : Moment) (ms : List Moment) (clean : 
       clear q f i s h l b bad =
           (let stood : file_in (now start ms) q ≡ Some f = ap (λ rs. file_of rs q) (sym rec) ∙ h in
           let setup = setup_same m.state (now start ms) (ap setup_of rec) in
-          let below = pt.file_below limit start m ms clean run A I F X T q f stood in
-          let n = pt.bounds limit start m ms clean run A I F X T f.id i s setup below l b in
-          elim (pt.bad_before limit start m ms clean run A I F X T f.id i s setup below (pt.no_remover limit start m ms clean run A I F X T q f stood) bad) [
+          let below = pt.file_below limit mark start m ms clean run A I F X T q f stood in
+          let n = pt.bounds limit mark start m ms clean run A I F X T f.id i s setup below l b in
+          elim (pt.bad_before limit mark start m ms clean run A I F X T f.id i s setup below (pt.no_remover limit mark start m ms clean run A I F X T q f stood) bad) [
             | inl old ↦ inr (subst (λ hs. WasWrong (now start hs) i f.id) (sym (first_more (length ms) m ms (omega arith) ∙ first_all ms))
                 (record { name = q; file = f; in_effect = stood; id_is = refl; was = bad_wrong (now start ms) f i s n.1 old }))
             | inr r ↦ inl (since_now (length ms) i m ms r (omega arith))
@@ -301,7 +301,7 @@ module _ (limit : ℕ) (start : State) (m : Moment) (ms : List Moment) (clean : 
 
   pub audit_step : (k : ℕ) (j : Job) → job_of m.state.jobs k ≡ Some j → j.kind ≡ AuditJob → Point start (m ∷ ms) j.begun (WrongAt start (m ∷ ms) j.begun)
   audit_step k j h kind = elim (pins_is limit start m ms A.numbers A.pins X k j h) [
-    | Pins_is.had x runs pinned kind_x begun g ↦ subst (λ n. Point start (m ∷ ms) n (WrongAt start (m ∷ ms) n)) (sym begun) (audit_on x.begun (F.audit k x runs (sym kind_x ∙ kind)))
+    | Pins_is.had x runs pinned kind_x begun g ↦ subst (λ n. Point start (m ∷ ms) n (WrongAt start (m ∷ ms) n)) (sym begun) (audit_on x.begun (G.audit k x runs (sym kind_x ∙ kind)))
     | Pins_is.new_one kd is k_is allowed rec ↦
         (let kd_is : kd ≡ AuditJob = sym (ap (λ (x : Job). x.kind) is) ∙ kind in
         subst (λ n. Point start (m ∷ ms) n (WrongAt start (m ∷ ms) n)) (sym (ap (λ (x : Job). x.begun) is))
@@ -315,7 +315,7 @@ module _ (limit : ℕ) (start : State) (m : Moment) (ms : List Moment) (clean : 
       ((i o s : ℕ) (b : Option (List ℕ)) → action ≡ Store i o s → told_block m.state i o s ≡ Some b → b ≡ Some (block_to_store (now start ms) x x.kind i o s)) →
       (j.subject < next_audit m.state.records) × Point start (m ∷ ms) (m.state.audits j.subject) (Remains m.state j)
   rest_on x j k action runs next_is kx kj pinned flagged subject place stores =
-      (let P = F.repair k x runs kx in
+      (let P = G.repair k x runs kx in
       (
         (let g = grows in let l = P.0 in omega arith),
         subst (λ n. Point start (m ∷ ms) n (Remains m.state j)) (sym (ap m.state.audits subject ∙ audits_below x.subject P.0))
@@ -332,8 +332,8 @@ module _ (limit : ℕ) (start : State) (m : Moment) (ms : List Moment) (clean : 
         | inl here ↦
             (let act : action ≡ Store i f.id s = same_value (next_action (now start ms) x) action (Store i f.id s) next_is
             (next_repairs (now start ms) x kx ∙ subst (λ n. slice_get (actions_of (setup_in (now start ms)) x) n ≡ Some (Store i f.id s)) here at) in
-            absurd (pt.stored_right limit start m ms clean run A I F X T x i f.id s bad.0 at_number (next_is ∙ ap Some act) (stores i f.id s bad.0 act bad.1)
-            (pt.wrong_old limit start m ms clean run A I F X T f.id i s bad.0 setup (X.bytes f.id (pt.file_below limit start m ms clean run A I F X T q f stood)) bad.2)))
+            absurd (pt.stored_right limit mark start m ms clean run A I F X T x i f.id s bad.0 at_number (next_is ∙ ap Some act) (stores i f.id s bad.0 act bad.1)
+            (pt.wrong_old limit mark start m ms clean run A I F X T f.id i s bad.0 setup (X.bytes f.id (pt.file_below limit mark start m ms clean run A I F X T q f stood)) bad.2)))
         | inr other ↦ inr (
             ap (λ g. g i) flagged ∙ marked,
             (
@@ -349,7 +349,7 @@ module _ (limit : ℕ) (start : State) (m : Moment) (ms : List Moment) (clean : 
       (j.subject < next_audit m.state.records) × Point start (m ∷ ms) (m.state.audits j.subject) (Remains m.state j)
   repair_new j is allowed rec =
       (let u = repair_due limit (now start ms) (due_of (now start ms).records) refl allowed in
-      let P = F.due u.0 u.1 in
+      let P = G.due u.0 u.1 in
       let subject : j.subject ≡ u.0.number = ap (λ (x : Job). x.subject) is ∙ ap due_number u.1 in
       (
         (let g = grows in let l = P.0 in omega arith),
@@ -362,7 +362,7 @@ module _ (limit : ℕ) (start : State) (m : Moment) (ms : List Moment) (clean : 
           IsReplaced ((now start ms).audits u.number) i (m ∷ ms) ⊎ Remains m.state j i f.id s
       more u due q f i s stood h setup l b bad marked =
           (let flagged : j.flagged i ≡ true = ap (λ (x : Job). x.flagged i) is ∙ (ap (λ o. due_flags (setup_in (now start ms)).tolerance o i) due ∙ marked) in
-          let bytes : m.state.bytes f.id ≡ (now start ms).bytes f.id = X.bytes f.id (pt.file_below limit start m ms clean run A I F X T q f stood) in
+          let bytes : m.state.bytes f.id ≡ (now start ms).bytes f.id = X.bytes f.id (pt.file_below limit mark start m ms clean run A I F X T q f stood) in
           let st = store_stands (setup_in m.state) j (pinned_file (now start ms) f) i s (ap (λ (x : Job). x.kind) is)
           (subst (λ (x : Job). In (pinned_file (now start ms) f) x.pinned) (sym is) (all_pinned (now start ms) q f stood)) flagged l
           (subst (λ (y : List ℕ). s < stripes_of (setup_in m.state) (length y)) bytes b) in
@@ -370,7 +370,7 @@ module _ (limit : ℕ) (start : State) (m : Moment) (ms : List Moment) (clean : 
 
   pub repair_step : (k : ℕ) (j : Job) → job_of m.state.jobs k ≡ Some j → j.kind ≡ RepairJob → (j.subject < next_audit m.state.records) × Point start (m ∷ ms) (m.state.audits j.subject) (Remains m.state j)
   repair_step k j h kind = elim (X.job k j h) [
-    | Job_is.kept r grown ↦ (let P = F.repair k j r kind in (
+    | Job_is.kept r grown ↦ (let P = G.repair k j r kind in (
         (let g = grows in let l = P.0 in omega arith),
         subst (λ n. Point start (m ∷ ms) n (Remains m.state j)) (sym (audits_below j.subject P.0))
         (on ((now start ms).audits j.subject) (Remains (now start ms) j) (Remains m.state j) P.1
@@ -389,15 +389,15 @@ module _ (limit : ℕ) (start : State) (m : Moment) (ms : List Moment) (clean : 
 
   pub repair_doubt_step : (d : Doubt) (number : ℕ) → m.state.doubt ≡ Some d → d.entry ≡ RepairDone number → (number < next_audit m.state.records) × Point start (m ∷ ms) (m.state.audits number) Never
   repair_doubt_step d number h e = elim (T.doubt d h) [
-    | Doubt_now.kept was rec ↦ (let P = F.repair_doubt d number was e in (
+    | Doubt_now.kept was rec ↦ (let P = G.repair_doubt d number was e in (
         (let g = grows in let l = P.0 in omega arith),
         subst (λ n. Point start (m ∷ ms) n Never) (sym (audits_below number P.0)) (on ((now start ms).audits number) Never Never P.1 (λ q f i s stood h2 setup l b bad x. absurd x)),
       ))
     | Doubt_now.gated job a runs next_is flight mine entry_is maker rec on_ ↦
         (let at_job = subst (λ n. job_of (now start ms).jobs n ≡ Some job) (sym mine) runs in
         let kind = wrote_repair job job.kind a.entry number (A.pins.wrote a job flight at_job) (sym entry_is ∙ e) in
-        let subject : number ≡ job.subject = F.repair_entry a job number flight at_job kind (sym entry_is ∙ e) in
-        let P = F.repair job.number job runs kind in
+        let subject : number ≡ job.subject = G.repair_entry a job number flight at_job kind (sym entry_is ∙ e) in
+        let P = G.repair job.number job runs kind in
         (
           (let g = grows in let l = P.0 in omega arith),
           subst (λ n. Point start (m ∷ ms) n Never) (sym (ap m.state.audits subject ∙ audits_below job.subject P.0))
@@ -422,7 +422,7 @@ module _ (limit : ℕ) (start : State) (m : Moment) (ms : List Moment) (clean : 
     doubted : (d : Doubt) → (now start ms).doubt ≡ Some d → came (now start ms) m.state ≡ Some d.entry → Came_is
 
   came_is : Came_is
-  came_is = elim (pt.effect limit start m ms clean run A I F X T) [
+  came_is = elim (pt.effect limit mark start m ms clean run A I F X T) [
     | pt.Effect_is.nothing rec ↦ no_record (not_longer (length (now start ms).records) (ap length rec) (λ z. omega (arith, z)))
     | pt.Effect_is.entry d at rec ↦ doubted d at (longer (now start ms).records d.entry rec refl)
     | pt.Effect_is.set_up s rs rec none (inl e) ↦ setup s (longer rs (SetUp s) rec e)
@@ -445,7 +445,7 @@ module _ (limit : ℕ) (start : State) (m : Moment) (ms : List Moment) (clean : 
     -- ---- what is due
 
     old_due : (u : Due) → due_of (now start ms).records ≡ Some u → (u.number < next_audit m.state.records) × Point start (m ∷ ms) (m.state.audits u.number) (IsMarked m.state u.counts)
-    old_due u was = (let P = F.due u was in (
+    old_due u was = (let P = G.due u was in (
       (let g = grows in let l = P.0 in omega arith),
       subst (λ n. Point start (m ∷ ms) n (IsMarked m.state u.counts)) (sym (audits_below u.number P.0))
       (on ((now start ms).audits u.number) (IsMarked (now start ms) u.counts) (IsMarked m.state u.counts) P.1
@@ -457,7 +457,7 @@ module _ (limit : ℕ) (start : State) (m : Moment) (ms : List Moment) (clean : 
         s < stripes_of (setup_in m.state) (length (m.state.bytes f.id)) → IsBad m.state f.id i s → u.number < next_audit (now start ms).records → WrongAt start ms ((now start ms).audits u.number) i f.id s →
         IsReplaced ((now start ms).audits u.number) i (m ∷ ms) ⊎ IsMarked m.state u.counts i f.id s) →
         (u.number < next_audit m.state.records) × Point start (m ∷ ms) (m.state.audits u.number) (IsMarked m.state u.counts)
-    new_due u d und at e more = (let P = F.audit_doubt d u.number und u.counts at e in (
+    new_due u d und at e more = (let P = G.audit_doubt d u.number und u.counts at e in (
       (let g = grows in let l = P.0 in omega arith),
       subst (λ n. Point start (m ∷ ms) n (IsMarked m.state u.counts)) (sym (audits_below u.number P.0))
       (on ((now start ms).audits u.number) (WrongAt start ms ((now start ms).audits u.number)) (IsMarked m.state u.counts) P.1
@@ -465,7 +465,7 @@ module _ (limit : ℕ) (start : State) (m : Moment) (ms : List Moment) (clean : 
     ))
 
     pub due_step : (u : Due) → due_of m.state.records ≡ Some u → (u.number < next_audit m.state.records) × Point start (m ∷ ms) (m.state.audits u.number) (IsMarked m.state u.counts)
-    due_step u h = elim (pt.effect limit start m ms clean run A I F X T) [
+    due_step u h = elim (pt.effect limit mark start m ms clean run A I F X T) [
       | pt.Effect_is.nothing rec ↦ old_due u (ap due_of (sym rec) ∙ h)
       | pt.Effect_is.entry d at rec ↦ elim (due_done d.entry (now start ms).records u (ap due_of (sym rec) ∙ h)) [
         | inl was ↦ old_due u was
@@ -480,45 +480,59 @@ module _ (limit : ℕ) (start : State) (m : Moment) (ms : List Moment) (clean : 
       | pt.Effect_is.set_up s rs rec none (inr (d, at, e)) ↦ elim (due_done d.entry (now start ms).records u (ap due_of (sym e) ∙ (ap due_of (sym rec) ∙ h))) [
         | inl was ↦ old_due u was
         | inr (und, e2) ↦ new_due u d und at e2
-            (λ q f i t stood h2 setup l b bad below w. absurd (pt.no_file limit start m ms clean run A I F X T rs q f none (inr (d, at, e)) (ap (λ l2. file_of l2 q) (sym rec) ∙ h2)))
+            (λ q f i t stood h2 setup l b bad below w. absurd (pt.no_file limit mark start m ms clean run A I F X T rs q f none (inr (d, at, e)) (ap (λ l2. file_of l2 q) (sym rec) ∙ h2)))
       ]
     ]
 
-    -- ---- the mark
+    pub audited_step : Audited start (m ∷ ms)
+    audited_step = record {
+      audit_doubt = audit_doubt_step;
+      repair_doubt = repair_doubt_step;
+      audit_entry = audit_entry_step;
+      repair_entry = repair_entry_step;
+      audit_fresh = audit_fresh_step;
+      audit_kept = audit_kept_step;
+      audit = audit_step;
+      due = due_step;
+      repair = repair_step;
+    }
 
-    mark_stays : (o : Option Record) → settled_by (setup_in m.state).tolerance o ≡ None → Point start (m ∷ ms) (mark_after m.state (settled_by (setup_in m.state).tolerance o) (since start ms)) Never
-    mark_stays o e = subst (λ z. Point start (m ∷ ms) (mark_after m.state z (since start ms)) Never) (sym e) (on (since start ms) Never Never F.mark (λ q f i s stood h setup l b bad x. absurd x))
+    -- ---- the mark, as it moves at settled audits
 
-    mark_audit : (d : Doubt) (number u : ℕ) (c : List ℕ) → (now start ms).doubt ≡ Some d → d.entry ≡ AuditDone number u c → came (now start ms) m.state ≡ Some (AuditDone number u c) → flags_some (setup_in m.state).tolerance c ≡ false →
-        Point start (m ∷ ms) (m.state.audits number) Never
-    mark_audit d number u c at e came_in none = (let P = F.audit_doubt d number u c at e in
-        subst (λ n. Point start (m ∷ ms) n Never) (sym (audits_below number P.0))
-        (on ((now start ms).audits number) (WrongAt start ms ((now start ms).audits number)) Never P.1
-        (λ q f i s stood h setup l b bad w. inl (since_more ((now start ms).audits number) i m ms
-        (unmissed number u c i f.id came_in P.0 (subst (λ (t : Setup). i < t.n) setup l) (subst (λ (t : Setup). is_flagged t.tolerance c i ≡ false) setup (none_flagged (setup_in m.state).tolerance c i none)) w)))))
+    module _ (before : Point start ms (since start ms) Never) where
+      mark_stays : (o : Option Record) → settled_by (setup_in m.state).tolerance o ≡ None → Point start (m ∷ ms) (mark_after m.state (settled_by (setup_in m.state).tolerance o) (since start ms)) Never
+      mark_stays o e = subst (λ z. Point start (m ∷ ms) (mark_after m.state z (since start ms)) Never) (sym e) (on (since start ms) Never Never before (λ q f i s stood h setup l b bad x. absurd x))
 
-    mark_repair : (d : Doubt) (number : ℕ) → (now start ms).doubt ≡ Some d → d.entry ≡ RepairDone number → Point start (m ∷ ms) (m.state.audits number) Never
-    mark_repair d number at e = (let P = F.repair_doubt d number at e in
-        subst (λ n. Point start (m ∷ ms) n Never) (sym (audits_below number P.0)) (on ((now start ms).audits number) Never Never P.1 (λ q f i s stood h setup l b bad x. absurd x)))
+      mark_audit : (d : Doubt) (number u : ℕ) (c : List ℕ) → (now start ms).doubt ≡ Some d → d.entry ≡ AuditDone number u c → came (now start ms) m.state ≡ Some (AuditDone number u c) → flags_some (setup_in m.state).tolerance c ≡ false →
+          Point start (m ∷ ms) (m.state.audits number) Never
+      mark_audit d number u c at e came_in none = (let P = G.audit_doubt d number u c at e in
+          subst (λ n. Point start (m ∷ ms) n Never) (sym (audits_below number P.0))
+          (on ((now start ms).audits number) (WrongAt start ms ((now start ms).audits number)) Never P.1
+          (λ q f i s stood h setup l b bad w. inl (since_more ((now start ms).audits number) i m ms
+          (unmissed number u c i f.id came_in P.0 (subst (λ (t : Setup). i < t.n) setup l) (subst (λ (t : Setup). is_flagged t.tolerance c i ≡ false) setup (none_flagged (setup_in m.state).tolerance c i none)) w)))))
 
-    mark_by : (d : Doubt) → (now start ms).doubt ≡ Some d → (r : Record) → d.entry ≡ r → came (now start ms) m.state ≡ Some r → Point start (m ∷ ms) (mark_after m.state (settled_by (setup_in m.state).tolerance (Some r)) (since start ms)) Never
-    mark_by d at (AuditDone number u c) e came_in = elim (cases_Bool (flags_some (setup_in m.state).tolerance c)) [
-      | inl t ↦ mark_stays (Some (AuditDone number u c)) (cond_true (flags_some (setup_in m.state).tolerance c) None (Some number) t)
-      | inr f ↦ subst (λ z. Point start (m ∷ ms) (mark_after m.state z (since start ms)) Never) (sym (cond_false (flags_some (setup_in m.state).tolerance c) None (Some number) f)) (mark_audit d number u c at e came_in f)
-    ]
-    mark_by d at (RepairDone number) e came_in = mark_repair d number at e
-    mark_by d at (SetUp s) e came_in = mark_stays (Some (SetUp s)) refl
-    mark_by d at (PutStart k name) e came_in = mark_stays (Some (PutStart k name)) refl
-    mark_by d at (PutDone k size) e came_in = mark_stays (Some (PutDone k size)) refl
-    mark_by d at (Drop name) e came_in = mark_stays (Some (Drop name)) refl
-    mark_by d at (AuditStart number) e came_in = mark_stays (Some (AuditStart number)) refl
+      mark_repair : (d : Doubt) (number : ℕ) → (now start ms).doubt ≡ Some d → d.entry ≡ RepairDone number → Point start (m ∷ ms) (m.state.audits number) Never
+      mark_repair d number at e = (let P = G.repair_doubt d number at e in
+          subst (λ n. Point start (m ∷ ms) n Never) (sym (audits_below number P.0)) (on ((now start ms).audits number) Never Never P.1 (λ q f i s stood h setup l b bad x. absurd x)))
 
-    pub mark_step : Point start (m ∷ ms) (since start (m ∷ ms)) Never
-    mark_step = elim came_is [
-      | no_record e ↦ settled None e (mark_stays None refl)
-      | setup s e ↦ settled (Some (SetUp s)) e (mark_stays (Some (SetUp s)) refl)
-      | doubted d at e ↦ settled (Some d.entry) e (mark_by d at d.entry refl e)
-    ]
-      where
-        settled : (o : Option Record) → came (now start ms) m.state ≡ o → Point start (m ∷ ms) (mark_after m.state (settled_by (setup_in m.state).tolerance o) (since start ms)) Never → Point start (m ∷ ms) (since start (m ∷ ms)) Never
-        settled o e P = subst (λ z. Point start (m ∷ ms) (mark_after m.state (settled_by (setup_in m.state).tolerance z) (since start ms)) Never) (sym e) P
+      mark_by : (d : Doubt) → (now start ms).doubt ≡ Some d → (r : Record) → d.entry ≡ r → came (now start ms) m.state ≡ Some r → Point start (m ∷ ms) (mark_after m.state (settled_by (setup_in m.state).tolerance (Some r)) (since start ms)) Never
+      mark_by d at (AuditDone number u c) e came_in = elim (cases_Bool (flags_some (setup_in m.state).tolerance c)) [
+        | inl t ↦ mark_stays (Some (AuditDone number u c)) (cond_true (flags_some (setup_in m.state).tolerance c) None (Some number) t)
+        | inr f ↦ subst (λ z. Point start (m ∷ ms) (mark_after m.state z (since start ms)) Never) (sym (cond_false (flags_some (setup_in m.state).tolerance c) None (Some number) f)) (mark_audit d number u c at e came_in f)
+      ]
+      mark_by d at (RepairDone number) e came_in = mark_repair d number at e
+      mark_by d at (SetUp s) e came_in = mark_stays (Some (SetUp s)) refl
+      mark_by d at (PutStart k name) e came_in = mark_stays (Some (PutStart k name)) refl
+      mark_by d at (PutDone k size) e came_in = mark_stays (Some (PutDone k size)) refl
+      mark_by d at (Drop name) e came_in = mark_stays (Some (Drop name)) refl
+      mark_by d at (AuditStart number) e came_in = mark_stays (Some (AuditStart number)) refl
+
+      pub mark_step : Point start (m ∷ ms) (since start (m ∷ ms)) Never
+      mark_step = elim came_is [
+        | no_record e ↦ settled None e (mark_stays None refl)
+        | setup s e ↦ settled (Some (SetUp s)) e (mark_stays (Some (SetUp s)) refl)
+        | doubted d at e ↦ settled (Some d.entry) e (mark_by d at d.entry refl e)
+      ]
+        where
+          settled : (o : Option Record) → came (now start ms) m.state ≡ o → Point start (m ∷ ms) (mark_after m.state (settled_by (setup_in m.state).tolerance o) (since start ms)) Never → Point start (m ∷ ms) (since start (m ∷ ms)) Never
+          settled o e P = subst (λ z. Point start (m ∷ ms) (mark_after m.state (settled_by (setup_in m.state).tolerance z) (since start ms)) Never) (sym e) P

@@ -15,10 +15,10 @@ use Rattle.hail_machine.specs.States.{State, Append, Doubt, IsStart, setup_in, o
 use Rattle.hail_machine.specs.Given.{symbols_given}
 use Rattle.hail_machine.specs.Steps.{next_action, block_to_store}
 use Rattle.hail_machine.specs.Runs.{Moment, now, first_moments, is_replacement, is_replaced_since, newest, came, IsRun}
-use Rattle.hail_machine.specs.Calm.{relies, replaced_count, settled_by, mark_after, since}
+use Rattle.hail_machine.specs.Calm.{Mark}
 use Rattle.hail_machine.specs.Missed.{is_wrong_now, Misses, MissesNone}
 use Rattle.hail_machine.specs.Halves.{begun_of}
-use Rattle.hail_machine.specs.Deeds.{told_block}
+use Rattle.hail_machine.specs.Deeds.{told_block, HasMadeStore}
 use Rattle.hail_machine.proofs.JobLists.{cond_true, cond_false, same_value, found_none}
 use Rattle.hail_machine.proofs.Changes.{IsPlain, IsGated, Grown, Job_is, Append_is, Records_is, Block_is, Changes}
 use Rattle.hail_machine.proofs.Events.{some_told}
@@ -92,16 +92,34 @@ abbrev pub begin_of : State → List Moment → Job → State
 begin_of start ms j = now start (first_moments j.begun ms)
 
 -- the mark at the begin of a job
-abbrev pub mark_of : State → List Moment → Job → ℕ
-mark_of start ms j = since start (first_moments j.begun ms)
+abbrev pub mark_of : Mark → List Moment → Job → ℕ
+mark_of mark ms j = mark (first_moments j.begun ms)
 
-pub record Facts (start : State) (ms : List Moment) : Type 0 where
+-- what holds, with any mark that is such a moment, of puts, of files and of what jobs read
+pub record Facts (mark : Mark) (start : State) (ms : List Moment) : Type 0 where
   pub gated : IsGated (now start ms)
   pub setup_doubt : (d : Doubt) (s : Setup) → (now start ms).doubt ≡ Some d → d.entry ≡ SetUp s → setup_of (now start ms).records ≡ None
   pub put_held : (d : Doubt) (id size : ℕ) → (now start ms).doubt ≡ Some d → d.entry ≡ PutDone id size → PutHeld (now start ms) id (length ms) d.maker
   pub put_doubt : (d : Doubt) (id size i s : ℕ) → (now start ms).doubt ≡ Some d → d.entry ≡ PutDone id size → i < (setup_in (now start ms)).n →
       s < stripes_of (setup_in (now start ms)) (length ((now start ms).bytes id)) → IsBad (now start ms) id i s → IsReplaced (begun_of d.maker) i ms
   pub doubt_runs : (d : Doubt) (id size : ℕ) → (now start ms).is_open ≡ true → (now start ms).is_barred ≡ false → (now start ms).doubt ≡ Some d → d.entry ≡ PutDone id size → AtGate (now start ms)
+  pub moment : Point start ms (mark ms) Never
+  pub pinned : (k : ℕ) (j : Job) (f : Pinned) → job_of (now start ms).jobs k ≡ Some j → In f j.pinned → f.bytes ≡ (now start ms).bytes f.id
+  pub marked : (k : ℕ) (j : Job) → job_of (now start ms).jobs k ≡ Some j → mark_of mark ms j ≤ length ms
+  pub reads : (k : ℕ) (j : Job) (f : Pinned) (i s : ℕ) → job_of (now start ms).jobs k ≡ Some j → In f j.pinned → i < (setup_in (now start ms)).n →
+      s < stripes_of (setup_in (now start ms)) (length ((now start ms).bytes f.id)) → IsBad (now start ms) f.id i s → IsReplaced (mark_of mark ms j) i ms
+  pub counts : (k : ℕ) (j : Job) (i : ℕ) → job_of (now start ms).jobs k ≡ Some j → ((begin_of start ms j).providers i).other_faults ≤ ((now start ms).providers i).other_faults
+  pub gave : (k : ℕ) (j : Job) (f : Pinned) (i s : ℕ) (block : Option (List ℕ)) → job_of (now start ms).jobs k ≡ Some j → In f j.pinned → i < (setup_in (now start ms)).n →
+      s < stripes_of (setup_in (now start ms)) (length ((now start ms).bytes f.id)) → In (Fetched i f.id s block) j.given →
+      is_wrong_block (object_in (now start ms) f.id) ((now start ms).bytes f.id) i s block ≡ true →
+      IsReplaced (mark_of mark ms j) i ms ⊎ ((block ≡ None) × RoseSince (begin_of start ms j) (now start ms) i)
+  pub rows : (k : ℕ) (j : Job) (o s : ℕ) (symbols : List ℕ) → job_of (now start ms).jobs k ≡ Some j → j.kind ≡ RepairJob → In (Worked o s symbols) j.given →
+      (o < next_id (now start ms).records) × (symbols ≡ symbols_in (object_in (now start ms) o) ((now start ms).bytes o) s)
+  pub rewrote : (k : ℕ) (j : Job) (i o s : ℕ) (b : Option (List ℕ)) → job_of (now start ms).jobs k ≡ Some j → j.kind ≡ RepairJob → HasMadeStore (setup_in (now start ms)) j i o s →
+      is_replaced_since j.begun i ms ≡ false → told_block (now start ms) i o s ≡ Some b → b ≡ Some (columns (object_in (now start ms) o) ((now start ms).bytes o) i s)
+
+-- what holds of audits, of what is due and of repairs
+pub record Audited (start : State) (ms : List Moment) : Type 0 where
   pub audit_doubt : (d : Doubt) (number u : ℕ) (c : List ℕ) → (now start ms).doubt ≡ Some d → d.entry ≡ AuditDone number u c →
       (number < next_audit (now start ms).records) × Point start ms ((now start ms).audits number) (WrongAt start ms ((now start ms).audits number))
   pub repair_doubt : (d : Doubt) (number : ℕ) → (now start ms).doubt ≡ Some d → d.entry ≡ RepairDone number →
@@ -115,18 +133,6 @@ pub record Facts (start : State) (ms : List Moment) : Type 0 where
   pub due : (u : Due) → due_of (now start ms).records ≡ Some u → (u.number < next_audit (now start ms).records) × Point start ms ((now start ms).audits u.number) (IsMarked (now start ms) u.counts)
   pub repair : (k : ℕ) (j : Job) → job_of (now start ms).jobs k ≡ Some j → j.kind ≡ RepairJob →
       (j.subject < next_audit (now start ms).records) × Point start ms ((now start ms).audits j.subject) (Remains (now start ms) j)
-  pub mark : Point start ms (since start ms) Never
-  pub pinned : (k : ℕ) (j : Job) (f : Pinned) → job_of (now start ms).jobs k ≡ Some j → In f j.pinned → f.bytes ≡ (now start ms).bytes f.id
-  pub marked : (k : ℕ) (j : Job) → job_of (now start ms).jobs k ≡ Some j → mark_of start ms j ≤ length ms
-  pub reads : (k : ℕ) (j : Job) (f : Pinned) (i s : ℕ) → job_of (now start ms).jobs k ≡ Some j → In f j.pinned → i < (setup_in (now start ms)).n →
-      s < stripes_of (setup_in (now start ms)) (length ((now start ms).bytes f.id)) → IsBad (now start ms) f.id i s → IsReplaced (mark_of start ms j) i ms
-  pub counts : (k : ℕ) (j : Job) (i : ℕ) → job_of (now start ms).jobs k ≡ Some j → ((begin_of start ms j).providers i).other_faults ≤ ((now start ms).providers i).other_faults
-  pub gave : (k : ℕ) (j : Job) (f : Pinned) (i s : ℕ) (block : Option (List ℕ)) → job_of (now start ms).jobs k ≡ Some j → In f j.pinned → i < (setup_in (now start ms)).n →
-      s < stripes_of (setup_in (now start ms)) (length ((now start ms).bytes f.id)) → In (Fetched i f.id s block) j.given →
-      is_wrong_block (object_in (now start ms) f.id) ((now start ms).bytes f.id) i s block ≡ true →
-      IsReplaced (mark_of start ms j) i ms ⊎ ((block ≡ None) × RoseSince (begin_of start ms j) (now start ms) i)
-  pub rows : (k : ℕ) (j : Job) (o s : ℕ) (symbols : List ℕ) → job_of (now start ms).jobs k ≡ Some j → j.kind ≡ RepairJob → In (Worked o s symbols) j.given →
-      (o < next_id (now start ms).records) × (symbols ≡ symbols_in (object_in (now start ms) o) ((now start ms).bytes o) s)
 
 -- ---- what records are of which job
 
@@ -174,14 +180,14 @@ store_kinds job (GetJob name) i o s is h = absurd h
 store_kinds job (DropJob name) i o s is h = absurd h
 store_kinds job AuditJob i o s is h = absurd h
 
-remove_kinds : (job : Job) (kind : Kind) (i o : ℕ) → IsFair job kind (Remove i o) → In o job.older
+pub remove_kinds : (job : Job) (kind : Kind) (i o : ℕ) → IsFair job kind (Remove i o) → In o job.older
 remove_kinds job (PutJob name bytes) i o h = h
 remove_kinds job (GetJob name) i o h = h
 remove_kinds job (DropJob name) i o h = h
 remove_kinds job AuditJob i o h = h
 remove_kinds job RepairJob i o h = h
 
-module _ (limit : ℕ) (start : State) (m : Moment) (ms : List Moment) (clean : IsStart start) (run : IsRun limit start ms) (A : All start ms) (I : eff.Facts (now start ms)) (F : Facts start ms)
+module _ (limit : ℕ) (mark : Mark) (start : State) (m : Moment) (ms : List Moment) (clean : IsStart start) (run : IsRun limit start ms) (A : All start ms) (I : eff.Facts (now start ms)) (F : Facts mark start ms)
     (X : Changes limit (length ms) (now start ms) m.event m.outcome m.state) (T : Turns (now start ms) m.state) where
   -- the setup stays while a job runs on
   setup_kept : (k : ℕ) (j : Job) → job_of m.state.jobs k ≡ Some j → setup_of m.state.records ≡ setup_of (now start ms).records
@@ -250,23 +256,25 @@ module _ (limit : ℕ) (start : State) (m : Moment) (ms : List Moment) (clean : 
       subst (λ t. is_wrong_block (object_of t o) ((now start ms).bytes o) i s b ≡ true) setup
       (subst (λ l. is_wrong_block (object_in m.state o) l i s b ≡ true) bytes h)
 
-  -- a block that is stored is right
-  pub stored_right : (x : Job) (i o s : ℕ) (b : Option (List ℕ)) → job_of (now start ms).jobs x.number ≡ Some x → next_action (now start ms) x ≡ Some (Store i o s) →
-      b ≡ Some (block_to_store (now start ms) x x.kind i o s) → is_wrong_block (object_in (now start ms) o) ((now start ms).bytes o) i s b ≡ true → ⊥
-  stored_right x i o s b runs next_is b_is wrong = elim (store_kinds x x.kind i o s refl (is_fair (now start ms) x (Store i o s) next_is)) [
+  -- a block that is stored is the column
+  pub stored_column : (x : Job) (i o s : ℕ) (b : Option (List ℕ)) → job_of (now start ms).jobs x.number ≡ Some x → next_action (now start ms) x ≡ Some (Store i o s) →
+      b ≡ Some (block_to_store (now start ms) x x.kind i o s) → b ≡ Some (columns (object_in (now start ms) o) ((now start ms).bytes o) i s)
+  stored_column x i o s b runs next_is b_is = elim (store_kinds x x.kind i o s refl (is_fair (now start ms) x (Store i o s) next_is)) [
     | inl (name, bytes, kind, o_is) ↦
         (let place = store_place (now start ms) x name bytes i o s kind next_is in
         let bytes_are : (now start ms).bytes o ≡ bytes = ap (now start ms).bytes o_is ∙ I.kept x.number x name bytes runs kind place.0 in
-        let column : b ≡ Some (columns (object_in (now start ms) o) ((now start ms).bytes o) i s) =
-        b_is ∙ (ap (λ kd. Some (block_to_store (now start ms) x kd i o s)) kind ∙ ap (λ l. Some (columns (object_in (now start ms) o) l i s)) (sym bytes_are)) in
-        right_block (object_in (now start ms) o) ((now start ms).bytes o) i s (subst (λ y. is_wrong_block (object_in (now start ms) o) ((now start ms).bytes o) i s y ≡ true) column wrong))
+        b_is ∙ (ap (λ kd. Some (block_to_store (now start ms) x kd i o s)) kind ∙ ap (λ l. Some (columns (object_in (now start ms) o) l i s)) (sym bytes_are)))
     | inr repairs ↦
         (let g = made_work_gave limit start clean ms run x.number x o s runs (worked_before_store (now start ms) x i o s repairs next_is).0 in
         let rows = (F.rows x.number x o s (symbols_given x.given o s) runs repairs (given_symbols x.given o s g.0 g.1)).1 in
-        let column : b ≡ Some (columns (object_in (now start ms) o) ((now start ms).bytes o) i s) =
-        b_is ∙ (ap (λ kd. Some (block_to_store (now start ms) x kd i o s)) repairs ∙ ap (λ l. Some (column_of_symbols (object_in (now start ms) o) l i s)) rows) in
-        right_block (object_in (now start ms) o) ((now start ms).bytes o) i s (subst (λ z. is_wrong_block (object_in (now start ms) o) ((now start ms).bytes o) i s z ≡ true) column wrong))
+        b_is ∙ (ap (λ kd. Some (block_to_store (now start ms) x kd i o s)) repairs ∙ ap (λ l. Some (column_of_symbols (object_in (now start ms) o) l i s)) rows))
   ]
+
+  -- so it is right
+  pub stored_right : (x : Job) (i o s : ℕ) (b : Option (List ℕ)) → job_of (now start ms).jobs x.number ≡ Some x → next_action (now start ms) x ≡ Some (Store i o s) →
+      b ≡ Some (block_to_store (now start ms) x x.kind i o s) → is_wrong_block (object_in (now start ms) o) ((now start ms).bytes o) i s b ≡ true → ⊥
+  stored_right x i o s b runs next_is b_is wrong = right_block (object_in (now start ms) o) ((now start ms).bytes o) i s
+      (subst (λ y. is_wrong_block (object_in (now start ms) o) ((now start ms).bytes o) i s y ≡ true) (stored_column x i o s b runs next_is b_is) wrong)
 
   -- a block that is bad was so before, or its provider is replaced now
   pub bad_before : (o i s : ℕ) → setup_in m.state ≡ setup_in (now start ms) → o < next_id (now start ms).records → ((x : Job) → job_of (now start ms).jobs x.number ≡ Some x → In o x.older → ⊥) →

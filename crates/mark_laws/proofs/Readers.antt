@@ -1,12 +1,12 @@
 -- What gets and repairs read, in a calm run in which no audit missed damage.
 use Rattle.std.proofs.Common.{◌≡◌, ℕ, zero, suc, ◌+◌, ◌-◌, ◌≤◌, ◌<◌, ◌==◌, Bool, true, false, cond, ◌⊎◌, ◌&&◌, List, [], ◌∷◌, ◌++◌, length, Option, Some, None, refl, ap, sym, subst, ◌∙◌, inl, inr, arith}
-use Rattle.std.specs.Prelude.{IsTrue, IsSome, is_some, option_and_then}
+use Rattle.std.specs.Prelude.{IsTrue, IsSome, is_some, slice_get, option_and_then}
 use Rattle.std.specs.Option.{option_map}
 use Rattle.std.proofs.lemmas.Bool.{cases_Bool, cases_lt, and_parts, eqb-true, false≢true}
 use Rattle.hail_field.specs.Shape.{IsShape}
 use Rattle.hail_codes.specs.Points.{upto}
 use Rattle.hail_columns.specs.Objects.{symbols_in}
-use Rattle.hail_columns.specs.Columns.{is_wrong_block}
+use Rattle.hail_columns.specs.Columns.{columns, is_wrong_block}
 use Rattle.hail_columns.specs.Opened.{GivesSymbols, block_at}
 use Rattle.hail_columns.specs.Forgeries.{count_of}
 use Rattle.column_laws.proofs.Counts.{count_of-within}
@@ -16,18 +16,22 @@ use Rattle.hail_devices.specs.Faults.{Rose, last_count}
 use Rattle.hail_devices.specs.Providers.{Held, sized}
 use Rattle.hail_devices.specs.ProviderCalls.{FetchGives, FailsToGive}
 use Rattle.hail_machine.specs.Jobs.{Kind, RepairJob, Pinned, Given, Fetched, Answered, Worked, Job, job_of}
-use Rattle.hail_machine.specs.Actions.{Action, Work}
+use Rattle.hail_machine.specs.Actions.{Action, WriteBody, SyncGate, Store, Work, Remove, actions_by, actions_of}
 use Rattle.hail_machine.specs.Setups.{setup_or_none, object_of, stripes_of}
 use Rattle.hail_machine.specs.States.{State, IsStart, setup_in, object_in, file_in}
 use Rattle.hail_machine.specs.Begins.{pinned_file}
 use Rattle.hail_machine.specs.Given.{block_given, blocks_given}
-use Rattle.hail_machine.specs.Steps.{next_action}
+use Rattle.hail_machine.specs.Steps.{next_action, block_to_store}
 use Rattle.hail_machine.specs.Runs.{Moment, now, first_moments, is_replacement, is_replaced_since, IsRun}
-use Rattle.hail_machine.specs.Calm.{relies, replaced_count, since}
+use Rattle.hail_machine.specs.Calm.{Mark, relies, replaced_count}
 use Rattle.hail_machine.specs.Halves.{AllTell}
-use Rattle.hail_machine.proofs.JobLists.{cond_true, cond_false, found_none}
-use Rattle.hail_machine.proofs.Changes.{Gave, Job_is, Changes}
+use Rattle.hail_machine.proofs.JobLists.{cond_true, cond_false, same_value, number_of}
+use Rattle.hail_machine.proofs.Changes.{Gave, Job_is, Block_is, Changes}
+use Rattle.hail_machine.specs.Deeds.{told_block, HasMadeStore}
+use Rattle.hail_machine.proofs.ActionLists.{each_get}
+use Rattle.hail_machine.proofs.Events.{some_told}
 use Rattle.hail_machine.proofs.RecordFacts.{In}
+use Rattle.hail_machine.proofs.Fair.{HasPin, IsFair, fair, is_fair}
 use Rattle.hail_machine.proofs.Pins.{Stands, pinned_stands}
 use Rattle.hail_machine.proofs.PinFacts.{Pins_is, pins_is}
 use Rattle.hail_machine.proofs.Held.{All, first_more, first_all}
@@ -38,10 +42,11 @@ use Rattle.calm_laws.specs.Origins.{IsHeldThen}
 use Rattle.calm_laws.proofs.Absent.{own_symbols}
 use Rattle.calm_laws.proofs.Onward.{AllOnward}
 use Rattle.step_laws.proofs.Lists.{get_map_upto}
+use Rattle.step_laws.proofs.Places.{by_kind}
 use Rattle.mark_laws.specs.Damage.{IsBad, IsReplaced, RoseSince}
 use Rattle.mark_laws.proofs.Turns.{IsSame, IsFound, Gift_is, Turns}
 use Rattle.mark_laws.proofs.Blocks.{clash, since_more, since_now, sized_wrong}
-use Rattle.mark_laws.proofs.Places.{work_within}
+use Rattle.mark_laws.proofs.Places.{work_within, next_repairs, same_actions}
 use Rattle.mark_laws.proofs.Points as pt
 use Rattle.mark_laws.proofs.Points.{Facts, begin_of, mark_of}
 
@@ -82,9 +87,9 @@ shape_in w valid up = go (setup_of w.records) valid up
     go None f h = absurd (false≢true h)
     go (Some s) f h = f s refl
 
-module _ (limit : ℕ) (start : State) (m : Moment) (ms : List Moment) (clean : IsStart start) (run : IsRun limit start ms) (A : All start ms) (I : eff.Facts (now start ms)) (F : Facts start ms)
+module _ (limit : ℕ) (mark : Mark) (start : State) (m : Moment) (ms : List Moment) (clean : IsStart start) (run : IsRun limit start ms) (A : All start ms) (I : eff.Facts (now start ms)) (F : Facts mark start ms)
     (X : Changes limit (length ms) (now start ms) m.event m.outcome m.state) (T : Turns (now start ms) m.state) (O : AllOnward (now start ms) m.state) (tell : AllTell (now start ms))
-    (calm : (k : ℕ) (j : Job) → job_of (now start ms).jobs k ≡ Some j → IsTrue (relies j.kind) → replaced_count (now start ms) (mark_of start ms j) ms ≤ (setup_in (now start ms)).b) where
+    (calm : (k : ℕ) (j : Job) → job_of (now start ms).jobs k ≡ Some j → IsTrue (relies j.kind) → replaced_count (now start ms) (mark_of mark ms j) ms ≤ (setup_in (now start ms)).b) where
   -- ---- the mark and the state at the begin of a job
 
   first_had : (j x : Job) → j.begun ≡ x.begun → x.begun ≤ length ms → first_moments j.begun (m ∷ ms) ≡ first_moments x.begun ms
@@ -100,44 +105,44 @@ module _ (limit : ℕ) (start : State) (m : Moment) (ms : List Moment) (clean : 
         (let st = pinned_stands (now start ms) kd f (subst (λ (x : Job). In f x.pinned) is in_f) in
         let id_is : f.id ≡ st.file.id = ap (λ (x : Pinned). x.id) st.is in
         ap (λ (x : Pinned). x.bytes) st.is ∙ (ap (now start ms).bytes (sym id_is)
-        ∙ sym (X.bytes f.id (let l = pt.file_below limit start m ms clean run A I F X T st.name st.file st.in_effect in omega arith))))
+        ∙ sym (X.bytes f.id (let l = pt.file_below limit mark start m ms clean run A I F X T st.name st.file st.in_effect in omega arith))))
   ]
 
-  pub marked_step : (k : ℕ) (j : Job) → job_of m.state.jobs k ≡ Some j → mark_of start (m ∷ ms) j ≤ suc (length ms)
+  pub marked_step : (k : ℕ) (j : Job) → job_of m.state.jobs k ≡ Some j → mark_of mark (m ∷ ms) j ≤ suc (length ms)
   marked_step k j h = elim (pins_is limit start m ms A.numbers A.pins X k j h) [
-    | Pins_is.had x runs pinned kind begun g ↦ (let e = ap (since start) (first_had j x begun (A.held.begun k x runs)) in let l = F.marked k x runs in omega arith)
-    | Pins_is.new_one kd is k_is allowed rec ↦ (let e = ap (since start) (first_new j (ap (λ (x : Job). x.begun) is)) in let l = F.mark.early in omega arith)
+    | Pins_is.had x runs pinned kind begun g ↦ (let e = ap mark (first_had j x begun (A.held.begun k x runs)) in let l = F.marked k x runs in omega arith)
+    | Pins_is.new_one kd is k_is allowed rec ↦ (let e = ap mark (first_new j (ap (λ (x : Job). x.begun) is)) in let l = F.moment.early in omega arith)
   ]
 
   pub reads_step : (k : ℕ) (j : Job) (f : Pinned) (i s : ℕ) → job_of m.state.jobs k ≡ Some j → In f j.pinned → i < (setup_in m.state).n →
-      s < stripes_of (setup_in m.state) (length (m.state.bytes f.id)) → IsBad m.state f.id i s → IsReplaced (mark_of start (m ∷ ms) j) i (m ∷ ms)
+      s < stripes_of (setup_in m.state) (length (m.state.bytes f.id)) → IsBad m.state f.id i s → IsReplaced (mark_of mark (m ∷ ms) j) i (m ∷ ms)
   reads_step k j f i s h in_f l b bad = elim (pins_is limit start m ms A.numbers A.pins X k j h) [
     | Pins_is.had x runs pinned kind begun g ↦
         (let in_x = subst (In f) pinned in_f in
         let below = (A.pins.pins k x f runs in_x).0 in
-        let n = pt.bounds limit start m ms clean run A I F X T f.id i s setup below l b in
-        subst (λ z. IsReplaced z i (m ∷ ms)) (sym (ap (since start) (first_had j x begun (A.held.begun k x runs))))
-        (elim (pt.bad_before limit start m ms clean run A I F X T f.id i s setup below (λ y runs_y o. A.pins.older_free y.number k y x f.id f runs_y o runs in_x refl) bad) [
-          | inl old ↦ since_more (mark_of start ms x) i m ms (F.reads k x f i s runs in_x n.0 n.1 old)
-          | inr r ↦ since_now (mark_of start ms x) i m ms r (F.marked k x runs)
+        let n = pt.bounds limit mark start m ms clean run A I F X T f.id i s setup below l b in
+        subst (λ z. IsReplaced z i (m ∷ ms)) (sym (ap mark (first_had j x begun (A.held.begun k x runs))))
+        (elim (pt.bad_before limit mark start m ms clean run A I F X T f.id i s setup below (λ y runs_y o. A.pins.older_free y.number k y x f.id f runs_y o runs in_x refl) bad) [
+          | inl old ↦ since_more (mark_of mark ms x) i m ms (F.reads k x f i s runs in_x n.0 n.1 old)
+          | inr r ↦ since_now (mark_of mark ms x) i m ms r (F.marked k x runs)
         ]))
     | Pins_is.new_one kd is k_is allowed rec ↦
         (let st = pinned_stands (now start ms) kd f (subst (λ (x : Job). In f x.pinned) is in_f) in
         let id_is : f.id ≡ st.file.id = ap (λ (x : Pinned). x.id) st.is in
-        let below : f.id < next_id (now start ms).records = (let z = pt.file_below limit start m ms clean run A I F X T st.name st.file st.in_effect in omega arith) in
-        let n = pt.bounds limit start m ms clean run A I F X T f.id i s setup below l b in
-        subst (λ z. IsReplaced z i (m ∷ ms)) (sym (ap (since start) (first_new j (ap (λ (x : Job). x.begun) is))))
-        (elim (pt.bad_before limit start m ms clean run A I F X T f.id i s setup below (λ y runs_y o. A.pins.older_out y.number y f.id st.name st.file runs_y o st.in_effect (sym id_is)) bad) [
-          | inl old ↦ elim (F.mark.clear st.name st.file i s st.in_effect n.0 (subst (λ o. s < stripes_of (setup_in (now start ms)) (length ((now start ms).bytes o))) id_is n.1) (subst (λ o. IsBad (now start ms) o i s) id_is old)) [
-            | inl r ↦ since_more (since start ms) i m ms r
+        let below : f.id < next_id (now start ms).records = (let z = pt.file_below limit mark start m ms clean run A I F X T st.name st.file st.in_effect in omega arith) in
+        let n = pt.bounds limit mark start m ms clean run A I F X T f.id i s setup below l b in
+        subst (λ z. IsReplaced z i (m ∷ ms)) (sym (ap mark (first_new j (ap (λ (x : Job). x.begun) is))))
+        (elim (pt.bad_before limit mark start m ms clean run A I F X T f.id i s setup below (λ y runs_y o. A.pins.older_out y.number y f.id st.name st.file runs_y o st.in_effect (sym id_is)) bad) [
+          | inl old ↦ elim (F.moment.clear st.name st.file i s st.in_effect n.0 (subst (λ o. s < stripes_of (setup_in (now start ms)) (length ((now start ms).bytes o))) id_is n.1) (subst (λ o. IsBad (now start ms) o i s) id_is old)) [
+            | inl r ↦ since_more (mark ms) i m ms r
             | inr never ↦ absurd never
           ]
-          | inr r ↦ since_now (since start ms) i m ms r F.mark.early
+          | inr r ↦ since_now (mark ms) i m ms r F.moment.early
         ]))
   ]
     where
       setup : setup_in m.state ≡ setup_in (now start ms)
-      setup = pt.setup_job limit start m ms clean run A I F X T k j h
+      setup = pt.setup_job limit mark start m ms clean run A I F X T k j h
 
   pub counts_step : (k : ℕ) (j : Job) (i : ℕ) → job_of m.state.jobs k ≡ Some j → ((begin_of start (m ∷ ms) j).providers i).other_faults ≤ (m.state.providers i).other_faults
   counts_step k j i h = elim (pins_is limit start m ms A.numbers A.pins X k j h) [
@@ -150,10 +155,10 @@ module _ (limit : ℕ) (start : State) (m : Moment) (ms : List Moment) (clean : 
   -- ---- what was fetched
 
   abbrev Excused : List Moment → Job → ℕ → Option (List ℕ) → Type 0
-  Excused hs j i block = IsReplaced (mark_of start hs j) i hs ⊎ ((block ≡ None) × RoseSince (begin_of start hs j) (now start hs) i)
+  Excused hs j i block = IsReplaced (mark_of mark hs j) i hs ⊎ ((block ≡ None) × RoseSince (begin_of start hs j) (now start hs) i)
 
   excused_on : (k : ℕ) (x j : Job) (i : ℕ) (block : Option (List ℕ)) → job_of (now start ms).jobs k ≡ Some x → j.begun ≡ x.begun → Excused ms x i block → Excused (m ∷ ms) j i block
-  excused_on k x j i block runs begun (inl r) = inl (subst (λ z. IsReplaced z i (m ∷ ms)) (sym (ap (since start) (first_had j x begun (A.held.begun k x runs)))) (since_more (mark_of start ms x) i m ms r))
+  excused_on k x j i block runs begun (inl r) = inl (subst (λ z. IsReplaced z i (m ∷ ms)) (sym (ap mark (first_had j x begun (A.held.begun k x runs)))) (since_more (mark_of mark ms x) i m ms r))
   excused_on k x j i block runs begun (inr (none, rose)) = inr (
     none,
     subst (λ hs. RoseSince (now start hs) m.state i) (sym (first_had j x begun (A.held.begun k x runs))) (rose_on _ _ _ rose (O.provider i).others),
@@ -185,42 +190,42 @@ module _ (limit : ℕ) (start : State) (m : Moment) (ms : List Moment) (clean : 
       | inl e ↦
           (let in_x = subst (In f) same.pinned in_f in
           let below = (A.pins.pins k x f runs in_x).0 in
-          let n = pt.bounds limit start m ms clean run A I F X T f.id i s setup below l b in
-          fetched_now k x j f i s block runs same.begun in_x n.0 n.1 (pt.wrong_old limit start m ms clean run A I F X T f.id i s block setup (X.bytes f.id below) wrong)
+          let n = pt.bounds limit mark start m ms clean run A I F X T f.id i s setup below l b in
+          fetched_now k x j f i s block runs same.begun in_x n.0 n.1 (pt.wrong_old limit mark start m ms clean run A I F X T f.id i s block setup (X.bytes f.id below) wrong)
           (subst (IsFound (now start ms) m.state x) (sym e) found))
       | inr in_given ↦ before x runs same in_given
     ]
   ]
     where
       setup : setup_in m.state ≡ setup_in (now start ms)
-      setup = pt.setup_job limit start m ms clean run A I F X T k j h
+      setup = pt.setup_job limit mark start m ms clean run A I F X T k j h
 
       before : (x : Job) → job_of (now start ms).jobs k ≡ Some x → IsSame x j → In (Fetched i f.id s block) x.given → Excused (m ∷ ms) j i block
       before x runs same in_given =
           (let in_x = subst (In f) same.pinned in_f in
           let below = (A.pins.pins k x f runs in_x).0 in
-          let n = pt.bounds limit start m ms clean run A I F X T f.id i s setup below l b in
+          let n = pt.bounds limit mark start m ms clean run A I F X T f.id i s setup below l b in
           excused_on k x j i block runs same.begun
-          (F.gave k x f i s block runs in_x n.0 n.1 in_given (pt.wrong_old limit start m ms clean run A I F X T f.id i s block setup (X.bytes f.id below) wrong)))
+          (F.gave k x f i s block runs in_x n.0 n.1 in_given (pt.wrong_old limit mark start m ms clean run A I F X T f.id i s block setup (X.bytes f.id below) wrong)))
 
   -- ---- what the work of a repair gave
 
   -- while a job runs, the setup makes a shape
   runs_shape : (k : ℕ) (j : Job) → job_of (now start ms).jobs k ≡ Some j → IsShape (setup_in (now start ms)).n (setup_in (now start ms)).l (setup_in (now start ms)).b
-  runs_shape k j runs = shape_in (now start ms) (λ s e. valid_shape s (I.setup s e)) (pt.runs_up limit start m ms clean run A I F X T k j runs)
+  runs_shape k j runs = shape_in (now start ms) (λ s e. valid_shape s (I.setup s e)) (pt.runs_up limit mark start m ms clean run A I F X T k j runs)
 
   few_wrong : (k : ℕ) (x : Job) (f : Pinned) (s : ℕ) → job_of (now start ms).jobs k ≡ Some x → x.kind ≡ RepairJob → In f x.pinned → s < stripes_of (setup_in (now start ms)) (length ((now start ms).bytes f.id)) →
       count_of (λ i. is_wrong_seen (object_in (now start ms) f.id) ((now start ms).bytes f.id) i s (block_at (blocks_given x.given (setup_in (now start ms)).n f.id s) i)) (upto (setup_in (now start ms)).n) ≤ (setup_in (now start ms)).b
   few_wrong k x f s runs kind in_x b =
-      (let w = count_of-within (λ i. is_wrong_seen (object_in (now start ms) f.id) ((now start ms).bytes f.id) i s (block_at (blocks_given x.given (setup_in (now start ms)).n f.id s) i)) (λ i. is_replaced_since (mark_of start ms x) i ms) 0 (setup_in (now start ms)).n
+      (let w = count_of-within (λ i. is_wrong_seen (object_in (now start ms) f.id) ((now start ms).bytes f.id) i s (block_at (blocks_given x.given (setup_in (now start ms)).n f.id s) i)) (λ i. is_replaced_since (mark_of mark ms x) i ms) 0 (setup_in (now start ms)).n
       (λ i l wrong. one i (omega (arith, l)) (subst (λ y. is_wrong_seen (object_in (now start ms) f.id) ((now start ms).bytes f.id) i s y ≡ true) (given_at x.given (setup_in (now start ms)).n f.id s i (omega (arith, l))) wrong)) in
-      let c : count_of (λ i. is_replaced_since (mark_of start ms x) i ms) (upto (setup_in (now start ms)).n) ≤ (setup_in (now start ms)).b = calm k x runs (subst (λ (kd : Kind). IsTrue (relies kd)) (sym kind) refl) in
+      let c : count_of (λ i. is_replaced_since (mark_of mark ms x) i ms) (upto (setup_in (now start ms)).n) ≤ (setup_in (now start ms)).b = calm k x runs (subst (λ (kd : Kind). IsTrue (relies kd)) (sym kind) refl) in
       omega (arith, w, c))
     where
-      one : (i : ℕ) → i < (setup_in (now start ms)).n → is_wrong_seen (object_in (now start ms) f.id) ((now start ms).bytes f.id) i s (block_given x.given f.id s i) ≡ true → is_replaced_since (mark_of start ms x) i ms ≡ true
+      one : (i : ℕ) → i < (setup_in (now start ms)).n → is_wrong_seen (object_in (now start ms) f.id) ((now start ms).bytes f.id) i s (block_given x.given f.id s i) ≡ true → is_replaced_since (mark_of mark ms x) i ms ≡ true
       one i l wrong = by_seen (block_given x.given f.id s i) refl wrong
         where
-          by_seen : (seen : Option (List ℕ)) → block_given x.given f.id s i ≡ seen → is_wrong_seen (object_in (now start ms) f.id) ((now start ms).bytes f.id) i s seen ≡ true → is_replaced_since (mark_of start ms x) i ms ≡ true
+          by_seen : (seen : Option (List ℕ)) → block_given x.given f.id s i ≡ seen → is_wrong_seen (object_in (now start ms) f.id) ((now start ms).bytes f.id) i s seen ≡ true → is_replaced_since (mark_of mark ms x) i ms ≡ true
           by_seen None is w = absurd (false≢true w)
           by_seen (Some block) is w = elim (F.gave k x f i s (Some block) runs in_x l b (block_in x.given f.id s i block is) w) [
             | inl r ↦ r
@@ -252,11 +257,11 @@ module _ (limit : ℕ) (start : State) (m : Moment) (ms : List Moment) (clean : 
   ])
     where
       setup : setup_in m.state ≡ setup_in (now start ms)
-      setup = pt.setup_job limit start m ms clean run A I F X T k j h
+      setup = pt.setup_job limit mark start m ms clean run A I F X T k j h
 
       rows_on : (o < next_id (now start ms).records) × (symbols ≡ symbols_in (object_in (now start ms) o) ((now start ms).bytes o) s) → (o < next_id m.state.records) × (symbols ≡ symbols_in (object_in m.state o) (m.state.bytes o) s)
       rows_on r = (
-        (let g = pt.ids_grow limit start m ms clean run A I F X T in let l = r.0 in omega arith),
+        (let g = pt.ids_grow limit mark start m ms clean run A I F X T in let l = r.0 in omega arith),
         r.1 ∙ (ap (λ y. symbols_in (object_in (now start ms) o) y s) (sym (X.bytes o r.0)) ∙ ap (λ t. symbols_in (object_of t o) (m.state.bytes o) s) (sym setup)),
       )
 
@@ -283,3 +288,64 @@ module _ (limit : ℕ) (start : State) (m : Moment) (ms : List Moment) (clean : 
           now_worked p t found po ts fs next_w gives_w =
               (let r = rows_now k x p t found runs kx next_w gives_w in
               (subst (λ n. n < next_id (now start ms).records) po r.0, sym fs ∙ (r.1 ∙ (λ z. symbols_in (object_in (now start ms) (po z)) ((now start ms).bytes (po z)) (ts z)))))
+
+  -- ---- what a repair has stored
+
+  replaced_less : (from i : ℕ) → is_replaced_since from i (m ∷ ms) ≡ false → is_replaced_since from i ms ≡ false
+  replaced_less from i none = elim (cases_Bool (is_replaced_since from i ms)) [ inl t ↦ absurd (false≢true (sym none ∙ since_more from i m ms t)) | inr f ↦ f ]
+
+  -- a block that a repair has stored is of one of its files
+  made_pin : (x : Job) (i o s : ℕ) → x.kind ≡ RepairJob → HasMadeStore (setup_in (now start ms)) x i o s → HasPin x o
+  made_pin x i o s kind made =
+      each_get (IsFair x RepairJob) (actions_by (setup_in (now start ms)) x RepairJob) made.place (Store i o s) (fair (setup_in (now start ms)) x RepairJob) (by_kind (setup_in (now start ms)) x RepairJob made.place (Store i o s) kind made.action)
+
+  carry : (k : ℕ) (x : Job) (i o s : ℕ) (b : Option (List ℕ)) → job_of (now start ms).jobs k ≡ Some x → x.kind ≡ RepairJob → HasMadeStore (setup_in (now start ms)) x i o s → is_replaced_since x.begun i (m ∷ ms) ≡ false →
+      told_block m.state i o s ≡ Some b → b ≡ Some (columns (object_in (now start ms) o) ((now start ms).bytes o) i s)
+  carry k x i o s b runs kind made none told = elim (X.block i o s) [
+    | Block_is.same e ↦ F.rewrote k x i o s b runs kind made (replaced_less x.begun i none) (sym e ∙ told)
+    | Block_is.replaced r ↦ absurd (false≢true (sym none ∙ since_now x.begun i m ms r (A.held.begun k x runs)))
+    | Block_is.stored y runs_y next_y is ↦ pt.stored_column limit mark start m ms clean run A I F X T y i o s b runs_y next_y (some_told (block_to_store (now start ms) y y.kind i o s) ((now start ms).providers i).held b (sym is ∙ told))
+    | Block_is.removed y runs_y next_y ↦ absurd (let p = made_pin x i o s kind made in
+        A.pins.older_free y.number k y x o p.file runs_y (pt.remove_kinds y y.kind i o (is_fair (now start ms) y (Remove i o) next_y)) runs p.pinned p.id_is)
+  ]
+
+  pub rewrote_step : (k : ℕ) (j : Job) (i o s : ℕ) (b : Option (List ℕ)) → job_of m.state.jobs k ≡ Some j → j.kind ≡ RepairJob → HasMadeStore (setup_in m.state) j i o s → is_replaced_since j.begun i (m ∷ ms) ≡ false →
+      told_block m.state i o s ≡ Some b → b ≡ Some (columns (object_in m.state o) (m.state.bytes o) i s)
+  rewrote_step k j i o s b h kind made none told = elim (X.job k j h) [
+    | Job_is.kept r grown ↦ (let old : HasMadeStore (setup_in (now start ms)) j i o s = record { place = made.place; made = made.made; action = at_old } in
+        columns_on k j r (made_pin j i o s kind old) (carry k j i o s b r kind old none told))
+    | Job_is.begun kd is k_is allowed rec ↦ absurd (let e : j.place ≡ 0 = ap (λ (x : Job). x.place) is in let l = made.made in omega arith)
+    | Job_is.plain x action runs next_is is_plain goes rec st ↦ by_place x action runs next_is (sym goes.kind ∙ kind) goes.pinned goes.flagged goes.begun goes.place st
+    | Job_is.drew x runs next_is free is rec ↦ by_place x WriteBody runs next_is (sym (ap (λ (y : Job). y.kind) is) ∙ kind) (ap (λ (y : Job). y.pinned) is) (ap (λ (y : Job). y.flagged) is) (ap (λ (y : Job). y.begun) is) (ap (λ (y : Job). y.place) is)
+        (λ p q r c e t. absurd (let z : WriteBody ≡ Store p q r = e in cc))
+    | Job_is.finished x a runs next_is flight mine is rec free ↦ by_place x SyncGate runs next_is (sym (ap (λ (y : Job). y.kind) is) ∙ kind) (ap (λ (y : Job). y.pinned) is) (ap (λ (y : Job). y.flagged) is) (ap (λ (y : Job). y.begun) is) (ap (λ (y : Job). y.place) is)
+        (λ p q r c e t. absurd (let z : SyncGate ≡ Store p q r = e in cc))
+  ]
+    where
+      setup : setup_in m.state ≡ setup_in (now start ms)
+      setup = pt.setup_job limit mark start m ms clean run A I F X T k j h
+
+      at_old : slice_get (actions_of (setup_in (now start ms)) j) made.place ≡ Some (Store i o s)
+      at_old = ap (λ t. slice_get (actions_of t j) made.place) (sym setup) ∙ made.action
+
+      columns_on : (l : ℕ) (x : Job) → job_of (now start ms).jobs l ≡ Some x → HasPin x o → b ≡ Some (columns (object_in (now start ms) o) ((now start ms).bytes o) i s) → b ≡ Some (columns (object_in m.state o) (m.state.bytes o) i s)
+      columns_on l x runs p e =
+          (let below : o < next_id (now start ms).records = subst (λ n. n < next_id (now start ms).records) p.id_is (A.pins.pins l x p.file runs p.pinned).0 in
+          e ∙ (ap (λ y. Some (columns (object_in (now start ms) o) y i s)) (sym (X.bytes o below)) ∙ ap (λ t. Some (columns (object_of t o) (m.state.bytes o) i s)) (sym setup)))
+
+      by_place : (x : Job) (action : Action) → job_of (now start ms).jobs k ≡ Some x → next_action (now start ms) x ≡ Some action → x.kind ≡ RepairJob → j.pinned ≡ x.pinned → j.flagged ≡ x.flagged → j.begun ≡ x.begun → j.place ≡ x.place + 1 →
+          ((p q r : ℕ) (c : Option (List ℕ)) → action ≡ Store p q r → told_block m.state p q r ≡ Some c → c ≡ Some (block_to_store (now start ms) x x.kind p q r)) → b ≡ Some (columns (object_in m.state o) (m.state.bytes o) i s)
+      by_place x action runs next_is kx pinned flagged begun place stores =
+          (let at_x : slice_get (actions_of (setup_in (now start ms)) x) made.place ≡ Some (Store i o s) = ap (λ l. slice_get l made.place) (sym (same_actions (setup_in (now start ms)) x j kx kind pinned flagged)) ∙ at_old in
+          elim (cases_lt made.place x.place) [
+            | inl l ↦ (let old : HasMadeStore (setup_in (now start ms)) x i o s = record { place = made.place; made = l; action = at_x } in
+                columns_on k x runs (made_pin x i o s kx old) (carry k x i o s b runs kx old (subst (λ n. is_replaced_since n i (m ∷ ms) ≡ false) begun none) told))
+            | inr l ↦
+                (let here : made.place ≡ x.place = (let g = made.made in omega arith) in
+                let act : action ≡ Store i o s = same_value (next_action (now start ms) x) action (Store i o s) next_is
+                (next_repairs (now start ms) x kx ∙ subst (λ n. slice_get (actions_of (setup_in (now start ms)) x) n ≡ Some (Store i o s)) here at_x) in
+                let next_store : next_action (now start ms) x ≡ Some (Store i o s) = next_is ∙ ap Some act in
+                let pin : HasPin x o = subst (λ kd. IsFair x kd (Store i o s)) kx (is_fair (now start ms) x (Store i o s) next_store) in
+                columns_on k x runs pin (pt.stored_column limit mark start m ms clean run A I F X T x i o s b
+                (subst (λ n. job_of (now start ms).jobs n ≡ Some x) (sym (number_of (now start ms).jobs k x runs)) runs) next_store (stores i o s b act told)))
+          ])

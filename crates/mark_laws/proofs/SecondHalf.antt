@@ -20,9 +20,9 @@ use Rattle.hail_machine.specs.States.{State, AreFirst, IsStart, IsLimit, setup_i
 use Rattle.hail_machine.specs.Begins.{pinned_file}
 use Rattle.hail_machine.specs.Given.{block_given}
 use Rattle.hail_machine.specs.Steps.{next_action}
-use Rattle.hail_machine.specs.Runs.{Moment, now, first_moments, is_replaced_since, IsRun}
-use Rattle.hail_machine.specs.Calm.{relies, replaced_count, since, IsCalm}
-use Rattle.hail_machine.specs.Missed.{NoneMissed}
+use Rattle.hail_machine.specs.Runs.{Moment, now, first_moments, is_replaced_since, came, IsRun}
+use Rattle.hail_machine.specs.Calm.{Mark, relies, replaced_count, since, IsCalm}
+use Rattle.hail_machine.specs.Missed.{MissesNone, NoneMissed}
 use Rattle.hail_machine.specs.Halves.{begun_of, CountRose, GivesOrRose, EndsWell, KeepsSecondHalf, SecondHalf, AllTell, SecondHalfHolds}
 use Rattle.hail_machine.proofs.JobLists.{number_of, found_none}
 use Rattle.hail_machine.proofs.Changes.{Changes}
@@ -46,7 +46,7 @@ use Rattle.mark_laws.proofs.Turns.{turns}
 use Rattle.mark_laws.proofs.Blocks.{clash}
 use Rattle.mark_laws.proofs.Places.{read_within}
 use Rattle.mark_laws.proofs.Points as pt
-use Rattle.mark_laws.proofs.Points.{Point, Facts, begin_of, mark_of}
+use Rattle.mark_laws.proofs.Points.{Never, Point, Facts, Audited, begin_of, mark_of}
 use Rattle.mark_laws.proofs.Audits as aud
 use Rattle.mark_laws.proofs.Readers as rd
 
@@ -60,13 +60,33 @@ no_first_due : (rs : List Record) (u : Due) → AreFirst rs → due_of rs ≡ So
 no_first_due rs u (inl e) h = (let g : None ≡ Some u = ap due_of (sym e) ∙ h in cc)
 no_first_due rs u (inr p) h = (let g : None ≡ Some u = ap due_of (sym p.2) ∙ h in cc)
 
-start_facts : (start : State) → IsStart start → Facts start []
-start_facts start clean = record {
+start_moment : (start : State) → IsStart start → Point start [] 0 Never
+start_moment start clean = record {
+  early = omega arith;
+  puts = λ k j name bytes h kind. absurd (found_none start.jobs k j clean.jobs h);
+  doubts = λ d id size h e. absurd (clash start.doubt d h clean.doubt);
+  clear = λ q f i s h l k bad. absurd (no_first_file start.records q f clean.records h);
+}
+
+pub start_facts : (mark : Mark) (start : State) → IsStart start → mark [] ≡ 0 → Facts mark start []
+start_facts mark start clean first = record {
   gated = λ a h. absurd (clash start.append a h clean.append);
   setup_doubt = λ d s h e. absurd (clash start.doubt d h clean.doubt);
   put_held = λ d id size h e. absurd (clash start.doubt d h clean.doubt);
   put_doubt = λ d id size i s h e l k bad. absurd (clash start.doubt d h clean.doubt);
   doubt_runs = λ d id size o b h e. absurd (clash start.doubt d h clean.doubt);
+  moment = subst (λ n. Point start [] n Never) (sym first) (start_moment start clean);
+  pinned = λ k j f h in_f. absurd (found_none start.jobs k j clean.jobs h);
+  marked = λ k j h. absurd (found_none start.jobs k j clean.jobs h);
+  reads = λ k j f i s h in_f l b bad. absurd (found_none start.jobs k j clean.jobs h);
+  counts = λ k j i h. absurd (found_none start.jobs k j clean.jobs h);
+  gave = λ k j f i s block h in_f l b given wrong. absurd (found_none start.jobs k j clean.jobs h);
+  rows = λ k j o s symbols h kind given. absurd (found_none start.jobs k j clean.jobs h);
+  rewrote = λ k j i o s b h kind made none told. absurd (found_none start.jobs k j clean.jobs h);
+}
+
+start_audited : (start : State) → IsStart start → Audited start []
+start_audited start clean = record {
   audit_doubt = λ d number u c h e. absurd (clash start.doubt d h clean.doubt);
   repair_doubt = λ d number h e. absurd (clash start.doubt d h clean.doubt);
   audit_entry = λ a j number u c h. absurd (clash start.append a h clean.append);
@@ -76,69 +96,62 @@ start_facts start clean = record {
   audit = λ k j h kind. absurd (found_none start.jobs k j clean.jobs h);
   due = λ u h. absurd (no_first_due start.records u clean.records h);
   repair = λ k j h kind. absurd (found_none start.jobs k j clean.jobs h);
-  mark = record {
-    early = omega arith;
-    puts = λ k j name bytes h kind. absurd (found_none start.jobs k j clean.jobs h);
-    doubts = λ d id size h e. absurd (clash start.doubt d h clean.doubt);
-    clear = λ q f i s h l k bad. absurd (no_first_file start.records q f clean.records h);
-  };
-  pinned = λ k j f h in_f. absurd (found_none start.jobs k j clean.jobs h);
-  marked = λ k j h. absurd (found_none start.jobs k j clean.jobs h);
-  reads = λ k j f i s h in_f l b bad. absurd (found_none start.jobs k j clean.jobs h);
-  counts = λ k j i h. absurd (found_none start.jobs k j clean.jobs h);
-  gave = λ k j f i s block h in_f l b given wrong. absurd (found_none start.jobs k j clean.jobs h);
-  rows = λ k j o s symbols h kind given. absurd (found_none start.jobs k j clean.jobs h);
 }
 
 -- calm, of a job that runs now
-pub calm_now : (start : State) → IsStart start → (ms : List Moment) → IsCalm relies (since start) ms → (k : ℕ) (j : Job) → job_of (now start ms).jobs k ≡ Some j → IsTrue (relies j.kind) →
-    replaced_count (now start ms) (mark_of start ms j) ms ≤ (setup_in (now start ms)).b
-calm_now start clean [] calm k j h reads = absurd (found_none start.jobs k j clean.jobs h)
-calm_now start clean (m ∷ ms) calm k j h reads = calm.0 k j h reads
+pub calm_now : (mark : Mark) (start : State) → IsStart start → (ms : List Moment) → IsCalm relies mark ms → (k : ℕ) (j : Job) → job_of (now start ms).jobs k ≡ Some j → IsTrue (relies j.kind) →
+    replaced_count (now start ms) (mark_of mark ms j) ms ≤ (setup_in (now start ms)).b
+calm_now mark start clean [] calm k j h reads = absurd (found_none start.jobs k j clean.jobs h)
+calm_now mark start clean (m ∷ ms) calm k j h reads = calm.0 k j h reads
 
-pub facts : (limit : ℕ) (start : State) → IsStart start → AllTell start → (ms : List Moment) → IsRun limit start ms → IsCalm relies (since start) ms → NoneMissed start ms → Facts start ms
-facts limit start clean tell [] run calm missed = start_facts start clean
-facts limit start clean tell (m ∷ ms) run calm missed = step (facts limit start clean tell ms run.2 calm.1 missed.1)
-  where
-    A : All start ms
-    A = all limit start clean ms run.2
+-- one event more, where the mark is such a moment after it
+pub facts_step : (limit : ℕ) (mark : Mark) (start : State) (m : Moment) (ms : List Moment) → IsStart start → AllTell start → IsRun limit start (m ∷ ms) → IsCalm relies mark ms → Facts mark start ms →
+    Point start (m ∷ ms) (mark (m ∷ ms)) Never → Facts mark start (m ∷ ms)
+facts_step limit mark start m ms clean tell run calm F moment =
+    (let A = all limit start clean ms run.2 in
+    let I = eff.facts limit start ms clean run.2 in
+    let X = changes limit (length ms) (now start ms) m.event m.outcome m.state A.numbers.idle run.1 in
+    let T = turns (now start ms) limit (length ms) m.event m.outcome m.state run.1 in
+    let O = run_onward limit start m ms run in
+    let told = all_tell limit start ms tell run.2 in
+    let quiet = calm_now mark start clean ms calm in
+    record {
+      gated = X.gated F.gated;
+      setup_doubt = pt.setup_doubt_step limit mark start m ms clean run.2 A I F X T;
+      put_held = pt.put_held_step limit mark start m ms clean run.2 A I F X T;
+      put_doubt = pt.put_doubt_step limit mark start m ms clean run.2 A I F X T;
+      doubt_runs = pt.doubt_runs_step limit mark start m ms clean run.2 A I F X T;
+      moment = moment;
+      pinned = rd.pinned_step limit mark start m ms clean run.2 A I F X T O told quiet;
+      marked = rd.marked_step limit mark start m ms clean run.2 A I F X T O told quiet;
+      reads = rd.reads_step limit mark start m ms clean run.2 A I F X T O told quiet;
+      counts = rd.counts_step limit mark start m ms clean run.2 A I F X T O told quiet;
+      gave = rd.gave_step limit mark start m ms clean run.2 A I F X T O told quiet;
+      rows = rd.rows_step limit mark start m ms clean run.2 A I F X T O told quiet;
+      rewrote = rd.rewrote_step limit mark start m ms clean run.2 A I F X T O told quiet;
+    })
 
-    U : num.Facts audits start ms
-    U = num.facts audits limit start clean ms run.2
+-- with the begin of the last settled audit as the mark, both
+pub record Both (start : State) (ms : List Moment) : Type 0 where
+  pub facts : Facts (since start) start ms
+  pub audited : Audited start ms
 
-    I : eff.Facts (now start ms)
-    I = eff.facts limit start ms clean run.2
+both_step : (limit : ℕ) (start : State) (m : Moment) (ms : List Moment) → IsStart start → AllTell start → IsRun limit start (m ∷ ms) → IsCalm relies (since start) ms → MissesNone start ms m.state (came (now start ms) m.state) →
+    Both start ms → Both start (m ∷ ms)
+both_step limit start m ms clean tell run calm missed B =
+    (let A = all limit start clean ms run.2 in
+    let U = num.facts audits limit start clean ms run.2 in
+    let I = eff.facts limit start ms clean run.2 in
+    let X = changes limit (length ms) (now start ms) m.event m.outcome m.state A.numbers.idle run.1 in
+    let T = turns (now start ms) limit (length ms) m.event m.outcome m.state run.1 in
+    record {
+      facts = facts_step limit (since start) start m ms clean tell run calm B.facts (aud.mark_step limit (since start) start m ms clean run.2 A U I B.facts B.audited X T missed B.facts.moment);
+      audited = aud.audited_step limit (since start) start m ms clean run.2 A U I B.facts B.audited X T missed;
+    })
 
-    step : Facts start ms → Facts start (m ∷ ms)
-    step F =
-        (let X = changes limit (length ms) (now start ms) m.event m.outcome m.state A.numbers.idle run.1 in
-        let T = turns (now start ms) limit (length ms) m.event m.outcome m.state run.1 in
-        let O = run_onward limit start m ms run in
-        let told = all_tell limit start ms tell run.2 in
-        let quiet = calm_now start clean ms calm.1 in
-        record {
-          gated = X.gated F.gated;
-          setup_doubt = pt.setup_doubt_step limit start m ms clean run.2 A I F X T;
-          put_held = pt.put_held_step limit start m ms clean run.2 A I F X T;
-          put_doubt = pt.put_doubt_step limit start m ms clean run.2 A I F X T;
-          doubt_runs = pt.doubt_runs_step limit start m ms clean run.2 A I F X T;
-          audit_doubt = aud.audit_doubt_step limit start m ms clean run.2 A U I F X T;
-          repair_doubt = aud.repair_doubt_step limit start m ms clean run.2 A U I F X T;
-          audit_entry = aud.audit_entry_step limit start m ms clean run.2 A U I F X T;
-          repair_entry = aud.repair_entry_step limit start m ms clean run.2 A U I F X T;
-          audit_fresh = aud.audit_fresh_step limit start m ms clean run.2 A U I F X T;
-          audit_kept = aud.audit_kept_step limit start m ms clean run.2 A U I F X T;
-          audit = aud.audit_step limit start m ms clean run.2 A U I F X T;
-          due = aud.due_step limit start m ms clean run.2 A U I F X T missed.0;
-          repair = aud.repair_step limit start m ms clean run.2 A U I F X T;
-          mark = aud.mark_step limit start m ms clean run.2 A U I F X T missed.0;
-          pinned = rd.pinned_step limit start m ms clean run.2 A I F X T O told quiet;
-          marked = rd.marked_step limit start m ms clean run.2 A I F X T O told quiet;
-          reads = rd.reads_step limit start m ms clean run.2 A I F X T O told quiet;
-          counts = rd.counts_step limit start m ms clean run.2 A I F X T O told quiet;
-          gave = rd.gave_step limit start m ms clean run.2 A I F X T O told quiet;
-          rows = rd.rows_step limit start m ms clean run.2 A I F X T O told quiet;
-        })
+pub both : (limit : ℕ) (start : State) → IsStart start → AllTell start → (ms : List Moment) → IsRun limit start ms → IsCalm relies (since start) ms → NoneMissed start ms → Both start ms
+both limit start clean tell [] run calm missed = record { facts = start_facts (since start) start clean refl; audited = start_audited start clean }
+both limit start clean tell (m ∷ ms) run calm missed = both_step limit start m ms clean tell run calm.1 missed.0 (both limit start clean tell ms run.2 calm.1 missed.1)
 
 -- ---- a count rose, or did not
 
@@ -169,8 +182,8 @@ some_rose w v (suc n) = elim (some_rose w v n) [
 module _ (limit : ℕ) (start : State) (m : Moment) (ms : List Moment) (clean : IsStart start) (tell : AllTell start) (run : IsRun limit start (m ∷ ms)) (calm : IsCalm relies (since start) (m ∷ ms)) (missed : NoneMissed start (m ∷ ms)) where
   module _ (job : Job) (name : List ℕ) (runs : job_of (now start ms).jobs job.number ≡ Some job) (kind : job.kind ≡ GetJob name) (file : File) (in_effect : file_in (begin_of start ms job) name ≡ Some file)
       (pinned : job.pinned ≡ pinned_file (begin_of start ms job) file ∷ []) (setup : setup_in (now start ms) ≡ setup_in (begin_of start ms job)) where
-    F : Facts start ms
-    F = facts limit start clean tell ms run.2 calm.1 missed.1
+    F : Facts (since start) start ms
+    F = (both limit start clean tell ms run.2 calm.1 missed.1).facts
 
     abbrev b : State
     b = begin_of start ms job
@@ -185,13 +198,13 @@ module _ (limit : ℕ) (start : State) (m : Moment) (ms : List Moment) (clean : 
     few : ((i : ℕ) → i < (setup_in (begin_of start ms job)).n → RoseSince (begin_of start ms job) (now start ms) i → ⊥) → (stripe : ℕ) → stripe < stripes (object_in (begin_of start ms job) file.id) (length ((begin_of start ms job).bytes file.id)) →
         ((i : ℕ) → i < (setup_in (now start ms)).n → HasMade (setup_in (now start ms)) job (Fetch i file.id stripe)) → IsFewWrong (begin_of start ms job) file job stripe
     few none stripe below asked =
-        (let w = count_of-within (is_wrong_given (begin_of start ms job) file job stripe) (λ i. is_replaced_since (mark_of start ms job) i ms) 0 (setup_in (begin_of start ms job)).n (λ i l wrong. one i (omega (arith, l)) wrong) in
-        let c = calm_now start clean ms calm.1 job.number job runs (subst (λ (kd : Kind). IsTrue (relies kd)) (sym kind) refl) in
-        let d : count_of (λ i. is_replaced_since (mark_of start ms job) i ms) (upto (setup_in (begin_of start ms job)).n) ≤ (setup_in (begin_of start ms job)).b =
-        subst (λ (t : Setup). count_of (λ i. is_replaced_since (mark_of start ms job) i ms) (upto t.n) ≤ t.b) setup c in
+        (let w = count_of-within (is_wrong_given (begin_of start ms job) file job stripe) (λ i. is_replaced_since (mark_of (since start) ms job) i ms) 0 (setup_in (begin_of start ms job)).n (λ i l wrong. one i (omega (arith, l)) wrong) in
+        let c = calm_now (since start) start clean ms calm.1 job.number job runs (subst (λ (kd : Kind). IsTrue (relies kd)) (sym kind) refl) in
+        let d : count_of (λ i. is_replaced_since (mark_of (since start) ms job) i ms) (upto (setup_in (begin_of start ms job)).n) ≤ (setup_in (begin_of start ms job)).b =
+        subst (λ (t : Setup). count_of (λ i. is_replaced_since (mark_of (since start) ms job) i ms) (upto t.n) ≤ t.b) setup c in
         omega (arith, w, d))
       where
-        one : (i : ℕ) → i < (setup_in (begin_of start ms job)).n → is_wrong_given (begin_of start ms job) file job stripe i ≡ true → is_replaced_since (mark_of start ms job) i ms ≡ true
+        one : (i : ℕ) → i < (setup_in (begin_of start ms job)).n → is_wrong_given (begin_of start ms job) file job stripe i ≡ true → is_replaced_since (mark_of (since start) ms job) i ms ≡ true
         one i l wrong =
             (let k : i < (setup_in (now start ms)).n = subst (λ (t : Setup). i < t.n) (sym setup) l in
             let g = made_fetch_gave limit start clean ms run.2 job.number job i file.id stripe runs (asked i k) in
