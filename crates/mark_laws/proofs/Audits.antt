@@ -30,13 +30,14 @@ use Rattle.hail_machine.proofs.PinFacts.{Pins_is, pins_is, setup_same}
 use Rattle.hail_machine.proofs.Held.{All, first_more, first_all}
 use Rattle.run_laws.proofs.InEffect as eff
 use Rattle.mark_laws.specs.Damage.{IsBad, IsReplaced}
+use Rattle.mark_laws.specs.Marks.{WasWrong, WrongAt, Remains, IsFlaggedBy, Never, IsMark}
 use Rattle.mark_laws.proofs.Turns.{Doubt_now, Audits_are, Turns}
 use Rattle.mark_laws.proofs.Blocks.{clash, since_more, since_now, bad_wrong, due_done, none_flagged}
 use Rattle.step_laws.proofs.Places.{store_stands, gate_behind}
 use Rattle.mark_laws.proofs.Places.{next_repairs, same_actions}
 use Rattle.mark_laws.proofs.Files.{all_pinned}
 use Rattle.mark_laws.proofs.Points as pt
-use Rattle.mark_laws.proofs.Points.{WasWrong, WrongAt, Remains, IsMarked, Never, Point, AtGate, Facts, Audited, wrote_audit, wrote_repair}
+use Rattle.mark_laws.proofs.Points.{AtGate, Facts, Audited, wrote_audit, wrote_repair}
 
 -- a number that is not drawn keeps its begin
 drawn_other : (w : State) (job : Job) (kind : Kind) (number : ℕ) → (number ≡ next_audit w.records → ⊥) → audits_drawn w job kind number ≡ w.audits number
@@ -101,10 +102,10 @@ repair_due limit w None is h = absurd (let a = not_barred limit w RepairJob h in
 
 module _ (limit : ℕ) (mark : Mark) (start : State) (m : Moment) (ms : List Moment) (clean : IsStart start) (run : IsRun limit start ms) (A : All start ms) (U : num.Facts audits start ms) (I : eff.Facts (now start ms)) (F : Facts mark start ms) (G : Audited start ms)
     (X : Changes limit (length ms) (now start ms) m.event m.outcome m.state) (T : Turns (now start ms) m.state) where
-  on : (from : ℕ) (Old New : ℕ → ℕ → ℕ → Type 0) → Point start ms from Old →
+  on : (from : ℕ) (Old New : ℕ → ℕ → ℕ → Type 0) → IsMark start ms from Old →
       ((q : List ℕ) (f : File) (i s : ℕ) → file_in (now start ms) q ≡ Some f → file_in m.state q ≡ Some f → setup_in m.state ≡ setup_in (now start ms) → i < (setup_in m.state).n →
       s < stripes_of (setup_in m.state) (length (m.state.bytes f.id)) → IsBad m.state f.id i s → Old i f.id s → IsReplaced from i (m ∷ ms) ⊎ New i f.id s) →
-      Point start (m ∷ ms) from New
+      IsMark start (m ∷ ms) from New
   on = pt.point_on limit mark start m ms clean run A I F X T
 
   -- ---- begins of audit numbers
@@ -239,12 +240,12 @@ module _ (limit : ℕ) (mark : Mark) (start : State) (m : Moment) (ms : List Mom
 
   -- ---- audits
 
-  audit_on : (from : ℕ) → Point start ms from (WrongAt start ms from) → Point start (m ∷ ms) from (WrongAt start (m ∷ ms) from)
+  audit_on : (from : ℕ) → IsMark start ms from (WrongAt start ms from) → IsMark start (m ∷ ms) from (WrongAt start (m ∷ ms) from)
   audit_on from P = on from (WrongAt start ms from) (WrongAt start (m ∷ ms) from) P
       (λ q f i s stood h setup l k bad x. inr (subst (λ hs. WasWrong (now start hs) i f.id) (sym (first_more from m ms P.early)) x))
 
   pub audit_doubt_step : (d : Doubt) (number u : ℕ) (c : List ℕ) → m.state.doubt ≡ Some d → d.entry ≡ AuditDone number u c →
-      (number < next_audit m.state.records) × Point start (m ∷ ms) (m.state.audits number) (WrongAt start (m ∷ ms) (m.state.audits number))
+      (number < next_audit m.state.records) × IsMark start (m ∷ ms) (m.state.audits number) (WrongAt start (m ∷ ms) (m.state.audits number))
   audit_doubt_step d number u c h e = elim (T.doubt d h) [
     | Doubt_now.kept was rec ↦ (let g = G.audit_doubt d number u c was e in moved (g.0) ((now start ms).audits number) refl g.1)
     | Doubt_now.gated job a runs next_is flight mine entry_is maker rec on_ ↦
@@ -256,15 +257,15 @@ module _ (limit : ℕ) (mark : Mark) (start : State) (m : Moment) (ms : List Mom
     | Doubt_now.set_up t entry_is none ↦ absurd (let z : SetUp t ≡ AuditDone number u c = sym entry_is ∙ e in cc)
   ]
     where
-      moved : number < next_audit (now start ms).records → (from : ℕ) → from ≡ (now start ms).audits number → Point start ms from (WrongAt start ms from) →
-          (number < next_audit m.state.records) × Point start (m ∷ ms) (m.state.audits number) (WrongAt start (m ∷ ms) (m.state.audits number))
+      moved : number < next_audit (now start ms).records → (from : ℕ) → from ≡ (now start ms).audits number → IsMark start ms from (WrongAt start ms from) →
+          (number < next_audit m.state.records) × IsMark start (m ∷ ms) (m.state.audits number) (WrongAt start (m ∷ ms) (m.state.audits number))
       moved below from is P = (
         (let g = grows in omega (arith, below, g)),
-        subst (λ n. Point start (m ∷ ms) n (WrongAt start (m ∷ ms) n)) (is ∙ sym (audits_below number below)) (audit_on from P),
+        subst (λ n. IsMark start (m ∷ ms) n (WrongAt start (m ∷ ms) n)) (is ∙ sym (audits_below number below)) (audit_on from P),
       )
 
   -- an audit that has just begun
-  audit_new : (k : ℕ) (j : Job) → job_of m.state.jobs k ≡ Some j → begin_refusal limit (now start ms) AuditJob ≡ None → m.state.records ≡ (now start ms).records → Point start (m ∷ ms) (length ms) (WrongAt start (m ∷ ms) (length ms))
+  audit_new : (k : ℕ) (j : Job) → job_of m.state.jobs k ≡ Some j → begin_refusal limit (now start ms) AuditJob ≡ None → m.state.records ≡ (now start ms).records → IsMark start (m ∷ ms) (length ms) (WrongAt start (m ∷ ms) (length ms))
   audit_new k j runs_on allowed rec = record { early = omega arith; puts = puts; doubts = doubts; clear = clear }
     where
       puts : (l : ℕ) (p : Job) (name bytes : List ℕ) → job_of m.state.jobs l ≡ Some p → p.kind ≡ PutJob name bytes → length ms ≤ p.begun
@@ -299,12 +300,12 @@ module _ (limit : ℕ) (mark : Mark) (start : State) (m : Moment) (ms : List Mom
             | inr r ↦ inl (since_now (length ms) i m ms r (omega arith))
           ])
 
-  pub audit_step : (k : ℕ) (j : Job) → job_of m.state.jobs k ≡ Some j → j.kind ≡ AuditJob → Point start (m ∷ ms) j.begun (WrongAt start (m ∷ ms) j.begun)
+  pub audit_step : (k : ℕ) (j : Job) → job_of m.state.jobs k ≡ Some j → j.kind ≡ AuditJob → IsMark start (m ∷ ms) j.begun (WrongAt start (m ∷ ms) j.begun)
   audit_step k j h kind = elim (pins_is limit start m ms A.numbers A.pins X k j h) [
-    | Pins_is.had x runs pinned kind_x begun g ↦ subst (λ n. Point start (m ∷ ms) n (WrongAt start (m ∷ ms) n)) (sym begun) (audit_on x.begun (G.audit k x runs (sym kind_x ∙ kind)))
+    | Pins_is.had x runs pinned kind_x begun g ↦ subst (λ n. IsMark start (m ∷ ms) n (WrongAt start (m ∷ ms) n)) (sym begun) (audit_on x.begun (G.audit k x runs (sym kind_x ∙ kind)))
     | Pins_is.new_one kd is k_is allowed rec ↦
         (let kd_is : kd ≡ AuditJob = sym (ap (λ (x : Job). x.kind) is) ∙ kind in
-        subst (λ n. Point start (m ∷ ms) n (WrongAt start (m ∷ ms) n)) (sym (ap (λ (x : Job). x.begun) is))
+        subst (λ n. IsMark start (m ∷ ms) n (WrongAt start (m ∷ ms) n)) (sym (ap (λ (x : Job). x.begun) is))
         (audit_new k j h (subst (λ kk. begin_refusal limit (now start ms) kk ≡ None) kd_is allowed) rec))
   ]
 
@@ -313,12 +314,12 @@ module _ (limit : ℕ) (mark : Mark) (start : State) (m : Moment) (ms : List Mom
   rest_on : (x j : Job) (k : ℕ) (action : Action) → job_of (now start ms).jobs k ≡ Some x → next_action (now start ms) x ≡ Some action → x.kind ≡ RepairJob → j.kind ≡ RepairJob → j.pinned ≡ x.pinned → j.flagged ≡ x.flagged →
       j.subject ≡ x.subject → j.place ≡ x.place + 1 →
       ((i o s : ℕ) (b : Option (List ℕ)) → action ≡ Store i o s → told_block m.state i o s ≡ Some b → b ≡ Some (block_to_store (now start ms) x x.kind i o s)) →
-      (j.subject < next_audit m.state.records) × Point start (m ∷ ms) (m.state.audits j.subject) (Remains m.state j)
+      (j.subject < next_audit m.state.records) × IsMark start (m ∷ ms) (m.state.audits j.subject) (Remains m.state j)
   rest_on x j k action runs next_is kx kj pinned flagged subject place stores =
       (let P = G.repair k x runs kx in
       (
         (let g = grows in let l = P.0 in omega arith),
-        subst (λ n. Point start (m ∷ ms) n (Remains m.state j)) (sym (ap m.state.audits subject ∙ audits_below x.subject P.0))
+        subst (λ n. IsMark start (m ∷ ms) n (Remains m.state j)) (sym (ap m.state.audits subject ∙ audits_below x.subject P.0))
         (on ((now start ms).audits x.subject) (Remains (now start ms) x) (Remains m.state j) P.1 more),
       ))
     where
@@ -346,19 +347,19 @@ module _ (limit : ℕ) (mark : Mark) (start : State) (m : Moment) (ms : List Mom
 
   -- a repair that has just begun
   repair_new : (j : Job) → j ≡ new_job (now start ms) (length ms) RepairJob → begin_refusal limit (now start ms) RepairJob ≡ None → m.state.records ≡ (now start ms).records →
-      (j.subject < next_audit m.state.records) × Point start (m ∷ ms) (m.state.audits j.subject) (Remains m.state j)
+      (j.subject < next_audit m.state.records) × IsMark start (m ∷ ms) (m.state.audits j.subject) (Remains m.state j)
   repair_new j is allowed rec =
       (let u = repair_due limit (now start ms) (due_of (now start ms).records) refl allowed in
       let P = G.due u.0 u.1 in
       let subject : j.subject ≡ u.0.number = ap (λ (x : Job). x.subject) is ∙ ap due_number u.1 in
       (
         (let g = grows in let l = P.0 in omega arith),
-        subst (λ n. Point start (m ∷ ms) n (Remains m.state j)) (sym (ap m.state.audits subject ∙ audits_below u.0.number P.0))
-        (on ((now start ms).audits u.0.number) (IsMarked (now start ms) u.0.counts) (Remains m.state j) P.1 (more u.0 u.1)),
+        subst (λ n. IsMark start (m ∷ ms) n (Remains m.state j)) (sym (ap m.state.audits subject ∙ audits_below u.0.number P.0))
+        (on ((now start ms).audits u.0.number) (IsFlaggedBy (now start ms) u.0.counts) (Remains m.state j) P.1 (more u.0 u.1)),
       ))
     where
       more : (u : Due) → due_of (now start ms).records ≡ Some u → (q : List ℕ) (f : File) (i s : ℕ) → file_in (now start ms) q ≡ Some f → file_in m.state q ≡ Some f → setup_in m.state ≡ setup_in (now start ms) → i < (setup_in m.state).n →
-          s < stripes_of (setup_in m.state) (length (m.state.bytes f.id)) → IsBad m.state f.id i s → IsMarked (now start ms) u.counts i f.id s →
+          s < stripes_of (setup_in m.state) (length (m.state.bytes f.id)) → IsBad m.state f.id i s → IsFlaggedBy (now start ms) u.counts i f.id s →
           IsReplaced ((now start ms).audits u.number) i (m ∷ ms) ⊎ Remains m.state j i f.id s
       more u due q f i s stood h setup l b bad marked =
           (let flagged : j.flagged i ≡ true = ap (λ (x : Job). x.flagged i) is ∙ (ap (λ o. due_flags (setup_in (now start ms)).tolerance o i) due ∙ marked) in
@@ -368,11 +369,11 @@ module _ (limit : ℕ) (mark : Mark) (start : State) (m : Moment) (ms : List Mom
           (subst (λ (y : List ℕ). s < stripes_of (setup_in m.state) (length y)) bytes b) in
           inr (flagged, (st.0, (let z : j.place ≡ 0 = ap (λ (x : Job). x.place) is in omega arith), st.1)))
 
-  pub repair_step : (k : ℕ) (j : Job) → job_of m.state.jobs k ≡ Some j → j.kind ≡ RepairJob → (j.subject < next_audit m.state.records) × Point start (m ∷ ms) (m.state.audits j.subject) (Remains m.state j)
+  pub repair_step : (k : ℕ) (j : Job) → job_of m.state.jobs k ≡ Some j → j.kind ≡ RepairJob → (j.subject < next_audit m.state.records) × IsMark start (m ∷ ms) (m.state.audits j.subject) (Remains m.state j)
   repair_step k j h kind = elim (X.job k j h) [
     | Job_is.kept r grown ↦ (let P = G.repair k j r kind in (
         (let g = grows in let l = P.0 in omega arith),
-        subst (λ n. Point start (m ∷ ms) n (Remains m.state j)) (sym (audits_below j.subject P.0))
+        subst (λ n. IsMark start (m ∷ ms) n (Remains m.state j)) (sym (audits_below j.subject P.0))
         (on ((now start ms).audits j.subject) (Remains (now start ms) j) (Remains m.state j) P.1
         (λ q f i s stood h2 setup l b bad x. inr (x.0, (x.1.0, x.1.1, ap (λ (t : Setup). slice_get (actions_of t j) x.1.0) setup ∙ x.1.2)))),
       ))
@@ -387,11 +388,11 @@ module _ (limit : ℕ) (mark : Mark) (start : State) (m : Moment) (ms : List Mom
         (λ i o s b e told. absurd (let z : SyncGate ≡ Store i o s = e in cc))
   ]
 
-  pub repair_doubt_step : (d : Doubt) (number : ℕ) → m.state.doubt ≡ Some d → d.entry ≡ RepairDone number → (number < next_audit m.state.records) × Point start (m ∷ ms) (m.state.audits number) Never
+  pub repair_doubt_step : (d : Doubt) (number : ℕ) → m.state.doubt ≡ Some d → d.entry ≡ RepairDone number → (number < next_audit m.state.records) × IsMark start (m ∷ ms) (m.state.audits number) Never
   repair_doubt_step d number h e = elim (T.doubt d h) [
     | Doubt_now.kept was rec ↦ (let P = G.repair_doubt d number was e in (
         (let g = grows in let l = P.0 in omega arith),
-        subst (λ n. Point start (m ∷ ms) n Never) (sym (audits_below number P.0)) (on ((now start ms).audits number) Never Never P.1 (λ q f i s stood h2 setup l b bad x. absurd x)),
+        subst (λ n. IsMark start (m ∷ ms) n Never) (sym (audits_below number P.0)) (on ((now start ms).audits number) Never Never P.1 (λ q f i s stood h2 setup l b bad x. absurd x)),
       ))
     | Doubt_now.gated job a runs next_is flight mine entry_is maker rec on_ ↦
         (let at_job = subst (λ n. job_of (now start ms).jobs n ≡ Some job) (sym mine) runs in
@@ -400,33 +401,11 @@ module _ (limit : ℕ) (mark : Mark) (start : State) (m : Moment) (ms : List Mom
         let P = G.repair job.number job runs kind in
         (
           (let g = grows in let l = P.0 in omega arith),
-          subst (λ n. Point start (m ∷ ms) n Never) (sym (ap m.state.audits subject ∙ audits_below job.subject P.0))
+          subst (λ n. IsMark start (m ∷ ms) n Never) (sym (ap m.state.audits subject ∙ audits_below job.subject P.0))
           (on ((now start ms).audits job.subject) (Remains (now start ms) job) Never P.1
           (λ q f i s stood h2 setup l b bad x. absurd (let z = gate_behind (now start ms) job x.1.0 i f.id s kind next_is x.1.2 in let low = x.1.1 in omega (arith, z, low)))),
         ))
     | Doubt_now.set_up t entry_is none ↦ absurd (let z : SetUp t ≡ RepairDone number = sym entry_is ∙ e in cc)
-  ]
-
-  -- ---- what comes into effect
-
-  longer : (rs : List Record) (r : Record) → m.state.records ≡ r ∷ rs → rs ≡ (now start ms).records → came (now start ms) m.state ≡ Some r
-  longer rs r rec e = cond_true (length m.state.records == suc (length (now start ms).records)) (newest m.state.records) None (eq-eqb _ _ (ap length rec ∙ ap (λ l. suc (length l)) e)) ∙ ap newest rec
-
-  not_longer : (n : ℕ) → length m.state.records ≡ n → (n ≡ suc (length (now start ms).records) → ⊥) → came (now start ms) m.state ≡ None
-  not_longer n e other = cond_false (length m.state.records == suc (length (now start ms).records)) (newest m.state.records) None (ne_eqb _ _ (λ z. other (sym e ∙ z)))
-
-  -- the record that came into effect was in doubt, or is a setup
-  data Came_is : Type 0 where
-    no_record : came (now start ms) m.state ≡ None → Came_is
-    setup : (s : Setup) → came (now start ms) m.state ≡ Some (SetUp s) → Came_is
-    doubted : (d : Doubt) → (now start ms).doubt ≡ Some d → came (now start ms) m.state ≡ Some d.entry → Came_is
-
-  came_is : Came_is
-  came_is = elim (pt.effect limit mark start m ms clean run A I F X T) [
-    | pt.Effect_is.nothing rec ↦ no_record (not_longer (length (now start ms).records) (ap length rec) (λ z. omega (arith, z)))
-    | pt.Effect_is.entry d at rec ↦ doubted d at (longer (now start ms).records d.entry rec refl)
-    | pt.Effect_is.set_up s rs rec none (inl e) ↦ setup s (longer rs (SetUp s) rec e)
-    | pt.Effect_is.set_up s rs rec none (inr (d, at, e)) ↦ no_record (not_longer (suc (suc (length (now start ms).records))) (ap length rec ∙ ap (λ l. suc (length l)) e) (λ z. omega (arith, z)))
   ]
 
   module _ (missed : MissesNone start ms m.state (came (now start ms) m.state)) where
@@ -444,27 +423,27 @@ module _ (limit : ℕ) (mark : Mark) (start : State) (m : Moment) (ms : List Mom
 
     -- ---- what is due
 
-    old_due : (u : Due) → due_of (now start ms).records ≡ Some u → (u.number < next_audit m.state.records) × Point start (m ∷ ms) (m.state.audits u.number) (IsMarked m.state u.counts)
+    old_due : (u : Due) → due_of (now start ms).records ≡ Some u → (u.number < next_audit m.state.records) × IsMark start (m ∷ ms) (m.state.audits u.number) (IsFlaggedBy m.state u.counts)
     old_due u was = (let P = G.due u was in (
       (let g = grows in let l = P.0 in omega arith),
-      subst (λ n. Point start (m ∷ ms) n (IsMarked m.state u.counts)) (sym (audits_below u.number P.0))
-      (on ((now start ms).audits u.number) (IsMarked (now start ms) u.counts) (IsMarked m.state u.counts) P.1
+      subst (λ n. IsMark start (m ∷ ms) n (IsFlaggedBy m.state u.counts)) (sym (audits_below u.number P.0))
+      (on ((now start ms).audits u.number) (IsFlaggedBy (now start ms) u.counts) (IsFlaggedBy m.state u.counts) P.1
       (λ q f i s stood h setup l b bad x. inr (ap (λ (t : Setup). is_flagged t.tolerance u.counts i) setup ∙ x))),
     ))
 
     new_due : (u : Due) (d : Doubt) (und : ℕ) → (now start ms).doubt ≡ Some d → d.entry ≡ AuditDone u.number und u.counts →
         ((q : List ℕ) (f : File) (i s : ℕ) → file_in (now start ms) q ≡ Some f → file_in m.state q ≡ Some f → setup_in m.state ≡ setup_in (now start ms) → i < (setup_in m.state).n →
         s < stripes_of (setup_in m.state) (length (m.state.bytes f.id)) → IsBad m.state f.id i s → u.number < next_audit (now start ms).records → WrongAt start ms ((now start ms).audits u.number) i f.id s →
-        IsReplaced ((now start ms).audits u.number) i (m ∷ ms) ⊎ IsMarked m.state u.counts i f.id s) →
-        (u.number < next_audit m.state.records) × Point start (m ∷ ms) (m.state.audits u.number) (IsMarked m.state u.counts)
+        IsReplaced ((now start ms).audits u.number) i (m ∷ ms) ⊎ IsFlaggedBy m.state u.counts i f.id s) →
+        (u.number < next_audit m.state.records) × IsMark start (m ∷ ms) (m.state.audits u.number) (IsFlaggedBy m.state u.counts)
     new_due u d und at e more = (let P = G.audit_doubt d u.number und u.counts at e in (
       (let g = grows in let l = P.0 in omega arith),
-      subst (λ n. Point start (m ∷ ms) n (IsMarked m.state u.counts)) (sym (audits_below u.number P.0))
-      (on ((now start ms).audits u.number) (WrongAt start ms ((now start ms).audits u.number)) (IsMarked m.state u.counts) P.1
+      subst (λ n. IsMark start (m ∷ ms) n (IsFlaggedBy m.state u.counts)) (sym (audits_below u.number P.0))
+      (on ((now start ms).audits u.number) (WrongAt start ms ((now start ms).audits u.number)) (IsFlaggedBy m.state u.counts) P.1
       (λ q f i s stood h setup l b bad x. more q f i s stood h setup l b bad P.0 x)),
     ))
 
-    pub due_step : (u : Due) → due_of m.state.records ≡ Some u → (u.number < next_audit m.state.records) × Point start (m ∷ ms) (m.state.audits u.number) (IsMarked m.state u.counts)
+    pub due_step : (u : Due) → due_of m.state.records ≡ Some u → (u.number < next_audit m.state.records) × IsMark start (m ∷ ms) (m.state.audits u.number) (IsFlaggedBy m.state u.counts)
     due_step u h = elim (pt.effect limit mark start m ms clean run A I F X T) [
       | pt.Effect_is.nothing rec ↦ old_due u (ap due_of (sym rec) ∙ h)
       | pt.Effect_is.entry d at rec ↦ elim (due_done d.entry (now start ms).records u (ap due_of (sym rec) ∙ h)) [
@@ -473,7 +452,7 @@ module _ (limit : ℕ) (mark : Mark) (start : State) (m : Moment) (ms : List Mom
             (λ q f i s stood h2 setup l b bad below w. elim (cases_Bool (is_flagged (setup_in (now start ms)).tolerance u.counts i)) [
               | inl t ↦ inr (ap (λ (t2 : Setup). is_flagged t2.tolerance u.counts i) setup ∙ t)
               | inr f2 ↦ inl (since_more ((now start ms).audits u.number) i m ms
-                  (unmissed u.number und u.counts i f.id (longer (now start ms).records d.entry rec refl ∙ ap Some e) below (subst (λ (t2 : Setup). i < t2.n) setup l) f2 w))
+                  (unmissed u.number und u.counts i f.id (pt.came_one limit mark start m ms clean run A I F X T (now start ms).records d.entry rec refl ∙ ap Some e) below (subst (λ (t2 : Setup). i < t2.n) setup l) f2 w))
             ])
       ]
       | pt.Effect_is.set_up s rs rec none (inl e) ↦ old_due u (ap due_of (sym e) ∙ (ap due_of (sym rec) ∙ h))
@@ -499,26 +478,26 @@ module _ (limit : ℕ) (mark : Mark) (start : State) (m : Moment) (ms : List Mom
 
     -- ---- the mark, as it moves at settled audits
 
-    module _ (before : Point start ms (since start ms) Never) where
-      mark_stays : (o : Option Record) → settled_by (setup_in m.state).tolerance o ≡ None → Point start (m ∷ ms) (mark_after m.state (settled_by (setup_in m.state).tolerance o) (since start ms)) Never
-      mark_stays o e = subst (λ z. Point start (m ∷ ms) (mark_after m.state z (since start ms)) Never) (sym e) (on (since start ms) Never Never before (λ q f i s stood h setup l b bad x. absurd x))
+    module _ (before : IsMark start ms (since start ms) Never) where
+      mark_stays : (o : Option Record) → settled_by (setup_in m.state).tolerance o ≡ None → IsMark start (m ∷ ms) (mark_after m.state (settled_by (setup_in m.state).tolerance o) (since start ms)) Never
+      mark_stays o e = subst (λ z. IsMark start (m ∷ ms) (mark_after m.state z (since start ms)) Never) (sym e) (on (since start ms) Never Never before (λ q f i s stood h setup l b bad x. absurd x))
 
       mark_audit : (d : Doubt) (number u : ℕ) (c : List ℕ) → (now start ms).doubt ≡ Some d → d.entry ≡ AuditDone number u c → came (now start ms) m.state ≡ Some (AuditDone number u c) → flags_some (setup_in m.state).tolerance c ≡ false →
-          Point start (m ∷ ms) (m.state.audits number) Never
+          IsMark start (m ∷ ms) (m.state.audits number) Never
       mark_audit d number u c at e came_in none = (let P = G.audit_doubt d number u c at e in
-          subst (λ n. Point start (m ∷ ms) n Never) (sym (audits_below number P.0))
+          subst (λ n. IsMark start (m ∷ ms) n Never) (sym (audits_below number P.0))
           (on ((now start ms).audits number) (WrongAt start ms ((now start ms).audits number)) Never P.1
           (λ q f i s stood h setup l b bad w. inl (since_more ((now start ms).audits number) i m ms
           (unmissed number u c i f.id came_in P.0 (subst (λ (t : Setup). i < t.n) setup l) (subst (λ (t : Setup). is_flagged t.tolerance c i ≡ false) setup (none_flagged (setup_in m.state).tolerance c i none)) w)))))
 
-      mark_repair : (d : Doubt) (number : ℕ) → (now start ms).doubt ≡ Some d → d.entry ≡ RepairDone number → Point start (m ∷ ms) (m.state.audits number) Never
+      mark_repair : (d : Doubt) (number : ℕ) → (now start ms).doubt ≡ Some d → d.entry ≡ RepairDone number → IsMark start (m ∷ ms) (m.state.audits number) Never
       mark_repair d number at e = (let P = G.repair_doubt d number at e in
-          subst (λ n. Point start (m ∷ ms) n Never) (sym (audits_below number P.0)) (on ((now start ms).audits number) Never Never P.1 (λ q f i s stood h setup l b bad x. absurd x)))
+          subst (λ n. IsMark start (m ∷ ms) n Never) (sym (audits_below number P.0)) (on ((now start ms).audits number) Never Never P.1 (λ q f i s stood h setup l b bad x. absurd x)))
 
-      mark_by : (d : Doubt) → (now start ms).doubt ≡ Some d → (r : Record) → d.entry ≡ r → came (now start ms) m.state ≡ Some r → Point start (m ∷ ms) (mark_after m.state (settled_by (setup_in m.state).tolerance (Some r)) (since start ms)) Never
+      mark_by : (d : Doubt) → (now start ms).doubt ≡ Some d → (r : Record) → d.entry ≡ r → came (now start ms) m.state ≡ Some r → IsMark start (m ∷ ms) (mark_after m.state (settled_by (setup_in m.state).tolerance (Some r)) (since start ms)) Never
       mark_by d at (AuditDone number u c) e came_in = elim (cases_Bool (flags_some (setup_in m.state).tolerance c)) [
         | inl t ↦ mark_stays (Some (AuditDone number u c)) (cond_true (flags_some (setup_in m.state).tolerance c) None (Some number) t)
-        | inr f ↦ subst (λ z. Point start (m ∷ ms) (mark_after m.state z (since start ms)) Never) (sym (cond_false (flags_some (setup_in m.state).tolerance c) None (Some number) f)) (mark_audit d number u c at e came_in f)
+        | inr f ↦ subst (λ z. IsMark start (m ∷ ms) (mark_after m.state z (since start ms)) Never) (sym (cond_false (flags_some (setup_in m.state).tolerance c) None (Some number) f)) (mark_audit d number u c at e came_in f)
       ]
       mark_by d at (RepairDone number) e came_in = mark_repair d number at e
       mark_by d at (SetUp s) e came_in = mark_stays (Some (SetUp s)) refl
@@ -527,12 +506,12 @@ module _ (limit : ℕ) (mark : Mark) (start : State) (m : Moment) (ms : List Mom
       mark_by d at (Drop name) e came_in = mark_stays (Some (Drop name)) refl
       mark_by d at (AuditStart number) e came_in = mark_stays (Some (AuditStart number)) refl
 
-      pub mark_step : Point start (m ∷ ms) (since start (m ∷ ms)) Never
-      mark_step = elim came_is [
-        | no_record e ↦ settled None e (mark_stays None refl)
-        | setup s e ↦ settled (Some (SetUp s)) e (mark_stays (Some (SetUp s)) refl)
-        | doubted d at e ↦ settled (Some d.entry) e (mark_by d at d.entry refl e)
+      pub mark_step : IsMark start (m ∷ ms) (since start (m ∷ ms)) Never
+      mark_step = elim (pt.came_is limit mark start m ms clean run A I F X T) [
+        | pt.Came_is.no_record e ↦ settled None e (mark_stays None refl)
+        | pt.Came_is.setup s e ↦ settled (Some (SetUp s)) e (mark_stays (Some (SetUp s)) refl)
+        | pt.Came_is.doubted d at rec e ↦ settled (Some d.entry) e (mark_by d at d.entry refl e)
       ]
         where
-          settled : (o : Option Record) → came (now start ms) m.state ≡ o → Point start (m ∷ ms) (mark_after m.state (settled_by (setup_in m.state).tolerance o) (since start ms)) Never → Point start (m ∷ ms) (since start (m ∷ ms)) Never
-          settled o e P = subst (λ z. Point start (m ∷ ms) (mark_after m.state (settled_by (setup_in m.state).tolerance z) (since start ms)) Never) (sym e) P
+          settled : (o : Option Record) → came (now start ms) m.state ≡ o → IsMark start (m ∷ ms) (mark_after m.state (settled_by (setup_in m.state).tolerance o) (since start ms)) Never → IsMark start (m ∷ ms) (since start (m ∷ ms)) Never
+          settled o e P = subst (λ z. IsMark start (m ∷ ms) (mark_after m.state (settled_by (setup_in m.state).tolerance z) (since start ms)) Never) (sym e) P

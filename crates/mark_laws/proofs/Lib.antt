@@ -6,3 +6,4 @@ pub mod Points
 pub mod Audits
 pub mod Readers
 pub mod SecondHalf
+pub mod InRuns

@@ -31,43 +31,12 @@ use Rattle.hail_machine.proofs.PinFacts.{Pins_is, pins_is, setup_same, setup_one
 use Rattle.hail_machine.proofs.Held.{All, first_more, first_all}
 use Rattle.run_laws.proofs.InEffect as eff
 use Rattle.mark_laws.specs.Damage.{IsBad, IsReplaced, RoseSince}
+use Rattle.mark_laws.specs.Marks.{Never, WrongAt, Remains, IsFlaggedBy, IsMark}
 use Rattle.mark_laws.proofs.Turns.{Stay_is, Doubt_now, Audits_are, Gift_is, Turns}
 use Rattle.mark_laws.proofs.Blocks.{clash, since_more, since_now, since_earlier, right_block, file_done, setup_left, up_before, up_more}
 use Rattle.step_laws.proofs.Places.{worked_before_store, stored_before_gate}
 use Rattle.step_laws.proofs.MadeFacts.{given_symbols, made_work_gave}
 use Rattle.mark_laws.proofs.Places.{write_gate_place, put_gate}
-
--- a provider was wrong for a file of an object in a state
-pub record WasWrong (w : State) (i o : ℕ) : Type 0 where
-  pub name : List ℕ
-  pub file : File
-  pub in_effect : file_in w name ≡ Some file
-  pub id_is : file.id ≡ o
-  pub was : is_wrong_now w file i ≡ true
-
--- at a moment so many events before now
-abbrev pub WrongAt : State → List Moment → ℕ → ℕ → ℕ → ℕ → Type 0
-WrongAt start ms from i o s = WasWrong (now start (first_moments from ms)) i o
-
--- a block that a repair has still to store
-abbrev pub Remains : State → Job → ℕ → ℕ → ℕ → Type 0
-Remains w j i o s = (j.flagged i ≡ true) × ((p : ℕ) × (j.place ≤ p) × (slice_get (actions_of (setup_in w) j) p ≡ Some (Store i o s)))
-
--- a provider that is flagged
-abbrev pub IsMarked : State → List ℕ → ℕ → ℕ → ℕ → Type 0
-IsMarked w counts i o s = is_flagged (setup_in w).tolerance counts i ≡ true
-
--- no exemption
-abbrev pub Never : ℕ → ℕ → ℕ → Type 0
-Never i o s = ⊥
-
--- A moment since which each provider with a bad block of a file in effect was replaced, unless it is exempt. No put that works began before.
-pub record Point (start : State) (ms : List Moment) (from : ℕ) (Ex : ℕ → ℕ → ℕ → Type 0) : Type 0 where
-  pub early : from ≤ length ms
-  pub puts : (k : ℕ) (j : Job) (name bytes : List ℕ) → job_of (now start ms).jobs k ≡ Some j → j.kind ≡ PutJob name bytes → from ≤ j.begun
-  pub doubts : (d : Doubt) (id size : ℕ) → (now start ms).doubt ≡ Some d → d.entry ≡ PutDone id size → from ≤ begun_of d.maker
-  pub clear : (q : List ℕ) (f : File) (i s : ℕ) → file_in (now start ms) q ≡ Some f → i < (setup_in (now start ms)).n →
-      s < stripes_of (setup_in (now start ms)) (length ((now start ms).bytes f.id)) → IsBad (now start ms) f.id i s → IsReplaced from i ms ⊎ Ex i f.id s
 
 -- the put whose record is in doubt
 pub record PutHeld (w : State) (id bound : ℕ) (maker : Option Job) : Type 0 where
@@ -103,7 +72,7 @@ pub record Facts (mark : Mark) (start : State) (ms : List Moment) : Type 0 where
   pub put_doubt : (d : Doubt) (id size i s : ℕ) → (now start ms).doubt ≡ Some d → d.entry ≡ PutDone id size → i < (setup_in (now start ms)).n →
       s < stripes_of (setup_in (now start ms)) (length ((now start ms).bytes id)) → IsBad (now start ms) id i s → IsReplaced (begun_of d.maker) i ms
   pub doubt_runs : (d : Doubt) (id size : ℕ) → (now start ms).is_open ≡ true → (now start ms).is_barred ≡ false → (now start ms).doubt ≡ Some d → d.entry ≡ PutDone id size → AtGate (now start ms)
-  pub moment : Point start ms (mark ms) Never
+  pub moment : IsMark start ms (mark ms) Never
   pub pinned : (k : ℕ) (j : Job) (f : Pinned) → job_of (now start ms).jobs k ≡ Some j → In f j.pinned → f.bytes ≡ (now start ms).bytes f.id
   pub marked : (k : ℕ) (j : Job) → job_of (now start ms).jobs k ≡ Some j → mark_of mark ms j ≤ length ms
   pub reads : (k : ℕ) (j : Job) (f : Pinned) (i s : ℕ) → job_of (now start ms).jobs k ≡ Some j → In f j.pinned → i < (setup_in (now start ms)).n →
@@ -121,18 +90,18 @@ pub record Facts (mark : Mark) (start : State) (ms : List Moment) : Type 0 where
 -- what holds of audits, of what is due and of repairs
 pub record Audited (start : State) (ms : List Moment) : Type 0 where
   pub audit_doubt : (d : Doubt) (number u : ℕ) (c : List ℕ) → (now start ms).doubt ≡ Some d → d.entry ≡ AuditDone number u c →
-      (number < next_audit (now start ms).records) × Point start ms ((now start ms).audits number) (WrongAt start ms ((now start ms).audits number))
+      (number < next_audit (now start ms).records) × IsMark start ms ((now start ms).audits number) (WrongAt start ms ((now start ms).audits number))
   pub repair_doubt : (d : Doubt) (number : ℕ) → (now start ms).doubt ≡ Some d → d.entry ≡ RepairDone number →
-      (number < next_audit (now start ms).records) × Point start ms ((now start ms).audits number) Never
+      (number < next_audit (now start ms).records) × IsMark start ms ((now start ms).audits number) Never
   pub audit_entry : (a : Append) (j : Job) (number u : ℕ) (c : List ℕ) → (now start ms).append ≡ Some a → job_of (now start ms).jobs a.job ≡ Some j → j.kind ≡ AuditJob → a.entry ≡ AuditDone number u c →
       (number ≡ j.subject) × (4 ≤ j.place)
   pub repair_entry : (a : Append) (j : Job) (number : ℕ) → (now start ms).append ≡ Some a → job_of (now start ms).jobs a.job ≡ Some j → j.kind ≡ RepairJob → a.entry ≡ RepairDone number → number ≡ j.subject
   pub audit_fresh : (a : Append) (j : Job) → (now start ms).append ≡ Some a → job_of (now start ms).jobs a.job ≡ Some j → j.kind ≡ AuditJob → j.place < 4 → (now start ms).audits j.subject ≡ j.begun
   pub audit_kept : (k : ℕ) (j : Job) → job_of (now start ms).jobs k ≡ Some j → j.kind ≡ AuditJob → 4 ≤ j.place → (now start ms).audits j.subject ≡ j.begun
-  pub audit : (k : ℕ) (j : Job) → job_of (now start ms).jobs k ≡ Some j → j.kind ≡ AuditJob → Point start ms j.begun (WrongAt start ms j.begun)
-  pub due : (u : Due) → due_of (now start ms).records ≡ Some u → (u.number < next_audit (now start ms).records) × Point start ms ((now start ms).audits u.number) (IsMarked (now start ms) u.counts)
+  pub audit : (k : ℕ) (j : Job) → job_of (now start ms).jobs k ≡ Some j → j.kind ≡ AuditJob → IsMark start ms j.begun (WrongAt start ms j.begun)
+  pub due : (u : Due) → due_of (now start ms).records ≡ Some u → (u.number < next_audit (now start ms).records) × IsMark start ms ((now start ms).audits u.number) (IsFlaggedBy (now start ms) u.counts)
   pub repair : (k : ℕ) (j : Job) → job_of (now start ms).jobs k ≡ Some j → j.kind ≡ RepairJob →
-      (j.subject < next_audit (now start ms).records) × Point start ms ((now start ms).audits j.subject) (Remains (now start ms) j)
+      (j.subject < next_audit (now start ms).records) × IsMark start ms ((now start ms).audits j.subject) (Remains (now start ms) j)
 
 -- ---- what records are of which job
 
@@ -320,10 +289,10 @@ module _ (limit : ℕ) (mark : Mark) (start : State) (m : Moment) (ms : List Mom
 
   -- ---- a moment of this kind stays one
 
-  pub point_on : (from : ℕ) (Old New : ℕ → ℕ → ℕ → Type 0) → Point start ms from Old →
+  pub point_on : (from : ℕ) (Old New : ℕ → ℕ → ℕ → Type 0) → IsMark start ms from Old →
       ((q : List ℕ) (f : File) (i s : ℕ) → file_in (now start ms) q ≡ Some f → file_in m.state q ≡ Some f → setup_in m.state ≡ setup_in (now start ms) → i < (setup_in m.state).n →
       s < stripes_of (setup_in m.state) (length (m.state.bytes f.id)) → IsBad m.state f.id i s → Old i f.id s → IsReplaced from i (m ∷ ms) ⊎ New i f.id s) →
-      Point start (m ∷ ms) from New
+      IsMark start (m ∷ ms) from New
   point_on from Old New P more = record { early = (let l = P.early in omega arith); puts = puts_on; doubts = doubts_on; clear = clear_on }
     where
       puts_on : (k : ℕ) (j : Job) (name bytes : List ℕ) → job_of m.state.jobs k ≡ Some j → j.kind ≡ PutJob name bytes → from ≤ j.begun
@@ -476,3 +445,41 @@ module _ (limit : ℕ) (mark : Mark) (start : State) (m : Moment) (ms : List Mom
 
   pub ids_grow : next_id (now start ms).records ≤ next_id m.state.records
   ids_grow = next_of_records objects (now start ms) m.state X.records
+
+  -- ---- the record that comes into effect
+
+  pub came_one : (rs : List Record) (r : Record) → m.state.records ≡ r ∷ rs → rs ≡ (now start ms).records → came (now start ms) m.state ≡ Some r
+  came_one rs r rec e = cond_true (length m.state.records == suc (length (now start ms).records)) (newest m.state.records) None (eq-eqb _ _ (ap length rec ∙ ap (λ l. suc (length l)) e)) ∙ ap newest rec
+
+  pub came_none : (n : ℕ) → length m.state.records ≡ n → (n ≡ suc (length (now start ms).records) → ⊥) → came (now start ms) m.state ≡ None
+  came_none n e other = cond_false (length m.state.records == suc (length (now start ms).records)) (newest m.state.records) None (ne_eqb _ _ (λ z. other (sym e ∙ z)))
+
+  -- it was in doubt, or is a setup
+  pub data Came_is : Type 0 where
+    no_record : came (now start ms) m.state ≡ None → Came_is
+    setup : (s : Setup) → came (now start ms) m.state ≡ Some (SetUp s) → Came_is
+    doubted : (d : Doubt) → (now start ms).doubt ≡ Some d → m.state.records ≡ d.entry ∷ (now start ms).records → came (now start ms) m.state ≡ Some d.entry → Came_is
+
+  pub came_is : Came_is
+  came_is = elim effect [
+    | nothing rec ↦ no_record (came_none (length (now start ms).records) (ap length rec) (λ z. omega (arith, z)))
+    | entry d at rec ↦ doubted d at rec (came_one (now start ms).records d.entry rec refl)
+    | set_up s rs rec none (inl e) ↦ setup s (came_one rs (SetUp s) rec e)
+    | set_up s rs rec none (inr (d, at, e)) ↦ no_record (came_none (suc (suc (length (now start ms).records))) (ap length rec ∙ ap (λ l. suc (length l)) e) (λ z. omega (arith, z)))
+  ]
+
+  -- of a put's end
+  pub record PutCame (id size : ℕ) : Type 0 where
+    pub doubt : Doubt
+    pub at : (now start ms).doubt ≡ Some doubt
+    pub entry : doubt.entry ≡ PutDone id size
+    pub setup : setup_in m.state ≡ setup_in (now start ms)
+
+  pub put_came : (id size : ℕ) → came (now start ms) m.state ≡ Some (PutDone id size) → PutCame id size
+  put_came id size e = elim came_is [
+    | no_record none ↦ absurd (clash (came (now start ms) m.state) (PutDone id size) e none)
+    | setup s is ↦ absurd (let z : SetUp s ≡ PutDone id size = same_value (came (now start ms) m.state) (SetUp s) (PutDone id size) is e in cc)
+    | doubted d at rec is ↦
+        (let entry_is : d.entry ≡ PutDone id size = same_value (came (now start ms) m.state) d.entry (PutDone id size) is e in
+        record { doubt = d; at = at; entry = entry_is; setup = setup_same m.state (now start ms) (ap setup_of rec ∙ setup_left d.entry (now start ms).records (λ s z. (let y : PutDone id size ≡ SetUp s = sym entry_is ∙ z in cc))) })
+  ]

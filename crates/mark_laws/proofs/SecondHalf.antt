@@ -42,11 +42,13 @@ use Rattle.step_laws.proofs.MadeFacts.{given_block, made_fetch_gave}
 use Rattle.step_laws.proofs.GetFetches.{ends_at}
 use Rattle.step_laws.specs.Behind.{HasMade}
 use Rattle.mark_laws.specs.Damage.{IsReplaced, RoseSince}
+use Rattle.mark_laws.specs.Marks.{Never, IsMark}
+use Rattle.mark_laws.specs.MarkedRuns.{AreMarks}
 use Rattle.mark_laws.proofs.Turns.{turns}
 use Rattle.mark_laws.proofs.Blocks.{clash}
 use Rattle.mark_laws.proofs.Places.{read_within}
 use Rattle.mark_laws.proofs.Points as pt
-use Rattle.mark_laws.proofs.Points.{Never, Point, Facts, Audited, begin_of, mark_of}
+use Rattle.mark_laws.proofs.Points.{Facts, Audited, begin_of, mark_of}
 use Rattle.mark_laws.proofs.Audits as aud
 use Rattle.mark_laws.proofs.Readers as rd
 
@@ -60,7 +62,7 @@ no_first_due : (rs : List Record) (u : Due) → AreFirst rs → due_of rs ≡ So
 no_first_due rs u (inl e) h = (let g : None ≡ Some u = ap due_of (sym e) ∙ h in cc)
 no_first_due rs u (inr p) h = (let g : None ≡ Some u = ap due_of (sym p.2) ∙ h in cc)
 
-start_moment : (start : State) → IsStart start → Point start [] 0 Never
+start_moment : (start : State) → IsStart start → IsMark start [] 0 Never
 start_moment start clean = record {
   early = omega arith;
   puts = λ k j name bytes h kind. absurd (found_none start.jobs k j clean.jobs h);
@@ -68,14 +70,14 @@ start_moment start clean = record {
   clear = λ q f i s h l k bad. absurd (no_first_file start.records q f clean.records h);
 }
 
-pub start_facts : (mark : Mark) (start : State) → IsStart start → mark [] ≡ 0 → Facts mark start []
-start_facts mark start clean first = record {
+pub start_facts : (mark : Mark) (start : State) → IsStart start → IsMark start [] (mark []) Never → Facts mark start []
+start_facts mark start clean moment = record {
   gated = λ a h. absurd (clash start.append a h clean.append);
   setup_doubt = λ d s h e. absurd (clash start.doubt d h clean.doubt);
   put_held = λ d id size h e. absurd (clash start.doubt d h clean.doubt);
   put_doubt = λ d id size i s h e l k bad. absurd (clash start.doubt d h clean.doubt);
   doubt_runs = λ d id size o b h e. absurd (clash start.doubt d h clean.doubt);
-  moment = subst (λ n. Point start [] n Never) (sym first) (start_moment start clean);
+  moment = moment;
   pinned = λ k j f h in_f. absurd (found_none start.jobs k j clean.jobs h);
   marked = λ k j h. absurd (found_none start.jobs k j clean.jobs h);
   reads = λ k j f i s h in_f l b bad. absurd (found_none start.jobs k j clean.jobs h);
@@ -106,7 +108,7 @@ calm_now mark start clean (m ∷ ms) calm k j h reads = calm.0 k j h reads
 
 -- one event more, where the mark is such a moment after it
 pub facts_step : (limit : ℕ) (mark : Mark) (start : State) (m : Moment) (ms : List Moment) → IsStart start → AllTell start → IsRun limit start (m ∷ ms) → IsCalm relies mark ms → Facts mark start ms →
-    Point start (m ∷ ms) (mark (m ∷ ms)) Never → Facts mark start (m ∷ ms)
+    IsMark start (m ∷ ms) (mark (m ∷ ms)) Never → Facts mark start (m ∷ ms)
 facts_step limit mark start m ms clean tell run calm F moment =
     (let A = all limit start clean ms run.2 in
     let I = eff.facts limit start ms clean run.2 in
@@ -131,6 +133,11 @@ facts_step limit mark start m ms clean tell run calm F moment =
       rewrote = rd.rewrote_step limit mark start m ms clean run.2 A I F X T O told quiet;
     })
 
+-- in a run that is calm by a mark
+pub marked_facts : (limit : ℕ) (mark : Mark) (start : State) → IsStart start → AllTell start → (ms : List Moment) → IsRun limit start ms → IsCalm relies mark ms → AreMarks mark start ms → Facts mark start ms
+marked_facts limit mark start clean tell [] run calm marks = start_facts mark start clean marks
+marked_facts limit mark start clean tell (m ∷ ms) run calm marks = facts_step limit mark start m ms clean tell run calm.1 (marked_facts limit mark start clean tell ms run.2 calm.1 marks.1) marks.0
+
 -- with the begin of the last settled audit as the mark, both
 pub record Both (start : State) (ms : List Moment) : Type 0 where
   pub facts : Facts (since start) start ms
@@ -150,8 +157,14 @@ both_step limit start m ms clean tell run calm missed B =
     })
 
 pub both : (limit : ℕ) (start : State) → IsStart start → AllTell start → (ms : List Moment) → IsRun limit start ms → IsCalm relies (since start) ms → NoneMissed start ms → Both start ms
-both limit start clean tell [] run calm missed = record { facts = start_facts (since start) start clean refl; audited = start_audited start clean }
+both limit start clean tell [] run calm missed = record { facts = start_facts (since start) start clean (start_moment start clean); audited = start_audited start clean }
 both limit start clean tell (m ∷ ms) run calm missed = both_step limit start m ms clean tell run calm.1 missed.0 (both limit start clean tell ms run.2 calm.1 missed.1)
+
+-- the begins of settled audits are marks
+pub are_marks : (limit : ℕ) (start : State) → IsStart start → AllTell start → (ms : List Moment) → IsRun limit start ms → IsCalm relies (since start) ms → NoneMissed start ms → AreMarks (since start) start ms
+are_marks limit start clean tell [] run calm missed = start_moment start clean
+are_marks limit start clean tell (m ∷ ms) run calm missed =
+    ((both limit start clean tell (m ∷ ms) run calm missed).facts.moment, are_marks limit start clean tell ms run.2 calm.1 missed.1)
 
 -- ---- a count rose, or did not
 
@@ -179,12 +192,9 @@ some_rose w v (suc n) = elim (some_rose w v n) [
 
 -- ---- gets
 
-module _ (limit : ℕ) (start : State) (m : Moment) (ms : List Moment) (clean : IsStart start) (tell : AllTell start) (run : IsRun limit start (m ∷ ms)) (calm : IsCalm relies (since start) (m ∷ ms)) (missed : NoneMissed start (m ∷ ms)) where
+module _ (limit : ℕ) (mark : Mark) (start : State) (m : Moment) (ms : List Moment) (clean : IsStart start) (run : IsRun limit start (m ∷ ms)) (calm : IsCalm relies mark ms) (F : Facts mark start ms) where
   module _ (job : Job) (name : List ℕ) (runs : job_of (now start ms).jobs job.number ≡ Some job) (kind : job.kind ≡ GetJob name) (file : File) (in_effect : file_in (begin_of start ms job) name ≡ Some file)
       (pinned : job.pinned ≡ pinned_file (begin_of start ms job) file ∷ []) (setup : setup_in (now start ms) ≡ setup_in (begin_of start ms job)) where
-    F : Facts (since start) start ms
-    F = (both limit start clean tell ms run.2 calm.1 missed.1).facts
-
     abbrev b : State
     b = begin_of start ms job
 
@@ -198,13 +208,13 @@ module _ (limit : ℕ) (start : State) (m : Moment) (ms : List Moment) (clean : 
     few : ((i : ℕ) → i < (setup_in (begin_of start ms job)).n → RoseSince (begin_of start ms job) (now start ms) i → ⊥) → (stripe : ℕ) → stripe < stripes (object_in (begin_of start ms job) file.id) (length ((begin_of start ms job).bytes file.id)) →
         ((i : ℕ) → i < (setup_in (now start ms)).n → HasMade (setup_in (now start ms)) job (Fetch i file.id stripe)) → IsFewWrong (begin_of start ms job) file job stripe
     few none stripe below asked =
-        (let w = count_of-within (is_wrong_given (begin_of start ms job) file job stripe) (λ i. is_replaced_since (mark_of (since start) ms job) i ms) 0 (setup_in (begin_of start ms job)).n (λ i l wrong. one i (omega (arith, l)) wrong) in
-        let c = calm_now (since start) start clean ms calm.1 job.number job runs (subst (λ (kd : Kind). IsTrue (relies kd)) (sym kind) refl) in
-        let d : count_of (λ i. is_replaced_since (mark_of (since start) ms job) i ms) (upto (setup_in (begin_of start ms job)).n) ≤ (setup_in (begin_of start ms job)).b =
-        subst (λ (t : Setup). count_of (λ i. is_replaced_since (mark_of (since start) ms job) i ms) (upto t.n) ≤ t.b) setup c in
+        (let w = count_of-within (is_wrong_given (begin_of start ms job) file job stripe) (λ i. is_replaced_since (mark_of mark ms job) i ms) 0 (setup_in (begin_of start ms job)).n (λ i l wrong. one i (omega (arith, l)) wrong) in
+        let c = calm_now mark start clean ms calm job.number job runs (subst (λ (kd : Kind). IsTrue (relies kd)) (sym kind) refl) in
+        let d : count_of (λ i. is_replaced_since (mark_of mark ms job) i ms) (upto (setup_in (begin_of start ms job)).n) ≤ (setup_in (begin_of start ms job)).b =
+        subst (λ (t : Setup). count_of (λ i. is_replaced_since (mark_of mark ms job) i ms) (upto t.n) ≤ t.b) setup c in
         omega (arith, w, d))
       where
-        one : (i : ℕ) → i < (setup_in (begin_of start ms job)).n → is_wrong_given (begin_of start ms job) file job stripe i ≡ true → is_replaced_since (mark_of (since start) ms job) i ms ≡ true
+        one : (i : ℕ) → i < (setup_in (begin_of start ms job)).n → is_wrong_given (begin_of start ms job) file job stripe i ≡ true → is_replaced_since (mark_of mark ms job) i ms ≡ true
         one i l wrong =
             (let k : i < (setup_in (now start ms)).n = subst (λ (t : Setup). i < t.n) (sym setup) l in
             let g = made_fetch_gave limit start clean ms run.2 job.number job i file.id stripe runs (asked i k) in
@@ -266,9 +276,13 @@ module _ (limit : ℕ) (start : State) (m : Moment) (ms : List Moment) (clean : 
   keeps (Begin (GetJob name)) (Refused why) event outcome = λ file h. begins_stored limit start m ms name file why clean run event outcome h
   keeps e r event outcome = tt
 
+-- the second half, of every run that is calm by a mark
+pub half_by_mark : (limit : ℕ) (mark : Mark) (start : State) → IsStart start → AllTell start → (ms : List Moment) → IsRun limit start ms → IsCalm relies mark ms → AreMarks mark start ms → SecondHalf start ms
+half_by_mark limit mark start clean tell [] run calm marks = tt
+half_by_mark limit mark start clean tell (m ∷ ms) run calm marks = (
+  keeps limit mark start m ms clean run calm.1 (marked_facts limit mark start clean tell ms run.2 calm.1 marks.1) m.event m.outcome refl refl,
+  half_by_mark limit mark start clean tell ms run.2 calm.1 marks.1,
+)
+
 pub second_half : SecondHalfHolds
-second_half limit start ms is_limit clean tell run calm missed = by_moments ms run calm missed
-  where
-    by_moments : (hs : List Moment) → IsRun limit start hs → IsCalm relies (since start) hs → NoneMissed start hs → SecondHalf start hs
-    by_moments [] run_h calm_h missed_h = tt
-    by_moments (m ∷ hs) run_h calm_h missed_h = (keeps limit start m hs clean tell run_h calm_h missed_h m.event m.outcome refl refl, by_moments hs run_h.2 calm_h.1 missed_h.1)
+second_half limit start ms is_limit clean tell run calm missed = half_by_mark limit (since start) start clean tell ms run calm (are_marks limit start clean tell ms run calm missed)

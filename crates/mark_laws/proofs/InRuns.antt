@@ -1,0 +1,86 @@
+-- What holds in runs that are calm, for the laws.
+use Rattle.std.proofs.Common.{◌≡◌, ℕ, zero, suc, ◌+◌, ◌<◌, ◌≤◌, Bool, true, false, ◌⊎◌, List, [], ◌∷◌, length, Option, Some, None, refl, ap, sym, subst, ◌∙◌, inl, inr, arith}
+use Rattle.std.specs.Prelude.{cond}
+use Rattle.std.specs.List.{list_any, range_with_len}
+use Rattle.std.specs.Option.{option_map}
+use Rattle.std.proofs.lemmas.Bool.{cases_Bool, or_cases, false≢true}
+use Rattle.hail_columns.specs.Objects.{Object, stripes}
+use Rattle.hail_columns.specs.Columns.{is_wrong, is_wrong_block}
+use Rattle.hail_records.specs.Records.{Record, SetUp, PutDone}
+use Rattle.hail_records.specs.Table.{File}
+use Rattle.hail_devices.specs.Providers.{Held}
+use Rattle.hail_machine.specs.States.{State, Doubt, setup_in, object_in, file_in}
+use Rattle.hail_machine.specs.Runs.{Moment, IsRun, now, came}
+use Rattle.hail_machine.specs.Calm.{Mark, since}
+use Rattle.hail_machine.specs.Missed.{is_wrong_told, is_wrong_now}
+use Rattle.hail_machine.specs.Halves.{begun_of}
+use Rattle.hail_machine.proofs.Numbers.{audits}
+use Rattle.hail_machine.proofs.Numbers as num
+use Rattle.hail_machine.proofs.PinFacts.{setup_same}
+use Rattle.hail_machine.proofs.Events.{changes}
+use Rattle.hail_machine.proofs.Held.{all}
+use Rattle.run_laws.proofs.InEffect as eff
+use Rattle.mark_laws.specs.Damage.{IsBad, IsReplaced}
+use Rattle.mark_laws.specs.Marks.{Never, IsMark}
+use Rattle.mark_laws.specs.MarkedRuns.{AreMarks, IsMarkedRun, IsCalmRun}
+use Rattle.mark_laws.proofs.Turns.{turns}
+use Rattle.mark_laws.proofs.Blocks.{setup_left}
+use Rattle.mark_laws.proofs.Points as pt
+use Rattle.mark_laws.proofs.Points.{Facts, Audited}
+use Rattle.mark_laws.proofs.SecondHalf.{Both, both, marked_facts, are_marks}
+
+pub in_run : (limit : ℕ) (mark : Mark) (start : State) (ms : List Moment) → IsMarkedRun limit mark start ms → Facts mark start ms
+in_run limit mark start ms h = marked_facts limit mark start h.clean h.tell ms h.run h.calm h.marks
+
+pub in_calm : (limit : ℕ) (start : State) (ms : List Moment) → IsCalmRun limit start ms → Both start ms
+in_calm limit start ms h = both limit start h.clean h.tell ms h.run h.calm h.found
+
+pub calm_marked : (limit : ℕ) (start : State) (ms : List Moment) → IsCalmRun limit start ms → IsMarkedRun limit (since start) start ms
+calm_marked limit start ms h = record { clean = h.clean; tell = h.tell; run = h.run; calm = h.calm; marks = are_marks limit start h.clean h.tell ms h.run h.calm h.found }
+
+-- a provider that is wrong for a file has a bad block of a stripe of it
+some_stripe : (f : ℕ → Bool) (a n : ℕ) → list_any f (range_with_len a n) ≡ true → (k : ℕ) × (k < a + n) × (f k ≡ true)
+some_stripe f a zero h = absurd (false≢true h)
+some_stripe f a (suc n) h = elim (or_cases (f a) (list_any f (range_with_len (a + 1) n)) h) [
+  | inl t ↦ (a, omega arith, t)
+  | inr r ↦ (let q = some_stripe f (a + 1) n r in (q.0, (let l = q.1 in omega (arith, l)), q.2))
+]
+
+wrong_stripe : (o : Object) (bytes : List ℕ) (j : ℕ) (held : ℕ → Option (List ℕ)) → is_wrong o bytes j held ≡ true → (s : ℕ) × (s < stripes o (length bytes)) × (is_wrong_block o bytes j s (held s) ≡ true)
+unfolding is_wrong
+wrong_stripe o bytes j held h = (let q = some_stripe (λ s. is_wrong_block o bytes j s (held s)) 0 (stripes o (length bytes)) h in (q.0, (let l = q.1 in omega (arith, l)), q.2))
+
+pub wrong_bad : (w : State) (f : File) (j : ℕ) → is_wrong_now w f j ≡ true → (s : ℕ) × (s < stripes (object_in w f.id) (length (w.bytes f.id))) × IsBad w f.id j s
+wrong_bad w f j h = by_told (w.providers j).held refl h
+  where
+    by_told : (x : Option Held) → (w.providers j).held ≡ x → is_wrong_told w f.id j x ≡ true → (s : ℕ) × (s < stripes (object_in w f.id) (length (w.bytes f.id))) × IsBad w f.id j s
+    by_told None is e = absurd (false≢true e)
+    by_told (Some held) is e = (let q = wrong_stripe (object_in w f.id) (w.bytes f.id) j (held f.id) e in (q.0, q.1, (held f.id q.0, ap (option_map (λ (y : Held). y f.id q.0)) is, q.2)))
+
+-- where a moment clears files, a provider that is wrong for one was replaced since, or is exempt at some stripe
+pub clears : (start : State) (ms : List Moment) (from : ℕ) (Ex : ℕ → ℕ → ℕ → Type 0) (E : Type 0) → IsMark start ms from Ex → (name : List ℕ) (file : File) (j : ℕ) → file_in (now start ms) name ≡ Some file →
+    j < (setup_in (now start ms)).n → is_wrong_now (now start ms) file j ≡ true → ((s : ℕ) → Ex j file.id s → E) → IsReplaced from j ms ⊎ E
+clears start ms from Ex E P name file j h l wrong out = (let q = wrong_bad (now start ms) file j wrong in
+    elim (P.clear name file j q.0 h l q.1 q.2) [ inl r ↦ inl r | inr x ↦ inr (out q.0 x) ])
+
+pub clears_all : (start : State) (ms : List Moment) (from : ℕ) → IsMark start ms from Never → (name : List ℕ) (file : File) (j : ℕ) → file_in (now start ms) name ≡ Some file →
+    j < (setup_in (now start ms)).n → is_wrong_now (now start ms) file j ≡ true → IsReplaced from j ms
+clears_all start ms from P name file j h l wrong = elim (clears start ms from Never ⊥ P name file j h l wrong (λ s x. x)) [ inl r ↦ r | inr x ↦ absurd x ]
+
+module _ (limit : ℕ) (mark : Mark) (start : State) (m : Moment) (ms : List Moment) (h : IsMarkedRun limit mark start ms) (run : IsRun limit start (m ∷ ms)) where
+  pub stays : (from : ℕ) → IsMark start ms from Never → IsMark start (m ∷ ms) from Never
+  stays from P = (let A = all limit start h.clean ms run.2 in
+      pt.point_on limit mark start m ms h.clean run.2 A (eff.facts limit start ms h.clean run.2) (in_run limit mark start ms h)
+      (changes limit (length ms) (now start ms) m.event m.outcome m.state A.numbers.idle run.1) (turns (now start ms) limit (length ms) m.event m.outcome m.state run.1) from Never Never P
+      (λ q f i s stood h2 setup l b bad x. absurd x))
+
+  pub came_right : (id size : ℕ) → came (now start ms) m.state ≡ Some (PutDone id size) →
+      (d : Doubt) × ((now start ms).doubt ≡ Some d) × (d.entry ≡ PutDone id size) × ((j stripe : ℕ) → j < (setup_in m.state).n →
+      stripe < stripes (object_in m.state id) (length (m.state.bytes id)) → IsBad m.state id j stripe → IsReplaced (begun_of d.maker) j (m ∷ ms))
+  came_right id size e = (let A = all limit start h.clean ms run.2 in
+      let I = eff.facts limit start ms h.clean run.2 in
+      let F = in_run limit mark start ms h in
+      let X = changes limit (length ms) (now start ms) m.event m.outcome m.state A.numbers.idle run.1 in
+      let T = turns (now start ms) limit (length ms) m.event m.outcome m.state run.1 in
+      let c = pt.put_came limit mark start m ms h.clean run.2 A I F X T id size e in
+      (c.doubt, c.at, c.entry, λ j stripe l b bad. pt.put_bad limit mark start m ms h.clean run.2 A I F X T c.doubt id size j stripe c.at c.entry c.setup l b bad))
