@@ -4,3 +4,6 @@ pub mod Walk
 pub mod Passing
 pub mod MadeFacts
 pub mod GetFetches
+pub mod Finals
+pub mod Doubts
+pub mod Wholes

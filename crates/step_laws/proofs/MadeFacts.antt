@@ -172,7 +172,7 @@ earlier_on maker x j l e = record {
   place = (let p = e.place in let q = l.place in omega (arith, p, q));
 }
 
-made_on : (start : State) (m : Moment) (ms : List Moment) (x j : Job) (action : Action) → Later x j → WasMade start ms x action → WasMade start (m ∷ ms) j action
+pub made_on : (start : State) (m : Moment) (ms : List Moment) (x j : Job) (action : Action) → Later x j → WasMade start ms x action → WasMade start (m ∷ ms) j action
 made_on start m ms x j action l c = record {
   later = m ∷ c.later;
   moment = c.moment;
@@ -266,7 +266,7 @@ CameBy start ms job (Fetched i o s block) = WasFetched start ms job i o s block
 CameBy start ms job (Answered i o r symbol) = WasAsked start ms job i o r symbol
 CameBy start ms job (Worked o s symbols) = WasOpened start ms job o s symbols
 
-came_on : (start : State) (m : Moment) (ms : List Moment) (x j : Job) (gift : Given) → setup_in m.state ≡ setup_in (now start ms) → Later x j → CameBy start ms x gift → CameBy start (m ∷ ms) j gift
+pub came_on : (start : State) (m : Moment) (ms : List Moment) (x j : Job) (gift : Given) → setup_in m.state ≡ setup_in (now start ms) → Later x j → CameBy start ms x gift → CameBy start (m ∷ ms) j gift
 came_on start m ms x j (Fetched i o s block) setup l c = fetched_on start m ms x j i o s block l c
 came_on start m ms x j (Answered i o r symbol) setup l c = asked_on start m ms x j i o r symbol setup l c
 came_on start m ms x j (Worked o s symbols) setup l c = opened_on start m ms x j o s symbols setup l c

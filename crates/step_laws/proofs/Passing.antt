@@ -85,7 +85,7 @@ eight_same ss ys zs p l = same_front append_actions (ss ++ (append_actions ++ ys
 
 -- ---- the list of a job that went on
 
-same_kind : (s : Setup) (x : Job) (kind : Kind) → actions_by s (advanced x) kind ≡ actions_by s x kind
+pub same_kind : (s : Setup) (x : Job) (kind : Kind) → actions_by s (advanced x) kind ≡ actions_by s x kind
 same_kind s x (PutJob name bytes) = refl
 same_kind s x (GetJob name) = refl
 same_kind s x (DropJob name) = refl
@@ -156,7 +156,7 @@ older_same w x l p (DropJob name) kind h k =
 older_same w x l p AuditJob kind h k = refl
 older_same w x l p RepairJob kind h k = refl
 
-list_is : (s : Setup) (x : Job) → actions_of s x ≡ actions_by s x x.kind
+pub list_is : (s : Setup) (x : Job) → actions_of s x ≡ actions_by s x x.kind
 list_is s x = actions_are s x x.kind refl
 
 list_of : (s : Setup) (x y j : Job) (p : ℕ) → j ≡ y → slice_get (actions_of s y) p ≡ slice_get (actions_of s x) p → slice_get (actions_of s j) p ≡ slice_get (actions_of s x) p

@@ -24,13 +24,13 @@ pub fn setups_stay()
 {}
 
 /// Each action before the place of a running job it made at a moment since its begin, and went on; also each action before the place of
-/// the job that wrote a record in doubt, whether it runs on or has ended.
+/// the move by which a job put a record in doubt, whether it runs on or has ended.
 pub fn passed_actions_were_made()
     ensures running { (limit : ℕ) (start : State) (ms : List Moment) (number : ℕ) (job : Job) (place : ℕ) (action : Action) →
         IsStart start → IsRun limit start ms → job_of (now start ms).jobs number ≡ Some job → place < job.place →
         slice_get (actions_of (setup_in (now start ms)) job) place ≡ Some action → WasMade start ms job action }
     ensures in_doubt { (limit : ℕ) (start : State) (ms : List Moment) (d : Doubt) (job : Job) (place : ℕ) (action : Action) →
-        IsStart start → IsRun limit start ms → (now start ms).doubt ≡ Some d → d.maker ≡ Some job → place < job.place →
+        IsStart start → IsRun limit start ms → (now start ms).doubt ≡ Some d → d.maker ≡ Some job → suc place < job.place →
         slice_get (actions_of (setup_in (now start ms)) job) place ≡ Some action → WasMade start ms job action }
 {}
 
@@ -115,8 +115,8 @@ pub fn done_repairs_are_whole()
 /// The same of an audit: it made each of its asks, and its record has its sums over what it was given.
 pub fn done_audits_are_whole()
     ensures in_flight { (limit : ℕ) (start : State) (ms : List Moment) (a : Append) (id undecided : ℕ) (counts : List ℕ) →
-        IsStart start → IsRun limit start ms → (now start ms).append ≡ Some a → a.entry ≡ AuditDone id undecided counts →
-        (job : Job) × (job_of (now start ms).jobs a.job ≡ Some job) × AuditIsWhole start ms job id undecided counts }
+        (job : Job) → IsStart start → IsRun limit start ms → (now start ms).append ≡ Some a → a.entry ≡ AuditDone id undecided counts →
+        job_of (now start ms).jobs a.job ≡ Some job → AuditIsWhole start ms job id undecided counts }
     ensures in_doubt { (limit : ℕ) (start : State) (ms : List Moment) (d : Doubt) (id undecided : ℕ) (counts : List ℕ) →
         IsStart start → IsRun limit start ms → (now start ms).doubt ≡ Some d → d.entry ≡ AuditDone id undecided counts →
         (job : Job) × (d.maker ≡ Some job) × AuditIsWhole start ms job id undecided counts }
