@@ -1,13 +1,12 @@
 -- What stands of the job that wrote a record in doubt; and that setups stay.
-use Rattle.std.proofs.Common.{◌≡◌, ◌⊎◌, ℕ, suc, ◌+◌, ◌<◌, ◌≤◌, List, [], ◌∷◌, ◌++◌, length, Option, Some, None, refl, ap, sym, subst, ◌∙◌, inl, inr, arith}
+use Rattle.std.proofs.Common.{◌≡◌, ℕ, ◌<◌, List, [], ◌∷◌, ◌++◌, length, Some, None, refl, ap, sym, subst, ◌∙◌, arith}
 use Rattle.std.specs.Prelude.{slice_get}
 use Rattle.hail_records.specs.Records.{Setup, Record, SetUp, PutStart, PutDone, Drop, AuditStart, AuditDone, RepairDone}
 use Rattle.hail_records.specs.Table.{setup_of}
-use Rattle.hail_machine.specs.Jobs.{Kind, PutJob, GetJob, DropJob, AuditJob, RepairJob, Given, Job, job_of, advanced}
-use Rattle.hail_machine.specs.Actions.{Action, WriteGate, actions_of}
+use Rattle.hail_machine.specs.Jobs.{Kind, Given, Job, job_of, advanced}
+use Rattle.hail_machine.specs.Actions.{Action, actions_of}
 use Rattle.hail_machine.specs.States.{State, Append, Doubt, IsStart, setup_in}
 use Rattle.hail_machine.specs.Runs.{Moment, now, IsRun}
-use Rattle.hail_machine.proofs.JobLists.{same_value}
 use Rattle.hail_machine.proofs.RecordFacts.{In}
 use Rattle.hail_machine.proofs.Changes.{Records_is, Changes}
 use Rattle.hail_machine.proofs.Events.{changes}
@@ -15,7 +14,6 @@ use Rattle.hail_machine.proofs.PinFacts.{setup_same, wrote_setup}
 use Rattle.hail_machine.proofs.Held.{All, all}
 use Rattle.step_laws.specs.Made.{WasMade}
 use Rattle.step_laws.proofs.Walk.{Doubted, Walked, walked}
-use Rattle.step_laws.proofs.Places.{next_stands}
 use Rattle.step_laws.proofs.Passing.{Later, later_same}
 use Rattle.step_laws.proofs.MadeFacts as made
 use Rattle.step_laws.proofs.MadeFacts.{CameBy, HasGift, came_on, made_on}

@@ -1,13 +1,13 @@
 -- What stands of the job whose append is in flight.
-use Rattle.std.proofs.Common.{◌≡◌, ◌⊎◌, ℕ, zero, suc, ◌+◌, ◌-◌, ◌<◌, ◌≤◌, Bool, true, false, cond, List, [], ◌∷◌, ◌++◌, length, Option, Some, None, refl, ap, sym, subst, ◌∙◌, inl, inr, arith}
+use Rattle.std.proofs.Common.{◌≡◌, ℕ, ◌+◌, ◌≤◌, Bool, cond, List, [], ◌∷◌, ◌++◌, length, Option, Some, None, refl, ap, sym, subst, ◌∙◌, inl, inr, arith}
 use Rattle.std.specs.Prelude.{slice_get, replicate}
 use Rattle.std.specs.List.{flat_map}
 use Rattle.hail_codes.specs.Points.{upto}
-use Rattle.std.proofs.lemmas.Bool.{cases_Bool, cases_lt}
+use Rattle.std.proofs.lemmas.Bool.{cases_lt}
 use Rattle.hail_columns.specs.Challenges.{challenge_of}
 use Rattle.hail_columns.specs.Verdicts.{Sums, Judges}
 use Rattle.hail_records.specs.Records.{Setup, Record, SetUp, PutStart, PutDone, Drop, AuditStart, AuditDone, RepairDone}
-use Rattle.hail_records.specs.Table.{setup_of, next_id, next_audit}
+use Rattle.hail_records.specs.Table.{next_id}
 use Rattle.hail_machine.specs.Jobs.{Kind, PutJob, GetJob, DropJob, AuditJob, RepairJob, Pinned, Given, Job, job_of, advanced, advanced_with}
 use Rattle.hail_machine.specs.Setups.{object_of}
 use Rattle.hail_machine.specs.Actions.{Action, WriteBody, SyncBody, WriteGate, SyncGate, Store, Fetch, Ask, Work, Remove, End, on_each_provider, on_each_stripe, open_actions, store_actions, repair_actions, rounds_of, ask_actions, actions_of}
@@ -16,14 +16,14 @@ use Rattle.hail_machine.specs.Given.{answers_given}
 use Rattle.hail_machine.specs.Audits.{JudgesRound, JudgesRounds, JudgesFiles, HasSums}
 use Rattle.hail_machine.specs.Appends.{is_first_append, subject_drawn, taken_out, Writes}
 use Rattle.hail_machine.specs.Steps.{next_action, holder_of}
-use Rattle.hail_machine.specs.Runs.{Moment, now, IsRun}
+use Rattle.hail_machine.specs.Runs.{Moment, now}
 use Rattle.hail_machine.proofs.JobLists.{cond_true, cond_false, same_value, found_none}
 use Rattle.hail_machine.proofs.Changes.{Append_is, Changes}
 use Rattle.hail_machine.proofs.Numbers.{first_above, first_below, drawn_later}
 use Rattle.hail_machine.proofs.Held.{All}
-use Rattle.step_laws.proofs.Walk.{IsGift, Passed, Goes, Went, Walked}
-use Rattle.step_laws.proofs.Places.{by_kind, next_stands, put_late, move_behind, audit_late, audit_mute, IsMute}
-use Rattle.step_laws.proofs.Passing.{Later, passed_later, passed_place, list_now}
+use Rattle.step_laws.proofs.Walk.{IsGift, Passed, Went, Walked}
+use Rattle.step_laws.proofs.Places.{next_stands, put_late, move_behind, audit_late, audit_mute, IsMute}
+use Rattle.step_laws.proofs.Passing.{list_now}
 use Rattle.step_laws.proofs.MadeFacts as made
 use Rattle.step_laws.proofs.MadeFacts.{setup_kept}
 

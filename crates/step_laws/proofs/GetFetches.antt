@@ -1,12 +1,12 @@
 -- What a get was given that a step ended.
-use Rattle.std.proofs.Common.{◌≡◌, ℕ, ◌<◌, Bool, true, false, List, [], ◌∷◌, length, Option, Some, None, refl, ap, sym, subst, ◌∙◌, inl, inr, arith}
+use Rattle.std.proofs.Common.{◌≡◌, ℕ, ◌<◌, Bool, true, false, List, [], ◌∷◌, length, Option, Some, None, refl, ap, sym, subst, ◌∙◌, inl, arith}
 use Rattle.hail_columns.specs.Objects.{stripes}
 use Rattle.hail_records.specs.Records.{Setup}
 use Rattle.hail_records.specs.Table.{File}
-use Rattle.hail_machine.specs.Jobs.{GetJob, Pinned, Fetched, Job, job_of}
-use Rattle.hail_machine.specs.Setups.{object_of, stripes_of}
+use Rattle.hail_machine.specs.Jobs.{GetJob, Fetched, Job, job_of}
+use Rattle.hail_machine.specs.Setups.{stripes_of}
 use Rattle.hail_machine.specs.Actions.{Action, WriteBody, SyncBody, WriteGate, SyncGate, Store, Fetch, Ask, Work, Remove, End}
-use Rattle.hail_machine.specs.Answers.{Answer, Got, Lost}
+use Rattle.hail_machine.specs.Answers.{Got, Lost}
 use Rattle.hail_machine.specs.Events.{Event, Step, Outcome, Ended}
 use Rattle.hail_machine.specs.States.{State, Append, IsStart, setup_in, object_in, file_in}
 use Rattle.hail_machine.specs.Begins.{pinned_file}
@@ -73,7 +73,7 @@ module _ (old : State) (job : Job) (new : State) (bytes : List ℕ) where
   step_end true runs h = open_end old.is_barred runs h
   step_end false runs h = absurd h
 
-ends_at : (limit : ℕ) (start : State) (m : Moment) (ms : List Moment) (job : Job) (bytes : List ℕ) → IsRun limit start (m ∷ ms) → m.event ≡ Step job.number → m.outcome ≡ Ended (Got bytes) → job_of (now start ms).jobs job.number ≡ Some job →
+pub ends_at : (limit : ℕ) (start : State) (m : Moment) (ms : List Moment) (job : Job) (bytes : List ℕ) → IsRun limit start (m ∷ ms) → m.event ≡ Step job.number → m.outcome ≡ Ended (Got bytes) → job_of (now start ms).jobs job.number ≡ Some job →
     next_action (now start ms) job ≡ Some End
 ends_at limit start m ms job bytes run event outcome runs =
     (let h : Happens limit (length ms) (now start ms) (Step job.number) (Ended (Got bytes)) m.state =

@@ -7,3 +7,4 @@ pub mod GetFetches
 pub mod Finals
 pub mod Doubts
 pub mod Wholes
+pub mod Fall

@@ -1,10 +1,8 @@
 -- What running jobs have made, and what it gave them.
-use Rattle.std.proofs.Common.{◌≡◌, ◌⊎◌, ℕ, zero, suc, ◌+◌, ◌-◌, ◌<◌, ◌≤◌, ◌==◌, Bool, true, false, cond, ◌&&◌, List, [], ◌∷◌, ◌++◌, length, map, Option, Some, None, refl, ap, sym, subst, ◌∙◌, inl, inr, arith}
+use Rattle.std.proofs.Common.{◌≡◌, ◌⊎◌, ℕ, suc, ◌<◌, ◌≤◌, ◌==◌, true, false, ◌&&◌, List, [], ◌∷◌, ◌++◌, length, Option, Some, refl, ap, sym, subst, ◌∙◌, inl, inr, arith}
 use Rattle.std.specs.Prelude.{slice_get, option_and_then}
-use Rattle.std.proofs.lemmas.Bool.{cases_Bool, cases_lt, cases_eq, and_parts, and_from, eqb-true, eq-eqb, false≢true}
+use Rattle.std.proofs.lemmas.Bool.{cases_Bool, cases_lt, and_parts, and_from, eqb-true, eq-eqb, false≢true}
 use Rattle.std.proofs.lemmas.List.{append_assoc}
-use Rattle.std.proofs.lemmas.Option.{slice_get-map}
-use Rattle.hail_codes.specs.Points.{upto}
 use Rattle.hail_columns.specs.Challenges.{honest_answer, challenge_of}
 use Rattle.hail_columns.specs.Opened.{SeenBlock, GivesSymbols, block_at}
 use Rattle.hail_devices.specs.Providers.{Held}
@@ -14,13 +12,13 @@ use Rattle.hail_records.specs.Table.{setup_of}
 use Rattle.hail_machine.specs.Jobs.{Kind, PutJob, GetJob, DropJob, AuditJob, RepairJob, Pinned, Given, Fetched, Answered, Worked, Job, job_of}
 use Rattle.hail_machine.specs.Setups.{object_of}
 use Rattle.hail_machine.specs.Actions.{Action, WriteBody, SyncBody, WriteGate, SyncGate, Store, Remove, Fetch, Ask, Work, End, append_actions, store_actions, read_actions, repair_actions, ask_actions, remove_actions, actions_by, actions_of}
-use Rattle.hail_machine.specs.Events.{Event, Step, Outcome, More}
-use Rattle.hail_machine.specs.States.{State, Append, IsStart, setup_in, object_in}
+use Rattle.hail_machine.specs.Events.{Step}
+use Rattle.hail_machine.specs.States.{State, IsStart, setup_in}
 use Rattle.hail_machine.specs.Given.{block_given, blocks_given, answer_given, symbols_given, pinned_size}
 use Rattle.hail_machine.specs.Steps.{next_action}
 use Rattle.hail_machine.specs.Runs.{Moment, now, IsRun}
 use Rattle.hail_machine.specs.Deeds.{Makes}
-use Rattle.hail_machine.proofs.JobLists.{cond_true, cond_false, same_value, found_none, number_of}
+use Rattle.hail_machine.proofs.JobLists.{cond_true, cond_false, same_value, found_none}
 use Rattle.hail_machine.proofs.ActionLists.{each_get, each_append, split_get}
 use Rattle.hail_machine.proofs.RecordFacts.{In}
 use Rattle.hail_machine.proofs.Changes.{Grown, Job_is, Changes}

@@ -1,28 +1,23 @@
 -- Puts, repairs and audits have done all by the time of their last record.
-use Rattle.std.proofs.Common.{◌≡◌, ◌⊎◌, ℕ, suc, ◌+◌, ◌<◌, ◌≤◌, ◌==◌, true, cond, List, [], ◌∷◌, ◌++◌, length, Option, Some, None, refl, ap, sym, subst, ◌∙◌, inl, inr, arith}
+use Rattle.std.proofs.Common.{◌≡◌, ℕ, suc, ◌+◌, ◌<◌, ◌≤◌, ◌==◌, cond, List, [], ◌∷◌, ◌++◌, length, Option, Some, None, refl, ap, sym, subst, ◌∙◌, arith}
 use Rattle.std.specs.Prelude.{slice_get}
-use Rattle.std.specs.List.{Contains}
 use Rattle.std.proofs.lemmas.Bool.{eq-eqb, ne_eqb}
 use Rattle.std.proofs.lemmas.Option.{slice_get_within}
 use Rattle.hail_records.specs.Records.{Setup, Record, SetUp, PutDone, AuditDone, RepairDone}
-use Rattle.hail_machine.specs.Jobs.{Kind, PutJob, GetJob, DropJob, AuditJob, RepairJob, Pinned, Given, Answered, Job, job_of, advanced}
-use Rattle.hail_machine.specs.Setups.{stripes_of}
-use Rattle.hail_machine.specs.Actions.{Action, SyncGate, Store, Ask, Work, End, append_actions, store_actions, repair_actions, rounds_of, ask_actions, actions_of}
+use Rattle.hail_machine.specs.Jobs.{Kind, PutJob, GetJob, DropJob, AuditJob, RepairJob, Given, Answered, Job, job_of, advanced}
+use Rattle.hail_machine.specs.Actions.{Action, Store, Ask, Work, End, append_actions, store_actions, repair_actions, rounds_of, ask_actions, actions_of}
 use Rattle.hail_machine.specs.States.{State, Append, Doubt, IsStart, setup_in}
 use Rattle.hail_machine.specs.Given.{answer_given}
 use Rattle.hail_machine.specs.Audits.{HasSums}
-use Rattle.hail_machine.specs.Steps.{next_action}
 use Rattle.hail_machine.specs.Runs.{Moment, now, IsRun, newest, came}
-use Rattle.hail_machine.specs.Deeds.{HasMadeStore}
 use Rattle.hail_machine.proofs.JobLists.{cond_true, cond_false}
 use Rattle.hail_machine.proofs.RecordFacts.{In}
 use Rattle.hail_machine.proofs.Stripes.{get_left}
-use Rattle.hail_machine.proofs.Changes.{Records_is, Changes}
+use Rattle.hail_machine.proofs.Changes.{Records_is}
 use Rattle.hail_machine.proofs.Events.{changes}
 use Rattle.hail_machine.proofs.Held.{contains_in, actions_are, all}
 use Rattle.step_laws.specs.Made.{WasMade}
-use Rattle.step_laws.specs.Gave.{WasAsked}
-use Rattle.step_laws.specs.Whole.{PutIsWhole, Rewrote, RepairIsWhole, AuditIsWhole}
+use Rattle.step_laws.specs.Whole.{PutIsWhole, RepairIsWhole, AuditIsWhole}
 use Rattle.step_laws.proofs.Places.{of_kind, store_in_repair, worked_before_store, put_store_at, put_stores, ask_at}
 use Rattle.step_laws.proofs.Passing.{same_kind, list_is}
 use Rattle.step_laws.proofs.MadeFacts as made

@@ -1,5 +1,4 @@
 use Rattle.std.proofs.Common.{refl}
-use Rattle.hail_machine.specs.States.{Append}
 use Rattle.step_laws.proofs.Wholes.{audit_running, doubt_audit, came_audit}
 use Rattle.step_laws.proofs.laws.done_audits_are_whole.Goals as goal
 
