@@ -8,3 +8,6 @@ pub mod Finals
 pub mod Doubts
 pub mod Wholes
 pub mod Fall
+pub mod GivesRight
+pub mod ByteSteps
+pub mod ByteRun

@@ -276,12 +276,16 @@ pub record Facts (start : State) (ms : List Moment) : Type 0 where
   pub came : (k : ℕ) (j : Job) (gift : Given) → job_of (now start ms).jobs k ≡ Some j → In gift j.given → CameBy start ms j gift
 
 -- at the work on a stripe, and after it, each block was given by a fetch
-pub fetched_at : (start : State) (ms : List Moment) → Facts start ms → (k : ℕ) (j : Job) (p i o s : ℕ) → job_of (now start ms).jobs k ≡ Some j → p ≤ j.place →
-    slice_get (actions_of (setup_in (now start ms)) j) p ≡ Some (Work o s) → i < (setup_in (now start ms)).n → WasFetched start ms j i o s (block_given j.given o s i)
-fetched_at start ms F k j p i o s h l at n =
+pub given_at : (start : State) (ms : List Moment) → Facts start ms → (k : ℕ) (j : Job) (p i o s : ℕ) → job_of (now start ms).jobs k ≡ Some j → p ≤ j.place →
+    slice_get (actions_of (setup_in (now start ms)) j) p ≡ Some (Work o s) → i < (setup_in (now start ms)).n → In (Fetched i o s (block_given j.given o s i)) j.given
+given_at start ms F k j p i o s h l at n =
     (let q = fetch_before_work (setup_in (now start ms)) j p i o s at n in
     let r = F.made k j q.0 (Fetch i o s) h (let e = q.1 in omega (arith, e, l)) q.2 in
-    F.came k j (Fetched i o s (block_given j.given o s i)) h (given_block j.given i o s r.1.0 r.1.1))
+    given_block j.given i o s r.1.0 r.1.1)
+
+pub fetched_at : (start : State) (ms : List Moment) → Facts start ms → (k : ℕ) (j : Job) (p i o s : ℕ) → job_of (now start ms).jobs k ≡ Some j → p ≤ j.place →
+    slice_get (actions_of (setup_in (now start ms)) j) p ≡ Some (Work o s) → i < (setup_in (now start ms)).n → WasFetched start ms j i o s (block_given j.given o s i)
+fetched_at start ms F k j p i o s h l at n = F.came k j (Fetched i o s (block_given j.given o s i)) h (given_at start ms F k j p i o s h l at n)
 
 block_at_given : (given : List Given) (n o s i : ℕ) → i < n → block_at (blocks_given given n o s) i ≡ block_given given o s i
 block_at_given given n o s i l = ap (λ (b : Option SeenBlock). option_and_then (λ (c : SeenBlock). c) b) (get_map_upto (block_given given o s) n i l)
