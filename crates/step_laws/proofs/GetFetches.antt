@@ -1,12 +1,12 @@
 -- What a get was given that a step ended.
-use Rattle.std.proofs.Common.{◌≡◌, ℕ, ◌<◌, Bool, true, false, List, [], ◌∷◌, length, Option, Some, None, refl, ap, sym, subst, ◌∙◌, inl, inr, arith}
+use Rattle.std.proofs.Common.{◌≡◌, ℕ, ◌<◌, Bool, true, false, List, [], ◌∷◌, length, Option, Some, None, refl, ap, sym, subst, ◌∙◌, inl, arith}
 use Rattle.hail_columns.specs.Objects.{stripes}
 use Rattle.hail_records.specs.Records.{Setup}
 use Rattle.hail_records.specs.Table.{File}
-use Rattle.hail_machine.specs.Jobs.{GetJob, Pinned, Fetched, Job, job_of}
-use Rattle.hail_machine.specs.Setups.{object_of, stripes_of}
+use Rattle.hail_machine.specs.Jobs.{GetJob, Fetched, Job, job_of}
+use Rattle.hail_machine.specs.Setups.{stripes_of}
 use Rattle.hail_machine.specs.Actions.{Action, WriteBody, SyncBody, WriteGate, SyncGate, Store, Fetch, Ask, Work, Remove, End}
-use Rattle.hail_machine.specs.Answers.{Answer, Got, Lost}
+use Rattle.hail_machine.specs.Answers.{Got, Lost}
 use Rattle.hail_machine.specs.Events.{Event, Step, Outcome, Ended}
 use Rattle.hail_machine.specs.States.{State, Append, IsStart, setup_in, object_in, file_in}
 use Rattle.hail_machine.specs.Begins.{pinned_file}

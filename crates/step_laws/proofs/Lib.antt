@@ -4,3 +4,10 @@ pub mod Walk
 pub mod Passing
 pub mod MadeFacts
 pub mod GetFetches
+pub mod Finals
+pub mod Doubts
+pub mod Wholes
+pub mod Fall
+pub mod GivesRight
+pub mod ByteSteps
+pub mod ByteRun

@@ -1,7 +1,7 @@
 -- Where elements stand in lists that are put together of others.
 use Rattle.std.proofs.Common.{◌≡◌, ℕ, zero, suc, ◌+◌, ◌-◌, ◌<◌, ◌≤◌, List, [], ◌∷◌, ◌++◌, length, map, Some, None, refl, ap, sym, subst, ◌∙◌, inl, inr, arith}
 use Rattle.std.specs.Prelude.{slice_get}
-use Rattle.std.specs.List.{flat_map, range_with_len}
+use Rattle.std.specs.List.{Contains, flat_map, range_with_len}
 use Rattle.std.proofs.lemmas.Option.{slice_get_within}
 use Rattle.std.proofs.lemmas.Bool.{cases_eq}
 use Rattle.hail_codes.specs.Points.{upto}
@@ -89,3 +89,9 @@ get_map_range f (suc n) a (suc i) l = get_map_range f n (a + 1) i (omega (arith,
 -- what stands at a place of a list that a function makes of 0 to n - 1
 pub get_map_upto : {X : Type 0} (f : ℕ → X) (n i : ℕ) → i < n → slice_get (map f (upto n)) i ≡ Some (f i)
 get_map_upto f n i l = get_map_range f n 0 i l ∙ ap (λ k. Some (f k)) (let e : 0 + i ≡ i = omega arith in e)
+
+-- an element among others, as contracts say it
+pub in_contains : {X : Type 0} (xs : List X) (x : X) → In x xs → Contains xs x
+in_contains [] x i = absurd i
+in_contains (y ∷ ys) x (inl e) = (0, omega arith, sym e)
+in_contains (y ∷ ys) x (inr i) = (let r = in_contains ys x i in let l = r.1 in (suc r.0, omega (arith, l), r.2))

@@ -1,10 +1,8 @@
 -- What running jobs have made, and what it gave them.
-use Rattle.std.proofs.Common.{◌≡◌, ◌⊎◌, ℕ, zero, suc, ◌+◌, ◌-◌, ◌<◌, ◌≤◌, ◌==◌, Bool, true, false, cond, ◌&&◌, List, [], ◌∷◌, ◌++◌, length, map, Option, Some, None, refl, ap, sym, subst, ◌∙◌, inl, inr, arith}
+use Rattle.std.proofs.Common.{◌≡◌, ◌⊎◌, ℕ, suc, ◌<◌, ◌≤◌, ◌==◌, true, false, ◌&&◌, List, [], ◌∷◌, ◌++◌, length, Option, Some, refl, ap, sym, subst, ◌∙◌, inl, inr, arith}
 use Rattle.std.specs.Prelude.{slice_get, option_and_then}
-use Rattle.std.proofs.lemmas.Bool.{cases_Bool, cases_lt, cases_eq, and_parts, and_from, eqb-true, eq-eqb, false≢true}
+use Rattle.std.proofs.lemmas.Bool.{cases_Bool, cases_lt, and_parts, and_from, eqb-true, eq-eqb, false≢true}
 use Rattle.std.proofs.lemmas.List.{append_assoc}
-use Rattle.std.proofs.lemmas.Option.{slice_get-map}
-use Rattle.hail_codes.specs.Points.{upto}
 use Rattle.hail_columns.specs.Challenges.{honest_answer, challenge_of}
 use Rattle.hail_columns.specs.Opened.{SeenBlock, GivesSymbols, block_at}
 use Rattle.hail_devices.specs.Providers.{Held}
@@ -14,13 +12,13 @@ use Rattle.hail_records.specs.Table.{setup_of}
 use Rattle.hail_machine.specs.Jobs.{Kind, PutJob, GetJob, DropJob, AuditJob, RepairJob, Pinned, Given, Fetched, Answered, Worked, Job, job_of}
 use Rattle.hail_machine.specs.Setups.{object_of}
 use Rattle.hail_machine.specs.Actions.{Action, WriteBody, SyncBody, WriteGate, SyncGate, Store, Remove, Fetch, Ask, Work, End, append_actions, store_actions, read_actions, repair_actions, ask_actions, remove_actions, actions_by, actions_of}
-use Rattle.hail_machine.specs.Events.{Event, Step, Outcome, More}
-use Rattle.hail_machine.specs.States.{State, Append, IsStart, setup_in, object_in}
+use Rattle.hail_machine.specs.Events.{Step}
+use Rattle.hail_machine.specs.States.{State, IsStart, setup_in}
 use Rattle.hail_machine.specs.Given.{block_given, blocks_given, answer_given, symbols_given, pinned_size}
 use Rattle.hail_machine.specs.Steps.{next_action}
 use Rattle.hail_machine.specs.Runs.{Moment, now, IsRun}
 use Rattle.hail_machine.specs.Deeds.{Makes}
-use Rattle.hail_machine.proofs.JobLists.{cond_true, cond_false, same_value, found_none, number_of}
+use Rattle.hail_machine.proofs.JobLists.{cond_true, cond_false, same_value, found_none}
 use Rattle.hail_machine.proofs.ActionLists.{each_get, each_append, split_get}
 use Rattle.hail_machine.proofs.RecordFacts.{In}
 use Rattle.hail_machine.proofs.Changes.{Grown, Job_is, Changes}
@@ -172,7 +170,7 @@ earlier_on maker x j l e = record {
   place = (let p = e.place in let q = l.place in omega (arith, p, q));
 }
 
-made_on : (start : State) (m : Moment) (ms : List Moment) (x j : Job) (action : Action) → Later x j → WasMade start ms x action → WasMade start (m ∷ ms) j action
+pub made_on : (start : State) (m : Moment) (ms : List Moment) (x j : Job) (action : Action) → Later x j → WasMade start ms x action → WasMade start (m ∷ ms) j action
 made_on start m ms x j action l c = record {
   later = m ∷ c.later;
   moment = c.moment;
@@ -266,7 +264,7 @@ CameBy start ms job (Fetched i o s block) = WasFetched start ms job i o s block
 CameBy start ms job (Answered i o r symbol) = WasAsked start ms job i o r symbol
 CameBy start ms job (Worked o s symbols) = WasOpened start ms job o s symbols
 
-came_on : (start : State) (m : Moment) (ms : List Moment) (x j : Job) (gift : Given) → setup_in m.state ≡ setup_in (now start ms) → Later x j → CameBy start ms x gift → CameBy start (m ∷ ms) j gift
+pub came_on : (start : State) (m : Moment) (ms : List Moment) (x j : Job) (gift : Given) → setup_in m.state ≡ setup_in (now start ms) → Later x j → CameBy start ms x gift → CameBy start (m ∷ ms) j gift
 came_on start m ms x j (Fetched i o s block) setup l c = fetched_on start m ms x j i o s block l c
 came_on start m ms x j (Answered i o r symbol) setup l c = asked_on start m ms x j i o r symbol setup l c
 came_on start m ms x j (Worked o s symbols) setup l c = opened_on start m ms x j o s symbols setup l c
@@ -278,12 +276,16 @@ pub record Facts (start : State) (ms : List Moment) : Type 0 where
   pub came : (k : ℕ) (j : Job) (gift : Given) → job_of (now start ms).jobs k ≡ Some j → In gift j.given → CameBy start ms j gift
 
 -- at the work on a stripe, and after it, each block was given by a fetch
-pub fetched_at : (start : State) (ms : List Moment) → Facts start ms → (k : ℕ) (j : Job) (p i o s : ℕ) → job_of (now start ms).jobs k ≡ Some j → p ≤ j.place →
-    slice_get (actions_of (setup_in (now start ms)) j) p ≡ Some (Work o s) → i < (setup_in (now start ms)).n → WasFetched start ms j i o s (block_given j.given o s i)
-fetched_at start ms F k j p i o s h l at n =
+pub given_at : (start : State) (ms : List Moment) → Facts start ms → (k : ℕ) (j : Job) (p i o s : ℕ) → job_of (now start ms).jobs k ≡ Some j → p ≤ j.place →
+    slice_get (actions_of (setup_in (now start ms)) j) p ≡ Some (Work o s) → i < (setup_in (now start ms)).n → In (Fetched i o s (block_given j.given o s i)) j.given
+given_at start ms F k j p i o s h l at n =
     (let q = fetch_before_work (setup_in (now start ms)) j p i o s at n in
     let r = F.made k j q.0 (Fetch i o s) h (let e = q.1 in omega (arith, e, l)) q.2 in
-    F.came k j (Fetched i o s (block_given j.given o s i)) h (given_block j.given i o s r.1.0 r.1.1))
+    given_block j.given i o s r.1.0 r.1.1)
+
+pub fetched_at : (start : State) (ms : List Moment) → Facts start ms → (k : ℕ) (j : Job) (p i o s : ℕ) → job_of (now start ms).jobs k ≡ Some j → p ≤ j.place →
+    slice_get (actions_of (setup_in (now start ms)) j) p ≡ Some (Work o s) → i < (setup_in (now start ms)).n → WasFetched start ms j i o s (block_given j.given o s i)
+fetched_at start ms F k j p i o s h l at n = F.came k j (Fetched i o s (block_given j.given o s i)) h (given_at start ms F k j p i o s h l at n)
 
 block_at_given : (given : List Given) (n o s i : ℕ) → i < n → block_at (blocks_given given n o s) i ≡ block_given given o s i
 block_at_given given n o s i l = ap (λ (b : Option SeenBlock). option_and_then (λ (c : SeenBlock). c) b) (get_map_upto (block_given given o s) n i l)

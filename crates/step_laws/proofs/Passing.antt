@@ -1,20 +1,19 @@
 -- What stays of a job, and of its list of actions, when it makes one of them.
-use Rattle.std.proofs.Common.{◌≡◌, ℕ, zero, suc, ◌+◌, ◌-◌, ◌<◌, ◌≤◌, ◌⊎◌, Bool, true, false, cond, List, [], ◌∷◌, ◌++◌, length, Option, Some, None, refl, ap, sym, subst, ◌∙◌, inl, inr, arith}
+use Rattle.std.proofs.Common.{◌≡◌, ℕ, zero, suc, ◌+◌, ◌-◌, ◌<◌, ◌≤◌, ◌⊎◌, List, [], ◌∷◌, ◌++◌, length, Some, refl, ap, sym, subst, ◌∙◌, inl, inr, arith}
 use Rattle.std.specs.Prelude.{slice_get}
 use Rattle.std.proofs.lemmas.Bool.{cases_lt}
-use Rattle.std.proofs.lemmas.List.{length-append}
 use Rattle.hail_records.specs.Records.{Setup}
-use Rattle.hail_machine.specs.Jobs.{Kind, PutJob, GetJob, DropJob, AuditJob, RepairJob, Pinned, Given, Job, advanced, advanced_with}
-use Rattle.hail_machine.specs.Actions.{Action, WriteBody, SyncBody, WriteGate, SyncGate, Store, Fetch, Ask, Work, Remove, End, append_actions, store_actions, remove_actions, actions_by, actions_of}
-use Rattle.hail_machine.specs.States.{State, Append, setup_in}
-use Rattle.hail_machine.specs.Appends.{is_first_append, subject_drawn, taken_out}
+use Rattle.hail_machine.specs.Jobs.{Kind, PutJob, GetJob, DropJob, AuditJob, RepairJob, Given, Job, advanced, advanced_with}
+use Rattle.hail_machine.specs.Actions.{Action, WriteBody, SyncGate, End, append_actions, store_actions, remove_actions, actions_by, actions_of}
+use Rattle.hail_machine.specs.States.{State, setup_in}
+use Rattle.hail_machine.specs.Appends.{subject_drawn, taken_out}
 use Rattle.hail_machine.specs.Steps.{next_action}
 use Rattle.hail_machine.proofs.Numbers.{first_above, drawn_later}
 use Rattle.hail_machine.proofs.ActionLists.{each_get, split_get}
 use Rattle.hail_machine.proofs.Held.{actions_are}
-use Rattle.hail_machine.proofs.Fair.{stores_count, PutAt, put_next}
+use Rattle.hail_machine.proofs.Fair.{PutAt, put_next}
 use Rattle.step_laws.proofs.Walk.{IsGift, IsSilent, Passed}
-use Rattle.step_laws.proofs.Places.{IsCall, next_stands, by_kind, tail_all}
+use Rattle.step_laws.proofs.Places.{next_stands, by_kind, tail_all}
 
 -- one job, earlier and now
 pub record Later (x j : Job) : Type 0 where
@@ -85,14 +84,14 @@ eight_same ss ys zs p l = same_front append_actions (ss ++ (append_actions ++ ys
 
 -- ---- the list of a job that went on
 
-same_kind : (s : Setup) (x : Job) (kind : Kind) → actions_by s (advanced x) kind ≡ actions_by s x kind
+pub same_kind : (s : Setup) (x : Job) (kind : Kind) → actions_by s (advanced x) kind ≡ actions_by s x kind
 same_kind s x (PutJob name bytes) = refl
 same_kind s x (GetJob name) = refl
 same_kind s x (DropJob name) = refl
 same_kind s x AuditJob = refl
 same_kind s x RepairJob = refl
 
-same_given : (s : Setup) (x : Job) (gift : Given) (kind : Kind) → actions_by s (advanced_with x gift) kind ≡ actions_by s x kind
+pub same_given : (s : Setup) (x : Job) (gift : Given) (kind : Kind) → actions_by s (advanced_with x gift) kind ≡ actions_by s x kind
 same_given s x gift (PutJob name bytes) = refl
 same_given s x gift (GetJob name) = refl
 same_given s x gift (DropJob name) = refl
@@ -156,7 +155,7 @@ older_same w x l p (DropJob name) kind h k =
 older_same w x l p AuditJob kind h k = refl
 older_same w x l p RepairJob kind h k = refl
 
-list_is : (s : Setup) (x : Job) → actions_of s x ≡ actions_by s x x.kind
+pub list_is : (s : Setup) (x : Job) → actions_of s x ≡ actions_by s x x.kind
 list_is s x = actions_are s x x.kind refl
 
 list_of : (s : Setup) (x y j : Job) (p : ℕ) → j ≡ y → slice_get (actions_of s y) p ≡ slice_get (actions_of s x) p → slice_get (actions_of s j) p ≡ slice_get (actions_of s x) p

@@ -1,5 +1,5 @@
 -- What stands before what in the list of actions of a job.
-use Rattle.std.proofs.Common.{◌≡◌, ℕ, zero, suc, ◌+◌, ◌-◌, ◌<◌, ◌≤◌, ◌==◌, Bool, true, false, cond, List, [], ◌∷◌, ◌++◌, length, map, Some, None, refl, ap, sym, subst, ◌∙◌, inl, inr, arith}
+use Rattle.std.proofs.Common.{◌≡◌, ℕ, ◌+◌, ◌-◌, ◌<◌, ◌≤◌, Bool, true, false, cond, List, [], ◌∷◌, ◌++◌, length, Some, refl, ap, sym, subst, ◌∙◌, inl, inr, arith}
 use Rattle.std.specs.Prelude.{slice_get}
 use Rattle.std.specs.List.{flat_map}
 use Rattle.std.proofs.lemmas.Bool.{cases_Bool}
@@ -17,7 +17,7 @@ use Rattle.hail_machine.proofs.RecordFacts.{In}
 use Rattle.hail_machine.proofs.ActionLists.{Each, each_get, each_append, each_map, each_flat, split_get}
 use Rattle.hail_machine.proofs.Stripes.{get_left}
 use Rattle.hail_machine.proofs.Held.{actions_are}
-use Rattle.hail_machine.proofs.Fair.{stores_count, PutAt, put_next}
+use Rattle.hail_machine.proofs.Fair.{stores_count, PutAt, put_at}
 use Rattle.step_laws.specs.Behind.{HasMade}
 use Rattle.step_laws.proofs.Lists.{get_behind, only, Stands, stands_left, stands_right, stands_map, stands_flat, in_upto, upto_in, each_flat_in, Behind, behind_none, behind_append, behind_flat, stands_before}
 
@@ -252,45 +252,90 @@ gate_behind w job p i o s kind h at =
 
 -- ---- the stores of a put
 
-pub put_stores : (t : Setup) (job : Job) (name bytes : List ℕ) (i s : ℕ) → job.kind ≡ PutJob name bytes → 4 + length (store_actions t job bytes) ≤ job.place → i < t.n → s < stripes_of t (length bytes) → HasMadeStore t job i job.subject s
-put_stores t job name bytes i s kind late k l =
+pub put_store_at : (t : Setup) (job : Job) (name bytes : List ℕ) (i s : ℕ) → job.kind ≡ PutJob name bytes → i < t.n → s < stripes_of t (length bytes) →
+    (p : ℕ) × (p < 4 + length (store_actions t job bytes)) × (slice_get (actions_of t job) p ≡ Some (Store i job.subject s))
+put_store_at t job name bytes i s kind k l =
     (let at = stands_flat (λ stripe. on_each_provider t (λ j. Store j job.subject stripe)) (upto (stripes_of t (length bytes))) s (Store i job.subject s) (in_upto (stripes_of t (length bytes)) s l)
     (stands_map (λ j. Store j job.subject s) (upto t.n) i (in_upto t.n i k)) in
-    let early = slice_get_within (store_actions t job bytes) at.0 (Store i job.subject s) at.1 in
-    record {
-      place = length append_actions + at.0;
-      made = omega arith;
-      action = of_kind t job (PutJob name bytes) (length append_actions + at.0) (Store i job.subject s) kind
+    let early = slice_get_within (store_actions t job bytes) at.0 (Store i job.subject s) at.1 in (
+      length append_actions + at.0,
+      omega (arith, early),
+      of_kind t job (PutJob name bytes) (length append_actions + at.0) (Store i job.subject s) kind
           (get_behind append_actions (store_actions t job bytes ++ (append_actions ++ (remove_actions t job ++ End ∷ []))) at.0 (Store i job.subject s)
-          (get_left (store_actions t job bytes) (append_actions ++ (remove_actions t job ++ End ∷ [])) at.0 (Store i job.subject s) at.1));
-    })
+          (get_left (store_actions t job bytes) (append_actions ++ (remove_actions t job ++ End ∷ [])) at.0 (Store i job.subject s) at.1)),
+    ))
+
+pub put_stores : (t : Setup) (job : Job) (name bytes : List ℕ) (i s : ℕ) → job.kind ≡ PutJob name bytes → 4 + length (store_actions t job bytes) ≤ job.place → i < t.n → s < stripes_of t (length bytes) → HasMadeStore t job i job.subject s
+put_stores t job name bytes i s kind late k l = (let at = put_store_at t job name bytes i s kind k l in let e = at.1 in record { place = at.0; made = omega (arith, e, late); action = at.2 })
 
 -- a store
-abbrev IsStore : Action → Type 0
+abbrev pub IsStore : Action → Type 0
 IsStore (Store j o s) = Unit {0}
 IsStore a = ⊥
 
-not_both : (a : Action) → IsStore a → NoStore a → ⊥
-not_both (Store j o s) is bad = bad
-not_both WriteBody is bad = is
-not_both SyncBody is bad = is
-not_both WriteGate is bad = is
-not_both SyncGate is bad = is
-not_both (Fetch j o s) is bad = is
-not_both (Ask j o s) is bad = is
-not_both (Work o s) is bad = is
-not_both (Remove j o) is bad = is
-not_both End is bad = is
-
 -- a move of a put's second append, and what follows it, stands behind its stores
-pub put_late : (w : State) (job : Job) (name bytes : List ℕ) (action : Action) → job.kind ≡ PutJob name bytes → next_action w job ≡ Some action → 4 ≤ job.place → NoStore action → 4 + stores_count w job bytes ≤ job.place
-put_late w job name bytes action kind h late bad = elim (put_next w job name bytes action kind h) [
-  | PutAt.first l e ↦ absurd (omega arith)
-  | PutAt.store l m is ↦ absurd (not_both action is bad)
-  | PutAt.second q is l e ↦ omega arith
-  | PutAt.after l is ↦ omega arith
+pub put_late_at : (w : State) (job : Job) (name bytes : List ℕ) (p : ℕ) (action : Action) → slice_get (actions_by (setup_in w) job (PutJob name bytes)) p ≡ Some action → 4 ≤ p → (IsStore action → ⊥) → 4 + stores_count w job bytes ≤ p
+put_late_at w job name bytes p action h late none = elim (put_at w job name bytes p action h) [
+  | PutAt.first l e ↦ absurd (omega (arith, l, late))
+  | PutAt.store l m is ↦ absurd (none is)
+  | PutAt.second q is l e ↦ omega (arith, is, l)
+  | PutAt.after l is ↦ omega (arith, l)
 ]
+
+pub put_late : (w : State) (job : Job) (name bytes : List ℕ) (action : Action) → job.kind ≡ PutJob name bytes → next_action w job ≡ Some action → 4 ≤ job.place → (IsStore action → ⊥) → (action ≡ End → ⊥) → 4 + stores_count w job bytes ≤ job.place
+put_late w job name bytes action kind h late none other = put_late_at w job name bytes job.place action (by_kind (setup_in w) job (PutJob name bytes) job.place action kind (next_stands w job action h other)) late none
 
 pub stored_before_gate : (w : State) (job : Job) (name bytes : List ℕ) (i s : ℕ) → job.kind ≡ PutJob name bytes → next_action w job ≡ Some WriteGate → 4 ≤ job.place → i < (setup_in w).n → s < stripes_of (setup_in w) (length bytes) →
     HasMadeStore (setup_in w) job i job.subject s
-stored_before_gate w job name bytes i s kind h late k l = put_stores (setup_in w) job name bytes i s kind (put_late w job name bytes WriteGate kind h late tt) k l
+stored_before_gate w job name bytes i s kind h late k l = put_stores (setup_in w) job name bytes i s kind (put_late w job name bytes WriteGate kind h late (λ z. z) (λ e. cc)) k l
+
+-- ---- the asks of an audit
+
+pub ask_at : (t : Setup) (job : Job) (f : Pinned) (i r : ℕ) → job.kind ≡ AuditJob → In f job.pinned → i < t.n → In r (rounds_of t (length f.bytes)) →
+    (p : ℕ) × (p < 4 + length (ask_actions t job)) × (slice_get (actions_of t job) p ≡ Some (Ask i f.id r))
+ask_at t job f i r kind in_f k in_r =
+    (let at = stands_flat (λ (g : Pinned). flat_map (λ round. on_each_provider t (λ j. Ask j g.id round)) (rounds_of t (length g.bytes))) job.pinned f (Ask i f.id r) in_f
+    (stands_flat (λ round. on_each_provider t (λ j. Ask j f.id round)) (rounds_of t (length f.bytes)) r (Ask i f.id r) in_r
+    (stands_map (λ j. Ask j f.id r) (upto t.n) i (in_upto t.n i k))) in
+    let early = slice_get_within (ask_actions t job) at.0 (Ask i f.id r) at.1 in (
+      length append_actions + at.0,
+      omega (arith, early),
+      of_kind t job AuditJob (length append_actions + at.0) (Ask i f.id r) kind
+          (get_behind append_actions (ask_actions t job ++ (append_actions ++ End ∷ [])) at.0 (Ask i f.id r)
+          (get_left (ask_actions t job) (append_actions ++ End ∷ []) at.0 (Ask i f.id r) at.1)),
+    ))
+
+-- not a move
+abbrev pub NotMove : Action → Type 0
+NotMove WriteBody = ⊥
+NotMove SyncBody = ⊥
+NotMove WriteGate = ⊥
+NotMove SyncGate = ⊥
+NotMove action = Unit {0}
+
+-- a move of an audit past the first four stands behind its asks
+pub audit_late : (t : Setup) (job : Job) (p : ℕ) (action : Action) → job.kind ≡ AuditJob → slice_get (actions_of t job) p ≡ Some action → 4 ≤ p → (NotMove action → ⊥) → 4 + length (ask_actions t job) ≤ p
+audit_late t job p action kind h late moves = elim (split_get append_actions (ask_actions t job ++ (append_actions ++ End ∷ [])) p action (by_kind t job AuditJob p action kind h)) [
+  | inl a ↦ absurd (let l = a.0 in omega (arith, l, late))
+  | inr b ↦ elim (split_get (ask_actions t job) (append_actions ++ End ∷ []) (p - 4) action b.1) [
+    | inl c ↦ absurd (moves (each_get NotMove (ask_actions t job) (p - 4) action (asks_all t job NotMove (λ j o r. tt)) c.1))
+    | inr d ↦ (let l = b.0 in let k = d.0 in omega (arith, l, k))
+  ]
+]
+
+-- neither an ask nor a fetch nor work
+abbrev pub IsMute : Action → Type 0
+IsMute (Ask i o r) = ⊥
+IsMute (Fetch i o s) = ⊥
+IsMute (Work o s) = ⊥
+IsMute action = Unit {0}
+
+-- behind its asks an audit is given nothing
+pub audit_mute : (t : Setup) (job : Job) (p : ℕ) (action : Action) → job.kind ≡ AuditJob → slice_get (actions_of t job) p ≡ Some action → 4 + length (ask_actions t job) ≤ p → IsMute action
+audit_mute t job p action kind h late = elim (split_get append_actions (ask_actions t job ++ (append_actions ++ End ∷ [])) p action (by_kind t job AuditJob p action kind h)) [
+  | inl a ↦ absurd (let l = a.0 in omega (arith, l, late))
+  | inr b ↦ elim (split_get (ask_actions t job) (append_actions ++ End ∷ []) (p - 4) action b.1) [
+    | inl c ↦ absurd (let l = c.0 in omega (arith, l, late))
+    | inr d ↦ each_get IsMute (append_actions ++ End ∷ []) (p - 4 - length (ask_actions t job)) action (tt, (tt, (tt, (tt, (tt, tt))))) d.1
+  ]
+]

@@ -2,3 +2,4 @@ pub mod Made
 pub mod Gave
 pub mod Whole
 pub mod Behind
+pub mod Own

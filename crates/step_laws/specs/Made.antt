@@ -2,7 +2,7 @@
 --
 --   IsEarlier maker job         == one job, at an earlier moment: what a job keeps from its begin on is the same
 --   WasMade start ms job action == at a moment of the run since the job's begin it made the action, and went on
-use Rattle.std.specs.Prelude.{◌≡◌, ℕ, ◌<◌, ◌≤◌, List, ◌∷◌, ◌++◌, length, Some}
+use Rattle.std.specs.Prelude.{◌≡◌, ◌<◌, ◌≤◌, List, ◌∷◌, ◌++◌, length, Some}
 use Rattle.hail_machine.specs.Jobs.{Given, Job, job_of}
 use Rattle.hail_machine.specs.Actions.{Action}
 use Rattle.hail_machine.specs.Events.{More}

@@ -7,7 +7,6 @@
 --                                        it was given
 use Rattle.std.specs.Prelude.{◌≡◌, ℕ, ◌<◌, true, List, length}
 use Rattle.std.specs.List.{Contains}
-use Rattle.hail_columns.specs.Verdicts.{Sums}
 use Rattle.hail_machine.specs.Jobs.{PutJob, AuditJob, RepairJob, Pinned, Job}
 use Rattle.hail_machine.specs.Setups.{stripes_of}
 use Rattle.hail_machine.specs.Actions.{Store, Work, rounds_of}

@@ -3,7 +3,10 @@ ghost use Rattle.std.specs.Prelude.{◌≡◌, ◌⊎◌, ℕ, suc, ◌+◌, ◌
 ghost use Rattle.std.specs.List.{Contains};
 ghost use Rattle.hail_records.specs.Records.{Setup, Record, PutDone, AuditDone, RepairDone};
 ghost use Rattle.hail_records.specs.Table.{File, setup_of};
-ghost use Rattle.hail_columns.specs.Objects.{stripes};
+ghost use Rattle.hail_field.specs.Shape.{IsShape};
+ghost use Rattle.hail_codes.specs.Profiles.{profile_of};
+ghost use Rattle.hail_columns.specs.Objects.{Object, stripes, symbols_in};
+ghost use Rattle.hail_columns.specs.Opened.{GivesSymbols};
 ghost use Rattle.hail_machine.specs.Jobs.{PutJob, GetJob, RepairJob, Fetched, Answered, Job, job_of};
 ghost use Rattle.hail_machine.specs.Actions.{Action, Store, Work, store_actions, repair_actions, actions_of};
 ghost use Rattle.hail_machine.specs.Answers.{Got, Lost};
@@ -14,6 +17,7 @@ ghost use Rattle.hail_machine.specs.Steps.{next_action};
 ghost use Rattle.hail_machine.specs.Left.{most_left};
 ghost use Rattle.hail_machine.specs.Runs.{Moment, IsRun, now, first_moments, came};
 ghost use Rattle.step_laws.specs.Made.{WasMade};
+ghost use Rattle.step_laws.specs.Own.{own_blocks};
 ghost use Rattle.step_laws.specs.Gave.{WasFetched, WasAsked, WasOpened};
 ghost use Rattle.step_laws.specs.Whole.{PutIsWhole, RepairIsWhole, AuditIsWhole};
 
@@ -24,13 +28,13 @@ pub fn setups_stay()
 {}
 
 /// Each action before the place of a running job it made at a moment since its begin, and went on; also each action before the place of
-/// the job that wrote a record in doubt, whether it runs on or has ended.
+/// the move by which a job put a record in doubt, whether it runs on or has ended.
 pub fn passed_actions_were_made()
     ensures running { (limit : ℕ) (start : State) (ms : List Moment) (number : ℕ) (job : Job) (place : ℕ) (action : Action) →
         IsStart start → IsRun limit start ms → job_of (now start ms).jobs number ≡ Some job → place < job.place →
         slice_get (actions_of (setup_in (now start ms)) job) place ≡ Some action → WasMade start ms job action }
     ensures in_doubt { (limit : ℕ) (start : State) (ms : List Moment) (d : Doubt) (job : Job) (place : ℕ) (action : Action) →
-        IsStart start → IsRun limit start ms → (now start ms).doubt ≡ Some d → d.maker ≡ Some job → place < job.place →
+        IsStart start → IsRun limit start ms → (now start ms).doubt ≡ Some d → d.maker ≡ Some job → suc place < job.place →
         slice_get (actions_of (setup_in (now start ms)) job) place ≡ Some action → WasMade start ms job action }
 {}
 
@@ -48,7 +52,11 @@ pub fn given_things_were_made()
 /// At the work of a running job on a stripe, and after it, each of the n providers was asked for its block of the stripe: what the job
 /// was given of each it was given by a fetch that it made since its begin.
 pub fn work_has_its_fetches()
-    ensures { (limit : ℕ) (start : State) (ms : List Moment) (number : ℕ) (job : Job) (place j object stripe : ℕ) → IsStart start →
+    ensures given { (limit : ℕ) (start : State) (ms : List Moment) (number : ℕ) (job : Job) (place j object stripe : ℕ) → IsStart start →
+        IsRun limit start ms → job_of (now start ms).jobs number ≡ Some job → place ≤ job.place →
+        slice_get (actions_of (setup_in (now start ms)) job) place ≡ Some (Work object stripe) → j < (setup_in (now start ms)).n →
+        Contains job.given (Fetched j object stripe (block_given job.given object stripe j)) }
+    ensures fetched { (limit : ℕ) (start : State) (ms : List Moment) (number : ℕ) (job : Job) (place j object stripe : ℕ) → IsStart start →
         IsRun limit start ms → job_of (now start ms).jobs number ≡ Some job → place ≤ job.place →
         slice_get (actions_of (setup_in (now start ms)) job) place ≡ Some (Work object stripe) → j < (setup_in (now start ms)).n →
         WasFetched start ms job j object stripe (block_given job.given object stripe j) }
@@ -115,8 +123,8 @@ pub fn done_repairs_are_whole()
 /// The same of an audit: it made each of its asks, and its record has its sums over what it was given.
 pub fn done_audits_are_whole()
     ensures in_flight { (limit : ℕ) (start : State) (ms : List Moment) (a : Append) (id undecided : ℕ) (counts : List ℕ) →
-        IsStart start → IsRun limit start ms → (now start ms).append ≡ Some a → a.entry ≡ AuditDone id undecided counts →
-        (job : Job) × (job_of (now start ms).jobs a.job ≡ Some job) × AuditIsWhole start ms job id undecided counts }
+        (job : Job) → IsStart start → IsRun limit start ms → (now start ms).append ≡ Some a → a.entry ≡ AuditDone id undecided counts →
+        job_of (now start ms).jobs a.job ≡ Some job → AuditIsWhole start ms job id undecided counts }
     ensures in_doubt { (limit : ℕ) (start : State) (ms : List Moment) (d : Doubt) (id undecided : ℕ) (counts : List ℕ) →
         IsStart start → IsRun limit start ms → (now start ms).doubt ≡ Some d → d.entry ≡ AuditDone id undecided counts →
         (job : Job) × (d.maker ≡ Some job) × AuditIsWhole start ms job id undecided counts }
@@ -139,4 +147,10 @@ pub fn steps_left_fall()
         most_left (setup_in m.state) job ≡ most_left (setup_in (now start ms)) before }
     ensures some { (limit : ℕ) (start : State) (ms : List Moment) (number : ℕ) (job : Job) → IsStart start → IsRun limit start ms →
         job_of (now start ms).jobs number ≡ Some job → 1 ≤ most_left (setup_in (now start ms)) job }
+{}
+
+/// The own blocks of all providers of a stripe open to the file's symbols of the stripe, in each profile and each shape.
+pub fn own_blocks_give_symbols()
+    ensures { (o : Object) (bytes : List ℕ) (number stripe : ℕ) → o.profile ≡ profile_of number →
+        IsShape o.shape.n o.shape.l o.shape.b → GivesSymbols o stripe (own_blocks o bytes stripe) (symbols_in o bytes stripe) }
 {}

@@ -1,6 +1,5 @@
-use Rattle.step_laws.proofs.MadeFacts.{made_work_gave}
-use Rattle.step_laws.proofs.Passing.{list_now}
+use Rattle.step_laws.proofs.Doubts.{setups_stay}
 use Rattle.step_laws.proofs.laws.setups_stay.Goals as goal
 
 pub returns : goal.returns
-returns c = ?
+returns c = setups_stay

@@ -1,4 +1,3 @@
-use Rattle.std.proofs.Common.{arith}
 use Rattle.hail_machine.specs.Jobs.{Worked}
 use Rattle.hail_machine.specs.Actions.{Work}
 use Rattle.hail_machine.specs.Given.{symbols_given}
