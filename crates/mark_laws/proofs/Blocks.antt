@@ -1,23 +1,22 @@
 -- Lemmas on wrong blocks, on replacements and on what records fold to.
-use Rattle.std.proofs.Common.{◌≡◌, ℕ, suc, zero, ◌+◌, ◌≤◌, ◌<◌, ◌==◌, Bool, true, false, cond, not, ◌⊎◌, ◌&&◌, ◌||◌, List, [], ◌∷◌, length, Option, Some, None, refl, ap, sym, subst, ◌∙◌, inl, inr, arith}
-use Rattle.std.specs.Prelude.{nat_le, nat_lt, is_some, slice_index}
-use Rattle.std.specs.List.{list_any}
+use Rattle.std.proofs.Common.{◌≡◌, ℕ, suc, zero, ◌≤◌, ◌<◌, ◌==◌, true, false, ◌⊎◌, ◌&&◌, List, [], ◌∷◌, length, Option, Some, None, refl, ap, sym, subst, ◌∙◌, inl, inr, arith}
+use Rattle.std.specs.Prelude.{nat_le, nat_lt, is_some}
 use Rattle.std.specs.Option.{option_map}
 use Rattle.std.proofs.lemmas.Bool.{cases_Bool, and_parts, and_from, or_cases, or_left, or_right, leb-true, le-leb, le-ltb, eq-eqb, false≢true}
 use Rattle.hail_codes.proofs.Codewords.{differences-same}
 use Rattle.hail_columns.specs.Objects.{Object, stripes}
-use Rattle.hail_columns.specs.Columns.{columns, is_wrong, is_wrong_block}
+use Rattle.hail_columns.specs.Columns.{columns, is_wrong_block}
 use Rattle.hail_columns.specs.Verdicts.{is_flagged, flags_some}
 use Rattle.hail_columns.proofs.ColumnLaws.{length-column_of_symbols}
 use Rattle.hail_columns.proofs.ForgeryLaws.{wrong-block}
 use Rattle.hail_records.specs.Records.{Record, Setup, SetUp, PutStart, PutDone, Drop, AuditStart, AuditDone, RepairDone}
 use Rattle.hail_records.specs.Table.{File, Due, setup_of, started_as, is_start_of, is_same_name, file_of, due_of, exceeds}
 use Rattle.hail_devices.specs.Providers.{Held, sized}
-use Rattle.hail_machine.specs.States.{State, setup_in, object_in}
+use Rattle.hail_machine.specs.States.{State, AreFirst, object_in}
 use Rattle.hail_machine.specs.Runs.{Moment, is_replacement, is_replaced_since}
 use Rattle.hail_machine.specs.Missed.{is_wrong_told, is_wrong_now}
 use Rattle.hail_machine.specs.Deeds.{told_block}
-use Rattle.hail_machine.proofs.JobLists.{cond_true, cond_false, same_value}
+use Rattle.hail_machine.proofs.JobLists.{cond_true, cond_false}
 use Rattle.mark_laws.specs.Damage.{IsBad, IsReplaced}
 
 pub clash : {X : Type 0} (o : Option X) (x : X) → o ≡ Some x → o ≡ None → ⊥
@@ -134,3 +133,12 @@ pub none_flagged : (tolerance : ℕ) (counts : List ℕ) (j : ℕ) → flags_som
 none_flagged tolerance [] j h = le-ltb tolerance 0 (omega arith)
 none_flagged tolerance (c ∷ cs) zero h = elim (cases_Bool (nat_lt tolerance c)) [ inl t ↦ absurd (false≢true (sym h ∙ or_left (nat_lt tolerance c) (flags_some tolerance cs) t)) | inr f ↦ f ]
 none_flagged tolerance (c ∷ cs) (suc j) h = none_flagged tolerance cs j (elim (cases_Bool (flags_some tolerance cs)) [ inl t ↦ absurd (false≢true (sym h ∙ or_right (nat_lt tolerance c) (flags_some tolerance cs) t)) | inr f ↦ f ])
+
+-- before the first event no file is in effect and nothing is due
+pub no_first_file : (rs : List Record) (q : List ℕ) (f : File) → AreFirst rs → file_of rs q ≡ Some f → ⊥
+no_first_file rs q f (inl e) h = (let g : None ≡ Some f = ap (λ l. file_of l q) (sym e) ∙ h in cc)
+no_first_file rs q f (inr p) h = (let g : None ≡ Some f = ap (λ l. file_of l q) (sym p.2) ∙ h in cc)
+
+pub no_first_due : (rs : List Record) (u : Due) → AreFirst rs → due_of rs ≡ Some u → ⊥
+no_first_due rs u (inl e) h = (let g : None ≡ Some u = ap due_of (sym e) ∙ h in cc)
+no_first_due rs u (inr p) h = (let g : None ≡ Some u = ap due_of (sym p.2) ∙ h in cc)

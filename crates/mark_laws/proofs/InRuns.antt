@@ -1,32 +1,32 @@
 -- What holds in runs that are calm, for the laws.
-use Rattle.std.proofs.Common.{◌≡◌, ℕ, zero, suc, ◌+◌, ◌<◌, ◌≤◌, Bool, true, false, ◌⊎◌, List, [], ◌∷◌, length, Option, Some, None, refl, ap, sym, subst, ◌∙◌, inl, inr, arith}
-use Rattle.std.specs.Prelude.{cond}
+use Rattle.std.proofs.Common.{◌≡◌, ℕ, zero, suc, ◌+◌, ◌<◌, Bool, true, false, ◌⊎◌, List, ◌∷◌, length, Option, Some, None, refl, ap, inl, inr, arith}
 use Rattle.std.specs.List.{list_any, range_with_len}
 use Rattle.std.specs.Option.{option_map}
-use Rattle.std.proofs.lemmas.Bool.{cases_Bool, or_cases, false≢true}
+use Rattle.std.proofs.lemmas.Bool.{or_cases, false≢true}
 use Rattle.hail_columns.specs.Objects.{Object, stripes}
-use Rattle.hail_columns.specs.Columns.{is_wrong, is_wrong_block}
-use Rattle.hail_records.specs.Records.{Record, SetUp, PutDone}
+use Rattle.hail_columns.specs.Columns.{columns, is_wrong, is_wrong_block}
+use Rattle.hail_records.specs.Records.{PutDone}
 use Rattle.hail_records.specs.Table.{File}
 use Rattle.hail_devices.specs.Providers.{Held}
-use Rattle.hail_machine.specs.States.{State, Doubt, setup_in, object_in, file_in}
-use Rattle.hail_machine.specs.Runs.{Moment, IsRun, now, came}
+use Rattle.hail_machine.specs.States.{State, Doubt, IsStart, setup_in, object_in, file_in}
+use Rattle.hail_machine.specs.Runs.{Moment, IsRun, now, is_replaced_since, came}
 use Rattle.hail_machine.specs.Calm.{Mark, since}
 use Rattle.hail_machine.specs.Missed.{is_wrong_told, is_wrong_now}
 use Rattle.hail_machine.specs.Halves.{begun_of}
+use Rattle.hail_machine.specs.Deeds.{told_block}
 use Rattle.hail_machine.proofs.Numbers.{audits}
 use Rattle.hail_machine.proofs.Numbers as num
-use Rattle.hail_machine.proofs.PinFacts.{setup_same}
 use Rattle.hail_machine.proofs.Events.{changes}
 use Rattle.hail_machine.proofs.Held.{all}
 use Rattle.run_laws.proofs.InEffect as eff
 use Rattle.mark_laws.specs.Damage.{IsBad, IsReplaced}
-use Rattle.mark_laws.specs.Marks.{Never, IsMark}
-use Rattle.mark_laws.specs.MarkedRuns.{AreMarks, IsMarkedRun, IsCalmRun}
+use Rattle.mark_laws.specs.Marks.{Never, IsClear, IsMark}
+use Rattle.mark_laws.specs.MarkedRuns.{IsMarkedRun, IsCalmRun}
 use Rattle.mark_laws.proofs.Turns.{turns}
-use Rattle.mark_laws.proofs.Blocks.{setup_left}
 use Rattle.mark_laws.proofs.Points as pt
-use Rattle.mark_laws.proofs.Points.{Facts, Audited}
+use Rattle.mark_laws.proofs.EveryRun as ev
+use Rattle.mark_laws.proofs.EveryRun.{always}
+use Rattle.mark_laws.proofs.Points.{Facts}
 use Rattle.mark_laws.proofs.SecondHalf.{Both, both, marked_facts, are_marks}
 
 pub in_run : (limit : ℕ) (mark : Mark) (start : State) (ms : List Moment) → IsMarkedRun limit mark start ms → Facts mark start ms
@@ -57,30 +57,32 @@ wrong_bad w f j h = by_told (w.providers j).held refl h
     by_told None is e = absurd (false≢true e)
     by_told (Some held) is e = (let q = wrong_stripe (object_in w f.id) (w.bytes f.id) j (held f.id) e in (q.0, q.1, (held f.id q.0, ap (option_map (λ (y : Held). y f.id q.0)) is, q.2)))
 
--- where a moment clears files, a provider that is wrong for one was replaced since, or is exempt at some stripe
-pub clears : (start : State) (ms : List Moment) (from : ℕ) (Ex : ℕ → ℕ → ℕ → Type 0) (E : Type 0) → IsMark start ms from Ex → (name : List ℕ) (file : File) (j : ℕ) → file_in (now start ms) name ≡ Some file →
+-- where files are clear since a moment, a provider that is wrong for one was replaced since, or is exempt at some stripe
+pub clears : (start : State) (ms : List Moment) (from : ℕ) (Ex : ℕ → ℕ → ℕ → Type 0) (E : Type 0) → IsClear start ms from Ex → (name : List ℕ) (file : File) (j : ℕ) → file_in (now start ms) name ≡ Some file →
     j < (setup_in (now start ms)).n → is_wrong_now (now start ms) file j ≡ true → ((s : ℕ) → Ex j file.id s → E) → IsReplaced from j ms ⊎ E
-clears start ms from Ex E P name file j h l wrong out = (let q = wrong_bad (now start ms) file j wrong in
-    elim (P.clear name file j q.0 h l q.1 q.2) [ inl r ↦ inl r | inr x ↦ inr (out q.0 x) ])
+clears start ms from Ex E clear name file j h l wrong out = (let q = wrong_bad (now start ms) file j wrong in
+    elim (clear name file j q.0 h l q.1 q.2) [ inl r ↦ inl r | inr x ↦ inr (out q.0 x) ])
 
-pub clears_all : (start : State) (ms : List Moment) (from : ℕ) → IsMark start ms from Never → (name : List ℕ) (file : File) (j : ℕ) → file_in (now start ms) name ≡ Some file →
+pub clears_all : (start : State) (ms : List Moment) (from : ℕ) → IsClear start ms from Never → (name : List ℕ) (file : File) (j : ℕ) → file_in (now start ms) name ≡ Some file →
     j < (setup_in (now start ms)).n → is_wrong_now (now start ms) file j ≡ true → IsReplaced from j ms
-clears_all start ms from P name file j h l wrong = elim (clears start ms from Never ⊥ P name file j h l wrong (λ s x. x)) [ inl r ↦ r | inr x ↦ absurd x ]
+clears_all start ms from clear name file j h l wrong = elim (clears start ms from Never ⊥ clear name file j h l wrong (λ s x. x)) [ inl r ↦ r | inr x ↦ absurd x ]
 
-module _ (limit : ℕ) (mark : Mark) (start : State) (m : Moment) (ms : List Moment) (h : IsMarkedRun limit mark start ms) (run : IsRun limit start (m ∷ ms)) where
-  pub stays : (from : ℕ) → IsMark start ms from Never → IsMark start (m ∷ ms) from Never
-  stays from P = (let A = all limit start h.clean ms run.2 in
-      pt.point_on limit mark start m ms h.clean run.2 A (eff.facts limit start ms h.clean run.2) (in_run limit mark start ms h)
-      (changes limit (length ms) (now start ms) m.event m.outcome m.state A.numbers.idle run.1) (turns (now start ms) limit (length ms) m.event m.outcome m.state run.1) from Never Never P
-      (λ q f i s stood h2 setup l b bad x. absurd x))
+-- a mark stays one
+pub mark_stays : (limit : ℕ) (mark : Mark) (start : State) (m : Moment) (ms : List Moment) → IsMarkedRun limit mark start ms → IsRun limit start (m ∷ ms) → (from : ℕ) → IsMark start ms from → IsMark start (m ∷ ms) from
+mark_stays limit mark start m ms h run from P = (let A = all limit start h.clean ms run.2 in
+    pt.mark_on limit mark start m ms h.clean run.2 A (num.facts audits limit start h.clean ms run.2) (eff.facts limit start ms h.clean run.2) (always limit start h.clean ms run.2) (in_run limit mark start ms h)
+    (changes limit (length ms) (now start ms) m.event m.outcome m.state A.numbers.idle run.1) (turns (now start ms) limit (length ms) m.event m.outcome m.state run.1) from P)
 
-  pub came_right : (id size : ℕ) → came (now start ms) m.state ≡ Some (PutDone id size) →
-      (d : Doubt) × ((now start ms).doubt ≡ Some d) × (d.entry ≡ PutDone id size) × ((j stripe : ℕ) → j < (setup_in m.state).n →
-      stripe < stripes (object_in m.state id) (length (m.state.bytes id)) → IsBad m.state id j stripe → IsReplaced (begun_of d.maker) j (m ∷ ms))
-  came_right id size e = (let A = all limit start h.clean ms run.2 in
-      let I = eff.facts limit start ms h.clean run.2 in
-      let F = in_run limit mark start ms h in
-      let X = changes limit (length ms) (now start ms) m.event m.outcome m.state A.numbers.idle run.1 in
-      let T = turns (now start ms) limit (length ms) m.event m.outcome m.state run.1 in
-      let c = pt.put_came limit mark start m ms h.clean run.2 A I F X T id size e in
-      (c.doubt, c.at, c.entry, λ j stripe l b bad. pt.put_bad limit mark start m ms h.clean run.2 A I F X T c.doubt id size j stripe c.at c.entry c.setup l b bad))
+-- where a put's end comes into effect
+pub came_columns : (limit : ℕ) (start : State) (m : Moment) (ms : List Moment) (id size : ℕ) → IsStart start → IsRun limit start (m ∷ ms) → came (now start ms) m.state ≡ Some (PutDone id size) →
+    (d : Doubt) × ((now start ms).doubt ≡ Some d) × (d.entry ≡ PutDone id size) × ((j stripe : ℕ) (block : Option (List ℕ)) → j < (setup_in m.state).n →
+    stripe < stripes (object_in m.state id) (length (m.state.bytes id)) → is_replaced_since (begun_of d.maker) j (m ∷ ms) ≡ false →
+    told_block m.state j id stripe ≡ Some block → block ≡ Some (columns (object_in m.state id) (m.state.bytes id) j stripe))
+came_columns limit start m ms id size clean run e = (let A = all limit start clean ms run.2 in
+    let U = num.facts audits limit start clean ms run.2 in
+    let I = eff.facts limit start ms clean run.2 in
+    let E = always limit start clean ms run.2 in
+    let X = changes limit (length ms) (now start ms) m.event m.outcome m.state A.numbers.idle run.1 in
+    let T = turns (now start ms) limit (length ms) m.event m.outcome m.state run.1 in
+    let c = ev.put_came limit start m ms A U I E X T id size e in
+    (c.doubt, c.at, c.entry, λ j stripe block l b none told. ev.put_right limit start m ms A U I E X T c.doubt id size j stripe block c.at c.entry c.setup l b none told))

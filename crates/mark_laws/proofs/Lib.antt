@@ -2,6 +2,7 @@ pub mod Turns
 pub mod Blocks
 pub mod Places
 pub mod Files
+pub mod EveryRun
 pub mod Points
 pub mod Audits
 pub mod Readers

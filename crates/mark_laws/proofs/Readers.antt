@@ -1,5 +1,5 @@
 -- What gets and repairs read, in a calm run in which no audit missed damage.
-use Rattle.std.proofs.Common.{◌≡◌, ℕ, zero, suc, ◌+◌, ◌-◌, ◌≤◌, ◌<◌, ◌==◌, Bool, true, false, cond, ◌⊎◌, ◌&&◌, List, [], ◌∷◌, ◌++◌, length, Option, Some, None, refl, ap, sym, subst, ◌∙◌, inl, inr, arith}
+use Rattle.std.proofs.Common.{◌≡◌, ℕ, suc, ◌+◌, ◌≤◌, ◌<◌, ◌==◌, true, false, ◌⊎◌, ◌&&◌, List, [], ◌∷◌, length, Option, Some, None, refl, ap, sym, subst, ◌∙◌, inl, inr, arith}
 use Rattle.std.specs.Prelude.{IsTrue, IsSome, is_some, slice_get, option_and_then}
 use Rattle.std.specs.Option.{option_map}
 use Rattle.std.proofs.lemmas.Bool.{cases_Bool, cases_lt, and_parts, eqb-true, false≢true}
@@ -11,18 +11,17 @@ use Rattle.hail_columns.specs.Opened.{GivesSymbols, block_at}
 use Rattle.hail_columns.specs.Forgeries.{count_of}
 use Rattle.column_laws.proofs.Counts.{count_of-within}
 use Rattle.hail_records.specs.Records.{Setup}
-use Rattle.hail_records.specs.Table.{File, setup_of, next_id}
+use Rattle.hail_records.specs.Table.{setup_of, next_id}
 use Rattle.hail_devices.specs.Faults.{Rose, last_count}
-use Rattle.hail_devices.specs.Providers.{Held, sized}
-use Rattle.hail_devices.specs.ProviderCalls.{FetchGives, FailsToGive}
+use Rattle.hail_devices.specs.Providers.{Held}
+use Rattle.hail_devices.specs.ProviderCalls.{FetchGives}
 use Rattle.hail_machine.specs.Jobs.{Kind, RepairJob, Pinned, Given, Fetched, Answered, Worked, Job, job_of}
 use Rattle.hail_machine.specs.Actions.{Action, WriteBody, SyncGate, Store, Work, Remove, actions_by, actions_of}
 use Rattle.hail_machine.specs.Setups.{setup_or_none, object_of, stripes_of}
-use Rattle.hail_machine.specs.States.{State, IsStart, setup_in, object_in, file_in}
-use Rattle.hail_machine.specs.Begins.{pinned_file}
+use Rattle.hail_machine.specs.States.{State, IsStart, setup_in, object_in}
 use Rattle.hail_machine.specs.Given.{block_given, blocks_given}
 use Rattle.hail_machine.specs.Steps.{next_action, block_to_store}
-use Rattle.hail_machine.specs.Runs.{Moment, now, first_moments, is_replacement, is_replaced_since, IsRun}
+use Rattle.hail_machine.specs.Runs.{Moment, now, first_moments, is_replaced_since, IsRun}
 use Rattle.hail_machine.specs.Calm.{Mark, relies, replaced_count}
 use Rattle.hail_machine.specs.Halves.{AllTell}
 use Rattle.hail_machine.proofs.JobLists.{cond_true, cond_false, same_value, number_of}
@@ -30,9 +29,11 @@ use Rattle.hail_machine.proofs.Changes.{Gave, Job_is, Block_is, Changes}
 use Rattle.hail_machine.specs.Deeds.{told_block, HasMadeStore}
 use Rattle.hail_machine.proofs.ActionLists.{each_get}
 use Rattle.hail_machine.proofs.Events.{some_told}
+use Rattle.hail_machine.proofs.Numbers.{audits}
+use Rattle.hail_machine.proofs.Numbers as num
 use Rattle.hail_machine.proofs.RecordFacts.{In}
 use Rattle.hail_machine.proofs.Fair.{HasPin, IsFair, fair, is_fair}
-use Rattle.hail_machine.proofs.Pins.{Stands, pinned_stands}
+use Rattle.hail_machine.proofs.Pins.{pinned_stands}
 use Rattle.hail_machine.proofs.PinFacts.{Pins_is, pins_is}
 use Rattle.hail_machine.proofs.Held.{All, first_more, first_all}
 use Rattle.run_laws.proofs.InEffect.{valid_shape}
@@ -45,8 +46,10 @@ use Rattle.step_laws.proofs.Lists.{get_map_upto}
 use Rattle.step_laws.proofs.Places.{by_kind}
 use Rattle.mark_laws.specs.Damage.{IsBad, IsReplaced, RoseSince}
 use Rattle.mark_laws.proofs.Turns.{IsSame, IsFound, Gift_is, Turns}
-use Rattle.mark_laws.proofs.Blocks.{clash, since_more, since_now, sized_wrong}
+use Rattle.mark_laws.proofs.Blocks.{since_more, since_now, sized_wrong}
 use Rattle.mark_laws.proofs.Places.{work_within, next_repairs, same_actions}
+use Rattle.mark_laws.proofs.EveryRun as ev
+use Rattle.mark_laws.proofs.EveryRun.{Always, remove_kinds}
 use Rattle.mark_laws.proofs.Points as pt
 use Rattle.mark_laws.proofs.Points.{Facts, begin_of, mark_of}
 
@@ -87,7 +90,8 @@ shape_in w valid up = go (setup_of w.records) valid up
     go None f h = absurd (false≢true h)
     go (Some s) f h = f s refl
 
-module _ (limit : ℕ) (mark : Mark) (start : State) (m : Moment) (ms : List Moment) (clean : IsStart start) (run : IsRun limit start ms) (A : All start ms) (I : eff.Facts (now start ms)) (F : Facts mark start ms)
+module _ (limit : ℕ) (mark : Mark) (start : State) (m : Moment) (ms : List Moment) (clean : IsStart start) (run : IsRun limit start ms) (A : All start ms) (U : num.Facts audits start ms) (I : eff.Facts (now start ms))
+    (E : Always start ms) (F : Facts mark start ms)
     (X : Changes limit (length ms) (now start ms) m.event m.outcome m.state) (T : Turns (now start ms) m.state) (O : AllOnward (now start ms) m.state) (tell : AllTell (now start ms))
     (calm : (k : ℕ) (j : Job) → job_of (now start ms).jobs k ≡ Some j → IsTrue (relies j.kind) → replaced_count (now start ms) (mark_of mark ms j) ms ≤ (setup_in (now start ms)).b) where
   -- ---- the mark and the state at the begin of a job
@@ -98,20 +102,10 @@ module _ (limit : ℕ) (mark : Mark) (start : State) (m : Moment) (ms : List Mom
   first_new : (j : Job) → j.begun ≡ length ms → first_moments j.begun (m ∷ ms) ≡ ms
   first_new j begun = ap (λ n. first_moments n (m ∷ ms)) begun ∙ (first_more (length ms) m ms (omega arith) ∙ first_all ms)
 
-  pub pinned_step : (k : ℕ) (j : Job) (f : Pinned) → job_of m.state.jobs k ≡ Some j → In f j.pinned → f.bytes ≡ m.state.bytes f.id
-  pinned_step k j f h in_f = elim (pins_is limit start m ms A.numbers A.pins X k j h) [
-    | Pins_is.had x runs pinned kind begun g ↦ (let in_x = subst (In f) pinned in_f in F.pinned k x f runs in_x ∙ sym (X.bytes f.id (A.pins.pins k x f runs in_x).0))
-    | Pins_is.new_one kd is k_is allowed rec ↦
-        (let st = pinned_stands (now start ms) kd f (subst (λ (x : Job). In f x.pinned) is in_f) in
-        let id_is : f.id ≡ st.file.id = ap (λ (x : Pinned). x.id) st.is in
-        ap (λ (x : Pinned). x.bytes) st.is ∙ (ap (now start ms).bytes (sym id_is)
-        ∙ sym (X.bytes f.id (let l = pt.file_below limit mark start m ms clean run A I F X T st.name st.file st.in_effect in omega arith))))
-  ]
-
   pub marked_step : (k : ℕ) (j : Job) → job_of m.state.jobs k ≡ Some j → mark_of mark (m ∷ ms) j ≤ suc (length ms)
   marked_step k j h = elim (pins_is limit start m ms A.numbers A.pins X k j h) [
     | Pins_is.had x runs pinned kind begun g ↦ (let e = ap mark (first_had j x begun (A.held.begun k x runs)) in let l = F.marked k x runs in omega arith)
-    | Pins_is.new_one kd is k_is allowed rec ↦ (let e = ap mark (first_new j (ap (λ (x : Job). x.begun) is)) in let l = F.moment.early in omega arith)
+    | Pins_is.new_one kd is k_is allowed rec ↦ (let e = ap mark (first_new j (ap (λ (x : Job). x.begun) is)) in let l = F.moment.before.early in omega arith)
   ]
 
   pub reads_step : (k : ℕ) (j : Job) (f : Pinned) (i s : ℕ) → job_of m.state.jobs k ≡ Some j → In f j.pinned → i < (setup_in m.state).n →
@@ -120,29 +114,29 @@ module _ (limit : ℕ) (mark : Mark) (start : State) (m : Moment) (ms : List Mom
     | Pins_is.had x runs pinned kind begun g ↦
         (let in_x = subst (In f) pinned in_f in
         let below = (A.pins.pins k x f runs in_x).0 in
-        let n = pt.bounds limit mark start m ms clean run A I F X T f.id i s setup below l b in
+        let n = ev.bounds limit start m ms A U I E X T f.id i s setup below l b in
         subst (λ z. IsReplaced z i (m ∷ ms)) (sym (ap mark (first_had j x begun (A.held.begun k x runs))))
-        (elim (pt.bad_before limit mark start m ms clean run A I F X T f.id i s setup below (λ y runs_y o. A.pins.older_free y.number k y x f.id f runs_y o runs in_x refl) bad) [
+        (elim (pt.bad_before limit mark start m ms clean run A U I E F X T f.id i s setup below (λ y runs_y o. A.pins.older_free y.number k y x f.id f runs_y o runs in_x refl) bad) [
           | inl old ↦ since_more (mark_of mark ms x) i m ms (F.reads k x f i s runs in_x n.0 n.1 old)
           | inr r ↦ since_now (mark_of mark ms x) i m ms r (F.marked k x runs)
         ]))
     | Pins_is.new_one kd is k_is allowed rec ↦
         (let st = pinned_stands (now start ms) kd f (subst (λ (x : Job). In f x.pinned) is in_f) in
         let id_is : f.id ≡ st.file.id = ap (λ (x : Pinned). x.id) st.is in
-        let below : f.id < next_id (now start ms).records = (let z = pt.file_below limit mark start m ms clean run A I F X T st.name st.file st.in_effect in omega arith) in
-        let n = pt.bounds limit mark start m ms clean run A I F X T f.id i s setup below l b in
+        let below : f.id < next_id (now start ms).records = (let z = ev.file_below limit start m ms A U I E X T st.name st.file st.in_effect in omega arith) in
+        let n = ev.bounds limit start m ms A U I E X T f.id i s setup below l b in
         subst (λ z. IsReplaced z i (m ∷ ms)) (sym (ap mark (first_new j (ap (λ (x : Job). x.begun) is))))
-        (elim (pt.bad_before limit mark start m ms clean run A I F X T f.id i s setup below (λ y runs_y o. A.pins.older_out y.number y f.id st.name st.file runs_y o st.in_effect (sym id_is)) bad) [
+        (elim (pt.bad_before limit mark start m ms clean run A U I E F X T f.id i s setup below (λ y runs_y o. A.pins.older_out y.number y f.id st.name st.file runs_y o st.in_effect (sym id_is)) bad) [
           | inl old ↦ elim (F.moment.clear st.name st.file i s st.in_effect n.0 (subst (λ o. s < stripes_of (setup_in (now start ms)) (length ((now start ms).bytes o))) id_is n.1) (subst (λ o. IsBad (now start ms) o i s) id_is old)) [
             | inl r ↦ since_more (mark ms) i m ms r
             | inr never ↦ absurd never
           ]
-          | inr r ↦ since_now (mark ms) i m ms r F.moment.early
+          | inr r ↦ since_now (mark ms) i m ms r F.moment.before.early
         ]))
   ]
     where
       setup : setup_in m.state ≡ setup_in (now start ms)
-      setup = pt.setup_job limit mark start m ms clean run A I F X T k j h
+      setup = ev.setup_job limit start m ms A U I E X T k j h
 
   pub counts_step : (k : ℕ) (j : Job) (i : ℕ) → job_of m.state.jobs k ≡ Some j → ((begin_of start (m ∷ ms) j).providers i).other_faults ≤ (m.state.providers i).other_faults
   counts_step k j i h = elim (pins_is limit start m ms A.numbers A.pins X k j h) [
@@ -176,9 +170,11 @@ module _ (limit : ℕ) (mark : Mark) (start : State) (m : Moment) (ms : List Mom
     where
       by_told : (held : Option Held) → ((now start ms).providers i).held ≡ held → IsSome held → FetchGives (object_in (now start ms) f.id).profile.size f.id s held block → Excused (m ∷ ms) j i block
       by_told None is some gives = absurd (false≢true some)
-      by_told (Some held) is some gives = excused_on k x j i block runs begun (inl (F.reads k x f i s runs in_x l b
-          (held f.id s, ap (option_map (λ (y : Held). y f.id s)) is,
-          sized_wrong (object_in (now start ms) f.id) ((now start ms).bytes f.id) i s (held f.id s) (subst (λ y. is_wrong_block (object_in (now start ms) f.id) ((now start ms).bytes f.id) i s y ≡ true) gives wrong))))
+      by_told (Some held) is some gives = excused_on k x j i block runs begun (inl (F.reads k x f i s runs in_x l b (
+        held f.id s,
+        ap (option_map (λ (y : Held). y f.id s)) is,
+        sized_wrong (object_in (now start ms) f.id) ((now start ms).bytes f.id) i s (held f.id s) (subst (λ y. is_wrong_block (object_in (now start ms) f.id) ((now start ms).bytes f.id) i s y ≡ true) gives wrong),
+      )))
 
   pub gave_step : (k : ℕ) (j : Job) (f : Pinned) (i s : ℕ) (block : Option (List ℕ)) → job_of m.state.jobs k ≡ Some j → In f j.pinned → i < (setup_in m.state).n →
       s < stripes_of (setup_in m.state) (length (m.state.bytes f.id)) → In (Fetched i f.id s block) j.given →
@@ -190,29 +186,29 @@ module _ (limit : ℕ) (mark : Mark) (start : State) (m : Moment) (ms : List Mom
       | inl e ↦
           (let in_x = subst (In f) same.pinned in_f in
           let below = (A.pins.pins k x f runs in_x).0 in
-          let n = pt.bounds limit mark start m ms clean run A I F X T f.id i s setup below l b in
-          fetched_now k x j f i s block runs same.begun in_x n.0 n.1 (pt.wrong_old limit mark start m ms clean run A I F X T f.id i s block setup (X.bytes f.id below) wrong)
+          let n = ev.bounds limit start m ms A U I E X T f.id i s setup below l b in
+          fetched_now k x j f i s block runs same.begun in_x n.0 n.1 (pt.wrong_old limit mark start m ms clean run A U I E F X T f.id i s block setup (X.bytes f.id below) wrong)
           (subst (IsFound (now start ms) m.state x) (sym e) found))
       | inr in_given ↦ before x runs same in_given
     ]
   ]
     where
       setup : setup_in m.state ≡ setup_in (now start ms)
-      setup = pt.setup_job limit mark start m ms clean run A I F X T k j h
+      setup = ev.setup_job limit start m ms A U I E X T k j h
 
       before : (x : Job) → job_of (now start ms).jobs k ≡ Some x → IsSame x j → In (Fetched i f.id s block) x.given → Excused (m ∷ ms) j i block
       before x runs same in_given =
           (let in_x = subst (In f) same.pinned in_f in
           let below = (A.pins.pins k x f runs in_x).0 in
-          let n = pt.bounds limit mark start m ms clean run A I F X T f.id i s setup below l b in
+          let n = ev.bounds limit start m ms A U I E X T f.id i s setup below l b in
           excused_on k x j i block runs same.begun
-          (F.gave k x f i s block runs in_x n.0 n.1 in_given (pt.wrong_old limit mark start m ms clean run A I F X T f.id i s block setup (X.bytes f.id below) wrong)))
+          (F.gave k x f i s block runs in_x n.0 n.1 in_given (pt.wrong_old limit mark start m ms clean run A U I E F X T f.id i s block setup (X.bytes f.id below) wrong)))
 
   -- ---- what the work of a repair gave
 
   -- while a job runs, the setup makes a shape
   runs_shape : (k : ℕ) (j : Job) → job_of (now start ms).jobs k ≡ Some j → IsShape (setup_in (now start ms)).n (setup_in (now start ms)).l (setup_in (now start ms)).b
-  runs_shape k j runs = shape_in (now start ms) (λ s e. valid_shape s (I.setup s e)) (pt.runs_up limit mark start m ms clean run A I F X T k j runs)
+  runs_shape k j runs = shape_in (now start ms) (λ s e. valid_shape s (I.setup s e)) (ev.runs_up limit start m ms A U I E X T k j runs)
 
   few_wrong : (k : ℕ) (x : Job) (f : Pinned) (s : ℕ) → job_of (now start ms).jobs k ≡ Some x → x.kind ≡ RepairJob → In f x.pinned → s < stripes_of (setup_in (now start ms)) (length ((now start ms).bytes f.id)) →
       count_of (λ i. is_wrong_seen (object_in (now start ms) f.id) ((now start ms).bytes f.id) i s (block_at (blocks_given x.given (setup_in (now start ms)).n f.id s) i)) (upto (setup_in (now start ms)).n) ≤ (setup_in (now start ms)).b
@@ -238,9 +234,8 @@ module _ (limit : ℕ) (mark : Mark) (start : State) (m : Moment) (ms : List Mom
     where
       by_file : (f : Pinned) × In f x.pinned × (f.id ≡ o) × (s < stripes_of (setup_in (now start ms)) (length f.bytes)) → (o < next_id (now start ms).records) × (symbols ≡ symbols_in (object_in (now start ms) o) ((now start ms).bytes o) s)
       by_file (f, in_x, id_is, l) =
-          (let b : s < stripes_of (setup_in (now start ms)) (length ((now start ms).bytes f.id)) = subst (λ (y : List ℕ). s < stripes_of (setup_in (now start ms)) (length y)) (F.pinned k x f runs in_x) l in
-          subst (λ n. (n < next_id (now start ms).records) × (symbols ≡ symbols_in (object_in (now start ms) n) ((now start ms).bytes n) s)) id_is
-          (
+          (let b : s < stripes_of (setup_in (now start ms)) (length ((now start ms).bytes f.id)) = subst (λ (y : List ℕ). s < stripes_of (setup_in (now start ms)) (length y)) (E.pinned k x f runs in_x) l in
+          subst (λ n. (n < next_id (now start ms).records) × (symbols ≡ symbols_in (object_in (now start ms) n) ((now start ms).bytes n) s)) id_is (
             (A.pins.pins k x f runs in_x).0,
             own_symbols (object_in (now start ms) f.id) ((now start ms).bytes f.id) (setup_in (now start ms)).profile s (blocks_given x.given (setup_in (now start ms)).n f.id s) symbols refl (runs_shape k x runs) b
                 (few_wrong k x f s runs kind in_x b) (subst (λ n. GivesSymbols (object_in (now start ms) n) s (blocks_given x.given (setup_in (now start ms)).n n s) symbols) (sym id_is) gives),
@@ -257,11 +252,11 @@ module _ (limit : ℕ) (mark : Mark) (start : State) (m : Moment) (ms : List Mom
   ])
     where
       setup : setup_in m.state ≡ setup_in (now start ms)
-      setup = pt.setup_job limit mark start m ms clean run A I F X T k j h
+      setup = ev.setup_job limit start m ms A U I E X T k j h
 
       rows_on : (o < next_id (now start ms).records) × (symbols ≡ symbols_in (object_in (now start ms) o) ((now start ms).bytes o) s) → (o < next_id m.state.records) × (symbols ≡ symbols_in (object_in m.state o) (m.state.bytes o) s)
       rows_on r = (
-        (let g = pt.ids_grow limit mark start m ms clean run A I F X T in let l = r.0 in omega arith),
+        (let g = ev.ids_grow limit start m ms A U I E X T in let l = r.0 in omega arith),
         r.1 ∙ (ap (λ y. symbols_in (object_in (now start ms) o) y s) (sym (X.bytes o r.0)) ∙ ap (λ t. symbols_in (object_of t o) (m.state.bytes o) s) (sym setup)),
       )
 
@@ -304,9 +299,9 @@ module _ (limit : ℕ) (mark : Mark) (start : State) (m : Moment) (ms : List Mom
   carry k x i o s b runs kind made none told = elim (X.block i o s) [
     | Block_is.same e ↦ F.rewrote k x i o s b runs kind made (replaced_less x.begun i none) (sym e ∙ told)
     | Block_is.replaced r ↦ absurd (false≢true (sym none ∙ since_now x.begun i m ms r (A.held.begun k x runs)))
-    | Block_is.stored y runs_y next_y is ↦ pt.stored_column limit mark start m ms clean run A I F X T y i o s b runs_y next_y (some_told (block_to_store (now start ms) y y.kind i o s) ((now start ms).providers i).held b (sym is ∙ told))
+    | Block_is.stored y runs_y next_y is ↦ pt.stored_column limit mark start m ms clean run A U I E F X T y i o s b runs_y next_y (some_told (block_to_store (now start ms) y y.kind i o s) ((now start ms).providers i).held b (sym is ∙ told))
     | Block_is.removed y runs_y next_y ↦ absurd (let p = made_pin x i o s kind made in
-        A.pins.older_free y.number k y x o p.file runs_y (pt.remove_kinds y y.kind i o (is_fair (now start ms) y (Remove i o) next_y)) runs p.pinned p.id_is)
+        A.pins.older_free y.number k y x o p.file runs_y (remove_kinds y y.kind i o (is_fair (now start ms) y (Remove i o) next_y)) runs p.pinned p.id_is)
   ]
 
   pub rewrote_step : (k : ℕ) (j : Job) (i o s : ℕ) (b : Option (List ℕ)) → job_of m.state.jobs k ≡ Some j → j.kind ≡ RepairJob → HasMadeStore (setup_in m.state) j i o s → is_replaced_since j.begun i (m ∷ ms) ≡ false →
@@ -323,7 +318,7 @@ module _ (limit : ℕ) (mark : Mark) (start : State) (m : Moment) (ms : List Mom
   ]
     where
       setup : setup_in m.state ≡ setup_in (now start ms)
-      setup = pt.setup_job limit mark start m ms clean run A I F X T k j h
+      setup = ev.setup_job limit start m ms A U I E X T k j h
 
       at_old : slice_get (actions_of (setup_in (now start ms)) j) made.place ≡ Some (Store i o s)
       at_old = ap (λ t. slice_get (actions_of t j) made.place) (sym setup) ∙ made.action
@@ -346,6 +341,6 @@ module _ (limit : ℕ) (mark : Mark) (start : State) (m : Moment) (ms : List Mom
                 (next_repairs (now start ms) x kx ∙ subst (λ n. slice_get (actions_of (setup_in (now start ms)) x) n ≡ Some (Store i o s)) here at_x) in
                 let next_store : next_action (now start ms) x ≡ Some (Store i o s) = next_is ∙ ap Some act in
                 let pin : HasPin x o = subst (λ kd. IsFair x kd (Store i o s)) kx (is_fair (now start ms) x (Store i o s) next_store) in
-                columns_on k x runs pin (pt.stored_column limit mark start m ms clean run A I F X T x i o s b
+                columns_on k x runs pin (pt.stored_column limit mark start m ms clean run A U I E F X T x i o s b
                 (subst (λ n. job_of (now start ms).jobs n ≡ Some x) (sym (number_of (now start ms).jobs k x runs)) runs) next_store (stores i o s b act told)))
           ])

@@ -1,5 +1,5 @@
 -- The second half of the main theorem.
-use Rattle.std.proofs.Common.{◌≡◌, ℕ, zero, suc, ◌+◌, ◌≤◌, ◌<◌, Bool, true, false, ◌⊎◌, List, [], ◌∷◌, length, Option, Some, None, refl, ap, sym, subst, ◌∙◌, inl, inr, arith}
+use Rattle.std.proofs.Common.{◌≡◌, ℕ, zero, suc, ◌≤◌, ◌<◌, true, ◌⊎◌, List, [], ◌∷◌, length, Option, Some, None, refl, ap, sym, subst, ◌∙◌, inl, inr, arith}
 use Rattle.std.specs.Prelude.{IsTrue}
 use Rattle.std.proofs.lemmas.Bool.{cases_lt}
 use Rattle.hail_codes.specs.Points.{upto}
@@ -7,31 +7,29 @@ use Rattle.hail_columns.specs.Objects.{stripes}
 use Rattle.hail_columns.specs.Columns.{is_wrong_block}
 use Rattle.hail_columns.specs.Forgeries.{count_of}
 use Rattle.column_laws.proofs.Counts.{count_of-within}
-use Rattle.hail_records.specs.Records.{Record, Setup, SetUp}
-use Rattle.hail_records.specs.Table.{File, Due, setup_of, file_of, due_of}
+use Rattle.hail_records.specs.Records.{Setup}
+use Rattle.hail_records.specs.Table.{File}
 use Rattle.hail_devices.specs.Faults.{Rose, last_count}
-use Rattle.hail_machine.specs.Jobs.{Kind, PutJob, GetJob, DropJob, AuditJob, RepairJob, Pinned, Fetched, Job, job_of}
-use Rattle.hail_machine.specs.Actions.{Work, Fetch, End}
+use Rattle.hail_machine.specs.Jobs.{Kind, PutJob, GetJob, DropJob, AuditJob, RepairJob, Pinned, Job, job_of}
+use Rattle.hail_machine.specs.Actions.{Fetch}
 use Rattle.hail_machine.specs.Answers as answer
 use Rattle.hail_machine.specs.Answers.{Answer}
 use Rattle.hail_machine.specs.Events.{Event, Begin, Step, Outcome, Refused, Ended}
 use Rattle.hail_machine.specs.Setups.{object_of, stripes_of}
-use Rattle.hail_machine.specs.States.{State, AreFirst, IsStart, IsLimit, setup_in, object_in, file_in}
+use Rattle.hail_machine.specs.States.{State, IsStart, setup_in, object_in, file_in}
 use Rattle.hail_machine.specs.Begins.{pinned_file}
 use Rattle.hail_machine.specs.Given.{block_given}
-use Rattle.hail_machine.specs.Steps.{next_action}
 use Rattle.hail_machine.specs.Runs.{Moment, now, first_moments, is_replaced_since, came, IsRun}
 use Rattle.hail_machine.specs.Calm.{Mark, relies, replaced_count, since, IsCalm}
 use Rattle.hail_machine.specs.Missed.{MissesNone, NoneMissed}
 use Rattle.hail_machine.specs.Halves.{begun_of, CountRose, GivesOrRose, EndsWell, KeepsSecondHalf, SecondHalf, AllTell, SecondHalfHolds}
 use Rattle.hail_machine.proofs.JobLists.{number_of, found_none}
-use Rattle.hail_machine.proofs.Changes.{Changes}
 use Rattle.hail_machine.proofs.Events.{changes}
 use Rattle.hail_machine.proofs.Numbers.{audits}
 use Rattle.hail_machine.proofs.Numbers as num
 use Rattle.hail_machine.proofs.RecordFacts.{In}
 use Rattle.hail_machine.proofs.PinFacts.{setup_same}
-use Rattle.hail_machine.proofs.Held.{All, all}
+use Rattle.hail_machine.proofs.Held.{all}
 use Rattle.run_laws.proofs.InEffect as eff
 use Rattle.calm_laws.specs.FewWrong.{is_wrong_given, IsFewWrong}
 use Rattle.calm_laws.proofs.GetEnds.{have_files, Get_ends, get_ends, few_give, few_not_lost}
@@ -41,44 +39,33 @@ use Rattle.step_laws.proofs.Places.{fetched_before_work, fetched_before_end}
 use Rattle.step_laws.proofs.MadeFacts.{given_block, made_fetch_gave}
 use Rattle.step_laws.proofs.GetFetches.{ends_at}
 use Rattle.step_laws.specs.Behind.{HasMade}
-use Rattle.mark_laws.specs.Damage.{IsReplaced, RoseSince}
-use Rattle.mark_laws.specs.Marks.{Never, IsMark}
+use Rattle.mark_laws.specs.Damage.{RoseSince}
+use Rattle.mark_laws.specs.Marks.{IsMark}
 use Rattle.mark_laws.specs.MarkedRuns.{AreMarks}
 use Rattle.mark_laws.proofs.Turns.{turns}
-use Rattle.mark_laws.proofs.Blocks.{clash}
+use Rattle.mark_laws.proofs.Blocks.{clash, no_first_file, no_first_due}
 use Rattle.mark_laws.proofs.Places.{read_within}
-use Rattle.mark_laws.proofs.Points as pt
-use Rattle.mark_laws.proofs.Points.{Facts, Audited, begin_of, mark_of}
+use Rattle.mark_laws.proofs.EveryRun.{always}
+use Rattle.mark_laws.proofs.Points.{Facts, begin_of, mark_of}
+use Rattle.mark_laws.proofs.Audits.{Audited}
 use Rattle.mark_laws.proofs.Audits as aud
 use Rattle.mark_laws.proofs.Readers as rd
 
 -- ---- the facts, at each moment
 
-no_first_file : (rs : List Record) (q : List ℕ) (f : File) → AreFirst rs → file_of rs q ≡ Some f → ⊥
-no_first_file rs q f (inl e) h = (let g : None ≡ Some f = ap (λ l. file_of l q) (sym e) ∙ h in cc)
-no_first_file rs q f (inr p) h = (let g : None ≡ Some f = ap (λ l. file_of l q) (sym p.2) ∙ h in cc)
-
-no_first_due : (rs : List Record) (u : Due) → AreFirst rs → due_of rs ≡ Some u → ⊥
-no_first_due rs u (inl e) h = (let g : None ≡ Some u = ap due_of (sym e) ∙ h in cc)
-no_first_due rs u (inr p) h = (let g : None ≡ Some u = ap due_of (sym p.2) ∙ h in cc)
-
-start_moment : (start : State) → IsStart start → IsMark start [] 0 Never
+pub start_moment : (start : State) → IsStart start → IsMark start [] 0
 start_moment start clean = record {
-  early = omega arith;
-  puts = λ k j name bytes h kind. absurd (found_none start.jobs k j clean.jobs h);
-  doubts = λ d id size h e. absurd (clash start.doubt d h clean.doubt);
+  before = record {
+    early = omega arith;
+    puts = λ k j name bytes h kind. absurd (found_none start.jobs k j clean.jobs h);
+    doubts = λ d id size h e. absurd (clash start.doubt d h clean.doubt);
+  };
   clear = λ q f i s h l k bad. absurd (no_first_file start.records q f clean.records h);
 }
 
-pub start_facts : (mark : Mark) (start : State) → IsStart start → IsMark start [] (mark []) Never → Facts mark start []
+start_facts : (mark : Mark) (start : State) → IsStart start → IsMark start [] (mark []) → Facts mark start []
 start_facts mark start clean moment = record {
-  gated = λ a h. absurd (clash start.append a h clean.append);
-  setup_doubt = λ d s h e. absurd (clash start.doubt d h clean.doubt);
-  put_held = λ d id size h e. absurd (clash start.doubt d h clean.doubt);
-  put_doubt = λ d id size i s h e l k bad. absurd (clash start.doubt d h clean.doubt);
-  doubt_runs = λ d id size o b h e. absurd (clash start.doubt d h clean.doubt);
   moment = moment;
-  pinned = λ k j f h in_f. absurd (found_none start.jobs k j clean.jobs h);
   marked = λ k j h. absurd (found_none start.jobs k j clean.jobs h);
   reads = λ k j f i s h in_f l b bad. absurd (found_none start.jobs k j clean.jobs h);
   counts = λ k j i h. absurd (found_none start.jobs k j clean.jobs h);
@@ -89,15 +76,11 @@ start_facts mark start clean moment = record {
 
 start_audited : (start : State) → IsStart start → Audited start []
 start_audited start clean = record {
-  audit_doubt = λ d number u c h e. absurd (clash start.doubt d h clean.doubt);
-  repair_doubt = λ d number h e. absurd (clash start.doubt d h clean.doubt);
-  audit_entry = λ a j number u c h. absurd (clash start.append a h clean.append);
-  repair_entry = λ a j number h. absurd (clash start.append a h clean.append);
-  audit_fresh = λ a j h. absurd (clash start.append a h clean.append);
-  audit_kept = λ k j h kind late. absurd (found_none start.jobs k j clean.jobs h);
   audit = λ k j h kind. absurd (found_none start.jobs k j clean.jobs h);
+  audit_doubt = λ d number u c h e. absurd (clash start.doubt d h clean.doubt);
   due = λ u h. absurd (no_first_due start.records u clean.records h);
   repair = λ k j h kind. absurd (found_none start.jobs k j clean.jobs h);
+  repair_doubt = λ d number h e. absurd (clash start.doubt d h clean.doubt);
 }
 
 -- calm, of a job that runs now
@@ -107,30 +90,26 @@ calm_now mark start clean [] calm k j h reads = absurd (found_none start.jobs k 
 calm_now mark start clean (m ∷ ms) calm k j h reads = calm.0 k j h reads
 
 -- one event more, where the mark is such a moment after it
-pub facts_step : (limit : ℕ) (mark : Mark) (start : State) (m : Moment) (ms : List Moment) → IsStart start → AllTell start → IsRun limit start (m ∷ ms) → IsCalm relies mark ms → Facts mark start ms →
-    IsMark start (m ∷ ms) (mark (m ∷ ms)) Never → Facts mark start (m ∷ ms)
+facts_step : (limit : ℕ) (mark : Mark) (start : State) (m : Moment) (ms : List Moment) → IsStart start → AllTell start → IsRun limit start (m ∷ ms) → IsCalm relies mark ms → Facts mark start ms →
+    IsMark start (m ∷ ms) (mark (m ∷ ms)) → Facts mark start (m ∷ ms)
 facts_step limit mark start m ms clean tell run calm F moment =
     (let A = all limit start clean ms run.2 in
+    let U = num.facts audits limit start clean ms run.2 in
     let I = eff.facts limit start ms clean run.2 in
+    let E = always limit start clean ms run.2 in
     let X = changes limit (length ms) (now start ms) m.event m.outcome m.state A.numbers.idle run.1 in
     let T = turns (now start ms) limit (length ms) m.event m.outcome m.state run.1 in
     let O = run_onward limit start m ms run in
     let told = all_tell limit start ms tell run.2 in
     let quiet = calm_now mark start clean ms calm in
     record {
-      gated = X.gated F.gated;
-      setup_doubt = pt.setup_doubt_step limit mark start m ms clean run.2 A I F X T;
-      put_held = pt.put_held_step limit mark start m ms clean run.2 A I F X T;
-      put_doubt = pt.put_doubt_step limit mark start m ms clean run.2 A I F X T;
-      doubt_runs = pt.doubt_runs_step limit mark start m ms clean run.2 A I F X T;
       moment = moment;
-      pinned = rd.pinned_step limit mark start m ms clean run.2 A I F X T O told quiet;
-      marked = rd.marked_step limit mark start m ms clean run.2 A I F X T O told quiet;
-      reads = rd.reads_step limit mark start m ms clean run.2 A I F X T O told quiet;
-      counts = rd.counts_step limit mark start m ms clean run.2 A I F X T O told quiet;
-      gave = rd.gave_step limit mark start m ms clean run.2 A I F X T O told quiet;
-      rows = rd.rows_step limit mark start m ms clean run.2 A I F X T O told quiet;
-      rewrote = rd.rewrote_step limit mark start m ms clean run.2 A I F X T O told quiet;
+      marked = rd.marked_step limit mark start m ms clean run.2 A U I E F X T O told quiet;
+      reads = rd.reads_step limit mark start m ms clean run.2 A U I E F X T O told quiet;
+      counts = rd.counts_step limit mark start m ms clean run.2 A U I E F X T O told quiet;
+      gave = rd.gave_step limit mark start m ms clean run.2 A U I E F X T O told quiet;
+      rows = rd.rows_step limit mark start m ms clean run.2 A U I E F X T O told quiet;
+      rewrote = rd.rewrote_step limit mark start m ms clean run.2 A U I E F X T O told quiet;
     })
 
 -- in a run that is calm by a mark
@@ -149,11 +128,13 @@ both_step limit start m ms clean tell run calm missed B =
     (let A = all limit start clean ms run.2 in
     let U = num.facts audits limit start clean ms run.2 in
     let I = eff.facts limit start ms clean run.2 in
+    let E = always limit start clean ms run.2 in
     let X = changes limit (length ms) (now start ms) m.event m.outcome m.state A.numbers.idle run.1 in
     let T = turns (now start ms) limit (length ms) m.event m.outcome m.state run.1 in
+    let clear = aud.mark_clear limit (since start) start m ms clean run.2 A U I E B.facts B.audited X T missed B.facts.moment.clear in
     record {
-      facts = facts_step limit (since start) start m ms clean tell run calm B.facts (aud.mark_step limit (since start) start m ms clean run.2 A U I B.facts B.audited X T missed B.facts.moment);
-      audited = aud.audited_step limit (since start) start m ms clean run.2 A U I B.facts B.audited X T missed;
+      facts = facts_step limit (since start) start m ms clean tell run calm B.facts (record { before = (always limit start clean (m ∷ ms) run).mark; clear = clear });
+      audited = aud.audited_step limit (since start) start m ms clean run.2 A U I E B.facts B.audited X T missed;
     })
 
 pub both : (limit : ℕ) (start : State) → IsStart start → AllTell start → (ms : List Moment) → IsRun limit start ms → IsCalm relies (since start) ms → NoneMissed start ms → Both start ms
@@ -202,7 +183,7 @@ module _ (limit : ℕ) (mark : Mark) (start : State) (m : Moment) (ms : List Mom
     in_file = subst (In (pinned_file (begin_of start ms job) file)) (sym pinned) (inl refl)
 
     own_bytes : (begin_of start ms job).bytes file.id ≡ (now start ms).bytes file.id
-    own_bytes = F.pinned job.number job (pinned_file (begin_of start ms job) file) runs in_file
+    own_bytes = (always limit start clean ms run.2).pinned job.number job (pinned_file (begin_of start ms job) file) runs in_file
 
     -- where no count rose, few providers gave a wrong block of a stripe of which all were asked
     few : ((i : ℕ) → i < (setup_in (begin_of start ms job)).n → RoseSince (begin_of start ms job) (now start ms) i → ⊥) → (stripe : ℕ) → stripe < stripes (object_in (begin_of start ms job) file.id) (length ((begin_of start ms job).bytes file.id)) →

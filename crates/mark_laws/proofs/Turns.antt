@@ -18,7 +18,7 @@ use Rattle.hail_machine.specs.Given.{blocks_given}
 use Rattle.hail_machine.specs.Begins.{new_job, Begins}
 use Rattle.hail_machine.specs.Appends.{audits_drawn, Moves}
 use Rattle.hail_machine.specs.Steps.{next_action, holder_of, Acts, ActsOrWaits, StepsOn, StepsJob, StepsOpen, Steps}
-use Rattle.hail_machine.specs.Openings.{IsNotSetUp, LeavesDoubt, Stops, Reopens, InitsClosed, InitsBy, Inits, Continues}
+use Rattle.hail_machine.specs.Openings.{LeavesDoubt, Stops, Reopens, InitsClosed, InitsBy, Inits, Continues}
 use Rattle.hail_machine.specs.Replacements.{ReplacesAt, ReplacesIf}
 use Rattle.hail_machine.specs.Machine.{Lists, Happens}
 use Rattle.hail_machine.proofs.JobLists.{cond_true, cond_false, same_value, number_of, found_with, found_without, found_itself, found_more, found_none}

@@ -1,12 +1,13 @@
--- Moments since which all damage of files in effect is new, but for what is exempt.
+-- Moments since which all damage of files in effect is new.
 --
 --   WasWrong w j id               == provider j was wrong for a file that was in effect in this state under the object number
 --   WrongAt start ms from j id stripe  == so it was in the state after so many events
 --   IsFlaggedBy w counts j id stripe   == the counts flag provider j
 --   Remains w job j id stripe     == a repair that flags provider j has still to make its store of this block
 --   Never j id stripe             == nothing is exempt
---   IsMark start ms from IsExempt == each provider with a bad block of a file in effect was replaced since this moment, or the block is
---                                    exempt; and no put that runs, or whose record is in doubt, began before it
+--   PrecedesPuts start ms from    == a moment not after now: no put that runs, or whose record is in doubt, began before it
+--   IsClear start ms from IsExempt  == each provider with a bad block of a file in effect was replaced since, or the block is exempt
+--   IsMark start ms from          == both, and nothing is exempt: all damage of files in effect is new since then
 use Rattle.std.specs.Prelude.{◌≡◌, ◌⊎◌, ℕ, ◌<◌, ◌≤◌, true, List, length, Some, slice_get}
 use Rattle.hail_columns.specs.Objects.{stripes}
 use Rattle.hail_columns.specs.Verdicts.{is_flagged}
@@ -45,11 +46,20 @@ Remains w job j id stripe =
 abbrev pub Never : ℕ → ℕ → ℕ → Type 0
 Never j id stripe = ⊥
 
--- A moment since which each provider with a bad block of a file in effect was replaced, or the block is exempt. No put that works began before it.
-pub record IsMark (start : State) (ms : List Moment) (from : ℕ) (IsExempt : ℕ → ℕ → ℕ → Type 0) : Type 0 where
+-- no put that works began before a moment
+pub record PrecedesPuts (start : State) (ms : List Moment) (from : ℕ) : Type 0 where
   pub early : from ≤ length ms
   pub puts : (number : ℕ) (job : Job) (name bytes : List ℕ) → job_of (now start ms).jobs number ≡ Some job → job.kind ≡ PutJob name bytes → from ≤ job.begun
   pub doubts : (d : Doubt) (id size : ℕ) → (now start ms).doubt ≡ Some d → d.entry ≡ PutDone id size → from ≤ begun_of d.maker
-  pub clear : (name : List ℕ) (file : File) (j stripe : ℕ) → file_in (now start ms) name ≡ Some file → j < (setup_in (now start ms)).n →
-      stripe < stripes (object_in (now start ms) file.id) (length ((now start ms).bytes file.id)) → IsBad (now start ms) file.id j stripe →
-      IsReplaced from j ms ⊎ IsExempt j file.id stripe
+
+-- each provider with a bad block of a file in effect was replaced since a moment, or the block is exempt
+abbrev pub IsClear : State → List Moment → ℕ → (ℕ → ℕ → ℕ → Type 0) → Type 0
+IsClear start ms from IsExempt =
+    (name : List ℕ) (file : File) (j stripe : ℕ) → file_in (now start ms) name ≡ Some file → j < (setup_in (now start ms)).n →
+    stripe < stripes (object_in (now start ms) file.id) (length ((now start ms).bytes file.id)) → IsBad (now start ms) file.id j stripe →
+    IsReplaced from j ms ⊎ IsExempt j file.id stripe
+
+-- a moment since which all damage of files in effect is new
+pub record IsMark (start : State) (ms : List Moment) (from : ℕ) : Type 0 where
+  pub before : PrecedesPuts start ms from
+  pub clear : IsClear start ms from Never

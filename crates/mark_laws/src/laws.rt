@@ -7,14 +7,14 @@ ghost use Rattle.hail_columns.specs.Verdicts.{is_flagged};
 ghost use Rattle.hail_records.specs.Records.{PutDone, AuditDone, RepairDone};
 ghost use Rattle.hail_records.specs.Table.{File, Due, due_of};
 ghost use Rattle.hail_machine.specs.Jobs.{PutJob, AuditJob, RepairJob, Pinned, Fetched, Worked, Job, job_of};
-ghost use Rattle.hail_machine.specs.States.{State, Doubt, setup_in, object_in, file_in};
+ghost use Rattle.hail_machine.specs.States.{State, Doubt, IsStart, setup_in, object_in, file_in};
 ghost use Rattle.hail_machine.specs.Runs.{Moment, IsRun, now, first_moments, is_replaced_since, came};
 ghost use Rattle.hail_machine.specs.Calm.{Mark, since};
 ghost use Rattle.hail_machine.specs.Missed.{is_wrong_now};
 ghost use Rattle.hail_machine.specs.Halves.{begun_of, SecondHalf, SecondHalfHolds};
 ghost use Rattle.hail_machine.specs.Deeds.{told_block, HasMadeStore};
 ghost use Rattle.mark_laws.specs.Damage.{IsBad, IsReplaced, RoseSince};
-ghost use Rattle.mark_laws.specs.Marks.{WasWrong, Remains, Never, IsMark};
+ghost use Rattle.mark_laws.specs.Marks.{WasWrong, Remains, IsMark};
 ghost use Rattle.mark_laws.specs.MarkedRuns.{IsMarkedRun, IsCalmRun};
 
 /// The second half of the main theorem: in every calm run in which no audit missed damage, of providers that tell what they hold, every
@@ -33,7 +33,7 @@ pub fn any_mark_will_do()
 /// A moment since which all damage of files in effect is new stays one in each event.
 pub fn marks_stay()
     ensures { (limit : ℕ) (mark : Mark) (start : State) (m : Moment) (ms : List Moment) (from : ℕ) → IsMarkedRun limit mark start ms →
-        IsRun limit start (m ∷ ms) → IsMark start ms from Never → IsMark start (m ∷ ms) from Never }
+        IsRun limit start (m ∷ ms) → IsMark start ms from → IsMark start (m ∷ ms) from }
 {}
 
 /// In a calm run in which no audit missed damage, the begin of the last settled audit is at each moment a mark.
@@ -49,27 +49,28 @@ pub fn damage_in_effect_is_new()
         is_wrong_now (now start ms) file j ≡ true → IsReplaced (mark ms) j ms }
 {}
 
-/// No mark lies after the begin of a put that runs, or whose record is in doubt.
-pub fn puts_begin_after_the_mark()
-    ensures running { (limit : ℕ) (mark : Mark) (start : State) (ms : List Moment) (number : ℕ) (job : Job) (name bytes : List ℕ) →
-        IsMarkedRun limit mark start ms → job_of (now start ms).jobs number ≡ Some job → job.kind ≡ PutJob name bytes →
-        mark ms ≤ job.begun }
-    ensures in_doubt { (limit : ℕ) (mark : Mark) (start : State) (ms : List Moment) (d : Doubt) (id size : ℕ) →
-        IsMarkedRun limit mark start ms → (now start ms).doubt ≡ Some d → d.entry ≡ PutDone id size → mark ms ≤ begun_of d.maker }
+/// In every run, calm or not, no settled audit begins after a put that runs, or whose record is in doubt.
+pub fn puts_begin_after_settled_audits()
+    ensures running { (limit : ℕ) (start : State) (ms : List Moment) (number : ℕ) (job : Job) (name bytes : List ℕ) → IsStart start →
+        IsRun limit start ms → job_of (now start ms).jobs number ≡ Some job → job.kind ≡ PutJob name bytes → since start ms ≤ job.begun }
+    ensures in_doubt { (limit : ℕ) (start : State) (ms : List Moment) (d : Doubt) (id size : ℕ) → IsStart start → IsRun limit start ms →
+        (now start ms).doubt ≡ Some d → d.entry ≡ PutDone id size → since start ms ≤ begun_of d.maker }
 {}
 
-/// While a put's last record is in doubt, whether its job runs on or has ended, and where it comes into effect, be it at its gate or as it is
-/// settled, each provider with a bad block of its file was replaced since the put's begin.
-pub fn done_puts_are_right()
-    ensures in_doubt { (limit : ℕ) (mark : Mark) (start : State) (ms : List Moment) (d : Doubt) (id size j stripe : ℕ) →
-        IsMarkedRun limit mark start ms → (now start ms).doubt ≡ Some d → d.entry ≡ PutDone id size → j < (setup_in (now start ms)).n →
-        stripe < stripes (object_in (now start ms) id) (length ((now start ms).bytes id)) → IsBad (now start ms) id j stripe →
-        IsReplaced (begun_of d.maker) j ms }
-    ensures came { (limit : ℕ) (mark : Mark) (start : State) (m : Moment) (ms : List Moment) (id size : ℕ) →
-        IsMarkedRun limit mark start ms → IsRun limit start (m ∷ ms) → came (now start ms) m.state ≡ Some (PutDone id size) →
-        (d : Doubt) × ((now start ms).doubt ≡ Some d) × (d.entry ≡ PutDone id size) × ((j stripe : ℕ) → j < (setup_in m.state).n →
-        stripe < stripes (object_in m.state id) (length (m.state.bytes id)) → IsBad m.state id j stripe →
-        IsReplaced (begun_of d.maker) j (m ∷ ms)) }
+/// In every run, calm or not, while a put's last record is in doubt, whether its job runs on or has ended, and where it comes into effect,
+/// be it at its gate or as it is settled, each block of its file is the provider's own column, unless the provider was replaced since
+/// the put's begin.
+pub fn done_puts_are_columns()
+    ensures in_doubt { (limit : ℕ) (start : State) (ms : List Moment) (d : Doubt) (id size j stripe : ℕ) (block : Option (List ℕ)) →
+        IsStart start → IsRun limit start ms → (now start ms).doubt ≡ Some d → d.entry ≡ PutDone id size →
+        j < (setup_in (now start ms)).n → stripe < stripes (object_in (now start ms) id) (length ((now start ms).bytes id)) →
+        is_replaced_since (begun_of d.maker) j ms ≡ false → told_block (now start ms) j id stripe ≡ Some block →
+        block ≡ Some (columns (object_in (now start ms) id) ((now start ms).bytes id) j stripe) }
+    ensures came { (limit : ℕ) (start : State) (m : Moment) (ms : List Moment) (id size : ℕ) → IsStart start → IsRun limit start (m ∷ ms) →
+        came (now start ms) m.state ≡ Some (PutDone id size) → (d : Doubt) × ((now start ms).doubt ≡ Some d) × (d.entry ≡ PutDone id size)
+        × ((j stripe : ℕ) (block : Option (List ℕ)) → j < (setup_in m.state).n →
+        stripe < stripes (object_in m.state id) (length (m.state.bytes id)) → is_replaced_since (begun_of d.maker) j (m ∷ ms) ≡ false →
+        told_block m.state j id stripe ≡ Some block → block ≡ Some (columns (object_in m.state id) (m.state.bytes id) j stripe)) }
 {}
 
 /// What a running repair has stored is the provider's own column, unless the provider was replaced since the repair's begin: the symbols

@@ -10,4 +10,4 @@ returns-clause-running c limit start ms number job name file j h runs kind in_ef
 pub returns-clause-in_doubt : goal.returns-clause-in_doubt
 returns-clause-in_doubt c limit start ms d number undecided counts name file j h at e in_effect l wrong =
     clears start ms ((now start ms).audits number) (WrongAt start ms ((now start ms).audits number)) (WasWrong (now start (first_moments ((now start ms).audits number) ms)) j file.id)
-    ((in_calm limit start ms h).audited.audit_doubt d number undecided counts at e).1 name file j in_effect l wrong (λ s x. x)
+    ((in_calm limit start ms h).audited.audit_doubt d number undecided counts at e) name file j in_effect l wrong (λ s x. x)
