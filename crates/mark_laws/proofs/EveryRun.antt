@@ -34,7 +34,7 @@ use Rattle.step_laws.proofs.Places.{stored_before_gate}
 use Rattle.mark_laws.specs.Marks.{PrecedesPuts}
 use Rattle.mark_laws.proofs.Turns.{Stay_is, Doubt_now, Audits_are, Turns, turns}
 use Rattle.mark_laws.proofs.Blocks.{clash, since_more, since_now, file_done, setup_left, up_before, up_more, due_done, no_first_due}
-use Rattle.mark_laws.proofs.Places.{write_gate_place, put_gate}
+use Rattle.mark_laws.proofs.Places.{write_gate_place, gate_next, next_same}
 
 -- the put whose record is in doubt
 pub record PutHeld (w : State) (id bound : ℕ) (maker : Option Job) : Type 0 where
@@ -44,15 +44,12 @@ pub record PutHeld (w : State) (id bound : ℕ) (maker : Option Job) : Type 0 wh
   pub started : started_as w.records id ≡ Some name
   pub early : begun_of maker ≤ bound
 
--- a running put whose next move is the last one of its last append
-pub record AtGate (w : State) : Type 0 where
-  pub number : ℕ
+-- a running job that made a record which is in doubt, and whose next move is the fourth
+pub record AtGate (w : State) (d : Doubt) : Type 0 where
   pub job : Job
-  pub name : List ℕ
-  pub bytes : List ℕ
-  pub runs : job_of w.jobs number ≡ Some job
-  pub kind : job.kind ≡ PutJob name bytes
-  pub place : job.place ≡ 7 + stores_count w job bytes
+  pub maker : d.maker ≡ Some job
+  pub runs : job_of w.jobs job.number ≡ Some job
+  pub next : next_action w job ≡ Some SyncGate
 
 -- what holds in every run
 pub record Always (start : State) (ms : List Moment) : Type 0 where
@@ -62,7 +59,8 @@ pub record Always (start : State) (ms : List Moment) : Type 0 where
   pub put_columns : (d : Doubt) (id size i s : ℕ) (b : Option (List ℕ)) → (now start ms).doubt ≡ Some d → d.entry ≡ PutDone id size → i < (setup_in (now start ms)).n →
       s < stripes_of (setup_in (now start ms)) (length ((now start ms).bytes id)) → is_replaced_since (begun_of d.maker) i ms ≡ false → told_block (now start ms) i id s ≡ Some b →
       b ≡ Some (columns (object_in (now start ms) id) ((now start ms).bytes id) i s)
-  pub doubt_runs : (d : Doubt) (id size : ℕ) → (now start ms).is_open ≡ true → (now start ms).is_barred ≡ false → (now start ms).doubt ≡ Some d → d.entry ≡ PutDone id size → AtGate (now start ms)
+  pub doubt_put : (d : Doubt) (job : Job) (id size : ℕ) → (now start ms).doubt ≡ Some d → d.maker ≡ Some job → d.entry ≡ PutDone id size → (name : List ℕ) × (bytes : List ℕ) × (job.kind ≡ PutJob name bytes)
+  pub doubt_runs : (d : Doubt) → (now start ms).is_open ≡ true → (now start ms).is_barred ≡ false → (now start ms).doubt ≡ Some d → AtGate (now start ms) d
   pub audit_entry : (a : Append) (j : Job) (number u : ℕ) (c : List ℕ) → (now start ms).append ≡ Some a → job_of (now start ms).jobs a.job ≡ Some j → j.kind ≡ AuditJob → a.entry ≡ AuditDone number u c →
       (number ≡ j.subject) × (4 ≤ j.place)
   pub repair_entry : (a : Append) (j : Job) (number : ℕ) → (now start ms).append ≡ Some a → job_of (now start ms).jobs a.job ≡ Some j → j.kind ≡ RepairJob → a.entry ≡ RepairDone number → number ≡ j.subject
@@ -288,7 +286,7 @@ module _ (limit : ℕ) (start : State) (m : Moment) (ms : List Moment) (A : All 
         | Doubt_now.gated job a runs next_is flight mine entry_is maker rec on ↦
             (let g = gated_put job a id size runs flight mine (sym entry_is ∙ e) in
             subst (λ (o : Option Job). from ≤ begun_of o) (sym maker) (P.puts job.number job g.0 g.1 runs g.2))
-        | Doubt_now.set_up s entry_is none ↦ absurd (let z : SetUp s ≡ PutDone id size = sym entry_is ∙ e in cc)
+        | Doubt_now.set_up s entry_is none closed ↦ absurd (let z : SetUp s ≡ PutDone id size = sym entry_is ∙ e in cc)
       ]
 
   -- ---- the record in doubt
@@ -298,7 +296,7 @@ module _ (limit : ℕ) (start : State) (m : Moment) (ms : List Moment) (A : All 
     | Doubt_now.kept was rec ↦ ap setup_of rec ∙ E.setup_doubt d s was e
     | Doubt_now.gated job a runs next_is flight mine entry_is maker rec on ↦
         absurd (wrote_no_setup job job.kind a.entry s (A.pins.wrote a job flight (subst (λ n. job_of (now start ms).jobs n ≡ Some job) (sym mine) runs)) (sym entry_is ∙ e))
-    | Doubt_now.set_up t entry_is none ↦ none
+    | Doubt_now.set_up t entry_is none closed ↦ none
   ]
 
   -- while a job runs, a setup is in effect
@@ -321,7 +319,7 @@ module _ (limit : ℕ) (start : State) (m : Moment) (ms : List Moment) (A : All 
       early = (let l = g.early in omega arith);
     })
     | Doubt_now.gated job a runs next_is flight mine entry_is maker rec on ↦ by_put job a runs next_is flight mine maker rec (gated_put job a id size runs flight mine (sym entry_is ∙ e))
-    | Doubt_now.set_up t entry_is none ↦ absurd (let z : SetUp t ≡ PutDone id size = sym entry_is ∙ e in cc)
+    | Doubt_now.set_up t entry_is none closed ↦ absurd (let z : SetUp t ≡ PutDone id size = sym entry_is ∙ e in cc)
   ]
     where
       by_put : (job : Job) (a : Append) → job_of (now start ms).jobs job.number ≡ Some job → next_action (now start ms) job ≡ Some WriteGate → (now start ms).append ≡ Some a → a.job ≡ job.number →
@@ -381,7 +379,7 @@ module _ (limit : ℕ) (start : State) (m : Moment) (ms : List Moment) (A : All 
     | Doubt_now.kept was rec ↦ put_right d id size i s b was e (setup_same m.state (now start ms) (ap setup_of rec)) l k none told
     | Doubt_now.gated job a runs next_is flight mine entry_is maker rec on ↦
         by_put job runs next_is (setup_same m.state (now start ms) (ap setup_of rec)) (subst (λ (o : Option Job). is_replaced_since (begun_of o) i (m ∷ ms) ≡ false) maker none) (gated_put job a id size runs flight mine (sym entry_is ∙ e))
-    | Doubt_now.set_up t entry_is none_up ↦ absurd (let z : SetUp t ≡ PutDone id size = sym entry_is ∙ e in cc)
+    | Doubt_now.set_up t entry_is none_up closed ↦ absurd (let z : SetUp t ≡ PutDone id size = sym entry_is ∙ e in cc)
   ]
     where
       by_put : (job : Job) → job_of (now start ms).jobs job.number ≡ Some job → next_action (now start ms) job ≡ Some WriteGate → setup_in m.state ≡ setup_in (now start ms) → is_replaced_since job.begun i (m ∷ ms) ≡ false →
@@ -398,38 +396,30 @@ module _ (limit : ℕ) (start : State) (m : Moment) (ms : List Moment) (A : All 
           (λ c none_c told_c. A.held.stored job.number job name bytes i job.subject s c runs kind started_job made none_c (ap (λ o. told_block (now start ms) i o s) subject ∙ told_c)
           ∙ (ap (λ o. Some (columns (object_in (now start ms) o) bytes i s)) subject ∙ ap (λ y. Some (columns (object_in (now start ms) id) y i s)) (sym bytes_are))) told))
 
-  -- while a vault goes on, the put whose record is in doubt has only its last move to make
-  pub doubt_runs_step : (d : Doubt) (id size : ℕ) → m.state.is_open ≡ true → m.state.is_barred ≡ false → m.state.doubt ≡ Some d → d.entry ≡ PutDone id size → AtGate m.state
-  doubt_runs_step d id size is_open unbarred h e = elim (T.doubt d h) [
-    | Doubt_now.kept was rec ↦ (let o = T.opened d h is_open in goes_on rec (E.doubt_runs d id size o.0 (o.1 unbarred) was e))
-    | Doubt_now.gated job a runs next_is flight mine entry_is maker rec on ↦ (let g = gated_put job a id size runs flight mine (sym entry_is ∙ e) in
-        elim on [
-          | inr b ↦ absurd (false≢true (sym unbarred ∙ b))
-          | inl runs_on ↦ record {
-            number = job.number;
-            job = advanced job;
-            name = g.0;
-            bytes = g.1;
-            runs = runs_on;
-            kind = g.2;
-            place = (let p = write_gate_place (now start ms) job g.0 g.1 g.2 next_is g.3 in let c = count_same m.state (now start ms) (advanced job) job g.1 (ap setup_of rec) refl in omega arith);
-          }
-        ])
-    | Doubt_now.set_up t entry_is none ↦ absurd (let z : SetUp t ≡ PutDone id size = sym entry_is ∙ e in cc)
+  pub doubt_put_step : (d : Doubt) (job : Job) (id size : ℕ) → m.state.doubt ≡ Some d → d.maker ≡ Some job → d.entry ≡ PutDone id size → (name : List ℕ) × (bytes : List ℕ) × (job.kind ≡ PutJob name bytes)
+  doubt_put_step d job id size h maker e = elim (T.doubt d h) [
+    | Doubt_now.kept was rec ↦ E.doubt_put d job id size was maker e
+    | Doubt_now.gated x a runs next_is flight mine entry_is maker_is rec on ↦
+        (let g = gated_put x a id size runs flight mine (sym entry_is ∙ e) in
+        let same : job ≡ advanced x = same_value d.maker job (advanced x) maker maker_is in (g.0, g.1, ap (λ (y : Job). y.kind) same ∙ g.2))
+    | Doubt_now.set_up t entry_is none closed ↦ absurd (let z : SetUp t ≡ PutDone id size = sym entry_is ∙ e in cc)
+  ]
+
+  -- while a vault goes on, the job whose record is in doubt runs and makes its fourth move next
+  pub doubt_runs_step : (d : Doubt) → m.state.is_open ≡ true → m.state.is_barred ≡ false → m.state.doubt ≡ Some d → AtGate m.state d
+  doubt_runs_step d is_open unbarred h = elim (T.doubt d h) [
+    | Doubt_now.kept was rec ↦ (let o = T.opened d h is_open in goes_on rec (E.doubt_runs d o.0 (o.1 unbarred) was))
+    | Doubt_now.gated job a runs next_is flight mine entry_is maker rec on ↦ elim on [
+      | inr b ↦ absurd (false≢true (sym unbarred ∙ b))
+      | inl runs_on ↦ record { job = advanced job; maker = maker; runs = runs_on; next = next_same m.state (now start ms) (advanced job) rec ∙ gate_next (now start ms) job next_is }
+    ]
+    | Doubt_now.set_up t entry_is none closed ↦ absurd (false≢true (sym closed ∙ is_open))
   ]
     where
-      goes_on : m.state.records ≡ (now start ms).records → AtGate (now start ms) → AtGate m.state
-      goes_on rec g = elim (T.stay g.number g.job g.runs) [
-        | Stay_is.stayed runs_on ↦ record {
-          number = g.number;
-          job = g.job;
-          name = g.name;
-          bytes = g.bytes;
-          runs = runs_on;
-          kind = g.kind;
-          place = (let p = g.place in let c = count_same m.state (now start ms) g.job g.job g.bytes (ap setup_of rec) refl in omega arith);
-        }
-        | Stay_is.steps action next_is gate ↦ absurd (elim (gate (put_gate (now start ms) g.job g.name g.bytes action g.kind g.place next_is)) [
+      goes_on : m.state.records ≡ (now start ms).records → AtGate (now start ms) d → AtGate m.state d
+      goes_on rec g = elim (T.stay g.job.number g.job g.runs) [
+        | Stay_is.stayed runs_on ↦ record { job = g.job; maker = g.maker; runs = runs_on; next = next_same m.state (now start ms) g.job rec ∙ g.next }
+        | Stay_is.steps action next_is gate ↦ absurd (elim (gate (same_value (next_action (now start ms) g.job) action SyncGate next_is g.next)) [
           | inl none ↦ clash m.state.doubt d h none
           | inr b ↦ false≢true (sym unbarred ∙ b)
         ])
@@ -642,11 +632,12 @@ module _ (limit : ℕ) (start : State) (m : Moment) (ms : List Moment) (A : All 
       doubts : (d : Doubt) (id size : ℕ) → m.state.doubt ≡ Some d → d.entry ≡ PutDone id size → length ms ≤ begun_of d.maker
       doubts d id size h e = absurd (elim (T.doubt d h) [
         | Doubt_now.kept was rec_d ↦ (let o = T.opened d h open_now in
-            let g = E.doubt_runs d id size o.0 (not_barred limit (now start ms) AuditJob allowed) was e in no_put limit (now start ms) allowed g.number g.job g.name g.bytes g.runs g.kind)
+            let g = E.doubt_runs d o.0 (not_barred limit (now start ms) AuditJob allowed) was in
+            let p = E.doubt_put d g.job id size was g.maker e in no_put limit (now start ms) allowed g.job.number g.job p.0 p.1 g.runs p.2)
         | Doubt_now.gated job a runs next_is flight mine entry_is maker rec_d on_ ↦
             (let g = wrote_put job job.kind a.entry id size (A.pins.wrote a job flight (subst (λ n. job_of (now start ms).jobs n ≡ Some job) (sym mine) runs)) (sym entry_is ∙ e) in
             no_put limit (now start ms) allowed job.number job g.0 g.1 runs g.2)
-        | Doubt_now.set_up t entry_is none ↦ (let z : SetUp t ≡ PutDone id size = sym entry_is ∙ e in cc)
+        | Doubt_now.set_up t entry_is none closed ↦ (let z : SetUp t ≡ PutDone id size = sym entry_is ∙ e in cc)
       ])
 
   pub audit_begins : (k : ℕ) (j : Job) → job_of m.state.jobs k ≡ Some j → j.kind ≡ AuditJob → PrecedesPuts start (m ∷ ms) j.begun
@@ -690,7 +681,7 @@ module _ (limit : ℕ) (start : State) (m : Moment) (ms : List Moment) (A : All 
     | Doubt_now.kept was rec ↦ moved number (E.audit_doubt d number u c was e)
     | Doubt_now.gated job a runs next_is flight mine entry_is maker rec on ↦ (let g = audit_gated job a number u c runs flight mine (sym entry_is ∙ e) in
         moved number (g.below, subst (PrecedesPuts start ms) (sym g.begins) (E.audit job.number job runs g.kind)))
-    | Doubt_now.set_up t entry_is none ↦ absurd (let z : SetUp t ≡ AuditDone number u c = sym entry_is ∙ e in cc)
+    | Doubt_now.set_up t entry_is none closed ↦ absurd (let z : SetUp t ≡ AuditDone number u c = sym entry_is ∙ e in cc)
   ]
 
   pub due_begins : (u : Due) → due_of m.state.records ≡ Some u → (u.number < next_audit m.state.records) × PrecedesPuts start (m ∷ ms) (m.state.audits u.number)
@@ -729,7 +720,7 @@ module _ (limit : ℕ) (start : State) (m : Moment) (ms : List Moment) (A : All 
     | Doubt_now.kept was rec ↦ moved number (E.repair_doubt d number was e)
     | Doubt_now.gated job a runs next_is flight mine entry_is maker rec on ↦ (let g = repair_gated job a number runs flight mine (sym entry_is ∙ e) in
         moved number (subst (λ x. (x < next_audit (now start ms).records) × PrecedesPuts start ms ((now start ms).audits x)) (sym g.subject) (E.repair job.number job runs g.kind)))
-    | Doubt_now.set_up t entry_is none ↦ absurd (let z : SetUp t ≡ RepairDone number = sym entry_is ∙ e in cc)
+    | Doubt_now.set_up t entry_is none closed ↦ absurd (let z : SetUp t ≡ RepairDone number = sym entry_is ∙ e in cc)
   ]
 
   -- so does that of the last settled audit
@@ -761,6 +752,7 @@ module _ (limit : ℕ) (start : State) (m : Moment) (ms : List Moment) (A : All 
     setup_doubt = setup_doubt_step;
     put_held = put_held_step;
     put_columns = put_columns_step;
+    doubt_put = doubt_put_step;
     doubt_runs = doubt_runs_step;
     audit_entry = audit_entry_step;
     repair_entry = repair_entry_step;
@@ -781,7 +773,8 @@ start_always start clean = record {
   setup_doubt = λ d s h e. absurd (clash start.doubt d h clean.doubt);
   put_held = λ d id size h e. absurd (clash start.doubt d h clean.doubt);
   put_columns = λ d id size i s b h e l k none told. absurd (clash start.doubt d h clean.doubt);
-  doubt_runs = λ d id size o b h e. absurd (clash start.doubt d h clean.doubt);
+  doubt_put = λ d job id size h maker e. absurd (clash start.doubt d h clean.doubt);
+  doubt_runs = λ d o b h. absurd (clash start.doubt d h clean.doubt);
   audit_entry = λ a j number u c h. absurd (clash start.append a h clean.append);
   repair_entry = λ a j number h. absurd (clash start.append a h clean.append);
   audit_fresh = λ a j h. absurd (clash start.append a h clean.append);

@@ -90,7 +90,7 @@ pub data Doubt_now (old new : State) (d : Doubt) : Type 0 where
   kept : old.doubt ≡ Some d → new.records ≡ old.records → Doubt_now old new d
   gated : (job : Job) (a : Append) → job_of old.jobs job.number ≡ Some job → next_action old job ≡ Some WriteGate → old.append ≡ Some a → a.job ≡ job.number → d.entry ≡ a.entry →
       d.maker ≡ Some (advanced job) → new.records ≡ old.records → (job_of new.jobs job.number ≡ Some (advanced job)) ⊎ (new.is_barred ≡ true) → Doubt_now old new d
-  set_up : (s : Setup) → d.entry ≡ SetUp s → setup_of new.records ≡ None → Doubt_now old new d
+  set_up : (s : Setup) → d.entry ≡ SetUp s → setup_of new.records ≡ None → new.is_open ≡ false → Doubt_now old new d
 
 -- the begins of audit numbers
 pub data Audits_are (old new : State) : Type 0 where
@@ -402,42 +402,42 @@ module _ (old : State) where
       gives_up new new (ap (λ (w : State). w.doubt) is) (ap (λ (w : State). w.records) is) (ap (λ (w : State). w.jobs) is) (ap (λ (w : State). w.append) is) (ap (λ (w : State). w.audits) is) (ap (λ (w : State). w.is_open) is)
   reopens r new h = absurd h
 
-  failed : (s : Setup) (doubt : Option Doubt) (faults : ℕ) (new : State) → LeavesDoubt old s doubt → new ≡ record old { doubt = doubt; disk_faults = faults } → Turns old new
-  failed s doubt faults new (inl e) is = subst (λ (w : State). Turns old w) (sym is) (record {
+  failed : (s : Setup) (doubt : Option Doubt) (faults : ℕ) (new : State) → old.is_open ≡ false → LeavesDoubt old s doubt → new ≡ record old { doubt = doubt; disk_faults = faults } → Turns old new
+  failed s doubt faults new closed (inl e) is = subst (λ (w : State). Turns old w) (sym is) (record {
     doubt = λ d h. Doubt_now.kept (sym e ∙ h) refl;
     audits = Audits_are.undrawn refl no_new;
     opened = λ d h. same_open;
     stay = λ k j h. Stay_is.stayed h;
     gift = λ k j h. Gift_is.had j h refl (record { kind = refl; begun = refl; pinned = refl });
   })
-  failed s doubt faults new (inr (none, e)) is = subst (λ (w : State). Turns old w) (sym is) (record {
-    doubt = λ d h. (let f : record { entry = SetUp s; maker = None } ≡ d = same_value doubt _ d e h in Doubt_now.set_up s (sym (ap (λ (x : Doubt). x.entry) f)) (none_up (setup_of old.records) none));
+  failed s doubt faults new closed (inr (none, e)) is = subst (λ (w : State). Turns old w) (sym is) (record {
+    doubt = λ d h. (let f : record { entry = SetUp s; maker = None } ≡ d = same_value doubt _ d e h in Doubt_now.set_up s (sym (ap (λ (x : Doubt). x.entry) f)) (none_up (setup_of old.records) none) closed);
     audits = Audits_are.undrawn refl no_new;
     opened = λ d h. same_open;
     stay = λ k j h. Stay_is.stayed h;
     gift = λ k j h. Gift_is.had j h refl (record { kind = refl; begun = refl; pinned = refl });
   })
 
-  inits_closed : (s : Setup) (r : Outcome) (new : State) → InitsClosed old s r new → Turns old new
-  inits_closed s (Refused refusal.DiskFault) new (doubt, leaves_it, (faults, low, rose, is)) = failed s doubt faults new leaves_it is
-  inits_closed s (Refused refusal.Memory) new (doubt, leaves_it, (faults, low, is)) = failed s doubt faults new leaves_it is
-  inits_closed s (Refused refusal.Already) new (mid, st, up, (faults, low, is)) = (let t = settled old mid st in
+  inits_closed : (s : Setup) (r : Outcome) (new : State) → old.is_open ≡ false → InitsClosed old s r new → Turns old new
+  inits_closed s (Refused refusal.DiskFault) new closed (doubt, leaves_it, (faults, low, rose, is)) = failed s doubt faults new closed leaves_it is
+  inits_closed s (Refused refusal.Memory) new closed (doubt, leaves_it, (faults, low, is)) = failed s doubt faults new closed leaves_it is
+  inits_closed s (Refused refusal.Already) new closed (mid, st, up, (faults, low, is)) = (let t = settled old mid st in
       settles_all old new (ap (λ (w : State). w.doubt) is ∙ t.doubt) (ap (λ (w : State). w.jobs) is ∙ t.jobs) (ap (λ (w : State). w.append) is ∙ t.append) (ap (λ (w : State). w.audits) is ∙ t.audits) (inr refl) (inr refl)
       (stay_all new (ap (λ (w : State). w.jobs) is ∙ t.jobs)))
-  inits_closed s Ready new (mid, st, none, (faults, low, is)) = (let t = settled old mid st in
+  inits_closed s Ready new closed (mid, st, none, (faults, low, is)) = (let t = settled old mid st in
       settles_all old new (ap (λ (w : State). w.doubt) is ∙ t.doubt) (ap (λ (w : State). w.jobs) is ∙ t.jobs) (ap (λ (w : State). w.append) is ∙ t.append) (ap (λ (w : State). w.audits) is ∙ t.audits) (inr refl) (inr refl)
       (stay_all new (ap (λ (w : State). w.jobs) is ∙ t.jobs)))
-  inits_closed s r new h = absurd h
+  inits_closed s r new closed h = absurd h
 
-  inits_by : (s : Setup) (good : Bool) (r : Outcome) (new : State) → InitsBy old s good r new → Turns old new
-  inits_by s false (Refused refusal.BadSetup) new h = unchanged new h
-  inits_by s true r new h = inits_closed s r new h
-  inits_by s false r new h = absurd h
+  inits_by : (s : Setup) (good : Bool) (r : Outcome) (new : State) → old.is_open ≡ false → InitsBy old s good r new → Turns old new
+  inits_by s false (Refused refusal.BadSetup) new closed h = unchanged new h
+  inits_by s true r new closed h = inits_closed s r new closed h
+  inits_by s false r new closed h = absurd h
 
-  inits : (s : Setup) (is_open : Bool) (r : Outcome) (new : State) → Inits old s is_open r new → Turns old new
-  inits s true (Refused refusal.Already) new h = unchanged new h
-  inits s false r new h = inits_by s (is_setup s) r new h
-  inits s true r new h = absurd h
+  inits : (s : Setup) (is_open : Bool) (r : Outcome) (new : State) → old.is_open ≡ is_open → Inits old s is_open r new → Turns old new
+  inits s true (Refused refusal.Already) new is h = unchanged new h
+  inits s false r new is h = inits_by s (is_setup s) r new is h
+  inits s true r new is h = absurd h
 
   called : (j : ℕ) (p : Provider) (new : State) → new ≡ record old { providers = with_provider old.providers j p } → Turns old new
   called j p new is = subst (λ (w : State). Turns old w) (sym is) (record {
@@ -469,7 +469,7 @@ module _ (old : State) where
   continues r new h = absurd h
 
   pub turns : (limit moment : ℕ) (e : Event) (r : Outcome) (new : State) → Happens limit moment old e r new → Turns old new
-  turns limit moment (Init s) r new h = inits s old.is_open r new h
+  turns limit moment (Init s) r new h = inits s old.is_open r new refl h
   turns limit moment (Begin kind) r new h = begins limit moment kind r new h
   turns limit moment (Step number) r new h = steps_by number old.is_open r new h
   turns limit moment (Alter j object stripe place symbol) r new h =
