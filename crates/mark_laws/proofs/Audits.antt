@@ -71,7 +71,7 @@ module _ (limit : ℕ) (mark : Mark) (start : State) (m : Moment) (ms : List Mom
     | Doubt_now.gated job a runs next_is flight mine entry_is maker rec on_ ↦
         (let g = ev.audit_gated limit start m ms A U I E X T job a number u c runs flight mine (sym entry_is ∙ e) in
         moved g.below job.begun (sym g.begins) (E.audit job.number job runs g.kind) (G.audit job.number job runs g.kind))
-    | Doubt_now.set_up t entry_is none closed ↦ absurd (let z : SetUp t ≡ AuditDone number u c = sym entry_is ∙ e in cc)
+    | Doubt_now.set_up t entry_is bare none closed ↦ absurd (let z : SetUp t ≡ AuditDone number u c = sym entry_is ∙ e in cc)
   ]
     where
       moved : number < next_audit (now start ms).records → (from : ℕ) → from ≡ (now start ms).audits number → PrecedesPuts start ms from → IsClear start ms from (WrongAt start ms from) →
@@ -178,7 +178,7 @@ module _ (limit : ℕ) (mark : Mark) (start : State) (m : Moment) (ms : List Mom
         subst (λ n. IsClear start (m ∷ ms) n Never) (sym (ap m.state.audits g.subject ∙ audits_below job.subject P.0))
         (on ((now start ms).audits job.subject) (Remains (now start ms) job) Never P.1 (G.repair job.number job runs g.kind)
         (λ q f i s stood h2 setup l b bad x. absurd (let z = gate_behind (now start ms) job x.1.0 i f.id s g.kind next_is x.1.2 in let low = x.1.1 in omega (arith, z, low)))))
-    | Doubt_now.set_up t entry_is none closed ↦ absurd (let z : SetUp t ≡ RepairDone number = sym entry_is ∙ e in cc)
+    | Doubt_now.set_up t entry_is bare none closed ↦ absurd (let z : SetUp t ≡ RepairDone number = sym entry_is ∙ e in cc)
   ]
 
   module _ (missed : MissesNone start ms m.state (came (now start ms) m.state)) where

@@ -286,7 +286,7 @@ module _ (limit : ℕ) (start : State) (m : Moment) (ms : List Moment) (A : All 
         | Doubt_now.gated job a runs next_is flight mine entry_is maker rec on ↦
             (let g = gated_put job a id size runs flight mine (sym entry_is ∙ e) in
             subst (λ (o : Option Job). from ≤ begun_of o) (sym maker) (P.puts job.number job g.0 g.1 runs g.2))
-        | Doubt_now.set_up s entry_is none closed ↦ absurd (let z : SetUp s ≡ PutDone id size = sym entry_is ∙ e in cc)
+        | Doubt_now.set_up s entry_is bare none closed ↦ absurd (let z : SetUp s ≡ PutDone id size = sym entry_is ∙ e in cc)
       ]
 
   -- ---- the record in doubt
@@ -296,7 +296,7 @@ module _ (limit : ℕ) (start : State) (m : Moment) (ms : List Moment) (A : All 
     | Doubt_now.kept was rec ↦ ap setup_of rec ∙ E.setup_doubt d s was e
     | Doubt_now.gated job a runs next_is flight mine entry_is maker rec on ↦
         absurd (wrote_no_setup job job.kind a.entry s (A.pins.wrote a job flight (subst (λ n. job_of (now start ms).jobs n ≡ Some job) (sym mine) runs)) (sym entry_is ∙ e))
-    | Doubt_now.set_up t entry_is none closed ↦ none
+    | Doubt_now.set_up t entry_is bare none closed ↦ none
   ]
 
   -- while a job runs, a setup is in effect
@@ -319,7 +319,7 @@ module _ (limit : ℕ) (start : State) (m : Moment) (ms : List Moment) (A : All 
       early = (let l = g.early in omega arith);
     })
     | Doubt_now.gated job a runs next_is flight mine entry_is maker rec on ↦ by_put job a runs next_is flight mine maker rec (gated_put job a id size runs flight mine (sym entry_is ∙ e))
-    | Doubt_now.set_up t entry_is none closed ↦ absurd (let z : SetUp t ≡ PutDone id size = sym entry_is ∙ e in cc)
+    | Doubt_now.set_up t entry_is bare none closed ↦ absurd (let z : SetUp t ≡ PutDone id size = sym entry_is ∙ e in cc)
   ]
     where
       by_put : (job : Job) (a : Append) → job_of (now start ms).jobs job.number ≡ Some job → next_action (now start ms) job ≡ Some WriteGate → (now start ms).append ≡ Some a → a.job ≡ job.number →
@@ -379,7 +379,7 @@ module _ (limit : ℕ) (start : State) (m : Moment) (ms : List Moment) (A : All 
     | Doubt_now.kept was rec ↦ put_right d id size i s b was e (setup_same m.state (now start ms) (ap setup_of rec)) l k none told
     | Doubt_now.gated job a runs next_is flight mine entry_is maker rec on ↦
         by_put job runs next_is (setup_same m.state (now start ms) (ap setup_of rec)) (subst (λ (o : Option Job). is_replaced_since (begun_of o) i (m ∷ ms) ≡ false) maker none) (gated_put job a id size runs flight mine (sym entry_is ∙ e))
-    | Doubt_now.set_up t entry_is none_up closed ↦ absurd (let z : SetUp t ≡ PutDone id size = sym entry_is ∙ e in cc)
+    | Doubt_now.set_up t entry_is bare none_up closed ↦ absurd (let z : SetUp t ≡ PutDone id size = sym entry_is ∙ e in cc)
   ]
     where
       by_put : (job : Job) → job_of (now start ms).jobs job.number ≡ Some job → next_action (now start ms) job ≡ Some WriteGate → setup_in m.state ≡ setup_in (now start ms) → is_replaced_since job.begun i (m ∷ ms) ≡ false →
@@ -402,7 +402,7 @@ module _ (limit : ℕ) (start : State) (m : Moment) (ms : List Moment) (A : All 
     | Doubt_now.gated x a runs next_is flight mine entry_is maker_is rec on ↦
         (let g = gated_put x a id size runs flight mine (sym entry_is ∙ e) in
         let same : job ≡ advanced x = same_value d.maker job (advanced x) maker maker_is in (g.0, g.1, ap (λ (y : Job). y.kind) same ∙ g.2))
-    | Doubt_now.set_up t entry_is none closed ↦ absurd (let z : SetUp t ≡ PutDone id size = sym entry_is ∙ e in cc)
+    | Doubt_now.set_up t entry_is bare none closed ↦ absurd (let z : SetUp t ≡ PutDone id size = sym entry_is ∙ e in cc)
   ]
 
   -- while a vault goes on, the job whose record is in doubt runs and makes its fourth move next
@@ -413,7 +413,7 @@ module _ (limit : ℕ) (start : State) (m : Moment) (ms : List Moment) (A : All 
       | inr b ↦ absurd (false≢true (sym unbarred ∙ b))
       | inl runs_on ↦ record { job = advanced job; maker = maker; runs = runs_on; next = next_same m.state (now start ms) (advanced job) rec ∙ gate_next (now start ms) job next_is }
     ]
-    | Doubt_now.set_up t entry_is none closed ↦ absurd (false≢true (sym closed ∙ is_open))
+    | Doubt_now.set_up t entry_is bare none closed ↦ absurd (false≢true (sym closed ∙ is_open))
   ]
     where
       goes_on : m.state.records ≡ (now start ms).records → AtGate (now start ms) d → AtGate m.state d
@@ -637,7 +637,7 @@ module _ (limit : ℕ) (start : State) (m : Moment) (ms : List Moment) (A : All 
         | Doubt_now.gated job a runs next_is flight mine entry_is maker rec_d on_ ↦
             (let g = wrote_put job job.kind a.entry id size (A.pins.wrote a job flight (subst (λ n. job_of (now start ms).jobs n ≡ Some job) (sym mine) runs)) (sym entry_is ∙ e) in
             no_put limit (now start ms) allowed job.number job g.0 g.1 runs g.2)
-        | Doubt_now.set_up t entry_is none closed ↦ (let z : SetUp t ≡ PutDone id size = sym entry_is ∙ e in cc)
+        | Doubt_now.set_up t entry_is bare none closed ↦ (let z : SetUp t ≡ PutDone id size = sym entry_is ∙ e in cc)
       ])
 
   pub audit_begins : (k : ℕ) (j : Job) → job_of m.state.jobs k ≡ Some j → j.kind ≡ AuditJob → PrecedesPuts start (m ∷ ms) j.begun
@@ -681,7 +681,7 @@ module _ (limit : ℕ) (start : State) (m : Moment) (ms : List Moment) (A : All 
     | Doubt_now.kept was rec ↦ moved number (E.audit_doubt d number u c was e)
     | Doubt_now.gated job a runs next_is flight mine entry_is maker rec on ↦ (let g = audit_gated job a number u c runs flight mine (sym entry_is ∙ e) in
         moved number (g.below, subst (PrecedesPuts start ms) (sym g.begins) (E.audit job.number job runs g.kind)))
-    | Doubt_now.set_up t entry_is none closed ↦ absurd (let z : SetUp t ≡ AuditDone number u c = sym entry_is ∙ e in cc)
+    | Doubt_now.set_up t entry_is bare none closed ↦ absurd (let z : SetUp t ≡ AuditDone number u c = sym entry_is ∙ e in cc)
   ]
 
   pub due_begins : (u : Due) → due_of m.state.records ≡ Some u → (u.number < next_audit m.state.records) × PrecedesPuts start (m ∷ ms) (m.state.audits u.number)
@@ -720,7 +720,7 @@ module _ (limit : ℕ) (start : State) (m : Moment) (ms : List Moment) (A : All 
     | Doubt_now.kept was rec ↦ moved number (E.repair_doubt d number was e)
     | Doubt_now.gated job a runs next_is flight mine entry_is maker rec on ↦ (let g = repair_gated job a number runs flight mine (sym entry_is ∙ e) in
         moved number (subst (λ x. (x < next_audit (now start ms).records) × PrecedesPuts start ms ((now start ms).audits x)) (sym g.subject) (E.repair job.number job runs g.kind)))
-    | Doubt_now.set_up t entry_is none closed ↦ absurd (let z : SetUp t ≡ RepairDone number = sym entry_is ∙ e in cc)
+    | Doubt_now.set_up t entry_is bare none closed ↦ absurd (let z : SetUp t ≡ RepairDone number = sym entry_is ∙ e in cc)
   ]
 
   -- so does that of the last settled audit

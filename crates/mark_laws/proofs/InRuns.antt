@@ -20,7 +20,7 @@ use Rattle.hail_machine.proofs.Events.{changes}
 use Rattle.hail_machine.proofs.Held.{all}
 use Rattle.run_laws.proofs.InEffect as eff
 use Rattle.mark_laws.specs.Damage.{IsBad, IsReplaced}
-use Rattle.mark_laws.specs.Marks.{Never, IsClear, IsMark}
+use Rattle.mark_laws.specs.Marks.{Never, PrecedesPuts, IsClear, IsMark}
 use Rattle.mark_laws.specs.MarkedRuns.{IsMarkedRun, IsCalmRun}
 use Rattle.mark_laws.proofs.Turns.{turns}
 use Rattle.mark_laws.proofs.Points as pt
@@ -86,3 +86,9 @@ came_columns limit start m ms id size clean run e = (let A = all limit start cle
     let T = turns (now start ms) limit (length ms) m.event m.outcome m.state run.1 in
     let c = ev.put_came limit start m ms A U I E X T id size e in
     (c.doubt, c.at, c.entry, λ j stripe block l b none told. ev.put_right limit start m ms A U I E X T c.doubt id size j stripe block c.at c.entry c.setup l b none told))
+
+-- a moment before which no put began that works stays one
+pub before_stays : (limit : ℕ) (start : State) (m : Moment) (ms : List Moment) (from : ℕ) → IsStart start → IsRun limit start (m ∷ ms) → PrecedesPuts start ms from → PrecedesPuts start (m ∷ ms) from
+before_stays limit start m ms from clean run P = (let A = all limit start clean ms run.2 in
+    ev.before_on limit start m ms A (num.facts audits limit start clean ms run.2) (eff.facts limit start ms clean run.2) (always limit start clean ms run.2)
+    (changes limit (length ms) (now start ms) m.event m.outcome m.state A.numbers.idle run.1) (turns (now start ms) limit (length ms) m.event m.outcome m.state run.1) from P)

@@ -1,4 +1,5 @@
 pub mod Turns
+pub mod Quiet
 pub mod Blocks
 pub mod Places
 pub mod Files
@@ -8,3 +9,4 @@ pub mod Audits
 pub mod Readers
 pub mod SecondHalf
 pub mod InRuns
+pub mod InDoubt

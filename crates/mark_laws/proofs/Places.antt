@@ -142,7 +142,7 @@ followed_by t job RepairJob =
     (followed_append append_actions (End ∷ []) followed_moves (followed_none (End ∷ []) (tt, tt)))
 
 -- a job's list is the same after one more action
-advanced_same : (t : Setup) (job : Job) (kind : Kind) → actions_by t (advanced job) kind ≡ actions_by t job kind
+pub advanced_same : (t : Setup) (job : Job) (kind : Kind) → actions_by t (advanced job) kind ≡ actions_by t job kind
 advanced_same t job (PutJob name bytes) = refl
 advanced_same t job (GetJob name) = refl
 advanced_same t job (DropJob name) = refl

@@ -290,11 +290,11 @@ module _ (limit : ℕ) (mark : Mark) (start : State) (m : Moment) (ms : List Mom
   replaced_less from i none = elim (cases_Bool (is_replaced_since from i ms)) [ inl t ↦ absurd (false≢true (sym none ∙ since_more from i m ms t)) | inr f ↦ f ]
 
   -- a block that a repair has stored is of one of its files
-  made_pin : (x : Job) (i o s : ℕ) → x.kind ≡ RepairJob → HasMadeStore (setup_in (now start ms)) x i o s → HasPin x o
+  pub made_pin : (x : Job) (i o s : ℕ) → x.kind ≡ RepairJob → HasMadeStore (setup_in (now start ms)) x i o s → HasPin x o
   made_pin x i o s kind made =
       each_get (IsFair x RepairJob) (actions_by (setup_in (now start ms)) x RepairJob) made.place (Store i o s) (fair (setup_in (now start ms)) x RepairJob) (by_kind (setup_in (now start ms)) x RepairJob made.place (Store i o s) kind made.action)
 
-  carry : (k : ℕ) (x : Job) (i o s : ℕ) (b : Option (List ℕ)) → job_of (now start ms).jobs k ≡ Some x → x.kind ≡ RepairJob → HasMadeStore (setup_in (now start ms)) x i o s → is_replaced_since x.begun i (m ∷ ms) ≡ false →
+  pub carry : (k : ℕ) (x : Job) (i o s : ℕ) (b : Option (List ℕ)) → job_of (now start ms).jobs k ≡ Some x → x.kind ≡ RepairJob → HasMadeStore (setup_in (now start ms)) x i o s → is_replaced_since x.begun i (m ∷ ms) ≡ false →
       told_block m.state i o s ≡ Some b → b ≡ Some (columns (object_in (now start ms) o) ((now start ms).bytes o) i s)
   carry k x i o s b runs kind made none told = elim (X.block i o s) [
     | Block_is.same e ↦ F.rewrote k x i o s b runs kind made (replaced_less x.begun i none) (sym e ∙ told)

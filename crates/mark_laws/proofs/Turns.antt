@@ -90,7 +90,7 @@ pub data Doubt_now (old new : State) (d : Doubt) : Type 0 where
   kept : old.doubt ≡ Some d → new.records ≡ old.records → Doubt_now old new d
   gated : (job : Job) (a : Append) → job_of old.jobs job.number ≡ Some job → next_action old job ≡ Some WriteGate → old.append ≡ Some a → a.job ≡ job.number → d.entry ≡ a.entry →
       d.maker ≡ Some (advanced job) → new.records ≡ old.records → (job_of new.jobs job.number ≡ Some (advanced job)) ⊎ (new.is_barred ≡ true) → Doubt_now old new d
-  set_up : (s : Setup) → d.entry ≡ SetUp s → setup_of new.records ≡ None → new.is_open ≡ false → Doubt_now old new d
+  set_up : (s : Setup) → d.entry ≡ SetUp s → d.maker ≡ None → setup_of new.records ≡ None → new.is_open ≡ false → Doubt_now old new d
 
 -- the begins of audit numbers
 pub data Audits_are (old new : State) : Type 0 where
@@ -411,7 +411,7 @@ module _ (old : State) where
     gift = λ k j h. Gift_is.had j h refl (record { kind = refl; begun = refl; pinned = refl });
   })
   failed s doubt faults new closed (inr (none, e)) is = subst (λ (w : State). Turns old w) (sym is) (record {
-    doubt = λ d h. (let f : record { entry = SetUp s; maker = None } ≡ d = same_value doubt _ d e h in Doubt_now.set_up s (sym (ap (λ (x : Doubt). x.entry) f)) (none_up (setup_of old.records) none) closed);
+    doubt = λ d h. (let f : record { entry = SetUp s; maker = None } ≡ d = same_value doubt _ d e h in Doubt_now.set_up s (sym (ap (λ (x : Doubt). x.entry) f)) (sym (ap (λ (x : Doubt). x.maker) f)) (none_up (setup_of old.records) none) closed);
     audits = Audits_are.undrawn refl no_new;
     opened = λ d h. same_open;
     stay = λ k j h. Stay_is.stayed h;

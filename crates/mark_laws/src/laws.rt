@@ -14,7 +14,7 @@ ghost use Rattle.hail_machine.specs.Missed.{is_wrong_now};
 ghost use Rattle.hail_machine.specs.Halves.{begun_of, SecondHalf, SecondHalfHolds};
 ghost use Rattle.hail_machine.specs.Deeds.{told_block, HasMadeStore};
 ghost use Rattle.mark_laws.specs.Damage.{IsBad, IsReplaced, RoseSince};
-ghost use Rattle.mark_laws.specs.Marks.{WasWrong, Remains, IsMark};
+ghost use Rattle.mark_laws.specs.Marks.{WasWrong, Remains, PrecedesPuts, IsMark};
 ghost use Rattle.mark_laws.specs.MarkedRuns.{IsMarkedRun, IsCalmRun};
 
 /// The second half of the main theorem: in every calm run in which no audit missed damage, of providers that tell what they hold, every
@@ -30,9 +30,12 @@ pub fn any_mark_will_do()
     ensures { (limit : ℕ) (mark : Mark) (start : State) (ms : List Moment) → IsMarkedRun limit mark start ms → SecondHalf start ms }
 {}
 
-/// A moment since which all damage of files in effect is new stays one in each event.
+/// In every run, calm or not, a moment before which no put began that works stays one in each event; and in a run that is calm by any mark so
+/// does one since which, moreover, all damage of files in effect is new.
 pub fn marks_stay()
-    ensures { (limit : ℕ) (mark : Mark) (start : State) (m : Moment) (ms : List Moment) (from : ℕ) → IsMarkedRun limit mark start ms →
+    ensures before_puts { (limit : ℕ) (start : State) (m : Moment) (ms : List Moment) (from : ℕ) → IsStart start → IsRun limit start (m ∷ ms) →
+        PrecedesPuts start ms from → PrecedesPuts start (m ∷ ms) from }
+    ensures marks { (limit : ℕ) (mark : Mark) (start : State) (m : Moment) (ms : List Moment) (from : ℕ) → IsMarkedRun limit mark start ms →
         IsRun limit start (m ∷ ms) → IsMark start ms from → IsMark start (m ∷ ms) from }
 {}
 
@@ -73,12 +76,17 @@ pub fn done_puts_are_columns()
         told_block m.state j id stripe ≡ Some block → block ≡ Some (columns (object_in m.state id) (m.state.bytes id) j stripe)) }
 {}
 
-/// What a running repair has stored is the provider's own column, unless the provider was replaced since the repair's begin: the symbols
-/// that its work gave are the file's.
+/// What a repair has stored, one that runs or whose record is in doubt, is the provider's own column, unless the provider was replaced since
+/// the repair's begin: the symbols that its work gave are the file's.
 pub fn repairs_store_columns()
     ensures stored { (limit : ℕ) (mark : Mark) (start : State) (ms : List Moment) (number : ℕ) (job : Job) (j object stripe : ℕ)
         (block : Option (List ℕ)) → IsMarkedRun limit mark start ms → job_of (now start ms).jobs number ≡ Some job → job.kind ≡ RepairJob →
         HasMadeStore (setup_in (now start ms)) job j object stripe → is_replaced_since job.begun j ms ≡ false →
+        told_block (now start ms) j object stripe ≡ Some block →
+        block ≡ Some (columns (object_in (now start ms) object) ((now start ms).bytes object) j stripe) }
+    ensures in_doubt { (limit : ℕ) (mark : Mark) (start : State) (ms : List Moment) (d : Doubt) (job : Job) (j object stripe : ℕ)
+        (block : Option (List ℕ)) → IsMarkedRun limit mark start ms → (now start ms).doubt ≡ Some d → d.maker ≡ Some job →
+        job.kind ≡ RepairJob → HasMadeStore (setup_in (now start ms)) job j object stripe → is_replaced_since job.begun j ms ≡ false →
         told_block (now start ms) j object stripe ≡ Some block →
         block ≡ Some (columns (object_in (now start ms) object) ((now start ms).bytes object) j stripe) }
     ensures worked { (limit : ℕ) (mark : Mark) (start : State) (ms : List Moment) (number : ℕ) (job : Job) (object stripe : ℕ)
@@ -138,4 +146,13 @@ pub fn damage_of_pinned_files_is_new()
         is_wrong_block (object_in (now start ms) file.id) ((now start ms).bytes file.id) j stripe block ≡ true →
         IsReplaced (mark (first_moments job.begun ms)) j ms
         ⊎ ((block ≡ None) × RoseSince (now start (first_moments job.begun ms)) (now start ms) j) }
+{}
+
+/// In every run, calm or not, also while an audit's record is in doubt, whether its job runs on or has ended, what providers tell of the
+/// files that it worked on is what they told at its begin, unless they were replaced since.
+pub fn audited_files_stay_in_doubt()
+    ensures { (limit : ℕ) (start : State) (ms : List Moment) (d : Doubt) (job : Job) (file : Pinned) (j stripe : ℕ) → IsStart start →
+        IsRun limit start ms → (now start ms).doubt ≡ Some d → d.maker ≡ Some job → job.kind ≡ AuditJob → Contains job.pinned file →
+        is_replaced_since job.begun j ms ≡ false →
+        told_block (now start ms) j file.id stripe ≡ told_block (now start (first_moments job.begun ms)) j file.id stripe }
 {}
