@@ -25,9 +25,9 @@ use Rattle.hail_machine.proofs.Events.{some_told, changes}
 use Rattle.hail_machine.proofs.Numbers.{objects, audits, Draws, HasNumber, next_of_records, at_three, first_above, first_below, drawn_later, drawn_first}
 use Rattle.hail_machine.proofs.Numbers as num
 use Rattle.hail_machine.proofs.RecordFacts.{In}
-use Rattle.hail_machine.proofs.Fair.{IsFair, HasPin, is_fair, stores_count, store_place}
+use Rattle.hail_machine.proofs.Fair.{IsFair, HasPin, is_fair, store_place}
 use Rattle.hail_machine.proofs.Pins.{any_job, Wrote, pinned_stands}
-use Rattle.hail_machine.proofs.PinFacts.{Pins_is, pins_is, setup_same, setup_one, wrote_setup, count_same}
+use Rattle.hail_machine.proofs.PinFacts.{Pins_is, pins_is, setup_same, setup_one, wrote_setup}
 use Rattle.hail_machine.proofs.Held.{All, all}
 use Rattle.run_laws.proofs.InEffect as eff
 use Rattle.step_laws.proofs.Places.{stored_before_gate}

@@ -1,14 +1,14 @@
 -- What an audit or a repair whose record is in doubt worked on, whether its job runs on or has ended.
-use Rattle.std.proofs.Common.{◌≡◌, ℕ, suc, ◌+◌, ◌≤◌, ◌<◌, Bool, true, false, ◌⊎◌, List, [], ◌∷◌, length, Option, Some, None, refl, ap, sym, subst, ◌∙◌, inl, inr, arith}
+use Rattle.std.proofs.Common.{◌≡◌, ℕ, suc, ◌+◌, ◌≤◌, ◌<◌, true, false, ◌⊎◌, List, [], ◌∷◌, length, Option, Some, refl, ap, sym, subst, ◌∙◌, inl, inr, arith}
 use Rattle.std.specs.Prelude.{slice_get}
 use Rattle.std.proofs.lemmas.Bool.{cases_Bool, cases_lt, false≢true}
 use Rattle.hail_columns.specs.Columns.{columns}
-use Rattle.hail_records.specs.Records.{Setup, SetUp}
+use Rattle.hail_records.specs.Records.{Setup}
 use Rattle.hail_records.specs.Table.{setup_of, next_id, started_as}
-use Rattle.hail_machine.specs.Jobs.{Kind, PutJob, AuditJob, RepairJob, Pinned, Job, job_of, advanced}
-use Rattle.hail_machine.specs.Actions.{Action, WriteGate, Store, Remove, actions_by, actions_of}
+use Rattle.hail_machine.specs.Jobs.{AuditJob, RepairJob, Pinned, Job, job_of, advanced}
+use Rattle.hail_machine.specs.Actions.{WriteGate, Store, Remove, actions_of}
 use Rattle.hail_machine.specs.Setups.{object_of}
-use Rattle.hail_machine.specs.States.{State, Append, Doubt, IsStart, setup_in, object_in}
+use Rattle.hail_machine.specs.States.{State, Doubt, IsStart, setup_in, object_in}
 use Rattle.hail_machine.specs.Begins.{is_check}
 use Rattle.hail_machine.specs.Steps.{next_action}
 use Rattle.hail_machine.specs.Runs.{Moment, now, first_moments, is_replacement, is_replaced_since, IsRun}
@@ -27,12 +27,12 @@ use Rattle.hail_machine.proofs.Held.{All, all, actions_are, first_more}
 use Rattle.run_laws.proofs.InEffect as eff
 use Rattle.calm_laws.proofs.Onward.{run_onward, all_tell}
 use Rattle.step_laws.proofs.Places.{next_stands}
+use Rattle.step_laws.proofs.Walk.{walked}
 use Rattle.mark_laws.specs.MarkedRuns.{AreMarks}
 use Rattle.mark_laws.proofs.Turns.{Doubt_now, Turns, turns}
 use Rattle.mark_laws.proofs.Quiet.{IsAtRest, quiet_blocks}
 use Rattle.mark_laws.proofs.Blocks.{clash, since_more, since_now}
 use Rattle.mark_laws.proofs.Places.{advanced_same}
-use Rattle.mark_laws.proofs.EveryRun as ev
 use Rattle.mark_laws.proofs.EveryRun.{Always, always, store_kinds, remove_kinds}
 use Rattle.mark_laws.proofs.Readers as rd
 use Rattle.mark_laws.proofs.SecondHalf.{calm_now, marked_facts}
@@ -175,12 +175,12 @@ rewritten limit mark start clean tell (m ∷ ms) run calm marks = step (rewritte
         told_block m.state i o s ≡ Some b → b ≡ Some (columns (object_in (now start ms) o) ((now start ms).bytes o) i s)
     while_running x i o s b runs kind made none told =
         rd.carry limit mark start m ms clean run.2 A (num.facts audits limit start clean ms run.2) (eff.facts limit start ms clean run.2) E (marked_facts limit mark start clean tell ms run.2 calm.1 marks.1) X
-        (turns (now start ms) limit (length ms) m.event m.outcome m.state run.1) (run_onward limit start m ms run) (all_tell limit start ms tell run.2) (calm_now mark start clean ms calm.1) x.number x i o s b runs kind made none told
+        (turns (now start ms) limit (length ms) m.event m.outcome m.state run.1) (walked (length ms) (now start ms) limit m.event m.outcome m.state run.1) (run_onward limit start m ms run) (all_tell limit start ms tell run.2) (calm_now mark start clean ms calm.1) x.number x i o s b runs kind made none told
 
     pin : (x : Job) (i o s : ℕ) → x.kind ≡ RepairJob → HasMadeStore (setup_in (now start ms)) x i o s → HasPin x o
     pin x i o s kind made =
         rd.made_pin limit mark start m ms clean run.2 A (num.facts audits limit start clean ms run.2) (eff.facts limit start ms clean run.2) E (marked_facts limit mark start clean tell ms run.2 calm.1 marks.1) X
-        (turns (now start ms) limit (length ms) m.event m.outcome m.state run.1) (run_onward limit start m ms run) (all_tell limit start ms tell run.2) (calm_now mark start clean ms calm.1) x i o s kind made
+        (turns (now start ms) limit (length ms) m.event m.outcome m.state run.1) (walked (length ms) (now start ms) limit m.event m.outcome m.state run.1) (run_onward limit start m ms run) (all_tell limit start ms tell run.2) (calm_now mark start clean ms calm.1) x i o s kind made
 
     step : Rewritten start ms → Rewritten start (m ∷ ms)
     step before d job i o s b h maker kind made none told = elim ((turns (now start ms) limit (length ms) m.event m.outcome m.state run.1).doubt d h) [

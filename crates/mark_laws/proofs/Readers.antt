@@ -16,7 +16,7 @@ use Rattle.hail_devices.specs.Faults.{Rose, last_count}
 use Rattle.hail_devices.specs.Providers.{Held}
 use Rattle.hail_devices.specs.ProviderCalls.{FetchGives}
 use Rattle.hail_machine.specs.Jobs.{Kind, RepairJob, Pinned, Given, Fetched, Answered, Worked, Job, job_of}
-use Rattle.hail_machine.specs.Actions.{Action, WriteBody, SyncGate, Store, Work, Remove, actions_by, actions_of}
+use Rattle.hail_machine.specs.Actions.{Action, WriteBody, SyncGate, Store, Work, Remove, actions_by, actions_of, Fetch, Ask}
 use Rattle.hail_machine.specs.Setups.{setup_or_none, object_of, stripes_of}
 use Rattle.hail_machine.specs.States.{State, IsStart, setup_in, object_in}
 use Rattle.hail_machine.specs.Given.{block_given, blocks_given}
@@ -44,8 +44,9 @@ use Rattle.calm_laws.proofs.Absent.{own_symbols}
 use Rattle.calm_laws.proofs.Onward.{AllOnward}
 use Rattle.step_laws.proofs.Lists.{get_map_upto}
 use Rattle.step_laws.proofs.Places.{by_kind}
+use Rattle.step_laws.proofs.Walk.{IsGift, Passed, Went, Walked}
 use Rattle.mark_laws.specs.Damage.{IsBad, IsReplaced, RoseSince}
-use Rattle.mark_laws.proofs.Turns.{IsSame, IsFound, Gift_is, Turns}
+use Rattle.mark_laws.proofs.Turns.{Turns}
 use Rattle.mark_laws.proofs.Blocks.{since_more, since_now, sized_wrong}
 use Rattle.mark_laws.proofs.Places.{work_within, next_repairs, same_actions}
 use Rattle.mark_laws.proofs.EveryRun as ev
@@ -92,7 +93,7 @@ shape_in w valid up = go (setup_of w.records) valid up
 
 module _ (limit : ℕ) (mark : Mark) (start : State) (m : Moment) (ms : List Moment) (clean : IsStart start) (run : IsRun limit start ms) (A : All start ms) (U : num.Facts audits start ms) (I : eff.Facts (now start ms))
     (E : Always start ms) (F : Facts mark start ms)
-    (X : Changes limit (length ms) (now start ms) m.event m.outcome m.state) (T : Turns (now start ms) m.state) (O : AllOnward (now start ms) m.state) (tell : AllTell (now start ms))
+    (X : Changes limit (length ms) (now start ms) m.event m.outcome m.state) (T : Turns (now start ms) m.state) (G : Walked (length ms) (now start ms) m.event m.outcome m.state) (O : AllOnward (now start ms) m.state) (tell : AllTell (now start ms))
     (calm : (k : ℕ) (j : Job) → job_of (now start ms).jobs k ≡ Some j → IsTrue (relies j.kind) → replaced_count (now start ms) (mark_of mark ms j) ms ≤ (setup_in (now start ms)).b) where
   -- ---- the mark and the state at the begin of a job
 
@@ -179,30 +180,49 @@ module _ (limit : ℕ) (mark : Mark) (start : State) (m : Moment) (ms : List Mom
   pub gave_step : (k : ℕ) (j : Job) (f : Pinned) (i s : ℕ) (block : Option (List ℕ)) → job_of m.state.jobs k ≡ Some j → In f j.pinned → i < (setup_in m.state).n →
       s < stripes_of (setup_in m.state) (length (m.state.bytes f.id)) → In (Fetched i f.id s block) j.given →
       is_wrong_block (object_in m.state f.id) (m.state.bytes f.id) i s block ≡ true → Excused (m ∷ ms) j i block
-  gave_step k j f i s block h in_f l b given wrong = elim (T.gift k j h) [
-    | Gift_is.had x runs given_is same ↦ before x runs same (subst (In (Fetched i f.id s block)) given_is given)
-    | Gift_is.empty none ↦ absurd (subst (In (Fetched i f.id s block)) none given)
-    | Gift_is.one x gift runs given_is same found ↦ elim (subst (In (Fetched i f.id s block)) given_is given) [
-      | inl e ↦
-          (let in_x = subst (In f) same.pinned in_f in
-          let below = (A.pins.pins k x f runs in_x).0 in
-          let n = ev.bounds limit start m ms A U I E X T f.id i s setup below l b in
-          fetched_now k x j f i s block runs same.begun in_x n.0 n.1 (pt.wrong_old limit mark start m ms clean run A U I E F X T f.id i s block setup (X.bytes f.id below) wrong)
-          (subst (IsFound (now start ms) m.state x) (sym e) found))
-      | inr in_given ↦ before x runs same in_given
-    ]
+  gave_step k j f i s block h in_f l b given wrong = elim (G.job k j h) [
+    | Went.kept runs other ↦ before j runs refl refl given
+    | Went.begun kind is k_is rec ↦ absurd (subst (λ (x : Job). In (Fetched i f.id s block) x.given) is given)
+    | Went.went x action goes ↦ by_passed x action goes.runs goes.passed
   ]
     where
       setup : setup_in m.state ≡ setup_in (now start ms)
       setup = ev.setup_job limit start m ms A U I E X T k j h
 
-      before : (x : Job) → job_of (now start ms).jobs k ≡ Some x → IsSame x j → In (Fetched i f.id s block) x.given → Excused (m ∷ ms) j i block
-      before x runs same in_given =
-          (let in_x = subst (In f) same.pinned in_f in
+      before : (x : Job) → job_of (now start ms).jobs k ≡ Some x → j.begun ≡ x.begun → j.pinned ≡ x.pinned → In (Fetched i f.id s block) x.given → Excused (m ∷ ms) j i block
+      before x runs begun pinned in_given =
+          (let in_x = subst (In f) pinned in_f in
           let below = (A.pins.pins k x f runs in_x).0 in
           let n = ev.bounds limit start m ms A U I E X T f.id i s setup below l b in
-          excused_on k x j i block runs same.begun
+          excused_on k x j i block runs begun
           (F.gave k x f i s block runs in_x n.0 n.1 in_given (pt.wrong_old limit mark start m ms clean run A U I E F X T f.id i s block setup (X.bytes f.id below) wrong)))
+
+      -- what a fetch of this event gave
+      found : (x : Job) (action : Action) (gift : Given) → IsGift (now start ms) x m.state action gift → gift ≡ Fetched i f.id s block → IsHeldThen (now start ms) m.state i f.id s block
+      found x (Fetch p o t) gift (c, is, held) e = (let z : Fetched p o t c ≡ Fetched i f.id s block = sym is ∙ e in
+          let pi : p ≡ i = cc in let of : o ≡ f.id = cc in let ts : t ≡ s = cc in let cb : c ≡ block = cc in now_held p o t c pi of ts cb held)
+        where
+          now_held : (p o t : ℕ) (c : Option (List ℕ)) → p ≡ i → o ≡ f.id → t ≡ s → c ≡ block → IsHeldThen (now start ms) m.state p o t c → IsHeldThen (now start ms) m.state i f.id s block
+          now_held p o t c pi of ts cb held =
+              subst (λ n. IsHeldThen (now start ms) m.state n f.id s block) pi (subst (λ n. IsHeldThen (now start ms) m.state p n s block) of
+              (subst (λ n. IsHeldThen (now start ms) m.state p o n block) ts (subst (IsHeldThen (now start ms) m.state p o t) cb held)))
+      found x (Ask p o r) gift (c, is, answered) e = absurd (let z : Answered p o r c ≡ Fetched i f.id s block = sym is ∙ e in cc)
+      found x (Work o t) gift (c, is, gives) e = absurd (let z : Worked o t c ≡ Fetched i f.id s block = sym is ∙ e in cc)
+      found x action gift g e = absurd g
+
+      by_passed : (x : Job) (action : Action) → job_of (now start ms).jobs k ≡ Some x → Passed (now start ms) x action m.state j → Excused (m ∷ ms) j i block
+      by_passed x action runs (Passed.silent quiet is rec) = before x runs (ap (λ (y : Job). y.begun) is) (ap (λ (y : Job). y.pinned) is) (subst (λ (y : Job). In (Fetched i f.id s block) y.given) is given)
+      by_passed x action runs (Passed.gave gift is_gift is rec) = elim (subst (λ (y : Job). In (Fetched i f.id s block) y.given) is given) [
+        | inl e ↦
+            (let in_x = subst (λ (y : Job). In f y.pinned) is in_f in
+            let below = (A.pins.pins k x f runs in_x).0 in
+            let n = ev.bounds limit start m ms A U I E X T f.id i s setup below l b in
+            fetched_now k x j f i s block runs (ap (λ (y : Job). y.begun) is) in_x n.0 n.1 (pt.wrong_old limit mark start m ms clean run A U I E F X T f.id i s block setup (X.bytes f.id below) wrong)
+            (found x action gift is_gift (sym e)))
+        | inr in_given ↦ before x runs (ap (λ (y : Job). y.begun) is) (ap (λ (y : Job). y.pinned) is) in_given
+      ]
+      by_passed x action runs (Passed.drew act is rec) = before x runs (ap (λ (y : Job). y.begun) is) (ap (λ (y : Job). y.pinned) is) (subst (λ (y : Job). In (Fetched i f.id s block) y.given) is given)
+      by_passed x action runs (Passed.finished a act flight mine is rec) = before x runs (ap (λ (y : Job). y.begun) is) (ap (λ (y : Job). y.pinned) is) (subst (λ (y : Job). In (Fetched i f.id s block) y.given) is given)
 
   -- ---- what the work of a repair gave
 

@@ -37,6 +37,7 @@ use Rattle.calm_laws.proofs.Names.{begins_stored}
 use Rattle.calm_laws.proofs.Onward.{run_onward, all_tell}
 use Rattle.step_laws.proofs.Places.{fetched_before_work, fetched_before_end}
 use Rattle.step_laws.proofs.MadeFacts.{given_block, made_fetch_gave}
+use Rattle.step_laws.proofs.Walk.{walked}
 use Rattle.step_laws.proofs.GetFetches.{ends_at}
 use Rattle.step_laws.specs.Behind.{HasMade}
 use Rattle.mark_laws.specs.Damage.{RoseSince}
@@ -99,17 +100,18 @@ facts_step limit mark start m ms clean tell run calm F moment =
     let E = always limit start clean ms run.2 in
     let X = changes limit (length ms) (now start ms) m.event m.outcome m.state A.numbers.idle run.1 in
     let T = turns (now start ms) limit (length ms) m.event m.outcome m.state run.1 in
+    let G = walked (length ms) (now start ms) limit m.event m.outcome m.state run.1 in
     let O = run_onward limit start m ms run in
     let told = all_tell limit start ms tell run.2 in
     let quiet = calm_now mark start clean ms calm in
     record {
       moment = moment;
-      marked = rd.marked_step limit mark start m ms clean run.2 A U I E F X T O told quiet;
-      reads = rd.reads_step limit mark start m ms clean run.2 A U I E F X T O told quiet;
-      counts = rd.counts_step limit mark start m ms clean run.2 A U I E F X T O told quiet;
-      gave = rd.gave_step limit mark start m ms clean run.2 A U I E F X T O told quiet;
-      rows = rd.rows_step limit mark start m ms clean run.2 A U I E F X T O told quiet;
-      rewrote = rd.rewrote_step limit mark start m ms clean run.2 A U I E F X T O told quiet;
+      marked = rd.marked_step limit mark start m ms clean run.2 A U I E F X T G O told quiet;
+      reads = rd.reads_step limit mark start m ms clean run.2 A U I E F X T G O told quiet;
+      counts = rd.counts_step limit mark start m ms clean run.2 A U I E F X T G O told quiet;
+      gave = rd.gave_step limit mark start m ms clean run.2 A U I E F X T G O told quiet;
+      rows = rd.rows_step limit mark start m ms clean run.2 A U I E F X T G O told quiet;
+      rewrote = rd.rewrote_step limit mark start m ms clean run.2 A U I E F X T G O told quiet;
     })
 
 -- in a run that is calm by a mark

@@ -1,28 +1,23 @@
--- What each event does to the record in doubt and its maker, to the begins of audit numbers, to what jobs were given, and
--- which jobs run on.
+-- What each event does to the record in doubt and its maker, to the begins of audit numbers, and which jobs run on.
 use Rattle.std.proofs.Common.{◌≡◌, ℕ, ◌==◌, Bool, true, false, cond, ◌⊎◌, List, [], ◌∷◌, ◌++◌, Option, Some, None, refl, ap, sym, subst, ◌∙◌, inl, inr}
 use Rattle.std.specs.Prelude.{IsSome, is_some, nat_lt}
-use Rattle.std.proofs.lemmas.Bool.{eq-eqb, ne_eqb, cases_eq, cases_Bool, eqb-true, false≢true}
+use Rattle.std.proofs.lemmas.Bool.{ne_eqb, cases_eq, cases_Bool, eqb-true, false≢true}
 use Rattle.hail_records.specs.Records.{Record, Setup, SetUp, is_setup}
 use Rattle.hail_records.specs.Table.{setup_of}
 use Rattle.hail_devices.specs.Providers.{Held, Provider, with_symbol, without_block, HasPlace}
-use Rattle.hail_devices.specs.ProviderCalls.{FailsToGive, Fetches}
-use Rattle.hail_columns.specs.Opened.{GivesSymbols}
 use Rattle.hail_machine.specs.Jobs.{Kind, Job, Given, Fetched, Answered, Worked, job_of, with_job, without_job, advanced, advanced_with}
 use Rattle.hail_machine.specs.Actions.{Action, WriteBody, SyncBody, WriteGate, SyncGate, Store, Fetch, Ask, Work, Remove, End}
 use Rattle.hail_machine.specs.Refusals as refusal
 use Rattle.hail_machine.specs.Answers as answer
 use Rattle.hail_machine.specs.Events.{Event, Init, Begin, Step, Alter, Lose, Stop, Reopen, Names, Continue, Outcome, Ready, Refused, Opened, Begun, More, Waiting, Ended, Replaced, NothingHeld, Stopped, Listed, Closed, Continued}
-use Rattle.hail_machine.specs.States.{State, Append, Doubt, setup_in, object_in, with_provider, given_up, Settles}
-use Rattle.hail_machine.specs.Given.{blocks_given}
+use Rattle.hail_machine.specs.States.{State, Append, Doubt, with_provider, given_up, Settles}
 use Rattle.hail_machine.specs.Begins.{new_job, Begins}
 use Rattle.hail_machine.specs.Appends.{audits_drawn, Moves}
 use Rattle.hail_machine.specs.Steps.{next_action, holder_of, Acts, ActsOrWaits, StepsOn, StepsJob, StepsOpen, Steps}
 use Rattle.hail_machine.specs.Openings.{LeavesDoubt, Stops, Reopens, InitsClosed, InitsBy, Inits, Continues}
 use Rattle.hail_machine.specs.Replacements.{ReplacesAt, ReplacesIf}
 use Rattle.hail_machine.specs.Machine.{Lists, Happens}
-use Rattle.hail_machine.proofs.JobLists.{cond_true, cond_false, same_value, number_of, found_with, found_without, found_itself, found_more, found_none}
-use Rattle.calm_laws.specs.Origins.{IsHeldThen}
+use Rattle.hail_machine.proofs.JobLists.{cond_true, cond_false, same_value, number_of, found_itself}
 
 -- no setup is in effect, as a lookup
 none_up : (o : Option Setup) → is_some o ≡ false → o ≡ None
@@ -60,24 +55,6 @@ more_with (x ∷ js) y k j h = elim (cases_Bool (x.number == k)) [
   | inr f ↦ cond_false (x.number == k) (Some x) (job_of (js ++ y ∷ []) k) f ∙ more_with js y k j (sym (cond_false (x.number == k) (Some x) (job_of js k) f) ∙ h)
 ]
 
--- what an event gave a job
-abbrev pub IsFound : State → State → Job → Given → Type 0
-IsFound old new x (Fetched i o s block) = IsHeldThen old new i o s block
-IsFound old new x (Worked o s symbols) = GivesSymbols (object_in old o) s (blocks_given x.given (setup_in old).n o s) symbols
-IsFound old new x (Answered i o r symbol) = Unit {0}
-
--- a job after an event is the same in what it is for
-pub record IsSame (x j : Job) : Type 0 where
-  pub kind : j.kind ≡ x.kind
-  pub begun : j.begun ≡ x.begun
-  pub pinned : j.pinned ≡ x.pinned
-
--- what a running job was given by an event
-pub data Gift_is (old new : State) (k : ℕ) (j : Job) : Type 0 where
-  had : (x : Job) → job_of old.jobs k ≡ Some x → j.given ≡ x.given → IsSame x j → Gift_is old new k j
-  empty : j.given ≡ [] → Gift_is old new k j
-  one : (x : Job) (gift : Given) → job_of old.jobs k ≡ Some x → j.given ≡ gift ∷ x.given → IsSame x j → IsFound old new x gift → Gift_is old new k j
-
 -- a job that ran goes on as it was, or makes an action, or the vault is closed
 pub data Stay_is (old new : State) (k : ℕ) (j : Job) : Type 0 where
   stayed : job_of new.jobs k ≡ Some j → Stay_is old new k j
@@ -107,7 +84,6 @@ pub record Turns (old new : State) : Type 0 where
   pub audits : Audits_are old new
   pub opened : (d : Doubt) → new.doubt ≡ Some d → WasOpen old new
   pub stay : (k : ℕ) (j : Job) → job_of old.jobs k ≡ Some j → Stay_is old new k j
-  pub gift : (k : ℕ) (j : Job) → job_of new.jobs k ≡ Some j → Gift_is old new k j
 
 module _ (old : State) where
   no_new : (a : Append) → old.append ≡ Some a → old.append ≡ None → ⊥
@@ -117,9 +93,6 @@ module _ (old : State) where
   same_open h = (h, λ g. g)
 
   -- jobs stay
-  same_jobs : (new : State) → new.jobs ≡ old.jobs → (k : ℕ) (j : Job) → job_of new.jobs k ≡ Some j → Gift_is old new k j
-  same_jobs new jobs k j h = Gift_is.had j (ap (λ l. job_of l k) (sym jobs) ∙ h) refl (record { kind = refl; begun = refl; pinned = refl })
-
   stay_all : (new : State) → new.jobs ≡ old.jobs → (k : ℕ) (j : Job) → job_of old.jobs k ≡ Some j → Stay_is old new k j
   stay_all new jobs k j h = Stay_is.stayed (ap (λ l. job_of l k) jobs ∙ h)
 
@@ -129,13 +102,9 @@ module _ (old : State) where
     audits = Audits_are.undrawn refl no_new;
     opened = λ d h. same_open;
     stay = stay_all old refl;
-    gift = same_jobs old refl;
   })
 
   -- all jobs are given up and the vault is closed, or nothing is in doubt
-  no_jobs : (new : State) → new.jobs ≡ [] → (k : ℕ) (j : Job) → job_of new.jobs k ≡ Some j → Gift_is old new k j
-  no_jobs new jobs k j h = absurd (found_none new.jobs k j jobs h)
-
   no_doubt : (new : State) → new.doubt ≡ None → (d : Doubt) → new.doubt ≡ Some d → Doubt_now old new d
   no_doubt new none d h = absurd (clash new.doubt d h none)
 
@@ -159,24 +128,6 @@ module _ (old : State) where
     left_out : (js : List Job) → js ≡ without_job old.jobs job.number → (k : ℕ) → (k ≡ job.number → ⊥) → job_of js k ≡ job_of old.jobs k
     left_out js jobs k apart = ap (λ l. job_of l k) jobs ∙ other_without old.jobs job.number k apart
 
-    gift_ends : (new : State) → new.jobs ≡ without_job old.jobs job.number → (k : ℕ) (j : Job) → job_of new.jobs k ≡ Some j → Gift_is old new k j
-    gift_ends new jobs k j h = Gift_is.had j (found_without old.jobs job.number k j (ap (λ l. job_of l k) (sym jobs) ∙ h)).1 refl (record { kind = refl; begun = refl; pinned = refl })
-
-    gift_on : (new : State) (y : Job) → new.jobs ≡ with_job old.jobs y → y.number ≡ job.number → y.given ≡ job.given → IsSame job y → (k : ℕ) (j : Job) → job_of new.jobs k ≡ Some j → Gift_is old new k j
-    gift_on new y jobs number given same k j h = elim (found_with old.jobs y k j (ap (λ l. job_of l k) (sym jobs) ∙ h)) [
-      | inl p ↦ Gift_is.had job (subst (λ n. job_of old.jobs n ≡ Some job) (sym (p.0 ∙ number)) runs) (ap (λ (x : Job). x.given) p.1 ∙ given) (subst (IsSame job) (sym p.1) same)
-      | inr q ↦ Gift_is.had j q.1 refl (record { kind = refl; begun = refl; pinned = refl })
-    ]
-
-    gift_one : (new : State) (gift : Given) → new.jobs ≡ with_job old.jobs (advanced_with job gift) → IsFound old new job gift → (k : ℕ) (j : Job) → job_of new.jobs k ≡ Some j → Gift_is old new k j
-    gift_one new gift jobs found k j h = elim (found_with old.jobs (advanced_with job gift) k j (ap (λ l. job_of l k) (sym jobs) ∙ h)) [
-      | inl p ↦ Gift_is.one job gift (subst (λ n. job_of old.jobs n ≡ Some job) (sym p.0) runs) (ap (λ (x : Job). x.given) p.1) (subst (IsSame job) (sym p.1) (record { kind = refl; begun = refl; pinned = refl })) found
-      | inr q ↦ Gift_is.had j q.1 refl (record { kind = refl; begun = refl; pinned = refl })
-    ]
-
-    same_one : IsSame job (advanced job)
-    same_one = record { kind = refl; begun = refl; pinned = refl }
-
     was_moved : (b : Append) → old.append ≡ Some b → (append : Option Append) (a : Append) → append ≡ Some a → old.append ≡ None → ⊥
     was_moved b flight append a h none = clash old.append b flight none
 
@@ -187,25 +138,19 @@ module _ (old : State) where
     first_job entry a h = (let e : record { job = job.number; entry = entry; moves = 1 } ≡ a = cc in sym (ap (λ (x : Append). x.job) e))
 
     -- a job goes on and nothing else changes but for devices
-    goes_on : (action : Action) (new : State) (y : Job) → next_action old job ≡ Some action → (action ≡ SyncGate → ⊥) → new.jobs ≡ with_job old.jobs y → y.number ≡ job.number → y.given ≡ job.given → IsSame job y →
+    goes_on : (action : Action) (new : State) (y : Job) → next_action old job ≡ Some action → (action ≡ SyncGate → ⊥) → new.jobs ≡ with_job old.jobs y → y.number ≡ job.number →
         new.doubt ≡ old.doubt → new.records ≡ old.records → new.audits ≡ old.audits → ((a : Append) → new.append ≡ Some a → old.append ≡ None → ⊥) → WasOpen old new → Turns old new
-    goes_on action new y next_is other jobs number given same doubt records audits append is_open = record {
+    goes_on action new y next_is other jobs number doubt records audits append is_open = record {
       doubt = λ d h. Doubt_now.kept (sym doubt ∙ h) records;
       audits = Audits_are.undrawn audits append;
       opened = λ d h. is_open;
       stay = stay_by action new next_is (λ e. absurd (other e)) (went new.jobs y jobs number);
-      gift = gift_on new y jobs number given same;
     }
 
-    is_given : (action : Action) (new : State) (gift : Given) → next_action old job ≡ Some action → (action ≡ SyncGate → ⊥) → new.jobs ≡ with_job old.jobs (advanced_with job gift) → IsFound old new job gift →
+    is_given : (action : Action) (new : State) (gift : Given) → next_action old job ≡ Some action → (action ≡ SyncGate → ⊥) → new.jobs ≡ with_job old.jobs (advanced_with job gift) →
         new.doubt ≡ old.doubt → new.records ≡ old.records → new.audits ≡ old.audits → new.append ≡ old.append → WasOpen old new → Turns old new
-    is_given action new gift next_is other jobs found doubt records audits append is_open = record {
-      doubt = λ d h. Doubt_now.kept (sym doubt ∙ h) records;
-      audits = Audits_are.undrawn audits (λ a h none. no_new a (sym append ∙ h) none);
-      opened = λ d h. is_open;
-      stay = stay_by action new next_is (λ e. absurd (other e)) (went new.jobs (advanced_with job gift) jobs refl);
-      gift = gift_one new gift jobs found;
-    }
+    is_given action new gift next_is other jobs doubt records audits append is_open =
+        goes_on action new (advanced_with job gift) next_is other jobs refl doubt records audits (λ a h none. no_new a (sym append ∙ h) none) is_open
 
     ends : (action : Action) (new : State) → next_action old job ≡ Some action → (action ≡ SyncGate → new.is_barred ≡ true) → new.jobs ≡ without_job old.jobs job.number →
         new.doubt ≡ old.doubt → new.records ≡ old.records → new.audits ≡ old.audits → (new.append ≡ old.append) ⊎ (new.append ≡ None) → WasOpen old new → Turns old new
@@ -214,7 +159,6 @@ module _ (old : State) where
       audits = Audits_are.undrawn audits (λ a h none. elim append [ inl e ↦ no_new a (sym e ∙ h) none | inr e ↦ clash new.append a h e ]);
       opened = λ d h. is_open;
       stay = stay_by action new next_is (λ e. inr (gate e)) (left_out new.jobs jobs);
-      gift = gift_ends new jobs;
     }
 
     in_doubt : (a : Append) (new : State) → next_action old job ≡ Some WriteGate → old.append ≡ Some a → a.job ≡ job.number → new.doubt ≡ Some (record { entry = a.entry; maker = Some (advanced job) }) → new.records ≡ old.records →
@@ -229,7 +173,6 @@ module _ (old : State) where
       audits = Audits_are.drew job runs flight (first_job entry) refl;
       opened = λ d h. same_open;
       stay = stay_by WriteBody _ next_is (λ e. absurd (let z : WriteBody ≡ SyncGate = e in cc)) (went _ _ refl refl);
-      gift = gift_on _ _ refl refl refl (record { kind = refl; begun = refl; pinned = refl });
     })
     moves WriteBody (Some a) r new next_is flight free h = absurd (clash (Some a.job) a.job refl free)
     moves WriteBody None (Ended answer.DiskFault) new next_is flight free (faults, low, rose, is) =
@@ -239,7 +182,7 @@ module _ (old : State) where
         ends WriteBody new next_is (λ e. absurd (let z : WriteBody ≡ SyncGate = e in cc)) (ap (λ (w : State). w.jobs) is) (ap (λ (w : State). w.doubt) is) (ap (λ (w : State). w.records) is) (ap (λ (w : State). w.audits) is) (inl (ap (λ (w : State). w.append) is))
         (subst (WasOpen old) (sym is) same_open)
     moves SyncBody (Some a) More new next_is flight free (at, (faults, low, is)) =
-        goes_on SyncBody new (advanced job) next_is (λ e. (let z : SyncBody ≡ SyncGate = e in cc)) (ap (λ (w : State). w.jobs) is) refl refl same_one (ap (λ (w : State). w.doubt) is) (ap (λ (w : State). w.records) is) (ap (λ (w : State). w.audits) is)
+        goes_on SyncBody new (advanced job) next_is (λ e. (let z : SyncBody ≡ SyncGate = e in cc)) (ap (λ (w : State). w.jobs) is) refl (ap (λ (w : State). w.doubt) is) (ap (λ (w : State). w.records) is) (ap (λ (w : State). w.audits) is)
         (was_moved a flight new.append) (subst (WasOpen old) (sym is) same_open)
     moves SyncBody (Some a) (Ended answer.DiskFault) new next_is flight free (at, (faults, low, rose, is)) =
         ends SyncBody new next_is (λ e. absurd (let z : SyncBody ≡ SyncGate = e in cc)) (ap (λ (w : State). w.jobs) is) (ap (λ (w : State). w.doubt) is) (ap (λ (w : State). w.records) is) (ap (λ (w : State). w.audits) is) (inr (ap (λ (w : State). w.append) is))
@@ -249,14 +192,12 @@ module _ (old : State) where
       audits = Audits_are.undrawn refl (was_moved a flight _);
       opened = λ d h. same_open;
       stay = stay_by WriteGate _ next_is (λ e. absurd (let z : WriteGate ≡ SyncGate = e in cc)) (went _ (advanced job) refl refl);
-      gift = gift_on _ (advanced job) refl refl refl same_one;
     })
     moves WriteGate (Some a) (Ended answer.DiskFault) new next_is flight free (at, (faults, low, rose, is)) = subst (λ (w : State). Turns old w) (sym is) (record {
       doubt = in_doubt a _ next_is flight at.0 refl refl (inr refl);
       audits = Audits_are.undrawn refl (was_moved a flight _);
       opened = λ d h. (λ h2. (h2, λ g. absurd (false≢true (sym g))));
       stay = stay_by WriteGate _ next_is (λ e. absurd (let z : WriteGate ≡ SyncGate = e in cc)) (left_out _ refl);
-      gift = gift_ends _ refl;
     })
     moves WriteGate (Some a) (Ended answer.Memory) new next_is flight free (at, (faults, low, is)) =
         ends WriteGate new next_is (λ e. absurd (let z : WriteGate ≡ SyncGate = e in cc)) (ap (λ (w : State). w.jobs) is) (ap (λ (w : State). w.doubt) is) (ap (λ (w : State). w.records) is) (ap (λ (w : State). w.audits) is) (inr (ap (λ (w : State). w.append) is))
@@ -266,37 +207,29 @@ module _ (old : State) where
       audits = Audits_are.undrawn refl (was_moved a flight _);
       opened = λ d h. same_open;
       stay = stay_by SyncGate _ next_is (λ e. inl refl) (went _ _ refl refl);
-      gift = gift_on _ _ refl refl refl (record { kind = refl; begun = refl; pinned = refl });
     })
     moves SyncGate (Some a) (Ended answer.DiskFault) new next_is flight free (at, (faults, low, rose, is)) =
         ends SyncGate new next_is (λ e. ap (λ (w : State). w.is_barred) is) (ap (λ (w : State). w.jobs) is) (ap (λ (w : State). w.doubt) is) (ap (λ (w : State). w.records) is) (ap (λ (w : State). w.audits) is) (inr (ap (λ (w : State). w.append) is))
         (subst (WasOpen old) (sym is) (λ h. (h, λ g. absurd (false≢true (sym g)))))
     moves action flight r new next_is e free h = absurd h
 
-    -- a fetch gave what its provider held, or none
-    found_by : (j o s : ℕ) (block : Option (List ℕ)) (p : Provider) (new : State) → Fetches (object_in old o).profile.size o s (old.providers j) block p → new.providers ≡ with_provider old.providers j p → IsHeldThen old new j o s block
-    found_by j o s block p new call providers = elim call.gives [
-      | inl g ↦ inl g
-      | inr f ↦ inr (subst (λ (x : Provider). FailsToGive (old.providers j) block x) (sym (ap (λ g. g j) providers ∙ cond_true (j == j) p (old.providers j) (eq-eqb j j refl))) f)
-    ]
-
     acts : (action : Action) (r : Outcome) (new : State) → next_action old job ≡ Some action → holder_of old.append action ≡ None → Acts old job action r new → Turns old new
     acts (Store j o s) More new next_is free (p, call, is) = goes_on (Store j o s) new (advanced job) next_is (λ e. (let z : Store j o s ≡ SyncGate = e in cc))
-        (ap (λ (w : State). w.jobs) is) refl refl same_one (ap (λ (w : State). w.doubt) is) (ap (λ (w : State). w.records) is) (ap (λ (w : State). w.audits) is) (λ a h none. no_new a (sym (ap (λ (w : State). w.append) is) ∙ h) none) (subst (WasOpen old) (sym is) same_open)
+        (ap (λ (w : State). w.jobs) is) refl (ap (λ (w : State). w.doubt) is) (ap (λ (w : State). w.records) is) (ap (λ (w : State). w.audits) is) (λ a h none. no_new a (sym (ap (λ (w : State). w.append) is) ∙ h) none) (subst (WasOpen old) (sym is) same_open)
     acts (Store j o s) (Ended (answer.ProviderFault k)) new next_is free (k_is, (p, call, is)) = ends (Store j o s) new next_is (λ e. absurd (let z : Store j o s ≡ SyncGate = e in cc))
         (ap (λ (w : State). w.jobs) is) (ap (λ (w : State). w.doubt) is) (ap (λ (w : State). w.records) is) (ap (λ (w : State). w.audits) is) (inl (ap (λ (w : State). w.append) is)) (subst (WasOpen old) (sym is) same_open)
     acts (Store j o s) (Ended answer.Memory) new next_is free (p, call, is) = ends (Store j o s) new next_is (λ e. absurd (let z : Store j o s ≡ SyncGate = e in cc))
         (ap (λ (w : State). w.jobs) is) (ap (λ (w : State). w.doubt) is) (ap (λ (w : State). w.records) is) (ap (λ (w : State). w.audits) is) (inl (ap (λ (w : State). w.append) is)) (subst (WasOpen old) (sym is) same_open)
     acts (Fetch j o s) More new next_is free (block, (p, call, is)) = is_given (Fetch j o s) new (Fetched j o s block) next_is (λ e. (let z : Fetch j o s ≡ SyncGate = e in cc))
-        (ap (λ (w : State). w.jobs) is) (found_by j o s block p new call (ap (λ (w : State). w.providers) is)) (ap (λ (w : State). w.doubt) is) (ap (λ (w : State). w.records) is) (ap (λ (w : State). w.audits) is) (ap (λ (w : State). w.append) is) (subst (WasOpen old) (sym is) same_open)
+        (ap (λ (w : State). w.jobs) is) (ap (λ (w : State). w.doubt) is) (ap (λ (w : State). w.records) is) (ap (λ (w : State). w.audits) is) (ap (λ (w : State). w.append) is) (subst (WasOpen old) (sym is) same_open)
     acts (Ask j o round) More new next_is free (symbol, (p, call, is)) = is_given (Ask j o round) new (Answered j o round symbol) next_is (λ e. (let z : Ask j o round ≡ SyncGate = e in cc))
-        (ap (λ (w : State). w.jobs) is) tt (ap (λ (w : State). w.doubt) is) (ap (λ (w : State). w.records) is) (ap (λ (w : State). w.audits) is) (ap (λ (w : State). w.append) is) (subst (WasOpen old) (sym is) same_open)
+        (ap (λ (w : State). w.jobs) is) (ap (λ (w : State). w.doubt) is) (ap (λ (w : State). w.records) is) (ap (λ (w : State). w.audits) is) (ap (λ (w : State). w.append) is) (subst (WasOpen old) (sym is) same_open)
     acts (Work o s) More new next_is free (symbols, gives, is) = is_given (Work o s) new (Worked o s symbols) next_is (λ e. (let z : Work o s ≡ SyncGate = e in cc))
-        (ap (λ (w : State). w.jobs) is) gives (ap (λ (w : State). w.doubt) is) (ap (λ (w : State). w.records) is) (ap (λ (w : State). w.audits) is) (ap (λ (w : State). w.append) is) (subst (WasOpen old) (sym is) same_open)
+        (ap (λ (w : State). w.jobs) is) (ap (λ (w : State). w.doubt) is) (ap (λ (w : State). w.records) is) (ap (λ (w : State). w.audits) is) (ap (λ (w : State). w.append) is) (subst (WasOpen old) (sym is) same_open)
     acts (Work o s) (Ended (answer.Lost t row)) new next_is free (t_is, lost, is) = ends (Work o s) new next_is (λ e. absurd (let z : Work o s ≡ SyncGate = e in cc))
         (ap (λ (w : State). w.jobs) is) (ap (λ (w : State). w.doubt) is) (ap (λ (w : State). w.records) is) (ap (λ (w : State). w.audits) is) (inl (ap (λ (w : State). w.append) is)) (subst (WasOpen old) (sym is) same_open)
     acts (Remove j o) More new next_is free (p, call, is) = goes_on (Remove j o) new (advanced job) next_is (λ e. (let z : Remove j o ≡ SyncGate = e in cc))
-        (ap (λ (w : State). w.jobs) is) refl refl same_one (ap (λ (w : State). w.doubt) is) (ap (λ (w : State). w.records) is) (ap (λ (w : State). w.audits) is) (λ a h none. no_new a (sym (ap (λ (w : State). w.append) is) ∙ h) none) (subst (WasOpen old) (sym is) same_open)
+        (ap (λ (w : State). w.jobs) is) refl (ap (λ (w : State). w.doubt) is) (ap (λ (w : State). w.records) is) (ap (λ (w : State). w.audits) is) (λ a h none. no_new a (sym (ap (λ (w : State). w.append) is) ∙ h) none) (subst (WasOpen old) (sym is) same_open)
     acts End (Ended how) new next_is free (ends_so, is) = ends End new next_is (λ e. absurd (let z : End ≡ SyncGate = e in cc))
         (ap (λ (w : State). w.jobs) is) (ap (λ (w : State). w.doubt) is) (ap (λ (w : State). w.records) is) (ap (λ (w : State). w.audits) is) (inl (ap (λ (w : State). w.append) is)) (subst (WasOpen old) (sym is) same_open)
     acts action r new next_is free h = moves action old.append r new next_is refl free h
@@ -333,10 +266,6 @@ module _ (old : State) where
     audits = Audits_are.undrawn refl no_new;
     opened = λ d g. same_open;
     stay = λ k j g. Stay_is.stayed (more_with old.jobs (new_job old moment kind) k j g);
-    gift = λ k j g. elim (found_more old.jobs (new_job old moment kind) k j g) [
-      | inl p ↦ Gift_is.empty (ap (λ (x : Job). x.given) p.1)
-      | inr q ↦ Gift_is.had j q refl (record { kind = refl; begun = refl; pinned = refl })
-    ];
   })
   begins limit moment kind r new h = absurd h
 
@@ -365,41 +294,39 @@ module _ (old : State) where
   }
 
   -- nothing is in doubt any more
-  settles_all : (left new : State) → new.doubt ≡ None → new.jobs ≡ left.jobs → new.append ≡ left.append → new.audits ≡ old.audits → (left.jobs ≡ []) ⊎ (left.jobs ≡ old.jobs) → (left.append ≡ None) ⊎ (left.append ≡ old.append) →
+  settles_all : (left new : State) → new.doubt ≡ None → new.append ≡ left.append → new.audits ≡ old.audits → (left.append ≡ None) ⊎ (left.append ≡ old.append) →
       ((k : ℕ) (j : Job) → job_of old.jobs k ≡ Some j → Stay_is old new k j) → Turns old new
-  settles_all left new doubt jobs append audits jobs_are append_is stay = record {
+  settles_all left new doubt append audits append_is stay = record {
     doubt = no_doubt new doubt;
     audits = Audits_are.undrawn audits (λ a h none. elim append_is [ inl e ↦ clash new.append a h (append ∙ e) | inr e ↦ no_new a (sym (append ∙ e) ∙ h) none ]);
     opened = λ d h. absurd (clash new.doubt d h doubt);
     stay = stay;
-    gift = elim jobs_are [ inl e ↦ no_jobs new (jobs ∙ e) | inr e ↦ same_jobs new (jobs ∙ e) ];
   }
 
   -- a vault is closed, or has just been opened and had no job
   stops : (r : Outcome) (new : State) → Stops old r new → Turns old new
-  stops Stopped new h = (let s = settled (given_up old) new h in settles_all (given_up old) new s.doubt s.jobs s.append s.audits (inl refl) (inl refl) (λ k j g. Stay_is.shut s.is_open))
+  stops Stopped new h = (let s = settled (given_up old) new h in settles_all (given_up old) new s.doubt s.append s.audits (inl refl) (λ k j g. Stay_is.shut s.is_open))
   stops r new h = absurd h
 
-  gives_up : (left new : State) → new.doubt ≡ old.doubt → new.records ≡ old.records → new.jobs ≡ [] → new.append ≡ None → new.audits ≡ old.audits → new.is_open ≡ false → Turns old new
-  gives_up left new doubt records jobs append audits closed = record {
+  gives_up : (new : State) → new.doubt ≡ old.doubt → new.records ≡ old.records → new.append ≡ None → new.audits ≡ old.audits → new.is_open ≡ false → Turns old new
+  gives_up new doubt records append audits closed = record {
     doubt = λ d h. Doubt_now.kept (sym doubt ∙ h) records;
     audits = Audits_are.undrawn audits (λ a h none. clash new.append a h append);
     opened = λ d h. not_open new closed;
     stay = λ k j h. Stay_is.shut closed;
-    gift = no_jobs new jobs;
   }
 
   reopens : (r : Outcome) (new : State) → Reopens old r new → Turns old new
   reopens Opened new (mid, st, up, enough, (faults, low, is)) = (let s = settled (given_up old) mid st in let none : new.doubt ≡ None = ap (λ (w : State). w.doubt) is ∙ s.doubt in
-      settles_all (given_up old) new none (ap (λ (w : State). w.jobs) is ∙ s.jobs) (ap (λ (w : State). w.append) is ∙ s.append) (ap (λ (w : State). w.audits) is ∙ s.audits) (inl refl) (inl refl) (λ k j g. Stay_is.undoubted none))
+      settles_all (given_up old) new none (ap (λ (w : State). w.append) is ∙ s.append) (ap (λ (w : State). w.audits) is ∙ s.audits) (inl refl) (λ k j g. Stay_is.undoubted none))
   reopens (Refused refusal.NotSetUp) new (mid, st, nothing, (faults, low, is)) = (let s = settled (given_up old) mid st in let none : new.doubt ≡ None = ap (λ (w : State). w.doubt) is ∙ s.doubt in
-      settles_all (given_up old) new none (ap (λ (w : State). w.jobs) is ∙ s.jobs) (ap (λ (w : State). w.append) is ∙ s.append) (ap (λ (w : State). w.audits) is ∙ s.audits) (inl refl) (inl refl) (λ k j g. Stay_is.undoubted none))
+      settles_all (given_up old) new none (ap (λ (w : State). w.append) is ∙ s.append) (ap (λ (w : State). w.audits) is ∙ s.audits) (inl refl) (λ k j g. Stay_is.undoubted none))
   reopens (Refused refusal.TooFewProviders) new (mid, st, up, few, (faults, low, is)) = (let s = settled (given_up old) mid st in let none : new.doubt ≡ None = ap (λ (w : State). w.doubt) is ∙ s.doubt in
-      settles_all (given_up old) new none (ap (λ (w : State). w.jobs) is ∙ s.jobs) (ap (λ (w : State). w.append) is ∙ s.append) (ap (λ (w : State). w.audits) is ∙ s.audits) (inl refl) (inl refl) (λ k j g. Stay_is.undoubted none))
+      settles_all (given_up old) new none (ap (λ (w : State). w.append) is ∙ s.append) (ap (λ (w : State). w.audits) is ∙ s.audits) (inl refl) (λ k j g. Stay_is.undoubted none))
   reopens (Refused refusal.DiskFault) new (faults, low, rose, is) =
-      gives_up new new (ap (λ (w : State). w.doubt) is) (ap (λ (w : State). w.records) is) (ap (λ (w : State). w.jobs) is) (ap (λ (w : State). w.append) is) (ap (λ (w : State). w.audits) is) (ap (λ (w : State). w.is_open) is)
+      gives_up new (ap (λ (w : State). w.doubt) is) (ap (λ (w : State). w.records) is) (ap (λ (w : State). w.append) is) (ap (λ (w : State). w.audits) is) (ap (λ (w : State). w.is_open) is)
   reopens (Refused refusal.Memory) new (faults, low, is) =
-      gives_up new new (ap (λ (w : State). w.doubt) is) (ap (λ (w : State). w.records) is) (ap (λ (w : State). w.jobs) is) (ap (λ (w : State). w.append) is) (ap (λ (w : State). w.audits) is) (ap (λ (w : State). w.is_open) is)
+      gives_up new (ap (λ (w : State). w.doubt) is) (ap (λ (w : State). w.records) is) (ap (λ (w : State). w.append) is) (ap (λ (w : State). w.audits) is) (ap (λ (w : State). w.is_open) is)
   reopens r new h = absurd h
 
   failed : (s : Setup) (doubt : Option Doubt) (faults : ℕ) (new : State) → old.is_open ≡ false → LeavesDoubt old s doubt → new ≡ record old { doubt = doubt; disk_faults = faults } → Turns old new
@@ -408,24 +335,22 @@ module _ (old : State) where
     audits = Audits_are.undrawn refl no_new;
     opened = λ d h. same_open;
     stay = λ k j h. Stay_is.stayed h;
-    gift = λ k j h. Gift_is.had j h refl (record { kind = refl; begun = refl; pinned = refl });
   })
   failed s doubt faults new closed (inr (none, e)) is = subst (λ (w : State). Turns old w) (sym is) (record {
     doubt = λ d h. (let f : record { entry = SetUp s; maker = None } ≡ d = same_value doubt _ d e h in Doubt_now.set_up s (sym (ap (λ (x : Doubt). x.entry) f)) (sym (ap (λ (x : Doubt). x.maker) f)) (none_up (setup_of old.records) none) closed);
     audits = Audits_are.undrawn refl no_new;
     opened = λ d h. same_open;
     stay = λ k j h. Stay_is.stayed h;
-    gift = λ k j h. Gift_is.had j h refl (record { kind = refl; begun = refl; pinned = refl });
   })
 
   inits_closed : (s : Setup) (r : Outcome) (new : State) → old.is_open ≡ false → InitsClosed old s r new → Turns old new
   inits_closed s (Refused refusal.DiskFault) new closed (doubt, leaves_it, (faults, low, rose, is)) = failed s doubt faults new closed leaves_it is
   inits_closed s (Refused refusal.Memory) new closed (doubt, leaves_it, (faults, low, is)) = failed s doubt faults new closed leaves_it is
   inits_closed s (Refused refusal.Already) new closed (mid, st, up, (faults, low, is)) = (let t = settled old mid st in
-      settles_all old new (ap (λ (w : State). w.doubt) is ∙ t.doubt) (ap (λ (w : State). w.jobs) is ∙ t.jobs) (ap (λ (w : State). w.append) is ∙ t.append) (ap (λ (w : State). w.audits) is ∙ t.audits) (inr refl) (inr refl)
+      settles_all old new (ap (λ (w : State). w.doubt) is ∙ t.doubt) (ap (λ (w : State). w.append) is ∙ t.append) (ap (λ (w : State). w.audits) is ∙ t.audits) (inr refl)
       (stay_all new (ap (λ (w : State). w.jobs) is ∙ t.jobs)))
   inits_closed s Ready new closed (mid, st, none, (faults, low, is)) = (let t = settled old mid st in
-      settles_all old new (ap (λ (w : State). w.doubt) is ∙ t.doubt) (ap (λ (w : State). w.jobs) is ∙ t.jobs) (ap (λ (w : State). w.append) is ∙ t.append) (ap (λ (w : State). w.audits) is ∙ t.audits) (inr refl) (inr refl)
+      settles_all old new (ap (λ (w : State). w.doubt) is ∙ t.doubt) (ap (λ (w : State). w.append) is ∙ t.append) (ap (λ (w : State). w.audits) is ∙ t.audits) (inr refl)
       (stay_all new (ap (λ (w : State). w.jobs) is ∙ t.jobs)))
   inits_closed s r new closed h = absurd h
 
@@ -445,7 +370,6 @@ module _ (old : State) where
     audits = Audits_are.undrawn refl no_new;
     opened = λ d h. same_open;
     stay = λ k j h. Stay_is.stayed h;
-    gift = λ k j h. Gift_is.had j h refl (record { kind = refl; begun = refl; pinned = refl });
   })
 
   replaces : (j : ℕ) (IsThere : Held → Type 0) (changed : Held → Held) (r : Outcome) (new : State) → ReplacesAt old j IsThere changed r new → Turns old new
@@ -465,7 +389,7 @@ module _ (old : State) where
   lists false r new h = absurd h
 
   continues : (r : Outcome) (new : State) → Continues old r new → Turns old new
-  continues Continued new is = gives_up new new (ap (λ (w : State). w.doubt) is) (ap (λ (w : State). w.records) is) (ap (λ (w : State). w.jobs) is) (ap (λ (w : State). w.append) is) (ap (λ (w : State). w.audits) is) (ap (λ (w : State). w.is_open) is)
+  continues Continued new is = gives_up new (ap (λ (w : State). w.doubt) is) (ap (λ (w : State). w.records) is) (ap (λ (w : State). w.append) is) (ap (λ (w : State). w.audits) is) (ap (λ (w : State). w.is_open) is)
   continues r new h = absurd h
 
   pub turns : (limit moment : ℕ) (e : Event) (r : Outcome) (new : State) → Happens limit moment old e r new → Turns old new
