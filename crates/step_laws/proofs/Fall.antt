@@ -26,6 +26,7 @@ use Rattle.hail_machine.proofs.Events.{changes}
 use Rattle.hail_machine.proofs.Numbers.{first_above, first_below}
 use Rattle.hail_machine.proofs.Held.{All, all, actions_are}
 use Rattle.hail_machine.proofs.Fair.{PutAt, put_at}
+use Rattle.step_laws.specs.Skips.{SkipsRemovals}
 use Rattle.step_laws.proofs.Walk.{IsGift, IsSilent, Passed, Went, Walked, walked}
 use Rattle.step_laws.proofs.Lists.{get_behind}
 use Rattle.step_laws.proofs.Places.{by_kind, tail_all}
@@ -135,20 +136,24 @@ no_gate_tail t j = count_none (remove_actions t j ++ End ∷ []) (tail_all t j (
 tail_length : (t : Setup) (l : List ℕ) → length (removes_by t l ++ End ∷ []) ≡ length (removes_by t l) + 1
 tail_length t l = length-append (removes_by t l) (End ∷ [])
 
-few_length : (t : Setup) (l : List ℕ) → FewOlder l → (length (removes_by t l) ≡ 0) ⊎ (length (removes_by t l) ≡ t.n)
-few_length t l (inl e) = inl (ap (λ k. length (removes_by t k)) e)
+few_length : (t : Setup) (l : List ℕ) → FewOlder l → ((l ≡ []) × (length (removes_by t l) ≡ 0)) ⊎ (length (removes_by t l) ≡ t.n)
+few_length t l (inl e) = inl (e, ap (λ k. length (removes_by t k)) e)
 few_length t l (inr (o, e)) = inr (ap (λ k. length (removes_by t k)) e ∙ (length-append (on_each_provider t (λ j. Remove j o)) [] ∙ (let f : length (on_each_provider t (λ j. Remove j o)) ≡ t.n = length-map-range_with_len (λ j. Remove j o) 0 t.n in omega (arith, f))))
 
+-- by one, or by the removals that are skipped and one
+abbrev pub FallsBy : Setup → Job → Job → Type 0
+FallsBy t x j = (most_left t x ≡ suc (most_left t j)) ⊎ (SkipsRemovals t x j × (most_left t x ≡ suc (most_left t j + t.n)))
+
 decides : (t : Setup) (x j : Job) → removes_older x.kind ≡ true → left_of t x ≡ SyncGate ∷ (removes_by t x.older ++ End ∷ []) → x.older ≡ [] → left_of t j ≡ remove_actions t j ++ End ∷ [] → FewOlder j.older →
-    (most_left t x ≡ suc (most_left t j)) ⊎ (most_left t x ≡ suc (most_left t j + t.n))
-decides t x j removes left none left_j few =
+    is_undecided t x ≡ true → is_undecided t j ≡ false → FallsBy t x j
+decides t x j removes left none left_j few undecided decided =
     (let lx : left_of t x ≡ SyncGate ∷ End ∷ [] = left ∙ ap (λ l. SyncGate ∷ (removes_by t l ++ End ∷ [])) none in
     let mx : most_left t x ≡ 2 + t.n = ap (λ l. most_by t x.kind (length l) (count_by ends_append l)) lx ∙ ap (λ b. 2 + cond (b && true) t.n 0) removes in
     let gj : count_by ends_append (left_of t j) ≡ 0 = ap (count_by ends_append) left_j ∙ no_gate_tail t j in
     let lj : length (left_of t j) ≡ length (removes_by t j.older) + 1 = ap length left_j ∙ tail_length t j.older in
     let mj : most_left t j ≡ length (removes_by t j.older) + 1 = ap (λ n. most_by t j.kind n (count_by ends_append (left_of t j))) lj
     ∙ (ap (λ n. most_by t j.kind (length (removes_by t j.older) + 1) n) gj ∙ none_decided (removes_older j.kind) (length (removes_by t j.older) + 1)) in
-    elim (few_length t j.older few) [ inl e ↦ inr (omega (arith, mx, mj, e)) | inr e ↦ inl (omega (arith, mx, mj, e)) ])
+    elim (few_length t j.older few) [ inl e ↦ inr (record { undecided = undecided; decided = decided; none = e.0 }, (let z = e.1 in omega (arith, mx, mj, z))) | inr e ↦ inl (omega (arith, mx, mj, e)) ])
   where
     none_decided : (b : Bool) (n : ℕ) → n + cond (b && false) t.n 0 ≡ n
     none_decided true n = omega arith
@@ -191,7 +196,7 @@ with_older x l = record (advanced x) { older = l }
 
 -- what the fourth move does to the steps left
 abbrev pub Falls : Setup → Job → Job → Type 0
-Falls t x j = ((most_left t x ≡ suc (most_left t j)) ⊎ (most_left t x ≡ suc (most_left t j + t.n))) × (is_undecided t j ≡ true → j.older ≡ [])
+Falls t x j = FallsBy t x j × (is_undecided t j ≡ true → j.older ≡ [])
 
 undecided_now : (t : Setup) (x : Job) → removes_older x.kind ≡ true → slice_get (actions_of t x) x.place ≡ Some SyncGate → is_undecided t x ≡ true
 undecided_now t x removes at = and_from (removes_older x.kind) (nat_lt 0 (count_by ends_append (left_of t x))) removes
@@ -201,6 +206,9 @@ decided_then : (t : Setup) (j : Job) → left_of t j ≡ remove_actions t j ++ E
 decided_then t j left h = (let none : count_by ends_append (left_of t j) ≡ 0 = ap (count_by ends_append) left ∙ no_gate_tail t j in
     let some : nat_lt 0 (count_by ends_append (left_of t j)) ≡ true = (and_parts (removes_older j.kind) (nat_lt 0 (count_by ends_append (left_of t j))) h).1 in
     let l = ltb-true 0 (count_by ends_append (left_of t j)) some in omega (arith, none, l))
+
+decided_now : (t : Setup) (j : Job) → left_of t j ≡ remove_actions t j ++ End ∷ [] → is_undecided t j ≡ false
+decided_now t j left = elim (cases_Bool (is_undecided t j)) [ inl h ↦ absurd (decided_then t j left h) | inr f ↦ f ]
 
 module _ (w : State) (x : Job) (next_at : slice_get (actions_of (setup_in w) x) x.place ≡ Some SyncGate) (settled : is_undecided (setup_in w) x ≡ true → x.older ≡ []) where
   abbrev t : Setup
@@ -240,7 +248,7 @@ module _ (w : State) (x : Job) (next_at : slice_get (actions_of (setup_in w) x) 
           let tail_x : left_of t x ≡ SyncGate ∷ (removes_by t x.older ++ End ∷ []) = drop_here (actions_of t x) x.place SyncGate next_at
           ∙ ap (λ k. SyncGate ∷ k) (ap (λ k. drop (x.place + 1) k) lists ∙ (ap (λ n. drop n (actions_by t x (PutJob name bytes))) eight ∙ drop_tail (store_actions t x bytes) (removes_by t x.older ++ End ∷ []))) in
           let few : FewOlder l = subst FewOlder (sym (is ∙ cond_false (is_first_append x) [] (removable w (file_in w name)) (first_above x (omega (arith, far))))) (removable_few w (file_in w name)) in
-          (decides t x (with_older x l) removes tail_x none tail_j few, λ h. absurd (decided_then t (with_older x l) tail_j h)))
+          (decides t x (with_older x l) removes tail_x none tail_j few (undecided_now t x removes next_at) (decided_now t (with_older x l) tail_j), λ h. absurd (decided_then t (with_older x l) tail_j h)))
 
   drop_gate_at : (name : List ℕ) → slice_get (actions_by t x (DropJob name)) x.place ≡ Some SyncGate → x.place ≡ 3
   drop_gate_at name h = elim (split_get append_actions (remove_actions t x ++ End ∷ []) x.place SyncGate h) [
@@ -259,7 +267,7 @@ module _ (w : State) (x : Job) (next_at : slice_get (actions_of (setup_in w) x) 
       let tail_j : left_of t (with_older x l) ≡ remove_actions t (with_older x l) ++ End ∷ [] = ap (λ k. drop (x.place + 1) k) lists_j ∙ ap (λ n. drop n (actions_by t (with_older x l) (DropJob name))) four in
       let tail_x : left_of t x ≡ SyncGate ∷ (removes_by t x.older ++ End ∷ []) = drop_here (actions_of t x) x.place SyncGate next_at
       ∙ ap (λ k. SyncGate ∷ k) (ap (λ k. drop (x.place + 1) k) lists ∙ ap (λ n. drop n (actions_by t x (DropJob name))) four) in
-      (decides t x (with_older x l) removes tail_x none tail_j (subst FewOlder (sym is) (removable_few w (file_in w name))), λ h. absurd (decided_then t (with_older x l) tail_j h)))
+      (decides t x (with_older x l) removes tail_x none tail_j (subst FewOlder (sym is) (removable_few w (file_in w name))) (undecided_now t x removes next_at) (decided_now t (with_older x l) tail_j), λ h. absurd (decided_then t (with_older x l) tail_j h)))
 
   finish_rest : (kind : Kind) (l : List ℕ) → x.kind ≡ kind → removes_older kind ≡ false → actions_by t (with_older x l) kind ≡ actions_by t x kind → Falls t x (with_older x l)
   finish_rest kind l is none same =
@@ -428,13 +436,14 @@ module _ (limit : ℕ) (start : State) (m : Moment) (ms : List Moment) (A : All 
   ]
 
   pub fell : (k : ℕ) (before job : Job) → job_of (now start ms).jobs k ≡ Some before → job_of m.state.jobs k ≡ Some job → m.event ≡ Step k → m.outcome ≡ More →
-      (most_left (setup_in (now start ms)) before ≡ suc (most_left (setup_in m.state) job)) ⊎ (most_left (setup_in (now start ms)) before ≡ suc (most_left (setup_in m.state) job + (setup_in m.state).n))
-  fell k before job runs h event outcome = subst (λ t. (most_left (setup_in (now start ms)) before ≡ suc (most_left t job)) ⊎ (most_left (setup_in (now start ms)) before ≡ suc (most_left t job + t.n))) (sym (kept_setup k job h)) (elim (W.job k job h) [
-    | Went.kept r apart ↦ absurd (apart event outcome)
-    | Went.begun kind is k_is rec ↦ absurd (let l = A.numbers.jobs_below k before runs in omega (arith, l, k_is))
-    | Went.went x action g ↦ subst (λ (y : Job). (most_left (setup_in (now start ms)) y ≡ suc (most_left (setup_in (now start ms)) job)) ⊎ (most_left (setup_in (now start ms)) y ≡ suc (most_left (setup_in (now start ms)) job + (setup_in (now start ms)).n)))
-        (same_value _ x before g.runs runs) (one_step (now start ms) x action m.state job g.next (F.older k x g.runs) g.passed).0
-  ])
+      (most_left (setup_in (now start ms)) before ≡ suc (most_left (setup_in m.state) job))
+      ⊎ (SkipsRemovals (setup_in m.state) before job × (most_left (setup_in (now start ms)) before ≡ suc (most_left (setup_in m.state) job + (setup_in m.state).n)))
+  fell k before job runs h event outcome =
+      subst (λ t. (most_left (setup_in (now start ms)) before ≡ suc (most_left t job)) ⊎ (SkipsRemovals t before job × (most_left (setup_in (now start ms)) before ≡ suc (most_left t job + t.n)))) (sym (kept_setup k job h)) (elim (W.job k job h) [
+        | Went.kept r apart ↦ absurd (apart event outcome)
+        | Went.begun kind is k_is rec ↦ absurd (let l = A.numbers.jobs_below k before runs in omega (arith, l, k_is))
+        | Went.went x action g ↦ subst (λ (y : Job). FallsBy (setup_in (now start ms)) y job) (same_value _ x before g.runs runs) (one_step (now start ms) x action m.state job g.next (F.older k x g.runs) g.passed).0
+      ])
 
 pub facts : (limit : ℕ) (start : State) → IsStart start → (ms : List Moment) → IsRun limit start ms → Facts start ms
 facts limit start clean [] run = record { made = made.start_facts start clean; within = λ k j h. absurd (found_none start.jobs k j clean.jobs h); older = λ k j h undecided. absurd (found_none start.jobs k j clean.jobs h) }

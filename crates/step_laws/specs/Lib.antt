@@ -3,3 +3,4 @@ pub mod Gave
 pub mod Whole
 pub mod Behind
 pub mod Own
+pub mod Skips

@@ -19,6 +19,7 @@ ghost use Rattle.hail_machine.specs.Runs.{Moment, IsRun, now, first_moments, cam
 ghost use Rattle.step_laws.specs.Made.{WasMade};
 ghost use Rattle.step_laws.specs.Own.{own_blocks};
 ghost use Rattle.step_laws.specs.Gave.{WasFetched, WasAsked, WasOpened};
+ghost use Rattle.step_laws.specs.Skips.{SkipsRemovals};
 ghost use Rattle.step_laws.specs.Whole.{PutIsWhole, RepairIsWhole, AuditIsWhole};
 
 /// A setup in effect stays in effect.
@@ -92,8 +93,8 @@ pub fn work_opened_what_was_fetched()
         WasOpened start ms job object stripe (symbols_given job.given object stripe) }
 {}
 
-/// A record of a put's end that stands in doubt, or comes into effect, is that of a put that made its store of each stripe on each
-/// provider since its begin.
+/// A running put that has come past its stores made its store of each stripe on each provider since its begin; and so did the put whose
+/// end stands in doubt, whether it runs on or has ended, and that whose end comes into effect, by its own step or by being settled.
 pub fn done_puts_are_whole()
     ensures running { (limit : ℕ) (start : State) (ms : List Moment) (number : ℕ) (job : Job) (name bytes : List ℕ) → IsStart start →
         IsRun limit start ms → job_of (now start ms).jobs number ≡ Some job → job.kind ≡ PutJob name bytes →
@@ -107,7 +108,7 @@ pub fn done_puts_are_whole()
         (job : Job) × PutIsWhole start ms job id size }
 {}
 
-/// The same of a repair: it rewrote each stripe of each of its files on each flagged provider.
+/// The same of a repair: it made its store of each stripe of each of its files on each flagged provider, after its work on that stripe.
 pub fn done_repairs_are_whole()
     ensures running { (limit : ℕ) (start : State) (ms : List Moment) (number : ℕ) (job : Job) → IsStart start →
         IsRun limit start ms → job_of (now start ms).jobs number ≡ Some job → job.kind ≡ RepairJob →
@@ -133,14 +134,15 @@ pub fn done_audits_are_whole()
         (job : Job) × AuditIsWhole start ms job id undecided counts }
 {}
 
-/// Steps left fall: a step of a job that goes on lowers the largest number of steps that may remain by one, or, where the removals that
-/// it counted are skipped, by one for each provider more. No other event that leaves the job running changes it, and it is never 0.
+/// Steps left fall: a step of a job that goes on lowers the largest number of steps that may remain by one, or, where the job decides in
+/// it that it takes no object away, by the removals that it counted, one from each provider, and one. No other event that leaves the job running changes it, and it is never 0.
 pub fn steps_left_fall()
     ensures step { (limit : ℕ) (start : State) (m : Moment) (ms : List Moment) (before job : Job) → IsStart start →
         IsRun limit start (m ∷ ms) → m.event ≡ Step before.number → m.outcome ≡ More →
         job_of (now start ms).jobs before.number ≡ Some before → job_of m.state.jobs before.number ≡ Some job →
         (most_left (setup_in (now start ms)) before ≡ suc (most_left (setup_in m.state) job))
-        ⊎ (most_left (setup_in (now start ms)) before ≡ suc (most_left (setup_in m.state) job + (setup_in m.state).n)) }
+        ⊎ (SkipsRemovals (setup_in m.state) before job
+        × (most_left (setup_in (now start ms)) before ≡ suc (most_left (setup_in m.state) job + (setup_in m.state).n))) }
     ensures other { (limit : ℕ) (start : State) (m : Moment) (ms : List Moment) (before job : Job) → IsStart start →
         IsRun limit start (m ∷ ms) → job_of (now start ms).jobs before.number ≡ Some before →
         job_of m.state.jobs before.number ≡ Some job → (m.event ≡ Step before.number → m.outcome ≡ More → ⊥) →
