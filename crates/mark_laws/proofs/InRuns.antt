@@ -10,9 +10,9 @@ use Rattle.hail_records.specs.Table.{File}
 use Rattle.hail_devices.specs.Providers.{Held}
 use Rattle.hail_machine.specs.States.{State, Doubt, IsStart, setup_in, object_in, file_in}
 use Rattle.hail_machine.specs.Runs.{Moment, IsRun, now, is_replaced_since, came}
-use Rattle.hail_machine.specs.Calm.{Mark, since}
+use Rattle.hail_machine.specs.Calm.{Mark, since, relies, IsCalm}
 use Rattle.hail_machine.specs.Missed.{is_wrong_told, is_wrong_now}
-use Rattle.hail_machine.specs.Halves.{begun_of}
+use Rattle.hail_machine.specs.Halves.{begun_of, AllTell}
 use Rattle.hail_machine.specs.Deeds.{told_block}
 use Rattle.hail_machine.proofs.Numbers.{audits}
 use Rattle.hail_machine.proofs.Numbers as num
@@ -21,13 +21,13 @@ use Rattle.hail_machine.proofs.Held.{all}
 use Rattle.run_laws.proofs.InEffect as eff
 use Rattle.mark_laws.specs.Damage.{IsBad, IsReplaced}
 use Rattle.mark_laws.specs.Marks.{Never, PrecedesPuts, IsClear, IsMark}
-use Rattle.mark_laws.specs.MarkedRuns.{IsMarkedRun, IsCalmRun}
+use Rattle.mark_laws.specs.MarkedRuns.{AreMarks, IsMarkedRun, IsCalmRun}
 use Rattle.mark_laws.proofs.Turns.{turns}
 use Rattle.mark_laws.proofs.Points as pt
 use Rattle.mark_laws.proofs.EveryRun as ev
 use Rattle.mark_laws.proofs.EveryRun.{always}
 use Rattle.mark_laws.proofs.Points.{Facts}
-use Rattle.mark_laws.proofs.SecondHalf.{Both, both, marked_facts, are_marks}
+use Rattle.mark_laws.proofs.SecondHalf.{start_moment, Both, both, marked_facts, are_marks}
 
 pub in_run : (limit : ℕ) (mark : Mark) (start : State) (ms : List Moment) → IsMarkedRun limit mark start ms → Facts mark start ms
 in_run limit mark start ms h = marked_facts limit mark start h.clean h.tell ms h.run h.calm h.marks
@@ -92,3 +92,16 @@ pub before_stays : (limit : ℕ) (start : State) (m : Moment) (ms : List Moment)
 before_stays limit start m ms from clean run P = (let A = all limit start clean ms run.2 in
     ev.before_on limit start m ms A (num.facts audits limit start clean ms run.2) (eff.facts limit start ms clean run.2) (always limit start clean ms run.2)
     (changes limit (length ms) (now start ms) m.event m.outcome m.state A.numbers.idle run.1) (turns (now start ms) limit (length ms) m.event m.outcome m.state run.1) from P)
+
+-- the start of a run, as a mark
+start_marks : (limit : ℕ) (start : State) → IsStart start → AllTell start → (ms : List Moment) → IsRun limit start ms → IsCalm relies (λ hs. 0) ms → AreMarks (λ hs. 0) start ms
+start_marks limit start clean tell [] run calm = start_moment start clean
+start_marks limit start clean tell (m ∷ ms) run calm = step (start_marks limit start clean tell ms run.2 calm.1)
+  where
+    step : AreMarks (λ hs. 0) start ms → AreMarks (λ hs. 0) start (m ∷ ms)
+    step marks =
+        (let h : IsMarkedRun limit (λ hs. 0) start ms = record { clean = clean; tell = tell; run = run.2; calm = calm.1; marks = marks } in
+        (mark_stays limit (λ hs. 0) start m ms h run 0 (in_run limit (λ hs. 0) start ms h).moment, marks))
+
+pub start_marked : (limit : ℕ) (start : State) (ms : List Moment) → IsStart start → AllTell start → IsRun limit start ms → IsCalm relies (λ hs. 0) ms → IsMarkedRun limit (λ hs. 0) start ms
+start_marked limit start ms clean tell run calm = record { clean = clean; tell = tell; run = run; calm = calm; marks = start_marks limit start clean tell ms run calm }

@@ -9,9 +9,9 @@ ghost use Rattle.hail_records.specs.Table.{File, Due, due_of};
 ghost use Rattle.hail_machine.specs.Jobs.{PutJob, AuditJob, RepairJob, Pinned, Fetched, Worked, Job, job_of};
 ghost use Rattle.hail_machine.specs.States.{State, Doubt, IsStart, setup_in, object_in, file_in};
 ghost use Rattle.hail_machine.specs.Runs.{Moment, IsRun, now, first_moments, is_replaced_since, came};
-ghost use Rattle.hail_machine.specs.Calm.{Mark, since};
+ghost use Rattle.hail_machine.specs.Calm.{Mark, since, relies, IsCalm};
 ghost use Rattle.hail_machine.specs.Missed.{is_wrong_now};
-ghost use Rattle.hail_machine.specs.Halves.{begun_of, SecondHalf, SecondHalfHolds};
+ghost use Rattle.hail_machine.specs.Halves.{begun_of, AllTell, SecondHalf, SecondHalfHolds};
 ghost use Rattle.hail_machine.specs.Deeds.{told_block, HasMadeStore};
 ghost use Rattle.mark_laws.specs.Damage.{IsBad, IsReplaced, RoseSince};
 ghost use Rattle.mark_laws.specs.Marks.{WasWrong, Remains, PrecedesPuts, IsMark};
@@ -42,6 +42,13 @@ pub fn marks_stay()
 /// In a calm run in which no audit missed damage, the begin of the last settled audit is at each moment a mark.
 pub fn settled_audits_are_marks()
     ensures { (limit : ℕ) (start : State) (ms : List Moment) → IsCalmRun limit start ms → IsMarkedRun limit (since start) start ms }
+{}
+
+/// The start of the run is a mark, in each run that is calm by it: where for no get or repair more than b providers were replaced since the
+/// start, audits need not settle anything.
+pub fn the_start_is_a_mark()
+    ensures { (limit : ℕ) (start : State) (ms : List Moment) → IsStart start → AllTell start → IsRun limit start ms →
+        IsCalm relies (λ moments. 0) ms → IsMarkedRun limit (λ moments. 0) start ms }
 {}
 
 /// A provider that is wrong for a file in effect was replaced since the mark, which in a calm run in which no audit missed damage is the
