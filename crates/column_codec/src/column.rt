@@ -23,7 +23,8 @@ impl ObjectKeys {
     {
         let l = usize::from(self.file.shape.l);
         let keep = self.file.profile.keep as usize;
-        sum_at(&self.weights[provider], symbols, l, keep, place)
+        let weights = &self.weights[..];
+        sum_at(&weights[provider], symbols, l, keep, place)
     }
 
     /// The values of a stripe's kept rows at a secondary provider's point.

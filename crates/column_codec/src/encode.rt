@@ -103,7 +103,8 @@ pub fn column_block(
     ensures scratch { scratch.new ≡ scratch.old }
     ensures room { work.new.size ≡ work.old.size }
 {
-    let _ = (scratch, work);
+    let _ = scratch;
+    let _ = work;
     let keys = ObjectKeys::new(master, file);
     keys.column_into(code, stripe, rows, provider as usize, out);
 }

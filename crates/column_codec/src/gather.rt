@@ -10,6 +10,7 @@ use hail_field::Symbol;
 
 /// The sum of each of l coefficients times the symbol at a place of its block, where l blocks of `keep` symbols lie one
 /// after the other.
+#[tactic(auto, using(crate::proofs::Places::index_within))]
 pub fn sum_at(weights: &[Symbol], symbols: &[Symbol], l: usize, keep: usize, place: usize) -> Symbol
     requires weights { l ≤ length weights.now }
     requires symbols { length symbols.now ≡ l * keep }

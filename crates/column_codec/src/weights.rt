@@ -1,21 +1,29 @@
-ghost use Rattle.std.specs.Prelude.{◌≡◌, ◌≢◌, ◌<◌, ◌≤◌, ℕ};
+ghost use Rattle.std.specs.Prelude.{◌≡◌, ◌≢◌, ◌<◌, ◌≤◌, ◌==◌, if◌then◌else◌, ℕ};
 ghost use Rattle.hail_field.specs.Nim.{nim_mul, nim_inv, nim_add};
-ghost use Rattle.hail_codes.specs.Polynomials.{value, vanish};
 ghost use Rattle.hail_codes.specs.Points.{upto, others_product};
 ghost use Rattle.column_codec.specs.ObjectKeys.{AreWeights};
 
 use hail_field::Symbol;
 
+/// A product with x + point as one more factor, where the point is not x.
+fn with_gap(x: Symbol, point: Symbol, product: Symbol) -> Symbol
+    ensures { result ≡ (if point == x then product else nim_mul (nim_add x point) product) }
+{
+    if point == x {
+        product
+    } else {
+        x.add(point).mul(product)
+    }
+}
+
 /// The product of x + point over the points 0 to l - 1 that are not x.
+#[tactic(auto, using(crate::proofs::WeightLemmas::gaps_start, crate::proofs::WeightLemmas::gaps_step))]
 fn product_of_gaps(x: Symbol, l: u8) -> Symbol
     ensures { result ≡ others_product x (upto l) }
 {
     let mut product = Symbol::ONE;
     for p in (0..l).rev() {
-        let point = Symbol(u128::from(p));
-        if point != x {
-            product = x.add(point).mul(product);
-        }
+        product = with_gap(x, Symbol(u128::from(p)), product);
     }
     product
 }
