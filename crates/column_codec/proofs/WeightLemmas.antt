@@ -1,18 +1,24 @@
 -- The weights by which a value of a polynomial is a sum over its values at the points 0 to l - 1.
-use Rattle.std.specs.Prelude.{◌≡◌, ◌≢◌, ◌≤◌, ◌<◌, ◌+◌, ◌-◌, ◌*◌, ◌==◌, if◌then◌else◌, ℕ, zero, suc, List, [], ◌∷◌, length, map, take, drop, slice_index}
+use Rattle.std.specs.Prelude.{◌≡◌, ◌≢◌, ◌≤◌, ◌<◌, ◌+◌, ◌-◌, ◌*◌, ◌==◌, if◌then◌else◌, ℕ, zero, suc, List, [], ◌∷◌, length, map, take, replicate, ◌++◌, slice_index}
 use Rattle.std.proofs.Common.{arith, ap, sym, refl, ◌∙◌, get_or, add-one}
 use Rattle.std.specs.List.{range_with_len}
-use Rattle.std.proofs.lemmas.List.{get_or-take, length-take-le, drop_all}
-use Rattle.std.proofs.lemmas.List.FromFn.{length-range_with_len, length-map-range_with_len, get_or-map-range_with_len, fill_by_all}
+use Rattle.std.proofs.lemmas.List.{get_or-take, length-take-le, length-replicate}
+use Rattle.std.proofs.lemmas.List.FromFn.{length-range_with_len, length-map-range_with_len, map-range_with_len_more, fill_by_all}
 use Rattle.field_laws.specs.Field.{Each}
 use Rattle.hail_field.specs.Nim.{nim, nim_add, nim_mul, nim_inv}
-use Rattle.hail_field.proofs.AllNumbers.{nim_laws}
+use Rattle.hail_field.proofs.AllNumbers.{nim_laws, nim_ring}
 use Rattle.field_laws.proofs.Inverse.{factor_zero}
+use Rattle.field_laws.proofs.Ring.{zero_mul, one_mul}
+use Rattle.field_laws.proofs.Solve.{v, i as one_term, ◌⊞◌, ◌⊡◌, solve}
+use Rattle.poly_laws.specs.Poly.{value as value_over}
+use Rattle.poly_laws.proofs.Roots.{plus_zero, same_values}
+use Rattle.poly_laws.proofs.Interpolate.{length-interpolate}
+use Rattle.hail_columns.proofs.ColumnLaws.{value-interpolate_upto}
+use Rattle.hail_codes.specs.Polynomials.{value, interpolate}
 use Rattle.hail_codes.specs.Points.{upto, others_product}
 use Rattle.hail_codes.specs.Sums.{dot}
 use Rattle.hail_codes.proofs.Points.{Apart-range, others_product-outside}
 use Rattle.hail_codes.proofs.Lagrange.{part, dot-scaled, value-interpolate, nim_inv-mul, gap_not_zero, others_product-not_zero}
-use Rattle.server_code.proofs.RowSteps.{dot_step}
 use Rattle.column_codec.specs.ObjectKeys.{AreWeights}
 use Rattle.column_codec.specs.Rows.{symbols_at}
 
@@ -76,17 +82,34 @@ are_weights l x ws enough outside each = record {
     filled : take l ws ≡ map w (upto l)
     filled = fill_by_all w (take l ws) l 0 (length-take-le l ws enough) (λ k below. get_or-take l ws k 0 below ∙ each k below)
 
--- one block more is summed
-pub sum_back : (ws symbols : List ℕ) (l keep place j w y sum : ℕ) → 0 < j → j ≤ l → l ≤ length ws → w ≡ get_or ws (j - 1) 0 → y ≡ get_or symbols ((j - 1) * keep + place) 0 →
-    sum ≡ dot (drop j ws) (drop j (symbols_at l keep place symbols)) →
-    nim_add (nim_mul w y) sum ≡ dot (drop (j - 1) ws) (drop (j - 1) (symbols_at l keep place symbols))
-sum_back ws symbols l keep place j w y sum some below enough ew ey es =
-    let f = λ (k : ℕ). slice_index symbols (k * keep + place) in
-    let ys = symbols_at l keep place symbols in
-    let e : j ≡ j - 1 + 1 = omega arith in
-    (λ i. nim_add (nim_mul (ew i) ((ey ∙ sym (get_or-map-range_with_len f 0 l (j - 1) (j - 1) 0 (omega (arith, some, below)) (omega arith))) i))
-    ((es ∙ ap (λ n. dot (drop n ws) (drop n ys)) e) i))
-    ∙ sym (dot_step ws ys (j - 1) (omega (arith, some, below, enough)) (omega (arith, some, below, length-map-range_with_len f 0 l)))
+-- the sum of the weights is 1, the value of the polynomial 1
+pub weights-whole : (l x : ℕ) (ws : List ℕ) → 1 ≤ l → AreWeights l x ws → dot ws (replicate l 1) ≡ 1
+unfolding value_over
+weights-whole l x ws some are = sym (are.gives (replicate l 1) (length-replicate l 1)) ∙ constant
+  where
+    ones : (a n : ℕ) → replicate {A = ℕ} n 1 ≡ map (λ j. 1) (range_with_len a n)
+    ones a zero = refl
+    ones a (suc n) = ap (λ (ks : List ℕ). 1 ∷ ks) (ones (a + 1) n)
+
+    one : (z : ℕ) → value (1 ∷ []) z ≡ 1
+    one z = ap (nim_add 1) (nim_ring.mul_zero z) ∙ nim_ring.add_zero 1
+
+    p : List ℕ
+    p = interpolate (upto l) (map (λ j. 1) (upto l))
+
+    constant : value (interpolate (upto l) (replicate l 1)) x ≡ 1
+    constant =
+        ap (λ (ys : List ℕ). value (interpolate (upto l) ys) x) (ones 0 l)
+        ∙ same_values nim nim_laws p (1 ∷ [])
+        (plus_zero nim nim_laws (upto l) p (1 ∷ []) (Apart-range 0 l)
+        (Each-below (λ z. value p z ≡ value (1 ∷ []) z) 0 l (λ j below. value-interpolate_upto (λ k. 1) l j (omega (arith, below)) ∙ sym (one j)))
+        (omega (arith, length-interpolate nim nim_laws (upto l) (map (λ j. 1) (upto l)) (length-range_with_len 0 l ∙ sym (length-map-range_with_len (λ j. 1) 0 l)), length-range_with_len 0 l))
+        (omega (arith, some, length-range_with_len 0 l))) x
+        ∙ one x
+
+-- the differences of the symbols at a place of the first blocks from a symbol
+abbrev pub differences_at : ℕ → ℕ → ℕ → List ℕ → ℕ → List ℕ
+differences_at l keep place symbols first = map (λ j. nim_add (slice_index symbols (j * keep + place)) first) (upto l)
 
 -- no symbol, no sum
 dot-none : (ws : List ℕ) → dot ws [] ≡ 0
@@ -94,8 +117,59 @@ unfolding dot
 dot-none [] = refl
 dot-none (w ∷ ws) = refl
 
--- no block is left
-pub sum_past : (ws symbols : List ℕ) (l keep place j : ℕ) → l ≤ j → dot (drop j ws) (drop j (symbols_at l keep place symbols)) ≡ 0
-sum_past ws symbols l keep place j above =
-    ap (dot (drop j ws)) (drop_all j (symbols_at l keep place symbols) (omega (arith, above, length-map-range_with_len (λ k. slice_index symbols (k * keep + place)) 0 l)))
-    ∙ dot-none (drop j ws)
+-- one symbol more behind the others
+dot-last : (ws xs : List ℕ) (y : ℕ) → length xs < length ws → dot ws (xs ++ y ∷ []) ≡ nim_add (dot ws xs) (nim_mul (get_or ws (length xs) 0) y)
+unfolding dot
+dot-last [] xs y below = absurd (omega (arith, below))
+dot-last (w ∷ ws) [] y below = ap (nim_add (nim_mul w y)) (dot-none ws) ∙ nim_ring.add_comm (nim_mul w y) 0
+dot-last (w ∷ ws) (x ∷ xs) y below =
+    ap (nim_add (nim_mul w x)) (dot-last ws xs y (omega (arith, below)))
+    ∙ sym (nim_ring.add_assoc (nim_mul w x) (dot ws xs) (nim_mul (get_or ws (length xs) 0) y))
+
+-- the sum by all coefficients
+dot-shifted : (ws : List ℕ) (f : ℕ → ℕ) (c a n : ℕ) →
+    dot ws (map f (range_with_len a n)) ≡ nim_add (dot ws (map (λ j. nim_add (f j) c) (range_with_len a n))) (nim_mul (dot ws (replicate n 1)) c)
+unfolding dot
+dot-shifted [] f c a n = sym (ap (nim_add 0) (zero_mul nim_ring c) ∙ nim_ring.add_zero 0)
+dot-shifted (w ∷ ws) f c a zero = sym (ap (nim_add 0) (zero_mul nim_ring c) ∙ nim_ring.add_zero 0)
+dot-shifted (w ∷ ws) f c a (suc n) =
+    let rest = dot ws (map (λ j. nim_add (f j) c) (range_with_len (a + 1) n)) in
+    let ones = dot ws (replicate n 1) in
+    ap (nim_add (nim_mul w (f a))) (dot-shifted ws f c (a + 1) n)
+    ∙ solve nim_ring (w ∷ f a ∷ c ∷ rest ∷ ones ∷ [])
+    ((v 0 ⊡ v 1) ⊞ (v 3 ⊞ (v 4 ⊡ v 2)))
+    (((v 0 ⊡ (v 1 ⊞ v 2)) ⊞ v 3) ⊞ (((v 0 ⊡ one_term) ⊞ v 4) ⊡ v 2)) refl
+
+-- the first symbol does not differ from itself
+pub sum_first : (ws symbols : List ℕ) (keep place first : ℕ) → first ≡ get_or symbols place 0 → first ≡ nim_add first (dot ws (differences_at 1 keep place symbols first))
+unfolding dot
+sum_first [] symbols keep place first e = sym (nim_ring.add_zero first)
+sum_first (w ∷ ws) symbols keep place first e =
+    let zero_place : 0 * keep + place ≡ place = omega arith in
+    sym (ap (nim_add first) (
+    (λ i. nim_add (nim_mul w ((ap (λ k. nim_add (get_or symbols k 0) first) zero_place ∙ ap (λ y. nim_add y first) (sym e) ∙ nim_ring.add_self first) i)) (dot-none ws i))
+    ∙ nim_ring.add_zero (nim_mul w 0) ∙ nim_ring.mul_zero w
+    ) ∙ nim_ring.add_zero first)
+
+-- one block more is summed
+pub sum_more : (ws symbols : List ℕ) (keep place first j w y sum : ℕ) → j < length ws → w ≡ get_or ws j 0 → y ≡ get_or symbols (j * keep + place) 0 →
+    sum ≡ nim_add first (dot ws (differences_at j keep place symbols first)) →
+    nim_add sum (nim_mul w (nim_add y first)) ≡ nim_add first (dot ws (differences_at (j + 1) keep place symbols first))
+sum_more ws symbols keep place first j w y sum below ew ey es =
+    let f = λ (k : ℕ). nim_add (slice_index symbols (k * keep + place)) first in
+    let long : length (differences_at j keep place symbols first) ≡ j = length-map-range_with_len f 0 j in
+    (λ i. nim_add (es i) (nim_mul (ew i) (nim_add (ey i) first)))
+    ∙ nim_ring.add_assoc first (dot ws (differences_at j keep place symbols first)) (nim_mul (get_or ws j 0) (f j))
+    ∙ ap (nim_add first) (
+    ap (λ k. nim_add (dot ws (differences_at j keep place symbols first)) (nim_mul (get_or ws k 0) (f j))) (sym long)
+    ∙ sym (dot-last ws (differences_at j keep place symbols first) (f j) (omega (arith, below, long)))
+    ∙ ap (dot ws) (sym (map-range_with_len_more f 0 j j (omega arith)))
+    )
+
+-- all blocks are summed
+pub sum_whole : (ws symbols : List ℕ) (l keep place first : ℕ) → dot ws (replicate l 1) ≡ 1 →
+    nim_add first (dot ws (differences_at l keep place symbols first)) ≡ dot ws (symbols_at l keep place symbols)
+sum_whole ws symbols l keep place first whole =
+    nim_ring.add_comm first (dot ws (differences_at l keep place symbols first))
+    ∙ ap (nim_add (dot ws (differences_at l keep place symbols first))) (sym (ap (λ s. nim_mul s first) whole ∙ one_mul nim_ring first))
+    ∙ sym (dot-shifted ws (λ j. slice_index symbols (j * keep + place)) first 0 l)
