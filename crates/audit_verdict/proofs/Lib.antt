@@ -1,1 +1,3 @@
 mod Places
+mod Picks
+mod RoundLaws

@@ -8,3 +8,6 @@ pub mod laws;
 
 pub use judge::judge_round;
 pub use record_codec::Counts;
+
+#[cfg(test)]
+mod tests;
