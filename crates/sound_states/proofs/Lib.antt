@@ -5,3 +5,6 @@ pub mod Records
 pub mod SumsLaws
 pub mod Rooms
 pub mod Written
+pub mod Going
+pub mod Turns
+pub mod Moves

@@ -304,3 +304,46 @@ next-listed w job action h n = elim (cases_Bool (is_idle_drop w job job.kind)) [
 -- so what is left begins with it
 pub next-left : (w : State) (job : Job) (action : Action) → next_action w job ≡ Some action → (action ≡ End → ⊥) → actions_left (setup_in w) job ≡ action ∷ drop (job.place + 1) (actions_of (setup_in w) job)
 next-left w job action h n = drop-get (actions_of (setup_in w) job) job.place action (next-listed w job action h n)
+
+-- ---- the first move of a first append
+
+-- within the first four actions of a list that begins with an append the first move is the first
+body-within : (rest : List Action) (p : ℕ) → p < 4 → slice_get (append_actions ++ rest) p ≡ Some WriteBody → p ≡ 0
+body-within rest zero l h = refl
+body-within rest (suc zero) l h = absurd (let e : Some SyncBody ≡ Some WriteBody = h in cc)
+body-within rest (suc (suc zero)) l h = absurd (let e : Some WriteGate ≡ Some WriteBody = h in cc)
+body-within rest (suc (suc (suc zero))) l h = absurd (let e : Some SyncGate ≡ Some WriteBody = h in cc)
+body-within rest (suc (suc (suc (suc p)))) l h = absurd (omega (arith, l))
+
+-- the list of a put, and of an audit
+pub put-list : (s : Setup) (job : Job) (name bytes : List ℕ) → job.kind ≡ PutJob name bytes → actions_of s job ≡ append_actions ++ put_rest s job bytes
+unfolding actions_of
+put-list s job name bytes kind = ap (actions_by s job) kind
+
+pub audit-list : (s : Setup) (job : Job) → job.kind ≡ AuditJob → actions_of s job ≡ append_actions ++ audit_rest s job
+unfolding actions_of
+audit-list s job kind = ap (actions_by s job) kind
+
+-- a job whose list begins with an append and whose place is the second is in its order
+second-order : (s : Setup) (job : Job) (rest : List Action) → actions_of s job ≡ append_actions ++ rest → job.place ≡ 1 → IsInOrder 1 (actions_left s job)
+second-order s job rest e one =
+    (let o : IsInOrder 0 (append_actions ++ rest) = subst (IsInOrder 0) e (in_order s job) in
+    let t = in_order-step 0 WriteBody (SyncBody ∷ (WriteGate ∷ (SyncGate ∷ rest))) (λ f. cc) o in
+    subst (λ p. IsInOrder 1 (drop p (actions_of s job))) (sym one) (subst (λ xs. IsInOrder 1 (drop 1 xs)) (sym e) t.1))
+
+-- the first append's first move leaves this, whatever number it draws
+pub put-second : (w : State) (job next : Job) (name bytes : List ℕ) → job.kind ≡ PutJob name bytes → next_action w job ≡ Some WriteBody → job.place < 4 → next.kind ≡ job.kind → next.place ≡ job.place + 1 →
+    IsInOrder 1 (actions_left (setup_in w) next) × (appends_left (setup_in w) next ≡ appends_left (setup_in w) job)
+put-second w job next name bytes kind is l same place =
+    (let zero_place = body-within (put_rest (setup_in w) job bytes) job.place l (ap (λ xs. slice_get xs job.place) (sym (put-list (setup_in w) job name bytes kind)) ∙ next-listed w job WriteBody is (λ e. cc)) in
+    let one : next.place ≡ 1 = omega (arith, zero_place, place) in
+    (second-order (setup_in w) next (put_rest (setup_in w) next bytes) (put-list (setup_in w) next name bytes (same ∙ kind)) one,
+    put-first (setup_in w) next name bytes (same ∙ kind) (omega (arith, one)) ∙ sym (put-first (setup_in w) job name bytes kind l)))
+
+pub audit-second : (w : State) (job next : Job) → job.kind ≡ AuditJob → next_action w job ≡ Some WriteBody → job.place < 4 → next.kind ≡ job.kind → next.place ≡ job.place + 1 →
+    IsInOrder 1 (actions_left (setup_in w) next) × (appends_left (setup_in w) next ≡ appends_left (setup_in w) job)
+audit-second w job next kind is l same place =
+    (let zero_place = body-within (audit_rest (setup_in w) job) job.place l (ap (λ xs. slice_get xs job.place) (sym (audit-list (setup_in w) job kind)) ∙ next-listed w job WriteBody is (λ e. cc)) in
+    let one : next.place ≡ 1 = omega (arith, zero_place, place) in
+    (second-order (setup_in w) next (audit_rest (setup_in w) next) (audit-list (setup_in w) next (same ∙ kind)) one,
+    audit-first (setup_in w) next (same ∙ kind) (omega (arith, one)) ∙ sym (audit-first (setup_in w) job kind l)))

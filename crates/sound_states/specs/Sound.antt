@@ -3,6 +3,8 @@
 --   IsDoubtOf append doubt   == while jobs go on the record of the append in flight is in doubt after its third move, and nothing else is
 --   IsSoundAppend w a        == all that holds of the append in flight: its job runs and has written its record, which may come into
 --                               effect next, and has drawn its number and kept what belongs to it
+--   IsPutUnderWay job kind   == a job is a put whose first append is done, so that it has a number
+--   IsIdle w                 == no job runs, no append is in flight, and no job is kept from going on
 --   IsSound limit w          == a sound state, with this limit of running jobs
 --   IsAtRest w               == a state with no job, no append and nothing in doubt, over records that a journal may hold and that the
 --                               fold accepts, whose files have their bytes
@@ -42,13 +44,10 @@ pub record IsSoundAppend (w : State) (a : Append) : Type 0 where
   pub bytes : (id : ℕ) → bytes_drawn w job job.kind id ≡ w.bytes id
   pub follows : MayFollow w.records w.bytes a.entry
 
--- two jobs are puts whose first appends are done
-abbrev pub ArePutsUnderWay : Job → Job → Type 0
-ArePutsUnderWay i j = IsUnderWay i i.kind × IsUnderWay j j.kind
-  where
-    IsUnderWay : Job → Kind → Type 0
-    IsUnderWay job (PutJob name bytes) = 4 ≤ job.place
-    IsUnderWay job kind = ⊥
+-- a job is a put whose first append is done
+abbrev pub IsPutUnderWay : Job → Kind → Type 0
+IsPutUnderWay job (PutJob name bytes) = 4 ≤ job.place
+IsPutUnderWay job kind = ⊥
 
 -- nothing is under way
 abbrev pub IsIdle : State → Type 0
@@ -70,7 +69,8 @@ pub record IsSound (limit : ℕ) (w : State) : Type 0 where
       IsSoundJob (setup_in w) w.records w.bytes (moves_made w.append number) job
   pub one_check : (k l : ℕ) (i j : Job) → job_of w.jobs k ≡ Some i → job_of w.jobs l ≡ Some j →
       IsTrue (is_check i.kind) → IsTrue (is_check j.kind) → k ≡ l
-  pub apart : (k l : ℕ) (i j : Job) → job_of w.jobs k ≡ Some i → job_of w.jobs l ≡ Some j → ArePutsUnderWay i j → i.subject ≡ j.subject → k ≡ l
+  pub apart : (k l : ℕ) (i j : Job) → job_of w.jobs k ≡ Some i → job_of w.jobs l ≡ Some j →
+      IsPutUnderWay i i.kind → IsPutUnderWay j j.kind → i.subject ≡ j.subject → k ≡ l
   pub append : (a : Append) → w.append ≡ Some a → IsSoundAppend w a
   pub barred : w.is_barred ≡ true → w.append ≡ None
   pub undoubted : w.is_open ≡ true → w.is_barred ≡ false → IsDoubtOf w.append w.doubt
