@@ -8,3 +8,5 @@ pub mod Written
 pub mod Going
 pub mod Turns
 pub mod Moves
+pub mod Gates
+pub mod Ends

@@ -91,7 +91,7 @@ drop-get (y ∷ ys) (suc p) x h = drop-get ys p x h ∙ ap (λ n. x ∷ drop n (
 
 -- ---- the lists of jobs
 
-others-removals : (s : Setup) (job : Job) → Each IsOther (remove_actions s job)
+pub others-removals : (s : Setup) (job : Job) → Each IsOther (remove_actions s job)
 others-removals s job = each_flat IsOther (λ object. on_each_provider s (λ j. Remove j object)) job.older (λ object. each_map IsOther (λ j. Remove j object) (upto s.n) (λ j. tt))
 
 others-stores : (s : Setup) (job : Job) (bytes : List ℕ) → Each IsOther (store_actions s job bytes)
@@ -129,7 +129,7 @@ drop_rest s job = remove_actions s job ++ End ∷ []
 abbrev pub audit_rest : Setup → Job → List Action
 audit_rest s job = ask_actions s job ++ (append_actions ++ End ∷ [])
 
-in_order-removals : (s : Setup) (job : Job) → IsInOrder 0 (drop_rest s job)
+pub in_order-removals : (s : Setup) (job : Job) → IsInOrder 0 (drop_rest s job)
 in_order-removals s job = in_order-others (remove_actions s job) (End ∷ []) (others-removals s job) in_order-end
 
 in_order-by : (s : Setup) (job : Job) (kind : Kind) → IsInOrder 0 (actions_by s job kind)
@@ -196,7 +196,7 @@ appends-drop xs p = (let e = sum_by-take-drop gates xs p in omega (arith, e))
 appends-move : (ys : List Action) → appends_in (append_actions ++ ys) ≡ 1 + appends_in ys
 appends-move ys = appends-append append_actions ys
 
-appends-removals : (s : Setup) (job : Job) → appends_in (drop_rest s job) ≡ 0
+pub appends-removals : (s : Setup) (job : Job) → appends_in (drop_rest s job) ≡ 0
 appends-removals s job = appends-append (remove_actions s job) (End ∷ []) ∙ (let e = appends-others (remove_actions s job) (others-removals s job) in omega (arith, e))
 
 appends-put_rest : (s : Setup) (job : Job) (bytes : List ℕ) → appends_in (put_rest s job bytes) ≡ 1
