@@ -10,3 +10,4 @@ pub mod Turns
 pub mod Moves
 pub mod Gates
 pub mod Ends
+pub mod Done

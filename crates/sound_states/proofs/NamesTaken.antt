@@ -8,9 +8,10 @@ use Rattle.hail_records.specs.Records.{Record}
 use Rattle.hail_records.specs.Table.{File, is_same_name, is_name_before, files_of, file_of, find_file, are_ordered}
 use Rattle.hail_records.proofs.FilesLaws.{same-eq, same-refl, find-files_of}
 use Rattle.hail_records.proofs.OrderLaws.{is_below, ordered-files_of}
-use Rattle.hail_machine.specs.Jobs.{Kind, PutJob, GetJob, DropJob, AuditJob, RepairJob, Job}
+use Rattle.hail_machine.specs.Jobs.{Kind, PutJob, GetJob, DropJob, AuditJob, RepairJob, Job, job_of}
 use Rattle.hail_machine.specs.Begins.{is_listed, with_name, names_in, with_puts}
 use Rattle.hail_machine.proofs.JobLists.{cond_true, cond_false}
+use Rattle.hail_machine.proofs.Pins.{any_job}
 
 -- names that stand once each
 abbrev pub AreOnce : List (List ℕ) → Type 0
@@ -147,3 +148,10 @@ listed-taken rs js n = listed-with_puts (names_in (files_of rs)) js n ∙ ap (λ
 pub taken-fewer : (rs more : List Record) (js now : List Job) → ((n : List ℕ) → (are_put n now || is_some (file_of more n)) ≡ true → (are_put n js || is_some (file_of rs n)) ≡ true) →
     length (taken_by more now) ≤ length (taken_by rs js)
 taken-fewer rs more js now h = fewer (taken_by more now) (taken_by rs js) (once-taken more now) (λ n i. listed-taken rs js n ∙ h n (sym (listed-taken more now n) ∙ i))
+
+-- a job that runs puts under its name
+pub put-in : (n : List ℕ) (js : List Job) (k : ℕ) (j : Job) → job_of js k ≡ Some j → puts_name n j.kind ≡ true → are_put n js ≡ true
+put-in n js k j runs h = elim (cases_Bool (are_put n js)) [
+  | inl t ↦ t
+  | inr f ↦ absurd (false≢true (sym (any_job (λ (x : Job). puts_name n x.kind) js k j runs f) ∙ h))
+]
