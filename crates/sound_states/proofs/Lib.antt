@@ -11,3 +11,5 @@ pub mod Moves
 pub mod Gates
 pub mod Ends
 pub mod Done
+pub mod Pinning
+pub mod Begun
