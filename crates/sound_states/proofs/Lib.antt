@@ -13,3 +13,5 @@ pub mod Ends
 pub mod Done
 pub mod Pinning
 pub mod Begun
+pub mod Resting
+pub mod Events
