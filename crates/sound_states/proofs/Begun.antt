@@ -282,15 +282,15 @@ module _ (limit moment : ℕ) (old : State) (S : IsSound limit old) (kind : Kind
       ]
     ];
     append = λ a h. (let A = S.append a h in record {
-        job = A.job;
-        runs = still-more old.jobs added a.job A.job A.runs;
-        begun = A.begun;
-        undone = A.undone;
-        writes = A.writes;
-        drawn = A.drawn;
-        bytes = A.bytes;
-        follows = A.follows;
-      });
+      job = A.job;
+      runs = still-more old.jobs added a.job A.job A.runs;
+      begun = A.begun;
+      undone = A.undone;
+      writes = A.writes;
+      drawn = A.drawn;
+      bytes = A.bytes;
+      follows = A.follows;
+    });
     barred = S.barred;
     undoubted = S.undoubted;
     doubt = S.doubt;

@@ -235,10 +235,10 @@ module _ (limit : ℕ) (old : State) (S : IsSound limit old) (job : Job) (runs :
           started = λ k. cond_true (next_id old.records == job.subject) (Some name) (started_as old.records job.subject) (eq-eqb (next_id old.records) job.subject (sym n));
         }))
     | inr f ↦ (let d = r f in record {
-        drawn = (let b = d.drawn in let c = next_id-grows a.entry old.records in omega (arith, b, c));
-        bytes_are = d.bytes_are;
-        started = λ k. absurd (let b = put-later s job name bytes kind f in let c = one-less in omega (arith, k, b, c));
-      })
+      drawn = (let b = d.drawn in let c = next_id-grows a.entry old.records in omega (arith, b, c));
+      bytes_are = d.bytes_are;
+      started = λ k. absurd (let b = put-later s job name bytes kind f in let c = one-less in omega (arith, k, b, c));
+    })
   ]
   after-ready (GetJob name) kind h r = tt
   after-ready (DropJob name) kind h r = tt

@@ -68,15 +68,15 @@ module _ (limit : ℕ) (old : State) (S : IsSound limit old) (job : Job) (runs :
     one_check = λ k l i j hi hj ci cj. S.one_check k l i j (found_without old.jobs job.number k i hi).1 (found_without old.jobs job.number l j hj).1 ci cj;
     apart = λ k l i j hi hj ui uj same. S.apart k l i j (found_without old.jobs job.number k i hi).1 (found_without old.jobs job.number l j hj).1 ui uj same;
     append = λ a h. (let p = append a h in record {
-        job = p.0.job;
-        runs = still-without old.jobs job.number a.job p.0.job p.1 p.0.runs;
-        begun = p.0.begun;
-        undone = p.0.undone;
-        writes = p.0.writes;
-        drawn = p.0.drawn;
-        bytes = p.0.bytes;
-        follows = p.0.follows;
-      });
+      job = p.0.job;
+      runs = still-without old.jobs job.number a.job p.0.job p.1 p.0.runs;
+      begun = p.0.begun;
+      undone = p.0.undone;
+      writes = p.0.writes;
+      drawn = p.0.drawn;
+      bytes = p.0.bytes;
+      follows = p.0.follows;
+    });
     barred = bars;
     undoubted = undoubted;
     doubt = doubts;

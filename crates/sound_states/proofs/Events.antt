@@ -50,15 +50,15 @@ devices-sound limit w providers faults S = record {
   one_check = S.one_check;
   apart = S.apart;
   append = λ a h. (let A = S.append a h in record {
-      job = A.job;
-      runs = A.runs;
-      begun = A.begun;
-      undone = A.undone;
-      writes = A.writes;
-      drawn = A.drawn;
-      bytes = A.bytes;
-      follows = A.follows;
-    });
+    job = A.job;
+    runs = A.runs;
+    begun = A.begun;
+    undone = A.undone;
+    writes = A.writes;
+    drawn = A.drawn;
+    bytes = A.bytes;
+    follows = A.follows;
+  });
   barred = S.barred;
   undoubted = S.undoubted;
   doubt = S.doubt;

@@ -91,9 +91,10 @@ module _ (w : State) (job : Job) (older : List ℕ) (next : next_action w job �
 
   -- with only removals and the end left
   removals-left : (rest : List Action) → actions_left (setup_in w) job ≡ SyncGate ∷ rest → appends_in rest ≡ 0 → actions_left (setup_in w) (decided job older) ≡ drop_rest (setup_in w) (decided job older) → GoesOn
-  removals-left rest left none behind =
-      (subst (IsInOrder 0) (sym behind) (in_order-removals (setup_in w) (decided job older)),
-      ap appends_in left ∙ (appends-cons SyncGate rest ∙ (let a = ap appends_in behind ∙ appends-removals (setup_in w) (decided job older) in omega (arith, a, none))))
+  removals-left rest left none behind = (
+    subst (IsInOrder 0) (sym behind) (in_order-removals (setup_in w) (decided job older)),
+    ap appends_in left ∙ (appends-cons SyncGate rest ∙ (let a = ap appends_in behind ∙ appends-removals (setup_in w) (decided job older) in omega (arith, a, none))),
+  )
 
   pub put-first_gate : (name bytes : List ℕ) → job.kind ≡ PutJob name bytes → older ≡ job.older → GoesOn
   put-first_gate name bytes kind e = same-list (put-list (setup_in w) (decided job older) name bytes kind ∙ (ap (λ o. append_actions ++ put_rest (setup_in w) (decided job o) bytes) e ∙ sym (put-list (setup_in w) job name bytes kind)))

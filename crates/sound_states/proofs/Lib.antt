@@ -15,3 +15,4 @@ pub mod Pinning
 pub mod Begun
 pub mod Resting
 pub mod Events
+pub mod Given

@@ -336,14 +336,16 @@ pub put-second : (w : State) (job next : Job) (name bytes : List ℕ) → job.ki
     IsInOrder 1 (actions_left (setup_in w) next) × (appends_left (setup_in w) next ≡ appends_left (setup_in w) job)
 put-second w job next name bytes kind is l same place =
     (let zero_place = body-within (put_rest (setup_in w) job bytes) job.place l (ap (λ xs. slice_get xs job.place) (sym (put-list (setup_in w) job name bytes kind)) ∙ next-listed w job WriteBody is (λ e. cc)) in
-    let one : next.place ≡ 1 = omega (arith, zero_place, place) in
-    (second-order (setup_in w) next (put_rest (setup_in w) next bytes) (put-list (setup_in w) next name bytes (same ∙ kind)) one,
-    put-first (setup_in w) next name bytes (same ∙ kind) (omega (arith, one)) ∙ sym (put-first (setup_in w) job name bytes kind l)))
+    let one : next.place ≡ 1 = omega (arith, zero_place, place) in (
+      second-order (setup_in w) next (put_rest (setup_in w) next bytes) (put-list (setup_in w) next name bytes (same ∙ kind)) one,
+      put-first (setup_in w) next name bytes (same ∙ kind) (omega (arith, one)) ∙ sym (put-first (setup_in w) job name bytes kind l),
+    ))
 
 pub audit-second : (w : State) (job next : Job) → job.kind ≡ AuditJob → next_action w job ≡ Some WriteBody → job.place < 4 → next.kind ≡ job.kind → next.place ≡ job.place + 1 →
     IsInOrder 1 (actions_left (setup_in w) next) × (appends_left (setup_in w) next ≡ appends_left (setup_in w) job)
 audit-second w job next kind is l same place =
     (let zero_place = body-within (audit_rest (setup_in w) job) job.place l (ap (λ xs. slice_get xs job.place) (sym (audit-list (setup_in w) job kind)) ∙ next-listed w job WriteBody is (λ e. cc)) in
-    let one : next.place ≡ 1 = omega (arith, zero_place, place) in
-    (second-order (setup_in w) next (audit_rest (setup_in w) next) (audit-list (setup_in w) next (same ∙ kind)) one,
-    audit-first (setup_in w) next (same ∙ kind) (omega (arith, one)) ∙ sym (audit-first (setup_in w) job kind l)))
+    let one : next.place ≡ 1 = omega (arith, zero_place, place) in (
+      second-order (setup_in w) next (audit_rest (setup_in w) next) (audit-list (setup_in w) next (same ∙ kind)) one,
+      audit-first (setup_in w) next (same ∙ kind) (omega (arith, one)) ∙ sym (audit-first (setup_in w) job kind l),
+    ))

@@ -244,10 +244,13 @@ module _ (limit : ℕ) (old : State) (S : IsSound limit old) (job : Job) (runs :
       S.barred S.undoubted S.doubt)
     where
       under : (kind : Kind) → job.kind ≡ kind → next_action old job ≡ Some action → ends_append action ≡ false → IsPutUnderWay (onward job job.subject given) kind → IsPutUnderWay job kind × (job.subject ≡ job.subject)
-      under (PutJob name bytes) kind next plain l = (elim (cases_eq job.place 3) [
-        | inl three ↦ absurd (not-three objects old job action (subst (Draws objects) (sym kind) tt) next plain three)
-        | inr other ↦ omega (arith, l, other)
-      ], refl)
+      under (PutJob name bytes) kind next plain l = (
+        elim (cases_eq job.place 3) [
+          | inl three ↦ absurd (not-three objects old job action (subst (Draws objects) (sym kind) tt) next plain three)
+          | inr other ↦ omega (arith, l, other)
+        ],
+        refl,
+      )
       under (GetJob name) kind next plain l = absurd l
       under (DropJob name) kind next plain l = absurd l
       under AuditJob kind next plain l = absurd l

@@ -214,10 +214,11 @@ module _ (limit : ℕ) (w : State) (S : IsSound limit w) where
       | inl l ↦ subst Good (sym (put-writes_first w job name bytes entry l h))
           (spelled-start (next_id w.records) name ids-small (subst IsWish kind J.wish).0, accept-start w.records name (S.set_up opened) ids-small, tt)
       | inr l ↦ (let d : HasDrawn (setup_in w) w.records w.bytes job name bytes = subst (IsReady (setup_in w) w.records w.bytes job) kind J.ready l in
-          subst Good (sym (put-writes_later w job name bytes entry l h))
-          (spelled-done job.subject (length bytes) J.subject (subst IsWish kind J.wish).1,
-          accept-done w.records job.subject (length bytes) name (S.set_up opened) (d.started left) (put-place name bytes kind),
-          (subst AreBytes (sym d.bytes_are) (subst IsSpelledKind kind J.spelled).1, ap length d.bytes_are)))
+          subst Good (sym (put-writes_later w job name bytes entry l h)) (
+            spelled-done job.subject (length bytes) J.subject (subst IsWish kind J.wish).1,
+            accept-done w.records job.subject (length bytes) name (S.set_up opened) (d.started left) (put-place name bytes kind),
+            (subst AreBytes (sym d.bytes_are) (subst IsSpelledKind kind J.spelled).1, ap length d.bytes_are),
+          ))
     ]
     follows-by (GetJob name) entry kind next left h = absurd h
     follows-by (DropJob name) entry kind next left h =
@@ -232,9 +233,11 @@ module _ (limit : ℕ) (w : State) (S : IsSound limit w) where
               let sums : Sums = wrote.0 in
               let small = small-sums number job sums runs wrote.1 in
               let n = setup-providers opened in
-              subst Good (sym wrote.2)
-              (spelled-audit_done job.subject sums.undecided sums.counts J.subject small.undecided (let e = small.size in omega (arith, e, n.0)) (let e = small.size in omega (arith, e, n.1)) small.counts,
-              accept-audit_done w.records (setup_in w) job.subject sums.undecided sums.counts (set_up-in opened) (ready.1 l left) small.size, tt))
+              subst Good (sym wrote.2) (
+                spelled-audit_done job.subject sums.undecided sums.counts J.subject small.undecided (let e = small.size in omega (arith, e, n.0)) (let e = small.size in omega (arith, e, n.1)) small.counts,
+                accept-audit_done w.records (setup_in w) job.subject sums.undecided sums.counts (set_up-in opened) (ready.1 l left) small.size,
+                tt,
+              ))
         ])
     follows-by RepairJob entry kind next left h =
         (let ready : IsReady (setup_in w) w.records w.bytes job RepairJob = subst (IsReady (setup_in w) w.records w.bytes job) kind J.ready in

@@ -10,7 +10,7 @@ ghost use Rattle.hail_records.specs.Acceptance.{refused};
 ghost use Rattle.hail_machine.specs.Jobs.{Kind, Job, job_of};
 ghost use Rattle.hail_machine.specs.Actions.{Action, WriteBody};
 ghost use Rattle.hail_machine.specs.Events.{Event, Outcome, IsSpelled, AreBytes};
-ghost use Rattle.hail_machine.specs.States.{State, Append, Doubt, IsStart, IsLimit, setup_in, file_in};
+ghost use Rattle.hail_machine.specs.States.{State, Append, IsStart, setup_in, file_in};
 ghost use Rattle.hail_machine.specs.Space.{are_numbers_used_up};
 ghost use Rattle.hail_machine.specs.Audits.{HasSums};
 ghost use Rattle.hail_machine.specs.Appends.{Writes, IsAt};
@@ -32,8 +32,8 @@ pub fn rest_is_sound()
 
 /// Each event leaves a sound state sound.
 pub fn sound_states_stay_sound()
-    ensures { (limit moment : ℕ) (old new : State) (event : Event) (outcome : Outcome) → IsLimit limit → IsSpelled event →
-        IsSound limit old → Happens limit moment old event outcome new → IsSound limit new }
+    ensures { (limit moment : ℕ) (old new : State) (event : Event) (outcome : Outcome) → IsSpelled event → IsSound limit old →
+        Happens limit moment old event outcome new → IsSound limit new }
 {}
 
 /// A setup in effect is in the grammar, so its providers are a shape; while a vault is open there is one.
@@ -75,8 +75,8 @@ pub fn jobs_go_on()
 
 /// The record that a job writes with its next action may come into effect next.
 pub fn written_records_may_follow()
-    ensures { (limit number : ℕ) (w : State) (job : Job) (entry : Record) → IsLimit limit → IsSound limit w → job_of w.jobs number ≡ Some job →
-        next_action w job ≡ Some WriteBody → w.append ≡ None → Writes w job job.kind entry → MayFollow w.records w.bytes entry }
+    ensures { (limit number : ℕ) (w : State) (job : Job) (entry : Record) → IsSound limit w → job_of w.jobs number ≡ Some job →
+        next_action w job ≡ Some WriteBody → Writes w job job.kind entry → MayFollow w.records w.bytes entry }
 {}
 
 /// The sums of an audit that runs have a count for each provider, and each of them fits 32 bits with room.
