@@ -1,35 +1,32 @@
 -- Sound states after a begin that was not refused.
-use Rattle.std.proofs.Common.{◌≡◌, ℕ, zero, suc, ◌+◌, ◌-◌, ◌<◌, ◌≤◌, ◌^◌, ◌==◌, Bool, true, false, cond, not, ◌⊎◌, ◌||◌, ◌&&◌, List, [], ◌∷◌, ◌++◌, length, drop, Option, Some, None, refl, ap, sym, subst, ◌∙◌, inl, inr, arith, sum, sum_by, length-append}
+use Rattle.std.proofs.Common.{◌≡◌, ℕ, ◌+◌, ◌-◌, ◌<◌, ◌≤◌, ◌^◌, Bool, true, false, not, ◌⊎◌, ◌||◌, ◌&&◌, List, [], ◌∷◌, ◌++◌, length, Option, Some, None, refl, ap, sym, subst, ◌∙◌, inl, inr, arith, sum, sum_by, length-append}
 use Rattle.std.specs.Prelude.{is_some, IsTrue, nat_lt, nat_le}
-use Rattle.std.specs.List.{list_any}
 use Rattle.std.proofs.lemmas.Bool.{cases_Bool, cases_eq, false≢true, eq-eqb}
 use Rattle.std.proofs.lemmas.Bool.Decides.{nat_tests}
 use Rattle.std.proofs.lemmas.List.Folds.{list_any-append}
 use Rattle.std.proofs.lemmas.List.Sums.{sum_by-take-drop}
-use Rattle.hail_records.specs.Records.{Setup, Record, is_name, largest_file, largest_journal, most_files}
+use Rattle.hail_records.specs.Records.{is_name, largest_file, largest_journal, most_files}
 use Rattle.hail_records.specs.Journal.{text_size}
-use Rattle.hail_records.specs.Table.{Due, file_of, files_of, due_of, is_same_name}
+use Rattle.hail_records.specs.Table.{Due, file_of, due_of, is_same_name}
 use Rattle.hail_records.specs.Acceptance.{is_due}
 use Rattle.hail_records.proofs.FilesLaws.{same-eq}
-use Rattle.hail_machine.specs.Jobs.{Kind, PutJob, GetJob, DropJob, AuditJob, RepairJob, Job, job_of}
-use Rattle.hail_machine.specs.Actions.{actions_of, actions_left, appends_left}
-use Rattle.hail_machine.specs.Refusals as refusal
-use Rattle.hail_machine.specs.Refusals.{Refusal, Cause, first_refusal}
+use Rattle.hail_machine.specs.Jobs.{Kind, PutJob, GetJob, DropJob, AuditJob, RepairJob, Job}
+use Rattle.hail_machine.specs.Actions.{actions_left, appends_left}
+use Rattle.hail_machine.specs.Refusals.{Cause, first_refusal}
 use Rattle.hail_machine.specs.Events.{IsSpelledKind}
-use Rattle.hail_machine.specs.States.{State, Append, Doubt, setup_in, file_in}
+use Rattle.hail_machine.specs.States.{State, setup_in, file_in}
 use Rattle.hail_machine.specs.Space.{append_sizes, reserved, is_full, is_too_full, are_numbers_used_up}
-use Rattle.hail_machine.specs.Begins.{is_check, is_put_or_check, is_busy, is_listed, names_in, with_puts, names_taken, is_crowded, causes, begin_refusal, due_number, subject_at_begin, pinned_for, new_job}
+use Rattle.hail_machine.specs.Begins.{is_check, is_busy, is_listed, names_taken, causes, begin_refusal, due_number, subject_at_begin, new_job}
 use Rattle.hail_machine.proofs.ActionLists.{Each}
-use Rattle.hail_machine.proofs.JobLists.{cond_true, cond_false, same_value, found_more}
+use Rattle.hail_machine.proofs.JobLists.{cond_true, cond_false, found_more}
 use Rattle.hail_machine.proofs.Pins.{check_alone}
 use Rattle.sound_states.specs.Orders.{moves_made, IsInOrder}
 use Rattle.sound_states.specs.SoundJobs.{IsWish, IsReady, IsSoundJob}
-use Rattle.sound_states.specs.Sound.{IsSoundAppend, IsPutUnderWay, IsSound}
+use Rattle.sound_states.specs.Sound.{IsPutUnderWay, IsSound}
 use Rattle.sound_states.proofs.Orders.{in_order}
 use Rattle.sound_states.proofs.JobLists.{sum-more, still-more, numbered-more, numbered-below, made-some}
 use Rattle.sound_states.proofs.NamesTaken.{are_put, puts_name, taken_by, once-taken, listed-taken, fewer, taken-fewer}
 use Rattle.sound_states.proofs.Records.{some-none, is_some-at, due-spelled}
-use Rattle.sound_states.proofs.Rooms.{room_of}
 use Rattle.sound_states.proofs.Pinning.{pins-ascend, pins-few, pins-stored, has-pins}
 
 -- ---- no cause of a refusal applies

@@ -1,27 +1,25 @@
 -- Sound states after the fourth move of an append: its record is in effect.
-use Rattle.std.proofs.Common.{◌≡◌, ℕ, zero, suc, ◌+◌, ◌-◌, ◌<◌, ◌≤◌, ◌^◌, ◌==◌, Bool, true, false, cond, ◌⊎◌, ◌||◌, ◌&&◌, List, [], ◌∷◌, ◌++◌, length, Option, Some, None, refl, ap, sym, subst, ◌∙◌, inl, inr, arith, sum_by}
+use Rattle.std.proofs.Common.{◌≡◌, ℕ, ◌+◌, ◌<◌, ◌≤◌, ◌==◌, Bool, true, false, cond, ◌⊎◌, ◌||◌, ◌&&◌, List, [], ◌∷◌, length, Option, Some, None, refl, ap, sym, subst, ◌∙◌, inl, inr, arith, sum_by}
 use Rattle.std.specs.Prelude.{is_some, IsTrue}
-use Rattle.std.proofs.lemmas.Bool.{cases_Bool, cases_lt, cases_eq, false≢true, eqb-true, eq-eqb, ne_eqb, and_from}
+use Rattle.std.proofs.lemmas.Bool.{cases_Bool, cases_lt, false≢true, eq-eqb, ne_eqb, and_from}
 use Rattle.hail_columns.specs.Verdicts.{Sums}
-use Rattle.hail_records.specs.Records.{Setup, Record, SetUp, PutStart, PutDone, Drop, AuditStart, AuditDone, RepairDone, record_size, largest_journal}
+use Rattle.hail_records.specs.Records.{Setup, Record, SetUp, PutStart, PutDone, Drop, AuditStart, AuditDone, RepairDone, largest_journal}
 use Rattle.hail_records.specs.Journal.{text_size}
-use Rattle.hail_records.specs.Table.{File, setup_of, next_id, next_audit, started_as, file_of, running_audit, due_of, is_same_name}
+use Rattle.hail_records.specs.Table.{File, next_id, next_audit, started_as, file_of, running_audit, due_of, is_same_name}
 use Rattle.hail_records.specs.Acceptance.{is_due}
 use Rattle.hail_records.proofs.FilesLaws.{same-refl}
-use Rattle.hail_machine.specs.Jobs.{Kind, PutJob, GetJob, DropJob, AuditJob, RepairJob, Pinned, Job, job_of, with_job, advanced}
-use Rattle.hail_machine.specs.Actions.{Action, SyncGate, actions_left, appends_left}
-use Rattle.hail_machine.specs.Audits.{HasSums}
-use Rattle.hail_machine.specs.States.{State, Append, Doubt, setup_in, file_in, going_on}
+use Rattle.hail_machine.specs.Jobs.{Kind, PutJob, GetJob, DropJob, AuditJob, RepairJob, Pinned, Job, job_of, with_job}
+use Rattle.hail_machine.specs.Actions.{SyncGate, actions_left, appends_left}
+use Rattle.hail_machine.specs.States.{State, Append, setup_in, file_in}
 use Rattle.hail_machine.specs.Space.{reserved}
 use Rattle.hail_machine.specs.Begins.{is_check}
 use Rattle.hail_machine.specs.Appends.{Writes, is_first_append, subject_drawn, bytes_drawn, is_pinned, removable, taken_out, done_append}
 use Rattle.hail_machine.specs.Steps.{next_action}
-use Rattle.hail_machine.proofs.JobLists.{cond_true, cond_false, same_value, found_with, found_itself}
-use Rattle.hail_machine.proofs.Numbers.{first_above, first_below}
+use Rattle.hail_machine.proofs.JobLists.{cond_true, cond_false, same_value, found_with}
+use Rattle.hail_machine.proofs.Numbers.{first_below}
 use Rattle.hail_machine.proofs.PinFacts.{setup_same}
-use Rattle.hail_machine.proofs.RecordFacts.{IsProper, not_started-more}
+use Rattle.hail_machine.proofs.RecordFacts.{IsProper}
 use Rattle.sound_states.specs.Orders.{moves_made, IsInOrder}
-use Rattle.sound_states.specs.Follows.{IsHeld, BringsHeld, MayFollow}
 use Rattle.sound_states.specs.SoundJobs.{IsPin, IsOlder, HasDrawn, IsReady, IsSoundJob}
 use Rattle.sound_states.specs.Sound.{IsSoundAppend, IsPutUnderWay, IsSound}
 use Rattle.sound_states.proofs.Orders.{put-first, put-later, audit-later, drop-first, repair-first}

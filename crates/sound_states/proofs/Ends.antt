@@ -1,19 +1,15 @@
 -- Sound states after a job has ended.
-use Rattle.std.proofs.Common.{◌≡◌, ℕ, zero, suc, ◌+◌, ◌-◌, ◌<◌, ◌≤◌, ◌==◌, Bool, true, false, cond, ◌⊎◌, ◌||◌, List, [], ◌∷◌, ◌++◌, length, Option, Some, None, refl, ap, sym, subst, ◌∙◌, inl, inr, arith}
-use Rattle.std.specs.Prelude.{is_some, IsTrue}
-use Rattle.std.proofs.lemmas.Bool.{cases_Bool, false≢true}
-use Rattle.hail_records.specs.Records.{Record}
+use Rattle.std.proofs.Common.{◌≡◌, ℕ, ◌==◌, Bool, true, false, ◌||◌, List, [], ◌∷◌, Option, Some, None, refl, ap, sym, ◌∙◌, inl, inr, arith}
+use Rattle.std.specs.Prelude.{is_some}
+use Rattle.std.proofs.lemmas.Bool.{cases_Bool}
 use Rattle.hail_records.specs.Table.{file_of}
-use Rattle.hail_machine.specs.Jobs.{Kind, Job, job_of, without_job, advanced}
-use Rattle.hail_machine.specs.Actions.{Action, End, actions_left, actions_of}
+use Rattle.hail_machine.specs.Jobs.{Job, job_of, without_job}
 use Rattle.hail_machine.specs.States.{State, Append, Doubt, setup_in, ended}
 use Rattle.hail_machine.specs.Space.{reserved}
-use Rattle.hail_machine.specs.Begins.{is_check}
-use Rattle.hail_machine.proofs.JobLists.{cond_true, cond_false, same_value, found_without}
+use Rattle.hail_machine.proofs.JobLists.{cond_true, cond_false, found_without}
 use Rattle.sound_states.specs.Orders.{moves_made}
 use Rattle.sound_states.specs.Follows.{MayFollow}
-use Rattle.sound_states.specs.SoundJobs.{IsSoundJob}
-use Rattle.sound_states.specs.Sound.{IsDoubtOf, IsSoundAppend, IsPutUnderWay, IsSound}
+use Rattle.sound_states.specs.Sound.{IsDoubtOf, IsSoundAppend, IsSound}
 use Rattle.sound_states.proofs.JobLists.{sum-without, length-without, numbered-without, still-without, mine, other}
 use Rattle.sound_states.proofs.NamesTaken.{are_put, puts_name, taken-fewer}
 use Rattle.sound_states.proofs.Records.{some-none}

@@ -1,27 +1,26 @@
 -- Each event leaves a sound state sound.
-use Rattle.std.proofs.Common.{◌≡◌, ℕ, zero, suc, ◌+◌, ◌<◌, ◌≤◌, ◌==◌, ◌&&◌, Bool, true, false, ◌⊎◌, List, [], ◌∷◌, ◌++◌, length, drop, Option, Some, None, refl, ap, sym, subst, ◌∙◌, inl, inr, arith}
-use Rattle.std.specs.Prelude.{is_some, IsTrue, IsSome, nat_lt, slice_get}
+use Rattle.std.proofs.Common.{◌≡◌, ℕ, ◌+◌, ◌==◌, Bool, true, false, List, [], ◌∷◌, length, drop, Option, Some, None, refl, ap, sym, subst, ◌∙◌, inl, inr, arith}
+use Rattle.std.specs.Prelude.{IsSome, nat_lt, slice_get}
 use Rattle.std.proofs.lemmas.Bool.{cases_Bool, false≢true, and_parts, eqb-true}
-use Rattle.hail_records.specs.Records.{Setup, Record}
 use Rattle.hail_devices.specs.Providers.{Held, Provider, with_symbol, without_block, HasPlace}
 use Rattle.hail_machine.specs.Jobs.{Kind, PutJob, GetJob, DropJob, AuditJob, RepairJob, Job, Given, Fetched, Answered, Worked, job_of, advanced}
-use Rattle.hail_machine.specs.Actions.{Action, WriteBody, SyncBody, WriteGate, SyncGate, Store, Fetch, Ask, Work, Remove, End, append_actions, ends_append, actions_of, actions_left}
+use Rattle.hail_machine.specs.Actions.{Action, WriteBody, SyncBody, WriteGate, SyncGate, Store, Fetch, Ask, Work, Remove, End, ends_append, actions_of, actions_left}
 use Rattle.hail_machine.specs.Refusals as refusal
 use Rattle.hail_machine.specs.Answers as answer
 use Rattle.hail_machine.specs.Answers.{Answer}
-use Rattle.hail_machine.specs.Events.{Event, Init, Begin, Step, Alter, Lose, Stop, Reopen, Names, Continue, IsSpelled, IsSpelledKind, Outcome, Ready, Refused, Opened, Begun, More, Waiting, Ended, Replaced, NothingHeld, Stopped, Listed, Closed, Continued}
-use Rattle.hail_machine.specs.States.{State, Append, Doubt, setup_in, with_provider, going_on, ended, ProviderCall}
+use Rattle.hail_machine.specs.Events.{Event, Init, Begin, Step, Alter, Lose, Stop, Reopen, Names, Continue, IsSpelled, IsSpelledKind, Outcome, Refused, Begun, More, Waiting, Ended, Replaced, NothingHeld, Listed, Closed}
+use Rattle.hail_machine.specs.States.{State, IsStart, Append, Doubt, setup_in, with_provider, going_on, ended}
 use Rattle.hail_machine.specs.Begins.{Begins}
 use Rattle.hail_machine.specs.Appends.{Moves}
 use Rattle.hail_machine.specs.Steps.{is_idle_drop, next_action, holder_of, Acts, ActsOrWaits, StepsOn, StepsJob, StepsOpen, Steps}
-use Rattle.hail_machine.specs.Openings.{Stops, Reopens, Inits, Continues}
 use Rattle.hail_machine.specs.Replacements.{ReplacesAt, ReplacesIf}
 use Rattle.hail_machine.specs.Machine.{Lists, Happens}
+use Rattle.hail_machine.specs.Runs.{Moment, IsRun, now}
 use Rattle.hail_machine.proofs.JobLists.{cond_true, cond_false, same_value, number_of}
 use Rattle.sound_states.specs.Orders.{moves_made, moves_before, moves_after, IsInOrder}
 use Rattle.sound_states.specs.Follows.{MayFollow}
-use Rattle.sound_states.specs.Sound.{IsGatedDoubt, IsDoubtOf, IsSoundAppend, IsSound}
-use Rattle.sound_states.proofs.Orders.{drop_rest, in_order-first, get-drop, drop-get, moves-first}
+use Rattle.sound_states.specs.Sound.{IsGatedDoubt, IsDoubtOf, IsSound}
+use Rattle.sound_states.proofs.Orders.{drop-get, moves-first}
 use Rattle.sound_states.proofs.Records.{some-none}
 use Rattle.sound_states.proofs.Going.{onward}
 use Rattle.sound_states.proofs.Turns.{gone_on, plain-sound}
@@ -30,7 +29,7 @@ use Rattle.sound_states.proofs.Gates.{drop-list}
 use Rattle.sound_states.proofs.Ends.{left_by, plain-ended, append-ended}
 use Rattle.sound_states.proofs.Done.{done-sound}
 use Rattle.sound_states.proofs.Begun.{begun-job}
-use Rattle.sound_states.proofs.Resting.{stops-sound, continues-sound, reopens-sound, inits-sound}
+use Rattle.sound_states.proofs.Resting.{start-sound, stops-sound, continues-sound, reopens-sound, inits-sound}
 
 -- what providers hold and count, and the count of the disk, are no part of it
 pub devices-sound : (limit : ℕ) (w : State) (providers : ℕ → Provider) (faults : ℕ) → IsSound limit w → IsSound limit (record w { providers = providers; disk_faults = faults })
@@ -224,3 +223,9 @@ module _ (limit moment : ℕ) (old : State) (S : IsSound limit old) where
   events-sound Reopen r new spelled h = reopens-sound limit old S r new h
   events-sound Names r new spelled h = lists old.is_open r new h
   events-sound Continue r new spelled h = continues-sound limit old S r new h
+
+-- so every state of a run is sound
+pub run-sound : (limit : ℕ) (start : State) (ms : List Moment) → IsStart start → IsRun limit start ms → IsSound limit (now start ms)
+run-sound limit start [] clean run = start-sound limit start clean
+run-sound limit start (m ∷ ms) clean run =
+    events-sound limit (length ms) (now start ms) (run-sound limit start ms clean run.2) m.event m.outcome m.state run.0 run.1

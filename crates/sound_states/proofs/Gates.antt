@@ -1,18 +1,16 @@
 -- What is left of a job after the fourth move of its append, by which it may have decided on an object to take away.
-use Rattle.std.proofs.Common.{◌≡◌, ℕ, zero, suc, ◌+◌, ◌-◌, ◌<◌, ◌≤◌, true, false, cond, ◌⊎◌, List, [], ◌∷◌, ◌++◌, length, drop, Option, Some, None, refl, ap, sym, subst, ◌∙◌, inl, inr, arith}
+use Rattle.std.proofs.Common.{◌≡◌, ℕ, zero, suc, ◌+◌, ◌-◌, ◌≤◌, List, [], ◌∷◌, ◌++◌, length, drop, Some, None, refl, ap, sym, subst, ◌∙◌, inl, inr, arith}
 use Rattle.std.specs.Prelude.{slice_get}
 use Rattle.std.proofs.Math.Seq.{drop-append-add}
-use Rattle.std.proofs.lemmas.Bool.{cases_lt}
 use Rattle.hail_records.specs.Records.{Setup}
-use Rattle.hail_machine.specs.Jobs.{Kind, PutJob, GetJob, DropJob, AuditJob, RepairJob, Given, Job, advanced}
+use Rattle.hail_machine.specs.Jobs.{PutJob, DropJob, AuditJob, RepairJob, Job, advanced}
 use Rattle.hail_machine.specs.Actions.{Action, WriteBody, SyncBody, WriteGate, SyncGate, Store, Fetch, Ask, Work, Remove, End, append_actions, store_actions, remove_actions, actions_by, actions_of, actions_left, appends_left}
 use Rattle.hail_machine.specs.States.{State, setup_in}
 use Rattle.hail_machine.specs.Steps.{next_action}
 use Rattle.hail_machine.proofs.ActionLists.{Each, each_append, each_get, split_get}
-use Rattle.hail_machine.proofs.Fair.{stores_count, gate_place}
-use Rattle.sound_states.specs.Orders.{moves_after, IsInOrder}
+use Rattle.hail_machine.proofs.Fair.{gate_place}
+use Rattle.sound_states.specs.Orders.{IsInOrder}
 use Rattle.sound_states.proofs.Orders.{IsOther, others-removals, put_rest, drop_rest, put-list, in_order-removals, appends-removals, appends-cons, appends_in, next-listed, next-left}
-use Rattle.sound_states.proofs.Going.{onward, order-onward, count-onward}
 
 -- a job one action further that takes these objects away
 abbrev pub decided : Job → List ℕ → Job

@@ -1,7 +1,7 @@
 -- What sound states give: their setup, their files, and the next actions of their jobs.
-use Rattle.std.proofs.Common.{◌≡◌, ℕ, ◌+◌, ◌-◌, ◌<◌, ◌≤◌, ◌^◌, Bool, true, false, ◌⊎◌, List, [], ◌∷◌, length, Option, Some, None, refl, ap, sym, subst, ◌∙◌, inl, inr, arith}
-use Rattle.std.specs.Prelude.{is_some, IsTrue, nat_lt, slice_get}
-use Rattle.std.proofs.lemmas.Bool.{cases_Bool, and_parts, false≢true, ltb-true}
+use Rattle.std.proofs.Common.{◌≡◌, ℕ, ◌-◌, ◌<◌, ◌≤◌, ◌^◌, true, false, Some, refl, ap, sym, ◌∙◌, inl, inr, arith}
+use Rattle.std.specs.Prelude.{IsTrue, nat_lt, slice_get}
+use Rattle.std.proofs.lemmas.Bool.{cases_Bool, and_parts, ltb-true}
 use Rattle.hail_field.specs.Shape.{IsShape}
 use Rattle.hail_records.specs.Records.{Setup, SetUp, is_setup, is_master, is_in_grammar}
 use Rattle.hail_records.specs.Table.{next_id, next_audit}

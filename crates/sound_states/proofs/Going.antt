@@ -1,22 +1,18 @@
 -- Running jobs after an action that puts no record in effect: the job that made it, and all others.
-use Rattle.std.proofs.Common.{◌≡◌, ℕ, zero, suc, ◌+◌, ◌-◌, ◌<◌, ◌≤◌, ◌^◌, ◌==◌, Bool, true, false, cond, ◌⊎◌, ◌||◌, List, [], ◌∷◌, ◌++◌, length, drop, Option, Some, None, refl, ap, sym, subst, ◌∙◌, inl, inr, arith, sum_by}
-use Rattle.std.specs.Prelude.{is_some, IsTrue, slice_get}
-use Rattle.std.specs.List.{list_any}
-use Rattle.std.proofs.lemmas.Bool.{cases_Bool, cases_lt, cases_eq, false≢true}
+use Rattle.std.proofs.Common.{◌≡◌, ℕ, ◌+◌, ◌<◌, ◌≤◌, ◌^◌, false, List, ◌∷◌, drop, Some, refl, ap, sym, subst, ◌∙◌, inl, inr, arith}
+use Rattle.std.proofs.lemmas.Bool.{cases_eq, false≢true}
 use Rattle.hail_records.specs.Records.{Setup, Record}
-use Rattle.hail_records.specs.Table.{next_id, file_of, started_as, due_of}
+use Rattle.hail_records.specs.Table.{next_id, started_as, due_of}
 use Rattle.hail_records.specs.Acceptance.{is_due}
-use Rattle.hail_machine.specs.Jobs.{Kind, PutJob, GetJob, DropJob, AuditJob, RepairJob, Pinned, Given, Job, job_of, with_job}
-use Rattle.hail_machine.specs.Actions.{Action, WriteBody, SyncBody, WriteGate, SyncGate, End, actions_by, actions_of, actions_left, ends_append, appends_left}
-use Rattle.hail_machine.specs.States.{State, Append, Doubt, setup_in}
-use Rattle.hail_machine.specs.Space.{reserved}
+use Rattle.hail_machine.specs.Jobs.{Kind, PutJob, GetJob, DropJob, AuditJob, RepairJob, Pinned, Given, Job}
+use Rattle.hail_machine.specs.Actions.{Action, SyncGate, End, actions_of, actions_left, ends_append, appends_left}
+use Rattle.hail_machine.specs.States.{State, setup_in}
 use Rattle.hail_machine.specs.Steps.{next_action}
-use Rattle.hail_machine.proofs.JobLists.{same_value, found_with, found_itself}
+use Rattle.hail_machine.proofs.JobLists.{same_value}
 use Rattle.hail_machine.proofs.Numbers.{Series, objects, audits, Draws, at_three}
-use Rattle.sound_states.specs.Orders.{moves_made, moves_before, moves_after, IsInOrder}
+use Rattle.sound_states.specs.Orders.{moves_before, moves_after, IsInOrder}
 use Rattle.sound_states.specs.SoundJobs.{IsPin, HasDrawn, IsReady, IsSoundJob}
 use Rattle.sound_states.proofs.Orders.{in_order-step, next-left, appends-cons, appends_in, gates}
-use Rattle.sound_states.proofs.Rooms.{room-same}
 
 -- ---- the list of a job that has made one more action
 

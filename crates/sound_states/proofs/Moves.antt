@@ -1,25 +1,24 @@
 -- Sound states after the first three moves of an append.
-use Rattle.std.proofs.Common.{◌≡◌, ℕ, zero, suc, ◌+◌, ◌-◌, ◌<◌, ◌≤◌, ◌^◌, ◌==◌, Bool, true, false, cond, ◌⊎◌, ◌||◌, ◌&&◌, List, [], ◌∷◌, ◌++◌, length, Option, Some, None, refl, ap, sym, subst, ◌∙◌, inl, inr, arith}
-use Rattle.std.specs.Prelude.{is_some, IsTrue}
-use Rattle.std.proofs.lemmas.Bool.{cases_Bool, cases_lt, cases_eq, false≢true, eqb-true, ne_eqb}
+use Rattle.std.proofs.Common.{◌≡◌, ℕ, ◌+◌, ◌<◌, ◌≤◌, ◌^◌, ◌==◌, Bool, true, false, cond, ◌&&◌, List, Option, Some, None, refl, ap, sym, subst, ◌∙◌, inl, inr, arith}
+use Rattle.std.proofs.lemmas.Bool.{cases_lt, cases_eq, false≢true, ne_eqb}
 use Rattle.hail_records.specs.Records.{Record, largest_journal}
 use Rattle.hail_records.specs.Table.{next_id, next_audit}
-use Rattle.hail_machine.specs.Jobs.{Kind, PutJob, GetJob, DropJob, AuditJob, RepairJob, Given, Job, job_of, with_job, advanced}
-use Rattle.hail_machine.specs.Actions.{Action, WriteBody, SyncBody, WriteGate, SyncGate, End, ends_append, appends_left, actions_left}
-use Rattle.hail_machine.specs.States.{State, Append, Doubt, setup_in, going_on}
+use Rattle.hail_machine.specs.Jobs.{Kind, PutJob, GetJob, DropJob, AuditJob, RepairJob, Given, Job, job_of, with_job}
+use Rattle.hail_machine.specs.Actions.{Action, WriteBody, End, ends_append, appends_left, actions_left}
+use Rattle.hail_machine.specs.States.{State, Append, Doubt, setup_in}
 use Rattle.hail_machine.specs.Appends.{Writes, is_first_append, subject_drawn, bytes_drawn, audits_drawn}
 use Rattle.hail_machine.specs.Steps.{next_action}
-use Rattle.hail_machine.proofs.JobLists.{cond_true, cond_false, same_value, found_itself}
-use Rattle.hail_machine.proofs.Numbers.{objects, audits, Draws, first_above, first_below, drawn_later}
-use Rattle.sound_states.specs.Orders.{moves_made, moves_before, moves_after, IsInOrder}
+use Rattle.hail_machine.proofs.JobLists.{cond_false, same_value, found_itself}
+use Rattle.hail_machine.proofs.Numbers.{objects, Draws, first_above, drawn_later}
+use Rattle.sound_states.specs.Orders.{moves_made, moves_after, IsInOrder}
 use Rattle.sound_states.specs.Follows.{MayFollow}
 use Rattle.sound_states.specs.SoundJobs.{IsSoundJob}
 use Rattle.sound_states.specs.Sound.{IsGatedDoubt, IsDoubtOf, IsSoundAppend, IsPutUnderWay, IsSound}
-use Rattle.sound_states.proofs.Orders.{gates, put-second, audit-second}
+use Rattle.sound_states.proofs.Orders.{put-second, audit-second}
 use Rattle.sound_states.proofs.JobLists.{mine, other}
 use Rattle.sound_states.proofs.Records.{some-none}
-use Rattle.sound_states.proofs.Written.{runs-open, ids-small, audits-small, written-follows}
-use Rattle.sound_states.proofs.Going.{onward, order-onward, count-onward, not-three, went}
+use Rattle.sound_states.proofs.Written.{ids-small, audits-small, written-follows}
+use Rattle.sound_states.proofs.Going.{onward, not-three, went}
 use Rattle.sound_states.proofs.Turns.{follows-on, writes-on, drawn-on, bytes-on, gone_on, going-sound, order-now, count-now}
 
 -- ---- what a first move draws

@@ -1,20 +1,18 @@
 -- The actions of each job are in order, and each of its actions goes one on in it.
-use Rattle.std.proofs.Common.{◌≡◌, ℕ, zero, suc, ◌+◌, ◌-◌, ◌<◌, ◌≤◌, true, false, cond, ◌⊎◌, List, [], ◌∷◌, ◌++◌, length, drop, Option, Some, None, refl, ap, sym, subst, ◌∙◌, inl, inr, arith, sum_by, count_by}
+use Rattle.std.proofs.Common.{◌≡◌, ℕ, zero, suc, ◌+◌, ◌-◌, ◌<◌, ◌≤◌, true, false, cond, List, [], ◌∷◌, ◌++◌, length, drop, Some, None, refl, ap, sym, subst, ◌∙◌, inl, inr, arith, count_by}
 use Rattle.std.specs.Prelude.{slice_get}
 use Rattle.std.specs.List.{flat_map}
-use Rattle.std.proofs.Math.Seq.{drop-append-add}
 use Rattle.std.proofs.lemmas.List.Sums.{sum_by-cons, sum_by-append, sum_by-take-drop}
-use Rattle.std.proofs.lemmas.Bool.{cases_Bool, cases_lt}
+use Rattle.std.proofs.lemmas.Bool.{cases_Bool}
 use Rattle.hail_codes.specs.Points.{upto}
 use Rattle.hail_records.specs.Records.{Setup}
-use Rattle.hail_machine.specs.Jobs.{Kind, PutJob, GetJob, DropJob, AuditJob, RepairJob, Pinned, Job, advanced}
+use Rattle.hail_machine.specs.Jobs.{Kind, PutJob, GetJob, DropJob, AuditJob, RepairJob, Pinned, Job}
 use Rattle.hail_machine.specs.Actions.{Action, WriteBody, SyncBody, WriteGate, SyncGate, Store, Fetch, Ask, Work, Remove, End, append_actions, on_each_provider, on_each_stripe, store_actions, open_actions, read_actions, rewrite_actions, repair_actions, rounds_of, ask_actions, remove_actions, actions_by, actions_of, actions_left, ends_append, appends_left}
 use Rattle.hail_machine.specs.Setups.{stripes_of}
 use Rattle.hail_machine.specs.States.{State, setup_in}
 use Rattle.hail_machine.specs.Steps.{next_action, is_idle_drop}
 use Rattle.hail_machine.proofs.JobLists.{cond_true, cond_false}
 use Rattle.hail_machine.proofs.ActionLists.{Each, each_append, each_map, each_flat, split_get, each_get}
-use Rattle.hail_machine.proofs.Fair.{stores_count, gate_place}
 use Rattle.sound_states.specs.Orders.{moves_before, moves_after, IsInOrder}
 
 -- ---- lists of actions

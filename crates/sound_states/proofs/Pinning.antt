@@ -1,10 +1,10 @@
 -- The files that a job works on from its begin on: each once, in ascending order, and stored.
-use Rattle.std.proofs.Common.{◌≡◌, ℕ, zero, suc, ◌+◌, ◌<◌, ◌≤◌, ◌^◌, ◌==◌, true, false, ◌⊎◌, List, [], ◌∷◌, length, Option, Some, None, refl, ap, sym, subst, ◌∙◌, inl, inr, arith}
-use Rattle.std.specs.Prelude.{is_some, IsTrue, nat_lt}
+use Rattle.std.proofs.Common.{◌≡◌, ℕ, suc, ◌+◌, ◌≤◌, true, false, ◌⊎◌, List, [], ◌∷◌, length, Option, Some, None, refl, ap, sym, subst, ◌∙◌, inl, inr, arith}
+use Rattle.std.specs.Prelude.{is_some, nat_lt}
 use Rattle.std.specs.List.{Contains}
-use Rattle.std.proofs.lemmas.Bool.{cases_Bool, cases_eq, false≢true, ltb-true, lt-ltb, eq-eqb}
-use Rattle.hail_records.specs.Records.{Record, most_files}
-use Rattle.hail_records.specs.Table.{File, next_id, file_of, files_of, is_same_name}
+use Rattle.std.proofs.lemmas.Bool.{cases_Bool, cases_eq, false≢true, ltb-true}
+use Rattle.hail_records.specs.Records.{most_files}
+use Rattle.hail_records.specs.Table.{File, file_of, files_of, is_same_name}
 use Rattle.hail_records.specs.Acceptance.{AreAccepted}
 use Rattle.hail_records.proofs.FilesLaws.{same-refl}
 use Rattle.hail_records.proofs.OrderLaws.{few-files_of}

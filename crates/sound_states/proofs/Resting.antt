@@ -1,26 +1,22 @@
 -- Sound states in which no job runs: at a start, at rest, and after stops, reopenings, inits and later calls of the program.
-use Rattle.std.proofs.Common.{◌≡◌, ℕ, zero, suc, ◌+◌, ◌<◌, ◌≤◌, ◌&&◌, Bool, true, false, ◌⊎◌, List, [], ◌∷◌, length, Option, Some, None, refl, ap, sym, subst, ◌∙◌, inl, inr, arith, sum_by}
+use Rattle.std.proofs.Common.{◌≡◌, ℕ, ◌≤◌, Bool, true, false, List, [], ◌∷◌, length, Option, Some, None, refl, ap, sym, subst, ◌∙◌, inl, inr, arith, sum_by}
 use Rattle.std.specs.Prelude.{is_some, IsTrue}
-use Rattle.std.specs.List.{list_all}
-use Rattle.std.proofs.lemmas.Bool.{cases_Bool, false≢true, and_from}
-use Rattle.hail_records.specs.Records.{Setup, Record, SetUp, is_setup, is_master, is_in_grammar, record_size, largest_journal, most_files}
+use Rattle.std.proofs.lemmas.Bool.{false≢true, and_from}
+use Rattle.hail_records.specs.Records.{Setup, Record, SetUp, is_setup, is_master, is_in_grammar, largest_journal}
 use Rattle.hail_records.specs.Journal.{text_size}
-use Rattle.hail_records.specs.Table.{File, setup_of, next_id, file_of, files_of}
-use Rattle.hail_records.specs.Acceptance.{refused, AreAccepted}
+use Rattle.hail_records.specs.Table.{setup_of, files_of}
+use Rattle.hail_records.specs.Acceptance.{AreAccepted}
 use Rattle.hail_records.proofs.OrderLaws.{few-files_of}
-use Rattle.hail_machine.specs.Jobs.{Job, job_of}
 use Rattle.hail_machine.specs.Refusals as refusal
 use Rattle.hail_machine.specs.Events.{Outcome, Ready, Refused, Opened, Stopped, Continued}
-use Rattle.hail_machine.specs.States.{State, Append, Doubt, AreFirst, IsStart, setup_in, given_up, continued, Settles}
+use Rattle.hail_machine.specs.States.{State, Doubt, AreFirst, IsStart, setup_in, given_up, continued, Settles}
 use Rattle.hail_machine.specs.Space.{reserved}
-use Rattle.hail_machine.specs.Begins.{is_check, names_taken}
-use Rattle.hail_machine.specs.Openings.{IsSetUp, IsNotSetUp, LeavesDoubt, Stops, Reopens, InitsClosed, InitsBy, Inits, Continues}
+use Rattle.hail_machine.specs.Openings.{IsSetUp, LeavesDoubt, Stops, Reopens, InitsClosed, InitsBy, Inits, Continues}
 use Rattle.hail_machine.proofs.JobLists.{cond_false, found_none}
 use Rattle.hail_machine.proofs.PinFacts.{setup_same}
-use Rattle.sound_states.specs.Orders.{moves_made, AreNumbered}
+use Rattle.sound_states.specs.Orders.{AreNumbered}
 use Rattle.sound_states.specs.Follows.{AreHeld, MayFollow}
-use Rattle.sound_states.specs.SoundJobs.{IsSoundJob}
-use Rattle.sound_states.specs.Sound.{IsDoubtOf, IsSoundAppend, IsIdle, IsPutUnderWay, IsSound, IsAtRest}
+use Rattle.sound_states.specs.Sound.{IsDoubtOf, IsIdle, IsSound, IsAtRest}
 use Rattle.sound_states.proofs.NamesTaken.{taken_by, length-names_in}
 use Rattle.sound_states.proofs.Records.{some-none, AreSpelled, none-set_up, spelled-more, held-more}
 

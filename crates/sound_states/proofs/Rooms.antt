@@ -1,8 +1,8 @@
 -- The room that a job's records need, by its kind and the number of its appends that are left.
-use Rattle.std.proofs.Common.{◌≡◌, ℕ, zero, suc, ◌+◌, ◌-◌, ◌*◌, ◌<◌, ◌≤◌, true, false, ◌⊎◌, List, [], ◌∷◌, length, drop, Option, Some, None, refl, ap, sym, subst, ◌∙◌, inl, inr, arith, sum}
+use Rattle.std.proofs.Common.{◌≡◌, ℕ, ◌+◌, ◌-◌, ◌<◌, ◌≤◌, List, length, drop, refl, ap, sym, subst, ◌∙◌, inl, inr, arith, sum}
 use Rattle.std.proofs.lemmas.Bool.{cases_lt}
 use Rattle.hail_columns.specs.Verdicts.{Sums}
-use Rattle.hail_records.specs.Records.{Setup, Record, PutStart, PutDone, Drop, AuditStart, AuditDone, RepairDone, record_size}
+use Rattle.hail_records.specs.Records.{Setup, Record, PutStart, PutDone, AuditStart, AuditDone, record_size}
 use Rattle.hail_records.specs.Table.{next_id, next_audit}
 use Rattle.hail_machine.specs.Jobs.{Kind, PutJob, GetJob, DropJob, AuditJob, RepairJob, Job}
 use Rattle.hail_machine.specs.Actions.{appends_left}

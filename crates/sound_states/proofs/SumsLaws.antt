@@ -1,5 +1,5 @@
 -- The sums of an audit: a count for each provider, and no more than the rounds that were judged.
-use Rattle.std.proofs.Common.{◌≡◌, ℕ, zero, suc, ◌+◌, ◌*◌, ◌<◌, ◌≤◌, ◌^◌, ◌==◌, Bool, true, false, cond, ◌⊎◌, List, [], ◌∷◌, length, get_or, replicate, Option, refl, ap, sym, subst, ◌∙◌, inl, inr, arith, All}
+use Rattle.std.proofs.Common.{◌≡◌, ℕ, zero, suc, ◌+◌, ◌*◌, ◌≤◌, ◌^◌, ◌==◌, Bool, true, false, cond, List, [], ◌∷◌, length, replicate, Option, refl, ap, sym, subst, ◌∙◌, inl, inr, arith, All}
 use Rattle.std.proofs.Math.Nat.{mul-le-mul_right}
 use Rattle.std.proofs.lemmas.List.{length-replicate}
 use Rattle.std.proofs.lemmas.List.FromFn.{length-range_with_len}
@@ -7,7 +7,7 @@ use Rattle.std.proofs.lemmas.Bool.{cases_Bool}
 use Rattle.hail_codes.specs.Points.{upto}
 use Rattle.hail_codes.specs.Polynomials.{value, is_seen}
 use Rattle.hail_columns.specs.Objects.{points}
-use Rattle.hail_columns.specs.Verdicts.{Sums, Judges, counted}
+use Rattle.hail_columns.specs.Verdicts.{Sums, counted}
 use Rattle.hail_columns.specs.Challenges.{bare_answers}
 use Rattle.hail_records.specs.Records.{Setup, most_files}
 use Rattle.hail_machine.specs.Jobs.{Pinned, Job}

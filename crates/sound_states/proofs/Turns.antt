@@ -1,23 +1,21 @@
 -- Sound states after an action that puts no record in effect and ends no job.
-use Rattle.std.proofs.Common.{◌≡◌, ℕ, zero, suc, ◌+◌, ◌-◌, ◌<◌, ◌≤◌, ◌^◌, ◌==◌, Bool, true, false, cond, ◌⊎◌, ◌||◌, ◌&&◌, List, [], ◌∷◌, ◌++◌, length, drop, Option, Some, None, refl, ap, sym, subst, ◌∙◌, inl, inr, arith, sum_by}
+use Rattle.std.proofs.Common.{◌≡◌, ℕ, ◌<◌, ◌≤◌, ◌==◌, Bool, true, false, cond, ◌||◌, ◌&&◌, List, [], ◌∷◌, length, Option, Some, None, refl, ap, sym, subst, ◌∙◌, inl, inr, arith}
 use Rattle.std.specs.Prelude.{is_some, IsTrue}
-use Rattle.std.specs.List.{list_any}
-use Rattle.std.proofs.lemmas.Bool.{cases_Bool, cases_lt, cases_eq, false≢true, eqb-true, ne_eqb}
+use Rattle.std.proofs.lemmas.Bool.{cases_Bool, cases_lt, cases_eq, false≢true}
 use Rattle.hail_columns.specs.Verdicts.{Sums}
-use Rattle.hail_records.specs.Records.{Setup, Record, SetUp, PutStart, PutDone, Drop, AuditStart, AuditDone, RepairDone, largest_journal, most_files}
-use Rattle.hail_records.specs.Journal.{text_size}
+use Rattle.hail_records.specs.Records.{Record, SetUp, PutStart, PutDone, Drop, AuditStart, AuditDone, RepairDone}
 use Rattle.hail_records.specs.Table.{setup_of, next_id, next_audit, file_of, started_as}
 use Rattle.hail_records.specs.Acceptance as no
 use Rattle.hail_records.specs.Acceptance.{refused, put_done_refused, AreAccepted}
-use Rattle.hail_machine.specs.Jobs.{Kind, PutJob, GetJob, DropJob, AuditJob, RepairJob, Given, Job, job_of, with_job, advanced}
-use Rattle.hail_machine.specs.Actions.{Action, WriteBody, SyncBody, WriteGate, SyncGate, End, ends_append, appends_left, actions_left}
+use Rattle.hail_machine.specs.Jobs.{Kind, PutJob, GetJob, DropJob, AuditJob, RepairJob, Given, Job, job_of, with_job}
+use Rattle.hail_machine.specs.Actions.{Action, End, ends_append, appends_left, actions_left}
 use Rattle.hail_machine.specs.Audits.{HasSums}
 use Rattle.hail_machine.specs.States.{State, Append, Doubt, setup_in, going_on}
 use Rattle.hail_machine.specs.Space.{reserved}
 use Rattle.hail_machine.specs.Begins.{is_check}
 use Rattle.hail_machine.specs.Appends.{Writes, is_first_append, subject_drawn, bytes_drawn}
 use Rattle.hail_machine.specs.Steps.{next_action}
-use Rattle.hail_machine.proofs.JobLists.{cond_true, cond_false, same_value, found_with, found_itself}
+use Rattle.hail_machine.proofs.JobLists.{cond_true, cond_false, same_value, found_with}
 use Rattle.hail_machine.proofs.Numbers.{Series, objects, audits, Draws, first_above, first_below}
 use Rattle.sound_states.specs.Orders.{moves_made, moves_before, moves_after, IsInOrder}
 use Rattle.sound_states.specs.Follows.{BringsHeld, MayFollow}
@@ -26,7 +24,7 @@ use Rattle.sound_states.specs.Sound.{IsDoubtOf, IsSoundAppend, IsPutUnderWay, Is
 use Rattle.sound_states.proofs.Orders.{gates}
 use Rattle.sound_states.proofs.JobLists.{sum-with, length-with, numbered-with, still-with, mine, other}
 use Rattle.sound_states.proofs.NamesTaken.{are_put, puts_name, taken-fewer}
-use Rattle.sound_states.proofs.Records.{some-none, is_some-at, sound-accepted, held-on, held-same}
+use Rattle.sound_states.proofs.Records.{some-none, sound-accepted, held-on, held-same}
 use Rattle.sound_states.proofs.Rooms.{room-same}
 use Rattle.sound_states.proofs.Going.{onward, order-onward, count-onward, not-three, kept, went}
 

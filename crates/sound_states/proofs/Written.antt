@@ -1,41 +1,38 @@
 -- The record that a job writes with its next action may come into effect next.
-use Rattle.std.proofs.Common.{◌≡◌, ℕ, zero, suc, ◌+◌, ◌-◌, ◌*◌, ◌<◌, ◌≤◌, ◌==◌, ◌^◌, ◌&&◌, ◌||◌, Bool, true, false, cond, not, ◌⊎◌, List, [], ◌∷◌, ◌++◌, length, drop, Option, Some, None, refl, ap, sym, subst, ◌∙◌, inl, inr, arith, sum_by}
-use Rattle.std.specs.Prelude.{is_some, IsTrue, nat_lt, nat_le, slice_get}
-use Rattle.std.specs.List.{list_all, list_any}
-use Rattle.std.proofs.lemmas.Bool.{cases_Bool, cases_lt, cases_eq, false≢true, and_parts, and_from, eq-eqb, ne_eqb, eqb-true, lt-ltb}
+use Rattle.std.proofs.Common.{◌≡◌, ℕ, ◌+◌, ◌-◌, ◌<◌, ◌≤◌, ◌==◌, ◌^◌, Bool, true, false, not, List, [], ◌∷◌, ◌++◌, length, drop, Option, Some, None, refl, ap, sym, subst, ◌∙◌, inl, inr, arith}
+use Rattle.std.specs.Prelude.{is_some, IsTrue, nat_lt, slice_get}
+use Rattle.std.specs.List.{list_all}
+use Rattle.std.proofs.lemmas.Bool.{cases_Bool, cases_lt, false≢true, and_from, eq-eqb, lt-ltb}
 use Rattle.std.proofs.lemmas.Bool.Decides.{nat_tests}
-use Rattle.std.proofs.lemmas.List.Sums.{list_all-from_AllPass}
-use Rattle.hail_field.specs.Shape.{IsShape}
 use Rattle.hail_columns.specs.Verdicts.{Sums}
-use Rattle.hail_records.specs.Records.{Setup, Record, SetUp, PutStart, PutDone, Drop, AuditStart, AuditDone, RepairDone, is_setup, is_master, is_name, is_in_grammar, record_size, largest_file, largest_journal, most_files}
+use Rattle.hail_records.specs.Records.{Setup, Record, SetUp, PutStart, PutDone, Drop, AuditStart, AuditDone, RepairDone, is_name, is_in_grammar, record_size, largest_file, largest_journal, most_files}
 use Rattle.hail_records.specs.Journal.{text_size}
-use Rattle.hail_records.specs.Table.{File, setup_of, next_id, next_audit, started_as, file_of, files_of, is_same_name, running_audit, due_of}
+use Rattle.hail_records.specs.Table.{setup_of, next_id, next_audit, started_as, file_of, files_of, is_same_name, running_audit, due_of}
 use Rattle.hail_records.specs.Acceptance as no
 use Rattle.hail_records.specs.Acceptance.{refused, refused_after, is_running, is_count_each, put_done_refused, is_crowded}
 use Rattle.hail_records.proofs.FilesLaws.{same-eq, same-refl}
 use Rattle.hail_machine.specs.Jobs.{Kind, PutJob, GetJob, DropJob, AuditJob, RepairJob, Job, job_of}
 use Rattle.hail_machine.specs.Setups.{setup_or_none}
-use Rattle.hail_machine.specs.Actions.{Action, WriteBody, SyncGate, End, append_actions, actions_by, actions_of, appends_left, ends_append, actions_left}
+use Rattle.hail_machine.specs.Actions.{WriteBody, End, append_actions, actions_of, appends_left, actions_left}
 use Rattle.hail_machine.specs.Audits.{HasSums}
-use Rattle.hail_machine.specs.States.{State, Append, setup_in, file_in, IsLimit}
-use Rattle.hail_machine.specs.Space.{append_sizes, reserved}
+use Rattle.hail_machine.specs.States.{State, setup_in}
+use Rattle.hail_machine.specs.Space.{reserved}
 use Rattle.hail_machine.specs.Begins.{is_listed, names_in, names_taken}
 use Rattle.hail_machine.specs.Events.{AreBytes, IsSpelledKind}
 use Rattle.hail_machine.proofs.Pins.{any_job}
 use Rattle.hail_machine.proofs.Numbers.{next_by, next_is_by}
 use Rattle.hail_machine.specs.Appends.{Writes}
 use Rattle.hail_machine.specs.Steps.{next_action, is_idle_drop}
-use Rattle.hail_machine.proofs.ActionLists.{split_get, each_get, Each}
-use Rattle.hail_machine.proofs.JobLists.{cond_true, cond_false, same_value, found_none}
-use Rattle.hail_machine.proofs.RecordFacts.{IsProper}
-use Rattle.sound_states.specs.Orders.{moves_made, moves_before, moves_after, IsInOrder}
+use Rattle.hail_machine.proofs.ActionLists.{Each}
+use Rattle.hail_machine.proofs.JobLists.{cond_true, cond_false, found_none}
+use Rattle.sound_states.specs.Orders.{moves_made, IsInOrder}
 use Rattle.sound_states.specs.Follows.{BringsHeld, MayFollow}
 use Rattle.sound_states.specs.SoundJobs.{IsWish, IsReady, IsSoundJob, HasDrawn}
 use Rattle.sound_states.specs.Sound.{IsSound}
-use Rattle.sound_states.proofs.Orders.{in_order-step, in_order-first, next-left, next-listed, appends-cons, appends_in, appends-order, drop_rest, drop-body}
-use Rattle.sound_states.proofs.JobLists.{sum-member, sum-without}
-use Rattle.sound_states.proofs.NamesTaken.{fewer, once-files, once-taken, listed-files_of, listed-taken, length-names_in, are_put, puts_name, AreOnce, taken_by}
-use Rattle.sound_states.proofs.Records.{some-none, is_some-at, next_id-le, next_audit-le, setup-spelled, spelled-first}
+use Rattle.sound_states.proofs.Orders.{in_order-step, next-left, appends-cons, appends_in, appends-order, drop_rest, drop-body}
+use Rattle.sound_states.proofs.JobLists.{sum-member}
+use Rattle.sound_states.proofs.NamesTaken.{fewer, once-files, listed-files_of, listed-taken, length-names_in, are_put, puts_name, taken_by}
+use Rattle.sound_states.proofs.Records.{next_id-le, next_audit-le, setup-spelled}
 use Rattle.sound_states.proofs.SumsLaws.{AreSmall, sums-small}
 use Rattle.sound_states.proofs.Rooms.{room_of, room-step, put-writes_first, put-writes_later, audit-writes_first, audit-writes_later}
 

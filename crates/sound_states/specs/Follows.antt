@@ -5,7 +5,7 @@
 --   AreHeld bytes rs           == so does the number of each file in effect
 --   MayFollow rs bytes entry   == a record may come into effect on top of these: it is in the grammar, the fold accepts it, the journal
 --                                 has room for it, and a file that it brings in has its bytes
-use Rattle.std.specs.Prelude.{◌≡◌, ℕ, ◌+◌, ◌≤◌, IsTrue, List, length, Option, None, Some}
+use Rattle.std.specs.Prelude.{◌≡◌, ℕ, ◌+◌, ◌≤◌, IsTrue, List, length, None, Some}
 use Rattle.hail_records.specs.Records.{Record, PutDone, is_in_grammar, record_size, largest_journal}
 use Rattle.hail_records.specs.Journal.{text_size}
 use Rattle.hail_records.specs.Table.{File, file_of}

@@ -8,9 +8,9 @@
 --   IsSound limit w          == a sound state, with this limit of running jobs
 --   IsAtRest w               == a state with no job, no append and nothing in doubt, over records that a journal may hold and that the
 --                               fold accepts, whose files have their bytes
-use Rattle.std.specs.Prelude.{◌≡◌, ◌⊎◌, ℕ, ◌+◌, ◌<◌, ◌≤◌, ◌==◌, Bool, true, false, IsTrue, List, [], length, sum_by, Option, None, Some}
+use Rattle.std.specs.Prelude.{◌≡◌, ℕ, ◌+◌, ◌≤◌, ◌==◌, Bool, true, false, IsTrue, [], length, sum_by, Option, None, Some}
 use Rattle.std.specs.List.{list_all}
-use Rattle.hail_records.specs.Records.{Record, is_in_grammar, largest_journal, most_files}
+use Rattle.hail_records.specs.Records.{is_in_grammar, largest_journal, most_files}
 use Rattle.hail_records.specs.Journal.{text_size}
 use Rattle.hail_records.specs.Acceptance.{AreAccepted}
 use Rattle.hail_machine.specs.Jobs.{Kind, PutJob, Job, job_of}

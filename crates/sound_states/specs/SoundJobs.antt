@@ -8,7 +8,7 @@
 --                                         is started under its name until its second append is done
 --   IsReady s rs bytes job kind        == what stands in the records for a job, so that they accept its next record
 --   IsSoundJob s rs bytes moves job    == all that holds of a running job, of whose append in flight so many moves are made
-use Rattle.std.specs.Prelude.{◌≡◌, ◌⊎◌, ℕ, ◌^◌, ◌<◌, ◌≤◌, true, IsTrue, List, [], ◌∷◌, length, Option, None, Some}
+use Rattle.std.specs.Prelude.{◌≡◌, ◌⊎◌, ℕ, ◌^◌, ◌<◌, ◌≤◌, true, IsTrue, List, [], ◌∷◌, length, None, Some}
 use Rattle.std.specs.List.{Contains}
 use Rattle.hail_records.specs.Records.{Setup, Record, is_name, largest_file, most_files}
 use Rattle.hail_records.specs.Table.{next_id, started_as, running_audit, due_of}
@@ -17,7 +17,6 @@ use Rattle.hail_machine.specs.Jobs.{Kind, PutJob, GetJob, DropJob, AuditJob, Rep
 use Rattle.hail_machine.specs.Actions.{actions_left, appends_left}
 use Rattle.hail_machine.specs.Events.{AreBytes, IsSpelledKind}
 use Rattle.sound_states.specs.Orders.{IsInOrder, AreAscending}
-use Rattle.sound_states.specs.Follows.{IsHeld}
 
 -- the words of a begin that was not refused for them
 abbrev pub IsWish : Kind → Type 0

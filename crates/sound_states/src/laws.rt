@@ -16,6 +16,7 @@ ghost use Rattle.hail_machine.specs.Audits.{HasSums};
 ghost use Rattle.hail_machine.specs.Appends.{Writes, IsAt};
 ghost use Rattle.hail_machine.specs.Steps.{next_action};
 ghost use Rattle.hail_machine.specs.Machine.{Happens};
+ghost use Rattle.hail_machine.specs.Runs.{Moment, IsRun, now};
 ghost use Rattle.sound_states.specs.Orders.{moves_before};
 ghost use Rattle.sound_states.specs.Follows.{MayFollow};
 ghost use Rattle.sound_states.specs.Sound.{IsSound, IsAtRest};
@@ -34,6 +35,11 @@ pub fn rest_is_sound()
 pub fn sound_states_stay_sound()
     ensures { (limit moment : ℕ) (old new : State) (event : Event) (outcome : Outcome) → IsSpelled event → IsSound limit old →
         Happens limit moment old event outcome new → IsSound limit new }
+{}
+
+/// So every state of a run from a start is sound.
+pub fn runs_are_sound()
+    ensures { (limit : ℕ) (start : State) (ms : List Moment) → IsStart start → IsRun limit start ms → IsSound limit (now start ms) }
 {}
 
 /// A setup in effect is in the grammar, so its providers are a shape; while a vault is open there is one.
