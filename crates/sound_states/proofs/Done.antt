@@ -152,13 +152,13 @@ taken-older w job RepairJob h = inl refl
 
 module _ (limit : ℕ) (old : State) (S : IsSound limit old) (job : Job) (runs : job_of old.jobs job.number ≡ Some job) (next : next_action old job ≡ Some SyncGate)
     (a : Append) (flight : old.append ≡ Some a) (own : a.job ≡ job.number) (three : a.moves ≡ 3) where
-  abbrev s : Setup
+  abbrev pub s : Setup
   s = setup_in old
 
-  abbrev older_now : List ℕ
+  abbrev pub older_now : List ℕ
   older_now = taken_out old job job.kind
 
-  abbrev after : Job
+  abbrev pub after : Job
   after = decided job older_now
 
   abbrev rs_now : List Record
@@ -185,16 +185,16 @@ module _ (limit : ℕ) (old : State) (S : IsSound limit old) (job : Job) (runs :
   proper : IsProper old.records a.entry
   proper = accepted-proper old.records a.entry (S.append a flight).follows.accepted
 
-  gate-order : IsInOrder 3 (actions_left s job)
+  pub gate-order : IsInOrder 3 (actions_left s job)
   gate-order = subst (λ m. IsInOrder m (actions_left s job)) (ap (λ f. moves_made f job.number) flight ∙ (mine a job.number own ∙ three)) (S.jobs job.number job runs).order
 
-  older-is : (kind : Kind) → job.kind ≡ kind → older_now ≡ taken_out old job kind
+  pub older-is : (kind : Kind) → job.kind ≡ kind → older_now ≡ taken_out old job kind
   older-is kind e = ap (taken_out old job) e
 
-  first-older : (name bytes : List ℕ) → job.kind ≡ PutJob name bytes → job.place < 4 → older_now ≡ []
+  pub first-older : (name bytes : List ℕ) → job.kind ≡ PutJob name bytes → job.place < 4 → older_now ≡ []
   first-older name bytes kind l = older-is (PutJob name bytes) kind ∙ cond_true (is_first_append job) [] (removable old (file_in old name)) (first_below job l)
 
-  goes : GoesOn old job older_now next gate-order
+  pub goes : GoesOn old job older_now next gate-order
   goes = by_kind job.kind refl done-writes
     where
       by_kind : (kind : Kind) → job.kind ≡ kind → Writes old job kind a.entry → GoesOn old job older_now next gate-order
@@ -208,7 +208,7 @@ module _ (limit : ℕ) (old : State) (S : IsSound limit old) (job : Job) (runs :
       by_kind AuditJob kind h = audit-gate old job older_now next gate-order kind
       by_kind RepairJob kind h = repair-gate old job older_now next gate-order kind
 
-  one-less : appends_left s job ≡ 1 + appends_left s after
+  pub one-less : appends_left s job ≡ 1 + appends_left s after
   one-less = goes.1
 
   drawn-first_put : (name bytes : List ℕ) → job.kind ≡ PutJob name bytes → job.place < 4 → job.subject ≡ next_id old.records

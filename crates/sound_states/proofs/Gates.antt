@@ -21,11 +21,11 @@ unfolding actions_of
 drop-list s job name kind = ap (actions_by s job) kind
 
 -- an audit and a repair have the same actions, whatever they take away
-audit-same : (s : Setup) (job : Job) (older : List ℕ) → job.kind ≡ AuditJob → actions_of s (decided job older) ≡ actions_of s job
+pub audit-same : (s : Setup) (job : Job) (older : List ℕ) → job.kind ≡ AuditJob → actions_of s (decided job older) ≡ actions_of s job
 unfolding actions_of
 audit-same s job older kind = ap (actions_by s (decided job older)) kind ∙ ap (actions_by s job) (sym kind)
 
-repair-same : (s : Setup) (job : Job) (older : List ℕ) → job.kind ≡ RepairJob → actions_of s (decided job older) ≡ actions_of s job
+pub repair-same : (s : Setup) (job : Job) (older : List ℕ) → job.kind ≡ RepairJob → actions_of s (decided job older) ≡ actions_of s job
 unfolding actions_of
 repair-same s job older kind = ap (actions_by s (decided job older)) kind ∙ ap (actions_by s job) (sym kind)
 
@@ -51,7 +51,7 @@ no-gates (x ∷ xs) h = (one x h.0, no-gates xs h.1)
     one End i = tt
 
 -- the fourth move of a drop stands at place 3
-drop-gate : (s : Setup) (job : Job) (p : ℕ) → slice_get (append_actions ++ drop_rest s job) p ≡ Some SyncGate → p ≡ 3
+pub drop-gate : (s : Setup) (job : Job) (p : ℕ) → slice_get (append_actions ++ drop_rest s job) p ≡ Some SyncGate → p ≡ 3
 drop-gate s job p h = elim (split_get append_actions (drop_rest s job) p SyncGate h) [
   | inl a ↦ within p a.1
   | inr b ↦ absurd (each_get IsNoGate (drop_rest s job) (p - 4) SyncGate (each_append IsNoGate (remove_actions s job) (End ∷ []) (no-gates (remove_actions s job) (others-removals s job)) (tt, tt)) b.1)
@@ -65,7 +65,7 @@ drop-gate s job p h = elim (split_get append_actions (drop_rest s job) p SyncGat
     within (suc (suc (suc (suc p)))) h = absurd (let e : None ≡ Some SyncGate = h in cc)
 
 -- behind the second append of a put
-put-behind : (s : Setup) (job : Job) (bytes : List ℕ) (p : ℕ) → p ≡ 8 + length (store_actions s job bytes) → drop p (append_actions ++ put_rest s job bytes) ≡ drop_rest s job
+pub put-behind : (s : Setup) (job : Job) (bytes : List ℕ) (p : ℕ) → p ≡ 8 + length (store_actions s job bytes) → drop p (append_actions ++ put_rest s job bytes) ≡ drop_rest s job
 put-behind s job bytes p e =
     ap (λ n. drop n (append_actions ++ put_rest s job bytes)) (let f : p ≡ 4 + (length (store_actions s job bytes) + (4 + 0)) = omega (arith, e) in f)
     ∙ (drop-append-add append_actions (put_rest s job bytes) (length (store_actions s job bytes) + (4 + 0))

@@ -67,16 +67,16 @@ module _ (limit : ℕ) (old : State) (S : IsSound limit old) (job : Job) (runs :
 
   -- ---- the first move
 
-  abbrev drawn_number : ℕ
+  abbrev pub drawn_number : ℕ
   drawn_number = subject_drawn old job job.kind
 
-  later-same : 4 ≤ job.place → drawn_number ≡ job.subject
+  pub later-same : 4 ≤ job.place → drawn_number ≡ job.subject
   later-same l = drawn_later old job job.kind (first_above job l)
 
   repair-same : job.kind ≡ RepairJob → drawn_number ≡ job.subject
   repair-same kind = ap (subject_drawn old job) kind
 
-  body-order : next_action old job ≡ Some WriteBody → IsInOrder 1 (actions_left (setup_in old) (onward job drawn_number job.given)) × (appends_left (setup_in old) (onward job drawn_number job.given) ≡ appends_left (setup_in old) job)
+  pub body-order : next_action old job ≡ Some WriteBody → IsInOrder 1 (actions_left (setup_in old) (onward job drawn_number job.given)) × (appends_left (setup_in old) (onward job drawn_number job.given) ≡ appends_left (setup_in old) job)
   body-order next = by_kind job.kind refl
     where
       same : drawn_number ≡ job.subject → IsInOrder 1 (actions_left (setup_in old) (onward job drawn_number job.given)) × (appends_left (setup_in old) (onward job drawn_number job.given) ≡ appends_left (setup_in old) job)

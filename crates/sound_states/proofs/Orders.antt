@@ -92,14 +92,14 @@ drop-get (y ∷ ys) (suc p) x h = drop-get ys p x h ∙ ap (λ n. x ∷ drop n (
 pub others-removals : (s : Setup) (job : Job) → Each IsOther (remove_actions s job)
 others-removals s job = each_flat IsOther (λ object. on_each_provider s (λ j. Remove j object)) job.older (λ object. each_map IsOther (λ j. Remove j object) (upto s.n) (λ j. tt))
 
-others-stores : (s : Setup) (job : Job) (bytes : List ℕ) → Each IsOther (store_actions s job bytes)
+pub others-stores : (s : Setup) (job : Job) (bytes : List ℕ) → Each IsOther (store_actions s job bytes)
 others-stores s job bytes = each_flat IsOther (λ stripe. on_each_provider s (λ j. Store j job.subject stripe)) (upto (stripes_of s (length bytes)))
     (λ stripe. each_map IsOther (λ j. Store j job.subject stripe) (upto s.n) (λ j. tt))
 
-others-open : (s : Setup) (object stripe : ℕ) → Each IsOther (open_actions s object stripe)
+pub others-open : (s : Setup) (object stripe : ℕ) → Each IsOther (open_actions s object stripe)
 others-open s object stripe = each_append IsOther (on_each_provider s (λ j. Fetch j object stripe)) (Work object stripe ∷ []) (each_map IsOther (λ j. Fetch j object stripe) (upto s.n) (λ j. tt)) (tt, tt)
 
-others-reads : (s : Setup) (pinned : List Pinned) → Each IsOther (read_actions s pinned)
+pub others-reads : (s : Setup) (pinned : List Pinned) → Each IsOther (read_actions s pinned)
 others-reads s pinned = each_flat IsOther (λ (f : Pinned). on_each_stripe s (length f.bytes) (open_actions s f.id)) pinned
     (λ f. each_flat IsOther (open_actions s f.id) (upto (stripes_of s (length f.bytes))) (λ stripe. others-open s f.id stripe))
 
@@ -107,13 +107,13 @@ others-cond : (b : _) (action : Action) → IsOther action → Each IsOther (con
 others-cond true action h = (h, tt)
 others-cond false action h = tt
 
-others-repairs : (s : Setup) (job : Job) → Each IsOther (repair_actions s job)
+pub others-repairs : (s : Setup) (job : Job) → Each IsOther (repair_actions s job)
 others-repairs s job = each_flat IsOther (λ (f : Pinned). on_each_stripe s (length f.bytes) (λ stripe. open_actions s f.id stripe ++ rewrite_actions s job f.id stripe)) job.pinned
     (λ f. each_flat IsOther (λ stripe. open_actions s f.id stripe ++ rewrite_actions s job f.id stripe) (upto (stripes_of s (length f.bytes)))
     (λ stripe. each_append IsOther (open_actions s f.id stripe) (rewrite_actions s job f.id stripe) (others-open s f.id stripe)
     (each_flat IsOther (λ j. cond (job.flagged j) (Store j f.id stripe ∷ []) []) (upto s.n) (λ j. others-cond (job.flagged j) (Store j f.id stripe) tt))))
 
-others-asks : (s : Setup) (job : Job) → Each IsOther (ask_actions s job)
+pub others-asks : (s : Setup) (job : Job) → Each IsOther (ask_actions s job)
 others-asks s job = each_flat IsOther (λ (f : Pinned). flat_map (λ round. on_each_provider s (λ j. Ask j f.id round)) (rounds_of s (length f.bytes))) job.pinned
     (λ f. each_flat IsOther (λ round. on_each_provider s (λ j. Ask j f.id round)) (rounds_of s (length f.bytes)) (λ round. each_map IsOther (λ j. Ask j f.id round) (upto s.n) (λ j. tt)))
 
@@ -152,7 +152,7 @@ gates action = cond (ends_append action) 1 0
 abbrev pub appends_in : List Action → ℕ
 appends_in actions = count_by ends_append actions
 
-appends-others : (xs : List Action) → Each IsOther xs → appends_in xs ≡ 0
+pub appends-others : (xs : List Action) → Each IsOther xs → appends_in xs ≡ 0
 appends-others [] h = refl
 appends-others (x ∷ xs) h = sum_by-cons gates x xs ∙ (let e = first x h.0 in let r = appends-others xs h.1 in omega (arith, e, r))
   where
@@ -185,24 +185,24 @@ appends-order moves (Work object stripe ∷ actions) l o = absurd (let e = o.0 i
 appends-order moves (Remove j object ∷ actions) l o = absurd (let e = o.0 in omega (arith, l, e))
 appends-order moves (End ∷ actions) l o = absurd (let e = o.0 in omega (arith, l, e))
 
-appends-append : (xs ys : List Action) → appends_in (xs ++ ys) ≡ appends_in xs + appends_in ys
+pub appends-append : (xs ys : List Action) → appends_in (xs ++ ys) ≡ appends_in xs + appends_in ys
 appends-append xs ys = sum_by-append gates xs ys
 
-appends-drop : (xs : List Action) (p : ℕ) → appends_in (drop p xs) ≤ appends_in xs
+pub appends-drop : (xs : List Action) (p : ℕ) → appends_in (drop p xs) ≤ appends_in xs
 appends-drop xs p = (let e = sum_by-take-drop gates xs p in omega (arith, e))
 
-appends-move : (ys : List Action) → appends_in (append_actions ++ ys) ≡ 1 + appends_in ys
+pub appends-move : (ys : List Action) → appends_in (append_actions ++ ys) ≡ 1 + appends_in ys
 appends-move ys = appends-append append_actions ys
 
 pub appends-removals : (s : Setup) (job : Job) → appends_in (drop_rest s job) ≡ 0
 appends-removals s job = appends-append (remove_actions s job) (End ∷ []) ∙ (let e = appends-others (remove_actions s job) (others-removals s job) in omega (arith, e))
 
-appends-put_rest : (s : Setup) (job : Job) (bytes : List ℕ) → appends_in (put_rest s job bytes) ≡ 1
+pub appends-put_rest : (s : Setup) (job : Job) (bytes : List ℕ) → appends_in (put_rest s job bytes) ≡ 1
 appends-put_rest s job bytes =
     appends-append (store_actions s job bytes) (append_actions ++ drop_rest s job)
     ∙ (let e = appends-others (store_actions s job bytes) (others-stores s job bytes) in let f = appends-move (drop_rest s job) in let g = appends-removals s job in omega (arith, e, f, g))
 
-appends-audit_rest : (s : Setup) (job : Job) → appends_in (audit_rest s job) ≡ 1
+pub appends-audit_rest : (s : Setup) (job : Job) → appends_in (audit_rest s job) ≡ 1
 appends-audit_rest s job =
     appends-append (ask_actions s job) (append_actions ++ End ∷ [])
     ∙ (let e = appends-others (ask_actions s job) (others-asks s job) in let f = appends-move (End ∷ []) in omega (arith, e, f))
@@ -306,7 +306,7 @@ next-left w job action h n = drop-get (actions_of (setup_in w) job) job.place ac
 -- ---- the first move of a first append
 
 -- within the first four actions of a list that begins with an append the first move is the first
-body-within : (rest : List Action) (p : ℕ) → p < 4 → slice_get (append_actions ++ rest) p ≡ Some WriteBody → p ≡ 0
+pub body-within : (rest : List Action) (p : ℕ) → p < 4 → slice_get (append_actions ++ rest) p ≡ Some WriteBody → p ≡ 0
 body-within rest zero l h = refl
 body-within rest (suc zero) l h = absurd (let e : Some SyncBody ≡ Some WriteBody = h in cc)
 body-within rest (suc (suc zero)) l h = absurd (let e : Some WriteGate ≡ Some WriteBody = h in cc)
