@@ -1,3 +1,5 @@
 mod Places
 mod RowLemmas
+mod WeightLemmas
 mod OpenLemmas
+pub mod PresentLemmas

@@ -1,6 +1,6 @@
 -- Lists that are filled place by place.
 use Rattle.std.specs.Prelude.{◌≡◌, ℕ, zero, suc, ◌+◌, ◌*◌, ◌<◌, ◌≤◌, ◌++◌, ◌∷◌, [], Bool, true, false, List, length, map, take, nat_eq}
-use Rattle.std.proofs.Common.{arith, ap, sym, refl, ◌∙◌, get_or, set, eqb-true}
+use Rattle.std.proofs.Common.{arith, ap, sym, refl, ◌∙◌, get_or, set, eqb-true, subst}
 use Rattle.std.proofs.Math.Nat.{mul-le-mul, mul-le-mul_right}
 use Rattle.std.proofs.lemmas.List.{take_more_set}
 use Rattle.std.proofs.lemmas.List.FromFn.{map-range_with_len_more}
@@ -8,18 +8,23 @@ use Rattle.hail_codes.specs.Points.{upto}
 use Rattle.std.proofs.lemmas.List.{get_or-set_other, length-set}
 use Rattle.std.proofs.lemmas.Grind.{get_or-set_at}
 
+-- one place more at which a fact holds
+pub held_more : {X : Type 0} (P : ℕ → X → Type 0) (xs : List X) (i at : ℕ) (x d : X) → ((j : ℕ) → j < i → P j (get_or xs j d)) → at ≡ i → i < length xs → P i x →
+    (j : ℕ) → j < i + 1 → P j (get_or (set xs at x) j d)
+held_more {X} P xs i at x d each is below here j within = go (nat_eq j i) refl
+  where
+    go : (b : Bool) → nat_eq j i ≡ b → P j (get_or (set xs at x) j d)
+    go true same =
+        let e : j ≡ i = eqb-true j i same in
+        subst (λ (y : X). P j y) (sym (get_or-set_at xs at j x d (omega arith) (omega arith))) (subst (λ (k : ℕ). P k x) (sym e) here)
+    go false differ =
+        let other : j ≡ i → ⊥ = λ h. grind (arith, differ, h) in
+        subst (λ (y : X). P j y) (sym (get_or-set_other xs at j x d (λ h. other (omega (arith, h))))) (each j (let n : j ≡ i → ⊥ = other in omega arith))
+
 -- one place more
 pub each_more : {X : Type 0} (xs : List X) (f : ℕ → X) (i at : ℕ) (x d : X) → ((j : ℕ) → j < i → get_or xs j d ≡ f j) → at ≡ i → i < length xs → x ≡ f i →
     (j : ℕ) → j < i + 1 → get_or (set xs at x) j d ≡ f j
-each_more {X} xs f i at x d each is below e j within = go (nat_eq j i) refl
-  where
-    go : (b : Bool) → nat_eq j i ≡ b → get_or (set xs at x) j d ≡ f j
-    go true same =
-        let here : j ≡ i = eqb-true j i same in
-        get_or-set_at xs at j x d (omega arith) (omega arith) ∙ e ∙ ap f (sym here)
-    go false differ =
-        let other : j ≡ i → ⊥ = λ h. grind (arith, differ, h) in
-        get_or-set_other xs at j x d (λ h. other (omega (arith, h))) ∙ each j (let n : j ≡ i → ⊥ = other in omega arith)
+each_more {X} xs f i at x d each is below e = held_more (λ (j : ℕ) (y : X). y ≡ f j) xs i at x d each is below e
 
 -- the place of a symbol among the blocks
 pub index_within : (l keep j place n : ℕ) → n ≡ l * keep → j < l → place < keep → j * keep + place < n

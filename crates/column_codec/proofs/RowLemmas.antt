@@ -1,48 +1,35 @@
 -- The primary symbols of a row, and the points that they stand at.
-use Rattle.std.specs.Prelude.{◌≡◌, ℕ, zero, suc, ◌+◌, ◌*◌, ◌<◌, ◌≤◌, true, false, List, [], ◌∷◌, ◌++◌, length, map, take, drop, nat_lt, slice_index, if◌then◌else◌}
-use Rattle.std.proofs.Common.{arith, ap, sym, refl, ◌∙◌, get_or, zero-add}
+use Rattle.std.specs.Prelude.{◌≡◌, ℕ, zero, suc, ◌+◌, ◌*◌, ◌<◌, ◌≤◌, ◌≢◌, ◌%◌, true, false, All, List, [], ◌∷◌, ◌++◌, length, map, take, drop, slice_index, if◌then◌else◌}
+use Rattle.std.proofs.Common.{arith, ap, sym, refl, ◌∙◌, get_or}
 use Rattle.std.specs.List.{range_with_len}
 use Rattle.std.proofs.lemmas.List.{ext_get_or, get_or-take, get_or-drop, length-take-le}
-use Rattle.std.proofs.lemmas.List.FromFn.{length-range_with_len, length-map-range_with_len, get_or-range_with_len, get_or-map-range_with_len}
-use Rattle.field_laws.specs.Field.{Apart}
-use Rattle.hail_field.specs.Nim.{nim, nim_add}
-use Rattle.hail_field.proofs.AllNumbers.{nim_laws}
-use Rattle.poly_laws.proofs.Trim.{value-trim}
-use Rattle.hail_codes.specs.Polynomials.{value, interpolate, trim}
+use Rattle.std.proofs.lemmas.List.FromFn.{length-map-range_with_len, get_or-map-range_with_len}
+use Rattle.hail_field.specs.Nim.{nim_add}
+use Rattle.hail_codes.specs.Polynomials.{value, interpolate}
 use Rattle.hail_codes.specs.Points.{upto, values_at}
 use Rattle.hail_codes.specs.Profiles.{Profile, profile_of}
 use Rattle.hail_codes.proofs.Profiles.{size_is}
 use Rattle.hail_codes.specs.ServerCode.{codeword}
-use Rattle.hail_codes.proofs.Points.{Apart-range}
-use Rattle.hail_columns.specs.Keys.{mask, mask_of, masks_from, file_key, secret_point, point_of}
+use Rattle.hail_columns.specs.Keys.{mask, mask_of, masks_from, file_key}
 use Rattle.hail_columns.specs.Objects.{Object, stripe_symbols, kept_by, is_primary, point}
 use Rattle.hail_columns.specs.Columns.{primary_row, row_polynomial, secondary_symbol, column_of_symbols}
 use Rattle.hail_columns.specs.Opened.{masked}
-use Rattle.hail_columns.proofs.ColumnLaws.{value-interpolate_upto}
+use Rattle.hail_codes.specs.Sums.{dot}
+use Rattle.hail_columns.proofs.PointLaws.{point-low}
+use Rattle.hail_columns.proofs.ColumnLaws.{value-interpolate_upto, length-column_of_symbols}
 use Rattle.hail_columns.proofs.SecondaryLaws.{column_polynomial, value-column_polynomial, length-column_polynomial, length-kept_by, codeword-values, point-outside, secondary-column}
-use Rattle.column_codec.specs.ObjectKeys.{ArePoints}
+use Rattle.column_codec.specs.ObjectKeys.{ArePoints, AreWeights}
 use Rattle.column_codec.specs.Rows.{symbols_at, row_value}
 
 map-range-same : (f g : ℕ → ℕ) (a n : ℕ) → ((j : ℕ) → j < a + n → f j ≡ g j) → map f (range_with_len a n) ≡ map g (range_with_len a n)
 map-range-same f g a zero h = refl
 map-range-same f g a (suc n) h = (λ i. h a (omega arith) i ∷ map-range-same f g (a + 1) n (λ j below. h j (omega (arith, below))) i)
 
-primary-point : (l id i : ℕ) (master : List ℕ) → i < l → point_of l master id i ≡ i
-primary-point l id i master below =
-    let is : nat_lt i l ≡ true = grind (arith, below) in
-    ap (λ b. if b then i else secret_point master id i) is
-
--- the first points are the numbers of the primary providers
-pub take-points : (n l id : ℕ) (master ps : List ℕ) → ArePoints n l master id ps → l ≤ n → l ≤ length ps → take l ps ≡ upto l
-take-points n l id master ps are few long =
-    ext_get_or 0 (take l ps) (upto l) (length-take-le l ps long ∙ sym (length-range_with_len 0 l))
-    (λ i below. let within : i < l = omega (arith, below, length-take-le l ps long) in
-    get_or-take l ps i 0 within ∙ are i (omega (arith, within, few)) ∙ primary-point l id i master within
-    ∙ sym (get_or-range_with_len 0 l i 0 within ∙ zero-add i))
-
--- they are apart
-pub Apart-taken : (n l id m : ℕ) (master ps : List ℕ) → ArePoints n l master id ps → m ≡ l → l ≤ n → l ≤ length ps → Apart (take m ps)
-Apart-taken n l id m master ps are e few long = rw (e, take-points n l id master ps are few long) (Apart-range 0 l)
+-- no point of a secondary provider is that of a primary one
+pub secondary-outside : (o : Object) (ps : List ℕ) → ArePoints o.shape.n o.shape.l o.master o.id ps → o.shape.n ≤ 256 →
+    (j p : ℕ) → o.shape.l ≤ j → j < o.shape.n → p < o.shape.l → get_or ps j 0 ≢ p
+secondary-outside o ps are few j p above below less e =
+    absurd (omega (arith, above, below, less, few, sym (point-low o j (omega (arith, below, few))) ∙ ap (λ n. n % 256) (sym (are j below) ∙ e)))
 
 -- a list by its places
 listed : (xs : List ℕ) (n : ℕ) → length xs ≡ n → xs ≡ map (λ i. get_or xs i 0) (upto n)
@@ -66,13 +53,12 @@ symbols_at-row o symbols place long within fits =
     (λ j below. sym (codeword-front o.profile (kept_by o symbols j) place (length-kept_by o symbols j long (omega (arith, below))) within fits
     ∙ get_or-take o.profile.keep (drop (j * o.profile.keep) symbols) place 0 within ∙ get_or-drop (j * o.profile.keep) symbols place 0))
 
--- what is loaded with them has the row's values
-pub loaded-row : (o : Object) (symbols ps primary : List ℕ) (place x : ℕ) → length symbols ≡ stripe_symbols o → place < o.profile.keep → o.profile.keep ≤ o.profile.size →
-    ps ≡ upto o.shape.l → primary ≡ symbols_at o.shape.l o.profile.keep place symbols →
-    value (trim (interpolate ps primary)) x ≡ value (row_polynomial o symbols place) x
-loaded-row o symbols ps primary place x long within fits e f =
-    value-trim nim nim_laws (interpolate ps primary) x
-    ∙ (λ i. value (interpolate (e i) ((f ∙ symbols_at-row o symbols place long within fits) i)) x)
+-- the value of the row's polynomial is their sum by the weights of the point
+pub weighted-row : (o : Object) (symbols weights : List ℕ) (place x : ℕ) → length symbols ≡ stripe_symbols o → place < o.profile.keep → o.profile.keep ≤ o.profile.size →
+    AreWeights o.shape.l x weights → dot weights (symbols_at o.shape.l o.profile.keep place symbols) ≡ value (row_polynomial o symbols place) x
+weighted-row o symbols weights place x long within fits are =
+    ap (dot weights) (symbols_at-row o symbols place long within fits)
+    ∙ sym (are.gives (primary_row o symbols place) (length-map-range_with_len (λ j. slice_index (codeword o.profile (kept_by o symbols j)) place) 0 o.shape.l))
 
 -- a secondary column is the codeword of its kept rows with the masks
 masked-on : (o : Object) (j row : ℕ) (f : ℕ → ℕ) (a n : ℕ) →
@@ -145,13 +131,6 @@ front [] rest n e = let z : n ≡ 0 = omega (arith, e) in ap (λ m. take m rest)
 front (x ∷ xs) rest zero e = absurd (omega (arith, e))
 front (x ∷ xs) rest (suc n) e = ap (λ (l : List ℕ). x ∷ l) (front xs rest n (omega (arith, e)))
 
--- what was gathered into the front of a longer list
-pub gathered : (out zeros rest symbols : List ℕ) (m l keep place : ℕ) → m ≡ l → m ≤ length zeros →
-    out ≡ symbols_at (length (take m zeros)) keep place symbols → take m (out ++ rest) ≡ symbols_at l keep place symbols
-gathered out zeros rest symbols m l keep place e fits is =
-    let whole : out ≡ symbols_at l keep place symbols = is ∙ ap (λ n. symbols_at n keep place symbols) (length-take-le m zeros fits ∙ e) in
-    front out rest m (ap length whole ∙ length-map-range_with_len (λ j. slice_index symbols (j * keep + place)) 0 l ∙ sym e) ∙ whole
-
 -- the masks that were read into the front of a longer list
 pub masks_front : (out zeros rest key : List ℕ) (m stripe : ℕ) → m ≤ length zeros →
     out ≡ masks_from key (stripe * length (take m zeros)) (length (take m zeros)) → take m (out ++ rest) ≡ masks_from key (stripe * m) m
@@ -174,3 +153,12 @@ secondary-final o symbols block kept j stripe p long fits second below e is kept
     let whole : block ≡ codeword o.profile rows = is ∙ (λ i. codeword (e i) (kept_is i)) in
     let size : length block ≡ o.profile.size = ap length whole ∙ length-map-range_with_len (value (interpolate (upto o.profile.keep) rows)) 0 o.profile.size in
     (λ i. masked o j (stripe * size i) (whole i)) ∙ secondary-encoded o symbols j stripe long fits second below
+
+-- all columns are of the size
+pub columns-sizes : (o : Object) (symbols : List ℕ) (stripe n : ℕ) (out : List (List ℕ)) → out ≡ map (λ j. column_of_symbols o symbols j stripe) (upto n) →
+    All (λ block. length block ≡ o.profile.size) out
+columns-sizes o symbols stripe n out is k d below =
+    let f = λ (j : ℕ). column_of_symbols o symbols j stripe in
+    ap length (ap (λ (blocks : List (List ℕ)). get_or blocks k d) is
+    ∙ get_or-map-range_with_len f 0 n k k d (omega (arith, below, ap length is, length-map-range_with_len f 0 n)) (omega arith))
+    ∙ length-column_of_symbols o symbols k stripe

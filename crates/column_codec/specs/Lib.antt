@@ -2,3 +2,4 @@ pub mod ObjectKeys
 pub mod Lending
 pub mod Rows
 pub mod OpenedBlocks
+pub mod PresentBlocks

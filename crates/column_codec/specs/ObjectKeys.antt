@@ -1,5 +1,8 @@
 -- What the keys of an object stand for.
-use Rattle.std.specs.Prelude.{◌≡◌, ℕ, ◌<◌, List, [], slice_index, slice_index_or}
+use Rattle.std.specs.Prelude.{◌≡◌, ◌≤◌, ℕ, ◌<◌, List, [], length, slice_index, slice_index_or}
+use Rattle.hail_codes.specs.Points.{upto}
+use Rattle.hail_codes.specs.Polynomials.{value, interpolate}
+use Rattle.hail_codes.specs.Sums.{dot}
 use Rattle.hail_columns.specs.Keys.{file_key, point_of}
 
 -- the first points are those of the providers of an object
@@ -9,3 +12,12 @@ ArePoints n l master id points = (j : ℕ) → j < n → slice_index points j �
 -- the first keys are those of the masks of its providers
 abbrev pub AreMaskKeys : ℕ → List ℕ → ℕ → List (List ℕ) → Type 0
 AreMaskKeys n master id keys = (j : ℕ) → j < n → slice_index_or keys j [] ≡ file_key master 77 id j
+
+-- the first l coefficients give the value at x of the polynomial through l symbols as a sum over the symbols
+pub record AreWeights (l x : ℕ) (weights : List ℕ) : Type 0 where
+  pub enough : l ≤ length weights
+  pub gives : (symbols : List ℕ) → length symbols ≡ l → value (interpolate (upto l) symbols) x ≡ dot weights symbols
+
+-- each secondary point, of those from l on, has its weights
+abbrev pub HasWeights : ℕ → ℕ → List ℕ → List (List ℕ) → Type 0
+HasWeights n l points weights = (j : ℕ) → l ≤ j → j < n → AreWeights l (slice_index points j) (slice_index_or weights j [])

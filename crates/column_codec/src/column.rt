@@ -1,7 +1,6 @@
-use crate::gather::{add_each, gather};
+use crate::gather::{add_each, sum_at};
 use crate::keys::ObjectKeys;
 use hail_field::Symbol;
-use hail_poly::Work;
 use mask_tag::mask_block;
 use server_code::AnyCode;
 
@@ -14,45 +13,31 @@ impl ObjectKeys {
     ghost use Rattle.server_code.specs.Any.{profile_of};
     ghost use Rattle.column_codec.specs.Rows.{row_value};
 
-    /// The value of a row's polynomial at a provider's point.
-    fn row_value(
-        &self,
-        symbols: &[Symbol],
-        place: usize,
-        provider: usize,
-        work: &mut Work,
-    ) -> Symbol
+    /// The value of a row's polynomial at a secondary provider's point.
+    fn row_value(&self, symbols: &[Symbol], place: usize, provider: usize) -> Symbol
+        requires secondary { self.now.file.shape.l ≤ provider }
         requires provider { provider < self.now.file.shape.n }
         requires symbols { length symbols.now ≡ self.now.file.shape.l * self.now.file.profile.keep }
         requires place { place < self.now.file.profile.keep }
-        requires room { 16 ≤ work.old.size }
-        ensures value { result ≡ row_value (object_of self.now.master.0 self.now.file) symbols.now provider place }
-        ensures room { work.new.size ≡ work.old.size }
+        ensures { result ≡ row_value (object_of self.now.master.0 self.now.file) symbols.now provider place }
     {
         let l = usize::from(self.file.shape.l);
-        let mut primary = [Symbol::ZERO; 16];
-        gather(
-            symbols,
-            self.file.profile.keep as usize,
-            place,
-            &mut primary[..l],
-        );
-        work.load(&self.points[..l], &primary[..l]);
-        work.value(self.points[provider])
+        let keep = self.file.profile.keep as usize;
+        let weights = &self.weights[..];
+        sum_at(&weights[provider], symbols, l, keep, place)
     }
 
-    /// The values of a stripe's kept rows at a provider's point.
-    fn kept_into(&self, symbols: &[Symbol], provider: usize, kept: &mut [Symbol], work: &mut Work)
+    /// The values of a stripe's kept rows at a secondary provider's point.
+    fn kept_into(&self, symbols: &[Symbol], provider: usize, kept: &mut [Symbol])
+        requires secondary { self.now.file.shape.l ≤ provider }
         requires provider { provider < self.now.file.shape.n }
         requires symbols { length symbols.now ≡ self.now.file.shape.l * self.now.file.profile.keep }
         requires kept { length kept.old ≡ self.now.file.profile.keep }
-        requires room { 16 ≤ work.old.size }
-        ensures kept { kept.new ≡ map (row_value (object_of self.now.master.0 self.now.file) symbols.now provider)
+        ensures { kept.new ≡ map (row_value (object_of self.now.master.0 self.now.file) symbols.now provider)
             (upto self.now.file.profile.keep) }
-        ensures room { work.new.size ≡ work.old.size }
     {
         for place in 0..kept.len() {
-            kept[place] = self.row_value(symbols, place, provider, work);
+            kept[place] = self.row_value(symbols, place, provider);
         }
     }
 
@@ -97,21 +82,18 @@ impl ObjectKeys {
         symbols: &[Symbol],
         provider: usize,
         out: &mut [Symbol],
-        work: &mut Work,
     )
         requires secondary { self.now.file.shape.l ≤ provider }
         requires provider { provider < self.now.file.shape.n }
         requires symbols { length symbols.now ≡ self.now.file.shape.l * self.now.file.profile.keep }
         requires code { profile_of code.now ≡ self.now.file.profile }
         requires out { length out.old ≡ self.now.file.profile.size }
-        requires room { 16 ≤ work.old.size }
-        ensures column { out.new ≡ column_of_symbols (object_of self.now.master.0 self.now.file) symbols.now provider stripe }
-        ensures room { work.new.size ≡ work.old.size }
+        ensures { out.new ≡ column_of_symbols (object_of self.now.master.0 self.now.file) symbols.now provider stripe }
     {
         let keep = self.file.profile.keep as usize;
         let mut buffer = [Symbol::ZERO; 96];
         let kept = &mut buffer[..keep];
-        self.kept_into(symbols, provider, kept, work);
+        self.kept_into(symbols, provider, kept);
         code.encode_into(kept, out);
         self.add_masks(stripe, provider, out);
     }
@@ -124,20 +106,17 @@ impl ObjectKeys {
         symbols: &[Symbol],
         provider: usize,
         out: &mut [Symbol],
-        work: &mut Work,
     )
         requires provider { provider < self.now.file.shape.n }
         requires symbols { length symbols.now ≡ self.now.file.shape.l * self.now.file.profile.keep }
         requires code { profile_of code.now ≡ self.now.file.profile }
         requires out { length out.old ≡ self.now.file.profile.size }
-        requires room { 16 ≤ work.old.size }
-        ensures column { out.new ≡ column_of_symbols (object_of self.now.master.0 self.now.file) symbols.now provider stripe }
-        ensures room { work.new.size ≡ work.old.size }
+        ensures { out.new ≡ column_of_symbols (object_of self.now.master.0 self.now.file) symbols.now provider stripe }
     {
         if provider < usize::from(self.file.shape.l) {
             self.primary_column(code, stripe, symbols, provider, out);
         } else {
-            self.secondary_column(code, stripe, symbols, provider, out, work);
+            self.secondary_column(code, stripe, symbols, provider, out);
         }
     }
 }

@@ -1,5 +1,6 @@
 ghost use Rattle.std.specs.Prelude.{◌≡◌, ◌≤◌, ◌<◌, ◌*◌, All, length, map};
 ghost use Rattle.hail_codes.specs.Points.{upto};
+ghost use Rattle.hail_columns.specs.Objects.{symbols_in};
 ghost use Rattle.hail_columns.specs.Columns.{columns, column_of_symbols};
 ghost use Rattle.file_layout.specs.Files.{object_of};
 ghost use Rattle.server_code.specs.Any.{profile_of};
@@ -14,53 +15,46 @@ use key_schedule::Master;
 use server_code::AnyCode;
 
 impl ObjectKeys {
+    /// Fills `rows` with the symbols of a stripe of a file of these bytes, in layout order. Those past the end are zero.
+    #[tactic(auto, using(crate::proofs::Places::stripe_small, crate::proofs::RowLemmas::profile_small))]
+    pub fn symbols_into(&self, stripe: u32, bytes: &[u8], rows: &mut [Symbol])
+        requires { length rows.old ≡ self.now.file.shape.l * self.now.file.profile.keep }
+        ensures { rows.new ≡ symbols_in (object_of self.now.master.0 self.now.file) bytes.now stripe }
+    {
+        stripe_symbols_into(&self.file, stripe, bytes, rows);
+    }
+
     /// Fills each provider's block of a stripe with these symbols.
-    fn columns_into(
-        &self,
-        code: &AnyCode,
-        stripe: u32,
-        symbols: &[Symbol],
-        out: &mut [Block],
-        work: &mut Work,
-    )
+    fn columns_into(&self, code: &AnyCode, stripe: u32, symbols: &[Symbol], out: &mut [Block])
         requires symbols { length symbols.now ≡ self.now.file.shape.l * self.now.file.profile.keep }
         requires code { profile_of code.now ≡ self.now.file.profile }
         requires out { length out.old ≡ self.now.file.shape.n }
         requires blocks { All (λ block. length block ≡ self.now.file.profile.size) out.old }
-        requires room { 16 ≤ work.old.size }
-        ensures blocks { out.new ≡ map (λ j. column_of_symbols (object_of self.now.master.0 self.now.file) symbols.now j stripe)
+        ensures { out.new ≡ map (λ j. column_of_symbols (object_of self.now.master.0 self.now.file) symbols.now j stripe)
             (upto self.now.file.shape.n) }
-        ensures room { work.new.size ≡ work.old.size }
     {
         for j in 0..out.len() {
             let block = &mut out[j];
-            self.column_into(code, stripe, symbols, j, &mut block.symbols, work);
+            self.column_into(code, stripe, symbols, j, &mut block.symbols);
         }
     }
 
-    /// Fills the blocks of all providers of a stripe of a file of these bytes, with masks.
+    /// Fills the blocks of all providers of a stripe of a file of these bytes, with masks. They keep their sizes, so
+    /// the next stripe can be made in them.
     #[tactic(auto, using(crate::proofs::Places::stripe_small, crate::proofs::RowLemmas::profile_small))]
-    pub fn encode_stripe(
-        &self,
-        code: &AnyCode,
-        stripe: u32,
-        bytes: &[u8],
-        out: &mut [Block],
-        work: &mut Work,
-    )
+    pub fn encode_stripe(&self, code: &AnyCode, stripe: u32, bytes: &[u8], out: &mut [Block])
         requires code { profile_of code.now ≡ self.now.file.profile }
         requires out { length out.old ≡ self.now.file.shape.n }
         requires blocks { All (λ block. length block ≡ self.now.file.profile.size) out.old }
-        requires room { 16 ≤ work.old.size }
         ensures blocks { out.new ≡ map (λ j. columns (object_of self.now.master.0 self.now.file) bytes.now j stripe)
             (upto self.now.file.shape.n) }
-        ensures room { work.new.size ≡ work.old.size }
+        ensures sizes { All (λ block. length block ≡ self.now.file.profile.size) out.new }
     {
         let count = usize::from(self.file.shape.l) * self.file.profile.keep as usize;
         let mut buffer = [Symbol::ZERO; 1248];
         let symbols = &mut buffer[..count];
-        stripe_symbols_into(&self.file, stripe, bytes, symbols);
-        self.columns_into(code, stripe, symbols, out, work);
+        self.symbols_into(stripe, bytes, symbols);
+        self.columns_into(code, stripe, symbols, out);
     }
 }
 
@@ -80,10 +74,12 @@ pub fn encode_stripe(
     requires blocks { All (λ block. length block ≡ file.now.profile.size) out.old }
     requires room { 16 ≤ work.old.size }
     ensures blocks { out.new ≡ map (λ j. columns (object_of master.now.0 file.now) bytes.now j stripe) (upto file.now.shape.n) }
+    ensures sizes { All (λ block. length block ≡ file.now.profile.size) out.new }
     ensures room { work.new.size ≡ work.old.size }
 {
+    let _ = work;
     let keys = ObjectKeys::new(master, file);
-    keys.encode_stripe(code, stripe, bytes, out, work);
+    keys.encode_stripe(code, stripe, bytes, out);
 }
 
 /// Fills `out` with one provider's block of the stripe whose symbols are `rows`, in layout order. It takes no memory.
@@ -108,6 +104,7 @@ pub fn column_block(
     ensures room { work.new.size ≡ work.old.size }
 {
     let _ = scratch;
+    let _ = work;
     let keys = ObjectKeys::new(master, file);
-    keys.column_into(code, stripe, rows, provider as usize, out, work);
+    keys.column_into(code, stripe, rows, provider as usize, out);
 }

@@ -8,6 +8,8 @@ mod gather;
 mod keys;
 mod open_block;
 mod opening;
+mod present;
+mod weights;
 
 pub use block::Block;
 pub use encode::{column_block, encode_stripe};

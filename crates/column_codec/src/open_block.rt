@@ -22,8 +22,8 @@ impl ObjectKeys {
         }
     }
 
-    /// Opens a block of the right size into `out`.
-    fn open_whole(
+    /// Opens a block of the right size into `out`, and answers whether it opened to a codeword.
+    pub(crate) fn open_whole(
         &self,
         code: &AnyCode,
         stripe: u32,

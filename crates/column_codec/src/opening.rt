@@ -124,7 +124,7 @@ impl ObjectKeys {
     }
 
     /// Fills `rows` with the values of the accepted rows at the kept places, in layout order.
-    fn open_rows(
+    pub(crate) fn open_rows(
         &self,
         stripe: u32,
         marks: &[bool; 16],

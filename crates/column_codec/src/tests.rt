@@ -154,3 +154,47 @@ fn stripes_open_with_one_block_absent(rt: HostRuntime) {
     assert_eq!(rt; lost, Err(RowLost { row: 6 }));
     assert_eq!(rt; rows, [Symbol::ZERO; 2]);
 }
+
+#[test]
+fn blocks_of_one_list_open_with_one_absent(rt: HostRuntime) {
+    let profile = find_profile(0).expect(&rt, "a profile");
+    let file = FileShape {
+        id: 1,
+        length: 33,
+        shape: Shape::new(4, 1, 1).expect(&rt, "a shape"),
+        profile,
+    };
+    let alloc = rt.alloc();
+    let code = AnyCode::new(alloc, profile).expect(&rt, "memory");
+    let mut work = Work::new(alloc, 128).expect(&rt, "memory");
+    let keys = ObjectKeys::new(&numbered_key(), &file);
+    let mut rows = [Symbol::ZERO; 2];
+    keys.symbols_into(1, &[1; 33], &mut rows);
+    let mut seen = [Symbol::ZERO; 24];
+    for j in 1..4 {
+        let mut block = [Symbol::ZERO; 6];
+        keys.column_into(&code, 1, &rows, j, &mut block);
+        for place in 0..6 {
+            seen[6 * j + place] = block[place];
+        }
+    }
+    let mut scratch = [
+        zeros(&rt, alloc, 6),
+        zeros(&rt, alloc, 6),
+        zeros(&rt, alloc, 6),
+        zeros(&rt, alloc, 6),
+    ];
+    let mut opened = [Symbol::ZERO; 2];
+    let present = [false, true, true, true];
+    let answer = keys.open_present(
+        &code,
+        1,
+        &seen,
+        &present,
+        &mut opened,
+        &mut scratch,
+        &mut work,
+    );
+    assert_eq!(rt; answer, Ok(()));
+    assert_eq!(rt; opened, [Symbol::ONE, Symbol::ZERO]);
+}

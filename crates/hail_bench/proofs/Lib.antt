@@ -1,2 +1,3 @@
 pub mod Mixing
+mod StripeLemmas
 pub mod Spoiling

@@ -1,5 +1,10 @@
 //! Opening of a file's stripes.
-ghost use Rattle.std.specs.Prelude.{◌≡◌, ◌≤◌, IfSome, length};
+ghost use Rattle.std.specs.Prelude.{◌≡◌, ◌≤◌, ◌<◌, ◌+◌, ◌*◌, IfOk, OnOk, All, [], length, take, drop};
+ghost use Rattle.hail_columns.specs.Objects.{stripes, symbols_in};
+ghost use Rattle.hail_columns.specs.Columns.{columns};
+ghost use Rattle.file_layout.specs.Files.{object_of};
+ghost use Rattle.hail_bench.specs.Stripes.{file_bytes, opening_checksum, HoldsColumns};
+ghost use Rattle.hail_bench.specs.declared.stripes.TheConstants.{MASTER};
 
 use crate::blocks::mix_all;
 use crate::failure::Failure;
@@ -11,32 +16,80 @@ use hail_poly::Work;
 use std::alloc::Global;
 use std::fmt::{self, Display, Formatter, Write};
 
-/// Opening of each stripe of a file, from the blocks of all providers as they were made.
+/// Opening of each stripe of a file, from the blocks of all providers as they were made, which lie one after the other.
 #[derive(Drop)]
 pub struct GetWork {
     coded: Coded,
-    seen: Vec<Vec<Option<Block>>>,
+    seen: Vec<Symbol>,
+    ghost seen_are: { HoldsColumns (object_of MASTER.0 coded.file) (file_bytes coded.file.length)
+        (stripes (object_of MASTER.0 coded.file) coded.file.length * coded.file.shape.n) seen.items },
 }
 
-/// Blocks that were seen.
-fn seen_of(alloc: Global, blocks: Vec<Block>) -> Result<Vec<Option<Block>>, Failure> {
-    let mut seen = Vec::new(alloc);
-    for block in blocks {
-        seen.push(Some(block))?;
+/// The `count` symbols from a place on.
+fn part(symbols: &[Symbol], start: usize, count: usize) -> &[Symbol]
+    requires { start + count ≤ length symbols.now }
+    ensures { result.now ≡ take count (drop start symbols.now) }
+{
+    &symbols[start..start + count]
+}
+
+/// Makes the block of a provider in a stripe of a file of these bytes, with room for the stripe's symbols.
+fn make(
+    coded: &Coded,
+    keys: &ObjectKeys,
+    bytes: &[u8],
+    stripe: u32,
+    provider: u32,
+    rows: &mut [Symbol],
+    block: &mut [Symbol],
+)
+    requires file { keys.now.file ≡ coded.now.file }
+    requires provider { provider < coded.now.file.shape.n }
+    requires rows { length rows.old ≡ coded.now.file.shape.l * coded.now.file.profile.keep }
+    requires block { length block.old ≡ coded.now.file.profile.size }
+    ensures { block.new ≡ columns (object_of keys.now.master.0 coded.now.file) bytes.now provider stripe }
+{
+    keys.symbols_into(stripe, bytes, rows);
+    keys.column_into(&coded.code, stripe, rows, provider as usize, block);
+}
+
+/// Appends the blocks of all stripes of a file of these bytes to `seen`, by stripe and then by provider, with room for the
+/// symbols of a stripe and for a block.
+fn append_all(
+    coded: &Coded,
+    keys: &ObjectKeys,
+    bytes: &[u8],
+    rows: &mut [Symbol],
+    block: &mut [Symbol],
+    seen: &mut Vec<Symbol>,
+) -> Result<(), Failure>
+    requires file { keys.now.file ≡ coded.now.file }
+    requires rows { length rows.old ≡ coded.now.file.shape.l * coded.now.file.profile.keep }
+    requires block { length block.old ≡ coded.now.file.profile.size }
+    requires seen { seen.old.items ≡ [] }
+    ensures { OnOk result (HoldsColumns (object_of keys.now.master.0 coded.now.file) bytes.now
+        (stripes (object_of keys.now.master.0 coded.now.file) coded.now.file.length * coded.now.file.shape.n) seen.new.items) }
+{
+    let n = u32::from(coded.file.shape.n);
+    for i in 0..coded.file.stripes() * n {
+        make(coded, keys, bytes, i / n, i % n, rows, block);
+        seen.extend_from_slice(block)?;
     }
-    Ok(seen)
+    Ok(())
 }
 
-/// The blocks of all stripes of a file.
-fn made_all(alloc: Global, coded: &Coded) -> Result<Vec<Vec<Option<Block>>>, Failure> {
+/// The blocks of all stripes of a file, by stripe and then by provider.
+fn made_all(alloc: Global, coded: &Coded) -> Result<Vec<Symbol>, Failure>
+    ensures { IfOk result (λ seen. HoldsColumns (object_of MASTER.0 coded.now.file) (file_bytes coded.now.file.length)
+        (stripes (object_of MASTER.0 coded.now.file) coded.now.file.length * coded.now.file.shape.n) seen.items) }
+{
     let bytes = coded.bytes(alloc)?;
     let keys = ObjectKeys::new(&MASTER, &coded.file);
-    let mut work = Work::new(alloc, 128)?;
+    let mut rows = coded.rows(alloc)?;
+    let zero = Symbol::ZERO;
+    let mut block = vec![in alloc; zero; coded.file.profile.size as usize]?;
     let mut seen = Vec::new(alloc);
-    for stripe in 0..coded.file.stripes() {
-        let blocks = coded.made(alloc, &keys, stripe, &bytes, &mut work)?;
-        seen.push(seen_of(alloc, blocks)?)?;
-    }
+    append_all(coded, &keys, &bytes, &mut rows, &mut block, &mut seen)?;
     Ok(seen)
 }
 
@@ -56,64 +109,88 @@ impl GetWork {
         Ok(Some(GetWork { coded, seen }))
     }
 
-    /// The blocks of a stripe, one a provider.
-    fn blocks(&self, stripe: u32) -> Option<&[Option<Block>]>
-        ensures { IfSome result (λ blocks. length blocks.now ≡ self.now.coded.file.shape.n) }
+    /// The blocks of a stripe, one after the other.
+    fn blocks(&self, stripe: u32) -> &[Symbol]
+        requires { stripe < stripes (object_of MASTER.0 self.now.coded.file) self.now.coded.file.length }
+        ensures size { length result.now ≡ self.now.coded.file.shape.n * self.now.coded.file.profile.size }
+        ensures part { result.now ≡ take (self.now.coded.file.shape.n * self.now.coded.file.profile.size)
+            (drop (stripe * (self.now.coded.file.shape.n * self.now.coded.file.profile.size)) self.now.seen.items) }
     {
-        let blocks = self.seen.get(stripe as usize)?;
-        if blocks.len() != usize::from(self.coded.file.shape.n) {
-            return None;
-        }
-        Some(blocks)
+        let whole = usize::from(self.coded.file.shape.n) * self.coded.file.profile.size as usize;
+        part(&self.seen, stripe as usize * whole, whole)
     }
 
-    /// The symbols of a stripe. A lost row is a fault.
+    /// Fills `rows` with the symbols of a stripe. A lost row is a fault.
     fn open(
         &self,
-        alloc: Global,
         keys: &ObjectKeys,
         stripe: u32,
+        rows: &mut [Symbol],
+        scratch: &mut [Block],
         work: &mut Work,
-    ) -> Result<Vec<Symbol>, Failure>
-        requires keys { keys.now.file ≡ self.now.coded.file }
+    ) -> Result<(), Failure>
+        requires master { keys.now.master ≡ MASTER }
+        requires file { keys.now.file ≡ self.now.coded.file }
+        requires stripe { stripe < stripes (object_of MASTER.0 self.now.coded.file) self.now.coded.file.length }
+        requires rows { length rows.old ≡ self.now.coded.file.shape.l * self.now.coded.file.profile.keep }
+        requires scratch { length scratch.old ≡ self.now.coded.file.shape.n }
+        requires blocks { All (λ block. length block ≡ self.now.coded.file.profile.size) scratch.old }
         requires room { 128 ≤ work.old.size }
+        ensures symbols { OnOk result (rows.new
+            ≡ symbols_in (object_of MASTER.0 self.now.coded.file) (file_bytes self.now.coded.file.length) stripe) }
+        ensures blocks { All (λ block. length block ≡ self.now.coded.file.profile.size) scratch.new }
         ensures room { work.new.size ≡ work.old.size }
     {
-        let file = &self.coded.file;
-        let zero = Symbol::ZERO;
-        let count = usize::from(file.shape.l) * file.profile.keep as usize;
-        let mut rows = vec![in alloc; zero; count]?;
-        let mut scratch = self.coded.zeros(alloc)?;
-        let Some(seen) = self.blocks(stripe) else {
-            return Err(Failure::Fault);
-        };
-        match keys.open_stripe(
-            &self.coded.code,
-            stripe,
-            seen,
-            &mut rows,
-            &mut scratch,
-            work,
-        ) {
-            Ok(()) => Ok(rows),
+        let present = [true; 16];
+        let present = &present[..usize::from(self.coded.file.shape.n)];
+        let seen = self.blocks(stripe);
+        match keys.open_present(&self.coded.code, stripe, seen, present, rows, scratch, work) {
+            Ok(()) => Ok(()),
             Err(_) => Err(Failure::Fault),
         }
     }
 
-    /// Opens each stripe. The checksum is of each symbol of its rows.
-    pub fn run(&self, alloc: Global) -> Result<Outcome, Failure> {
-        let keys = ObjectKeys::new(&MASTER, &self.coded.file);
-        let mut work = Work::new(alloc, 128)?;
-        let count = self.coded.file.stripes();
+    /// Opens the first stripes, each time in the same room, and gives the checksum.
+    fn open_all(
+        &self,
+        keys: &ObjectKeys,
+        count: u32,
+        rows: &mut [Symbol],
+        scratch: &mut [Block],
+        work: &mut Work,
+    ) -> Result<u128, Failure>
+        requires master { keys.now.master ≡ MASTER }
+        requires file { keys.now.file ≡ self.now.coded.file }
+        requires count { count ≤ stripes (object_of MASTER.0 self.now.coded.file) self.now.coded.file.length }
+        requires rows { length rows.old ≡ self.now.coded.file.shape.l * self.now.coded.file.profile.keep }
+        requires scratch { length scratch.old ≡ self.now.coded.file.shape.n }
+        requires blocks { All (λ block. length block ≡ self.now.coded.file.profile.size) scratch.old }
+        requires room { 128 ≤ work.old.size }
+        ensures { IfOk result (λ sum. sum
+            ≡ opening_checksum (object_of MASTER.0 self.now.coded.file) (file_bytes self.now.coded.file.length) count) }
+    {
         let mut sum = 0;
         for stripe in 0..count {
-            let rows = self.open(alloc, &keys, stripe, &mut work)?;
-            sum = mix_all(sum, &rows);
+            self.open(keys, stripe, rows, scratch, work)?;
+            sum = mix_all(sum, rows);
         }
-        Ok(Outcome {
-            count,
-            checksum: sum,
-        })
+        Ok(sum)
+    }
+
+    /// Opens each stripe. The checksum is of each symbol of its rows.
+    pub fn run(&self, alloc: Global) -> Result<Outcome, Failure>
+        ensures count { IfOk result (λ outcome.
+            outcome.count ≡ stripes (object_of MASTER.0 self.now.coded.file) self.now.coded.file.length) }
+        ensures checksum { IfOk result (λ outcome. outcome.checksum
+            ≡ opening_checksum (object_of MASTER.0 self.now.coded.file) (file_bytes self.now.coded.file.length) outcome.count) }
+    {
+        let keys = ObjectKeys::new(&MASTER, &self.coded.file);
+        let mut work = Work::new(alloc, 128)?;
+        let mut rows = self.coded.rows(alloc)?;
+        let mut scratch = self.coded.zeros(alloc)?;
+        let count = self.coded.file.stripes();
+        let checksum = self.open_all(&keys, count, &mut rows, &mut scratch, &mut work)?;
+        Ok(Outcome { count, checksum })
     }
 }
 

@@ -1,9 +1,14 @@
 //! Making of the blocks of a file's stripes.
+ghost use Rattle.std.specs.Prelude.{◌≡◌, IfOk, All, length};
+ghost use Rattle.hail_columns.specs.Objects.{stripes};
+ghost use Rattle.file_layout.specs.Files.{object_of};
+ghost use Rattle.hail_bench.specs.Stripes.{file_bytes, making_checksum};
+ghost use Rattle.hail_bench.specs.declared.stripes.TheConstants.{MASTER};
+
 use crate::failure::Failure;
 use crate::outcome::Outcome;
 use crate::stripes::{Coded, MASTER, mix_blocks};
-use column_codec::ObjectKeys;
-use hail_poly::Work;
+use column_codec::{Block, ObjectKeys};
 use std::alloc::Global;
 use std::fmt::{self, Display, Formatter, Write};
 
@@ -12,6 +17,7 @@ use std::fmt::{self, Display, Formatter, Write};
 pub struct PutWork {
     coded: Coded,
     bytes: Vec<u8>,
+    ghost bytes_are: { bytes.items ≡ file_bytes coded.file.length },
 }
 
 impl PutWork {
@@ -30,21 +36,33 @@ impl PutWork {
         Ok(Some(PutWork { coded, bytes }))
     }
 
-    /// Makes the blocks of each stripe. The checksum is of each symbol of each block.
-    pub fn run(&self, alloc: Global) -> Result<Outcome, Failure> {
-        let coded = &self.coded;
-        let keys = ObjectKeys::new(&MASTER, &coded.file);
-        let mut work = Work::new(alloc, 128)?;
-        let count = coded.file.stripes();
+    /// Makes the blocks of the first stripes, each time in the same room, and gives the checksum.
+    fn make_all(&self, keys: &ObjectKeys, count: u32, blocks: &mut [Block]) -> u128
+        requires file { keys.now.file ≡ self.now.coded.file }
+        requires blocks { length blocks.old ≡ self.now.coded.file.shape.n }
+        requires sizes { All (λ block. length block ≡ self.now.coded.file.profile.size) blocks.old }
+        ensures { result ≡ making_checksum (object_of keys.now.master.0 self.now.coded.file) (file_bytes self.now.coded.file.length) count }
+    {
         let mut sum = 0;
         for stripe in 0..count {
-            let blocks = coded.made(alloc, &keys, stripe, &self.bytes, &mut work)?;
-            sum = mix_blocks(sum, &blocks);
+            keys.encode_stripe(&self.coded.code, stripe, &self.bytes, blocks);
+            sum = mix_blocks(sum, blocks);
         }
-        Ok(Outcome {
-            count,
-            checksum: sum,
-        })
+        sum
+    }
+
+    /// Makes the blocks of each stripe. The checksum is of each symbol of each block.
+    pub fn run(&self, alloc: Global) -> Result<Outcome, Failure>
+        ensures count { IfOk result (λ outcome.
+            outcome.count ≡ stripes (object_of MASTER.0 self.now.coded.file) self.now.coded.file.length) }
+        ensures checksum { IfOk result (λ outcome. outcome.checksum
+            ≡ making_checksum (object_of MASTER.0 self.now.coded.file) (file_bytes self.now.coded.file.length) outcome.count) }
+    {
+        let keys = ObjectKeys::new(&MASTER, &self.coded.file);
+        let mut blocks = self.coded.zeros(alloc)?;
+        let count = self.coded.file.stripes();
+        let checksum = self.make_all(&keys, count, &mut blocks);
+        Ok(Outcome { count, checksum })
     }
 }
 

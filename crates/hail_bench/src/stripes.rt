@@ -1,13 +1,13 @@
 //! What the works on stripes have in common: the file, the blocks with room for a stripe, and the checksum of blocks.
-ghost use Rattle.std.specs.Prelude.{◌≡◌, ◌≤◌, IfOk, replicate};
+ghost use Rattle.std.specs.Prelude.{◌≡◌, ◌≤◌, ◌*◌, IfOk, replicate, length};
 ghost use Rattle.server_code.specs.Any.{profile_of};
+ghost use Rattle.hail_bench.specs.Stripes.{file_bytes, mixed_blocks};
 
 use crate::blocks::{mix_all, profile_named};
 use crate::failure::Failure;
-use column_codec::{Block, ObjectKeys};
+use column_codec::Block;
 use file_layout::FileShape;
-use hail_field::Shape;
-use hail_poly::Work;
+use hail_field::{Shape, Symbol};
 use key_schedule::Master;
 use server_code::AnyCode;
 use std::alloc::Global;
@@ -45,32 +45,21 @@ impl Coded {
         zeros(alloc, count, self.file.profile.size as usize)
     }
 
-    /// The blocks of a stripe of a file of these bytes.
-    pub fn made(
-        &self,
-        alloc: Global,
-        keys: &ObjectKeys,
-        stripe: u32,
-        bytes: &[u8],
-        work: &mut Work,
-    ) -> Result<Vec<Block>, Failure>
-        requires keys { keys.now.file ≡ self.now.file }
-        requires room { 16 ≤ work.old.size }
-        ensures room { work.new.size ≡ work.old.size }
+    /// Zeros, as many as a stripe of the file has symbols.
+    pub fn rows(&self, alloc: Global) -> Result<Vec<Symbol>, Failure>
+        ensures { IfOk result (λ rows. rows.items ≡ replicate (self.now.file.shape.l * self.now.file.profile.keep) 0) }
     {
-        let mut blocks = self.zeros(alloc)?;
-        keys.encode_stripe(&self.code, stripe, bytes, &mut blocks, work);
-        Ok(blocks)
+        let zero = Symbol::ZERO;
+        let count = usize::from(self.file.shape.l) * self.file.profile.keep as usize;
+        Ok(vec![in alloc; zero; count]?)
     }
 
     /// The bytes of the file: 7, and then each 5 times the one before plus 1, modulo 256.
-    pub fn bytes(&self, alloc: Global) -> Result<Vec<u8>, Failure> {
+    pub fn bytes(&self, alloc: Global) -> Result<Vec<u8>, Failure>
+        ensures { IfOk result (λ bytes. bytes.items ≡ file_bytes self.now.file.length) }
+    {
         let mut bytes = vec![in alloc; 0_u8; self.file.length as usize]?;
-        let mut next: u8 = 7;
-        for byte in bytes.iter_mut() {
-            *byte = next;
-            next = next.wrapping_mul(5).wrapping_add(1);
-        }
+        fill_bytes(&mut bytes);
         Ok(bytes)
     }
 }
@@ -83,6 +72,17 @@ impl Display for Coded {
             "{} {} {} {} {}",
             shape.n, shape.l, shape.b, profile.number, self.file.length
         )
+    }
+}
+
+/// Fills `bytes` with the first bytes of the file.
+fn fill_bytes(bytes: &mut [u8])
+    ensures { bytes.new ≡ file_bytes (length bytes.old) }
+{
+    let mut next: u8 = 7;
+    for place in 0..bytes.len() {
+        bytes[place] = next;
+        next = next.wrapping_mul(5).wrapping_add(1);
     }
 }
 
@@ -126,10 +126,12 @@ fn file_named(words: &[String]) -> Option<FileShape> {
 }
 
 /// A checksum, after each symbol of each block, the last symbol of a block first.
-pub fn mix_blocks(start: u128, blocks: &[Block]) -> u128 {
+pub fn mix_blocks(start: u128, blocks: &[Block]) -> u128
+    ensures { result ≡ mixed_blocks start blocks.now }
+{
     let mut sum = start;
-    for block in blocks.iter() {
-        sum = mix_all(sum, block.symbols());
+    for j in 0..blocks.len() {
+        sum = mix_all(sum, blocks[j].symbols());
     }
     sum
 }

@@ -9,5 +9,4 @@ abbrev pub invariant-loop-j : goal.invariant-loop-j
 invariant-loop-j l = record {
   filled : take l.j l.out ≡ map (λ (j : ℕ). column_of_symbols (object_of l.self.master.0 l.self.file) l.symbols j l.stripe) (upto l.j);
   sizes : (k : ℕ) → l.j ≤ k → k < length l.out → length (get_or l.out k []) ≡ l.self.file.profile.size;
-  room : l.work.size ≡ l.initial.work.size;
 }

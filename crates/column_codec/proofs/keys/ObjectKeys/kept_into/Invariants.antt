@@ -6,7 +6,4 @@ use Rattle.column_codec.proofs.keys.ObjectKeys.kept_into.Given as goal
 
 -- the rows before this one are filled
 abbrev pub invariant-loop-place : goal.invariant-loop-place
-invariant-loop-place l = record {
-  filled : take l.place l.kept ≡ map (row_value (object_of l.self.master.0 l.self.file) l.symbols l.provider) (upto l.place);
-  room : l.work.size ≡ l.initial.work.size;
-}
+invariant-loop-place l = take l.place l.kept ≡ map (row_value (object_of l.self.master.0 l.self.file) l.symbols l.provider) (upto l.place)

@@ -1,6 +1,4 @@
-use Rattle.std.proofs.Common.{◌≡◌, arith, take, length, map}
-use Rattle.hail_columns.specs.Objects.{points}
-use Rattle.hail_columns.specs.Opened.{symbol_in}
+use Rattle.std.proofs.Common.{arith, take, length}
 use Rattle.file_layout.specs.Files.{object_of}
 use Rattle.column_codec.specs.OpenedBlocks.{opened_of}
 use Rattle.column_codec.proofs.OpenLemmas.{all-points, Apart-all, row-is, accepts-row, accepts-no_row}

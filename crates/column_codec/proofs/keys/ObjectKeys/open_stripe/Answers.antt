@@ -1,4 +1,4 @@
-use Rattle.std.proofs.Common.{◌≡◌, ◌<◌, ◌∙◌, ℕ}
+use Rattle.std.proofs.Common.{◌<◌, ◌∙◌, ℕ}
 use Rattle.hail_columns.specs.Opened.{GivesSymbols}
 use Rattle.file_layout.specs.Files.{object_of}
 use Rattle.column_codec.specs.OpenedBlocks.{opened_of, HasRow}

@@ -1,28 +1,32 @@
-use Rattle.std.proofs.Common.{ap, ◌∙◌, arith, take, get_or}
-use Rattle.hail_codes.specs.Polynomials.{value}
+use Rattle.std.proofs.Common.{◌∙◌, replicate, [], ap, arith}
+use Rattle.hail_codes.specs.Sums.{dot}
 use Rattle.hail_columns.specs.Columns.{row_polynomial}
+use Rattle.hail_codes.specs.Polynomials.{value}
 use Rattle.file_layout.specs.Files.{object_of}
-use Rattle.column_codec.proofs.RowLemmas.{take-points, Apart-taken, loaded-row, gathered, profile_fits, get_or-within}
+use Rattle.column_codec.specs.Rows.{symbols_at}
+use Rattle.column_codec.proofs.RowLemmas.{weighted-row, profile_fits, get_or-within}
+use Rattle.column_codec.proofs.WeightLemmas.{weights-whole}
 use Rattle.column_codec.proofs.keys.ObjectKeys.row_value.Goals as goal
 
-pub load-requires-clause-apart : goal.load-requires-clause-apart
-load-requires-clause-apart c =
+pub sum_at-requires-clause-whole : goal.sum_at-requires-clause-whole
+sum_at-requires-clause-whole c =
     let keys = c.args.self.now in
     let file = keys.file in
-    Apart-taken file.shape.n file.shape.l file.id c.from-l.result keys.master.0 keys.points keys.points_are c.from-l.ensures (omega (arith, file.shape.fits.4)) (omega (arith, file.shape.fits.4, file.shape.fits.1))
+    let j = c.args.provider in
+    (λ i. dot ((c.index-weights-provider.is ∙ get_or-within keys.weights j c.index-weights-provider.result [] (omega (arith, c.requires.provider, file.shape.fits.1))) i)
+    (replicate (c.from-l.ensures i) 1))
+    ∙ weights-whole file.shape.l _ _ file.shape.fits.2 (keys.has_weights j c.requires.secondary c.requires.provider)
 
-pub returns-clause-value : goal.returns-clause-value
-returns-clause-value c =
+pub returns : goal.returns
+returns c =
     let keys = c.args.self.now in
     let file = keys.file in
+    let j = c.args.provider in
     let o = object_of keys.master.0 file in
-    let x = get_or keys.points c.args.provider c.index-self-provider.result in
-    c.value.ensures
-    ∙ ap (λ w. value w.rest x) c.load.ensures
-    ∙ loaded-row o c.args.symbols.now _ _ c.args.place x c.requires.symbols c.requires.place
+    c.sum_at.ensures
+    ∙ (λ i. dot ((c.index-weights-provider.is ∙ get_or-within keys.weights j c.index-weights-provider.result [] (omega (arith, c.requires.provider, file.shape.fits.1))) i)
+    (symbols_at (c.from-l.ensures i) file.profile.keep c.args.place c.args.symbols.now))
+    ∙ weighted-row o c.args.symbols.now _ c.args.place _ c.requires.symbols c.requires.place
     (profile_fits file.profile.number file.profile.size file.profile.keep file.profile.size_is file.profile.keep_is)
-    (ap (λ m. take m keys.points) c.from-l.ensures
-    ∙ take-points file.shape.n file.shape.l file.id keys.master.0 keys.points keys.points_are (omega (arith, file.shape.fits.4)) (omega (arith, file.shape.fits.4, file.shape.fits.1)))
-    (gathered c.gather.new.out _ _ c.args.symbols.now c.from-l.result file.shape.l file.profile.keep c.args.place c.from-l.ensures (omega (arith, file.shape.fits.4, file.shape.fits.1)) c.gather.ensures)
-    ∙ ap (value (row_polynomial o c.args.symbols.now c.args.place))
-    (get_or-within keys.points c.args.provider c.index-self-provider.result 0 (omega (arith, c.requires.provider, file.shape.fits.1)) ∙ keys.points_are c.args.provider c.requires.provider)
+    (keys.has_weights j c.requires.secondary c.requires.provider)
+    ∙ ap (value (row_polynomial o c.args.symbols.now c.args.place)) (keys.points_are j c.requires.provider)

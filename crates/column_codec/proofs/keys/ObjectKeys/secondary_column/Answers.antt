@@ -5,8 +5,8 @@ use Rattle.file_layout.specs.Files.{object_of}
 use Rattle.column_codec.proofs.RowLemmas.{secondary-final, profile_fits}
 use Rattle.column_codec.proofs.keys.ObjectKeys.secondary_column.Goals as goal
 
-pub returns-clause-column : goal.returns-clause-column
-returns-clause-column c =
+pub returns : goal.returns
+returns c =
     let keys = c.args.self.now in
     let file = keys.file in
     c.add_masks.ensures
@@ -14,4 +14,4 @@ returns-clause-column c =
     (plain_profile (profile_of c.args.code.now)) c.requires.symbols
     (profile_fits file.profile.number file.profile.size file.profile.keep file.profile.size_is file.profile.keep_is)
     c.requires.secondary (omega (arith, c.requires.provider, file.shape.fits.1))
-    (ap plain_profile c.requires.code) c.encode_into.ensures c.kept_into.ensures.kept
+    (ap plain_profile c.requires.code) c.encode_into.ensures c.kept_into.ensures

@@ -1,0 +1,13 @@
+//! The verdict on a round of an audit: which providers did not answer rightly.
+#![tactic(auto)]
+
+mod answers;
+mod counting;
+mod judge;
+pub mod laws;
+
+pub use judge::judge_round;
+pub use record_codec::Counts;
+
+#[cfg(test)]
+mod tests;

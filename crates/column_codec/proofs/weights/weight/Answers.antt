@@ -1,0 +1,18 @@
+use Rattle.std.proofs.Common.{◌≢◌, ◌∙◌, arith, ap}
+use Rattle.std.proofs.lemmas.Grind.{common_steps}
+use Rattle.hail_field.specs.Nim.{nim_mul, nim_inv}
+use Rattle.column_codec.proofs.WeightLemmas.{gaps_not_zero, inverse_gaps}
+use Rattle.column_codec.proofs.weights.weight.Goals as goal
+
+pub unwrap-requires : goal.unwrap-requires
+unwrap-requires c =
+    let some : c.mul-gaps.result ≢ 0 = λ e. gaps_not_zero c.args.x c.args.point c.args.l c.requires (cc (e)) in
+    grind (arith, common_steps, some, c.inv.ensures.zero)
+
+pub returns : goal.returns
+returns c =
+    let inverse = rw c.unwrap.ensures at c.inv.ensures.inverse in
+    c.mul.ensures
+    ∙ ap (nim_mul c.args.whole) (inverse
+    ∙ ap nim_inv (c.mul-gaps.ensures ∙ (λ i. nim_mul (c.add.ensures i) (c.product_of_gaps.ensures i)))
+    ∙ inverse_gaps c.args.x c.args.point c.args.l c.requires)

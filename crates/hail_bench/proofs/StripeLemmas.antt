@@ -1,0 +1,165 @@
+-- The steps of the works on stripes.
+use Rattle.std.specs.Prelude.{◌≡◌, ℕ, zero, suc, ◌+◌, ◌-◌, ◌*◌, ◌/◌, ◌%◌, ◌<◌, ◌≤◌, ◌==◌, ◌||◌, Bool, true, false, not, nat_lt, nat_eq, List, [], ◌∷◌, ◌++◌, length, map, take, drop, replicate, Some, None, option_and_then, if◌then◌else◌}
+use Rattle.std.proofs.Common.{arith, ap, sym, refl, ◌∙◌, get_or, add-one, eqb-true, append-nil}
+use Rattle.std.specs.List.{range_with_len}
+use Rattle.std.proofs.Math.Nat.{mod-add-mod, mul-le-mul_right}
+use Rattle.std.proofs.Math.Seq.{drop-append_seam, take-append_seam}
+use Rattle.std.proofs.lemmas.Nat.{div-mul-add, mod-mul-add}
+use Rattle.std.proofs.lemmas.List.{take_more, take-append-le, drop-append-le, length-append, length-drop, drop-drop, drop-take, get_or-take, get_or-replicate, length-take-le}
+use Rattle.std.proofs.lemmas.Option.{slice_get-get_or}
+use Rattle.hail_field.specs.Shape.{IsShape}
+use Rattle.hail_codes.specs.Points.{upto}
+use Rattle.hail_codes.specs.Profiles.{profile_of}
+use Rattle.hail_codes.specs.ServerCode.{differences}
+use Rattle.hail_codes.proofs.Codewords.{differences-same}
+use Rattle.hail_columns.specs.Objects.{Object, symbols_in}
+use Rattle.hail_columns.specs.Columns.{columns, is_wrong_block}
+use Rattle.hail_columns.specs.Opened.{block_at, GivesSymbols}
+use Rattle.hail_columns.specs.Forgeries.{count_of}
+use Rattle.hail_columns.proofs.ColumnLaws.{length-column_of_symbols}
+use Rattle.column_laws.proofs.RightRows.{symbols-right}
+use Rattle.column_codec.specs.PresentBlocks.{present_blocks}
+use Rattle.column_codec.proofs.PresentLemmas.{length-present_blocks, get_or-present_blocks}
+use Rattle.hail_bench.specs.Blocks.{mixed_all}
+use Rattle.hail_bench.specs.Stripes.{byte_at, mixed_blocks, making_checksum, opening_checksum, HoldsColumns}
+
+-- the next byte
+pub next_byte : (n next : ℕ) → next ≡ byte_at n → (next * 5 % 256 + 1) % 256 ≡ byte_at (n + 1)
+next_byte n next e = mod-add-mod (next * 5) 256 1 ∙ ap (λ b. (b * 5 + 1) % 256) e ∙ ap byte_at (sym (add-one n))
+
+-- the checksum of no block
+pub mixed_blocks-none : (sum : ℕ) → sum ≡ mixed_blocks sum []
+unfolding mixed_blocks
+mixed_blocks-none sum = refl
+
+mixed_blocks-last : (sum : ℕ) (blocks : List (List ℕ)) (block : List ℕ) → mixed_blocks sum (blocks ++ block ∷ []) ≡ mixed_all (mixed_blocks sum blocks) block
+unfolding mixed_blocks
+mixed_blocks-last sum [] block = refl
+mixed_blocks-last sum (b ∷ blocks) block = mixed_blocks-last (mixed_all sum b) blocks block
+
+-- one block more
+pub mixed_blocks-more : (start sum : ℕ) (blocks : List (List ℕ)) (j : ℕ) (block d : List ℕ) → j < length blocks → block ≡ get_or blocks j d → sum ≡ mixed_blocks start (take j blocks) →
+    mixed_all sum block ≡ mixed_blocks start (take (j + 1) blocks)
+mixed_blocks-more start sum blocks j block d below is e =
+    (λ i. mixed_all (e i) (is i)) ∙ sym (mixed_blocks-last start (take j blocks) (get_or blocks j d))
+    ∙ ap (mixed_blocks start) (sym (take_more blocks j d below))
+
+-- one stripe more is made
+pub making_more : (o : Object) (bytes : List ℕ) (stripe sum : ℕ) (blocks : List (List ℕ)) → sum ≡ making_checksum o bytes stripe →
+    blocks ≡ map (λ j. columns o bytes j stripe) (upto o.shape.n) → mixed_blocks sum blocks ≡ making_checksum o bytes (stripe + 1)
+making_more o bytes stripe sum blocks e is = (λ i. mixed_blocks (e i) (is i)) ∙ ap (making_checksum o bytes) (sym (add-one stripe))
+
+-- one stripe more is opened
+pub opening_more : (o : Object) (bytes : List ℕ) (stripe sum : ℕ) (rows : List ℕ) → sum ≡ opening_checksum o bytes stripe → rows ≡ symbols_in o bytes stripe →
+    mixed_all sum rows ≡ opening_checksum o bytes (stripe + 1)
+opening_more o bytes stripe sum rows e is = (λ i. mixed_all (e i) (is i)) ∙ ap (opening_checksum o bytes) (sym (add-one stripe))
+
+-- a block before the last ends within them
+pub block_within : (i count size : ℕ) → i < count → i * size + size ≤ count * size
+block_within i count size below =
+    let more : suc i * size ≤ count * size = mul-le-mul_right size below in
+    let split : suc i * size ≡ i * size + size = grind arith in
+    omega (arith, more, split)
+
+-- one block more lies behind the others
+pub holds-none : (o : Object) (bytes : List ℕ) → HoldsColumns o bytes 0 []
+holds-none o bytes = record { whole = omega arith; each = λ i below. absurd (omega (arith, below)) }
+
+pub holds-more : (o : Object) (bytes : List ℕ) (i : ℕ) (seen block : List ℕ) → block ≡ columns o bytes (i % o.shape.n) (i / o.shape.n) → HoldsColumns o bytes i seen →
+    HoldsColumns o bytes (i + 1) (seen ++ block)
+holds-more o bytes i seen block is holds = record {
+  whole = length-append seen block ∙ (λ t. holds.whole t + size t) ∙ split;
+  each = λ k below. go k (nat_eq k i) refl below;
+}
+  where
+    size : length block ≡ o.profile.size
+    size = ap length is ∙ length-column_of_symbols o (symbols_in o bytes (i / o.shape.n)) (i % o.shape.n) (i / o.shape.n)
+
+    split : i * o.profile.size + o.profile.size ≡ (i + 1) * o.profile.size
+    split = grind arith
+
+    go : (k : ℕ) (b : Bool) → nat_eq k i ≡ b → k < i + 1 → take o.profile.size (drop (k * o.profile.size) (seen ++ block)) ≡ columns o bytes (k % o.shape.n) (k / o.shape.n)
+    go k true same below =
+        let e : k ≡ i = eqb-true k i same in
+        ap (λ n. take o.profile.size (drop (n * o.profile.size) (seen ++ block))) e
+        ∙ (λ t. take (sym size t) (drop (sym holds.whole t) (seen ++ block)))
+        ∙ ap (take (length block)) (drop-append_seam seen block)
+        ∙ ap (take (length block)) (sym (append-nil block)) ∙ take-append_seam block []
+        ∙ is ∙ ap (λ n. columns o bytes (n % o.shape.n) (n / o.shape.n)) (sym e)
+    go k false differ below =
+        let less : k < i = (let other : k ≡ i → ⊥ = (λ h. grind (arith, differ, h)) in omega arith) in
+        let within : k * o.profile.size + o.profile.size ≤ length seen = omega (arith, holds.whole, block_within k i o.profile.size less) in
+        ap (take o.profile.size) (drop-append-le (k * o.profile.size) seen block (omega (arith, within)))
+        ∙ take-append-le o.profile.size (drop (k * o.profile.size) seen) block (omega (arith, within, length-drop (k * o.profile.size) seen))
+        ∙ holds.each k less
+
+-- none passes
+count_of-none : (passes : ℕ → Bool) (a n : ℕ) → ((j : ℕ) → j < a + n → passes j ≡ false) → count_of passes (range_with_len a n) ≡ 0
+count_of-none passes a zero none = refl
+count_of-none passes a (suc n) none =
+    let rest = count_of-none passes (a + 1) n (λ j below. none j (omega (arith, below))) in
+    rw (none a (omega arith)) (omega (arith, rest))
+
+-- the provider's own block is not wrong
+own-block : (o : Object) (bytes : List ℕ) (j stripe : ℕ) → is_wrong_block o bytes j stripe (Some (columns o bytes j stripe)) ≡ false
+own-block o bytes j stripe =
+    let same : (length (columns o bytes j stripe) == o.profile.size) ≡ true = grind (arith, length-column_of_symbols o (symbols_in o bytes stripe) j stripe) in
+    let few : nat_lt o.profile.fix (differences (columns o bytes j stripe) (columns o bytes j stripe)) ≡ false = grind (arith, differences-same (columns o bytes j stripe)) in
+    (λ i. not (same i) || few i)
+
+-- the blocks of a stripe among all blocks
+part-block : (n size stripe j : ℕ) (seen : List ℕ) → j < n →
+    take size (drop (j * size) (take (n * size) (drop (stripe * (n * size)) seen))) ≡ take size (drop ((stripe * n + j) * size) seen)
+part-block n size stripe j seen below =
+    let within : j * size + size ≤ n * size = block_within j n size below in
+    let split : n * size ≡ j * size + (n * size - j * size) = omega arith in
+    let place : stripe * (n * size) + j * size ≡ (stripe * n + j) * size = grind arith in
+    ap (λ m. take size (drop (j * size) (take m (drop (stripe * (n * size)) seen)))) split
+    ∙ ap (take size) (drop-take (j * size) (n * size - j * size) (drop (stripe * (n * size)) seen))
+    ∙ take-shorter size (n * size - j * size) (drop (j * size) (drop (stripe * (n * size)) seen)) (omega arith)
+    ∙ ap (take size) (drop-drop (j * size) (stripe * (n * size)) seen ∙ ap (λ m. drop m seen) place)
+  where
+    take-shorter : (a b : ℕ) (xs : List ℕ) → a ≤ b → take a (take b xs) ≡ take a xs
+    take-shorter zero b xs h = refl
+    take-shorter (suc a) zero xs h = absurd (omega (arith, h))
+    take-shorter (suc a) (suc b) [] h = refl
+    take-shorter (suc a) (suc b) (x ∷ xs) h = ap (λ (l : List ℕ). x ∷ l) (take-shorter a b xs (omega (arith, h)))
+
+present-at : (n size j : ℕ) (part : List ℕ) → j < n → n ≤ 16 →
+    block_at (present_blocks size (take n (replicate 16 true)) part) j ≡ Some (take size (drop (j * size) part))
+present-at n size j part below few =
+    let flags = take n (replicate 16 true) in
+    let long : length flags ≡ n = length-take-le n (replicate 16 true) few in
+    let set : get_or flags j false ≡ true = get_or-take n (replicate 16 true) j false below ∙ get_or-replicate 16 j true false (omega (arith, below, few)) in
+    ap (option_and_then (λ block. block))
+    (slice_get-get_or (present_blocks size flags part) j None (omega (arith, below, long, length-present_blocks size flags part))
+    ∙ ap Some (get_or-present_blocks size flags part j (omega (arith, below, long)) ∙ ap (λ b. if b then Some (take size (drop (j * size) part)) else None) set))
+
+-- a stripe's blocks end within them
+pub stripe_within : (stripe count n size len : ℕ) → stripe < count → len ≡ count * n * size → stripe * (n * size) + n * size ≤ len
+stripe_within stripe count n size len below long =
+    let e : count * n * size ≡ count * (n * size) = grind arith in
+    omega (arith, long, e, block_within stripe count (n * size) below)
+
+-- as many symbols as n blocks have
+pub length-part : (start whole : ℕ) (seen : List ℕ) → start + whole ≤ length seen → length (take whole (drop start seen)) ≡ whole
+length-part start whole seen within = length-take-le whole (drop start seen) (omega (arith, within, length-drop start seen))
+
+-- what they give are the stripe's symbols
+pub opened-right : (o : Object) (bytes : List ℕ) (number count stripe : ℕ) (seen part symbols : List ℕ) (flags : List Bool) → o.profile ≡ profile_of number →
+    IsShape o.shape.n o.shape.l o.shape.b → HoldsColumns o bytes (count * o.shape.n) seen → stripe < count → flags ≡ take o.shape.n (replicate 16 true) →
+    part ≡ take (o.shape.n * o.profile.size) (drop (stripe * (o.shape.n * o.profile.size)) seen) →
+    GivesSymbols o stripe (present_blocks o.profile.size flags part) symbols → symbols ≡ symbols_in o bytes stripe
+opened-right o bytes number count stripe seen part symbols flags is shape holds below flags_are part_is gives =
+    symbols-right o bytes number stripe (present_blocks o.profile.size flags part) symbols is shape
+    (let none = count_of-none (λ j. is_wrong_block o bytes j stripe (block_at (present_blocks o.profile.size flags part) j)) 0 o.shape.n
+    (λ j less. ap (is_wrong_block o bytes j stripe) (block-is j (omega (arith, less))) ∙ own-block o bytes j stripe) in omega (arith, none))
+    gives
+  where
+    block-is : (j : ℕ) → j < o.shape.n → block_at (present_blocks o.profile.size flags part) j ≡ Some (columns o bytes j stripe)
+    block-is j less =
+        let place : stripe * o.shape.n + j < count * o.shape.n = omega (arith, less, block_within stripe count o.shape.n below) in
+        (λ i. block_at (present_blocks o.profile.size (flags_are i) (part_is i)) j)
+        ∙ present-at o.shape.n o.profile.size j (take (o.shape.n * o.profile.size) (drop (stripe * (o.shape.n * o.profile.size)) seen)) less shape.1
+        ∙ ap Some (part-block o.shape.n o.profile.size stripe j seen less ∙ holds.each (stripe * o.shape.n + j) place
+        ∙ (λ i. columns o bytes (mod-mul-add stripe o.shape.n j less i) (div-mul-add stripe o.shape.n j less i)))

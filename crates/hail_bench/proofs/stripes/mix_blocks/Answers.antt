@@ -1,0 +1,12 @@
+use Rattle.std.proofs.Common.{◌∙◌, ap, arith}
+use Rattle.hail_bench.specs.Blocks.{mixed_all}
+use Rattle.hail_bench.proofs.StripeLemmas.{mixed_blocks-none, mixed_blocks-more}
+use Rattle.hail_bench.proofs.stripes.mix_blocks.Goals as goal
+
+pub loop-j-init : goal.loop-j-init
+loop-j-init c = mixed_blocks-none c.args.start
+
+pub loop-j-preserved : goal.loop-j-preserved
+loop-j-preserved c =
+    c.mix_all-sum.ensures ∙ ap (mixed_all c.loop-j.sum) c.symbols.ensures
+    ∙ mixed_blocks-more c.args.start c.loop-j.sum c.args.blocks.now c.loop-j.j c.index-blocks-j.result c.index-blocks-j.result (omega arith) c.index-blocks-j.is c.loop-j.invariant

@@ -1,0 +1,42 @@
+-- What the checksums of the works on the stripes of a file are.
+--
+-- byte_at n                        == the n-th byte of the file: 7 first, then each 5 times the one before and 1, modulo 256
+-- file_bytes size                  == the file of so many bytes
+-- mixed_blocks sum blocks          == a checksum, after each of these blocks
+-- making_checksum o bytes stripes  == the checksum of the blocks of all providers in the first stripes
+-- opening_checksum o bytes stripes == the checksum of the symbols of the first stripes
+-- HoldsColumns o bytes count seen  == the first count blocks of a file, by stripe and then by provider, lie one after the other
+use Rattle.std.specs.Prelude.{◌≡◌, ℕ, zero, suc, ◌+◌, ◌*◌, ◌/◌, ◌%◌, ◌<◌, List, [], ◌∷◌, length, map, take, drop}
+use Rattle.hail_codes.specs.Points.{upto}
+use Rattle.hail_columns.specs.Objects.{Object, symbols_in}
+use Rattle.hail_columns.specs.Columns.{columns}
+use Rattle.hail_bench.specs.Blocks.{mixed_all}
+
+-- the n-th byte of the file
+abbrev pub byte_at : ℕ → ℕ
+byte_at zero = 7
+byte_at (suc n) = (byte_at n * 5 + 1) % 256
+
+-- the file of so many bytes
+abbrev pub file_bytes : ℕ → List ℕ
+file_bytes size = map byte_at (upto size)
+
+-- a checksum, after each block
+unfoldable pub mixed_blocks : ℕ → List (List ℕ) → ℕ
+mixed_blocks sum [] = sum
+mixed_blocks sum (block ∷ blocks) = mixed_blocks (mixed_all sum block) blocks
+
+-- the checksum of the blocks of all providers in the first stripes
+abbrev pub making_checksum : Object → List ℕ → ℕ → ℕ
+making_checksum o bytes zero = 0
+making_checksum o bytes (suc stripe) = mixed_blocks (making_checksum o bytes stripe) (map (λ j. columns o bytes j stripe) (upto o.shape.n))
+
+-- the checksum of the symbols of the first stripes
+abbrev pub opening_checksum : Object → List ℕ → ℕ → ℕ
+opening_checksum o bytes zero = 0
+opening_checksum o bytes (suc stripe) = mixed_all (opening_checksum o bytes stripe) (symbols_in o bytes stripe)
+
+-- the first blocks of a file, by stripe and then by provider, lie one after the other
+pub record HoldsColumns (o : Object) (bytes : List ℕ) (count : ℕ) (seen : List ℕ) : Type 0 where
+  pub whole : length seen ≡ count * o.profile.size
+  pub each : (i : ℕ) → i < count → take o.profile.size (drop (i * o.profile.size) seen) ≡ columns o bytes (i % o.shape.n) (i / o.shape.n)

@@ -1,0 +1,89 @@
+-- A job that runs alone: where it stands after some of its steps.
+--
+--   IsOpened w               == a vault was just opened: it is at rest, and the next job has number 1
+--   appends_of w kind        == how many records a job of this kind appends
+--   first_record w kind      == the first one, over the records of this state
+--   IsSecondRecord w job kind entry  == the second one: a put's end, or an audit's end with the sums of all that it heard
+--   HasSubject w kind job    == the number of the job: that of a put or an audit from its first move on, that of a repair
+--   RecordsAre w kind job rs == of the job's records those are in effect whose appends are done
+--   with_job_of w kind job   == what the actions of a job of this kind are made with that began in this state
+--   Walked start kind w job  == this is the state, and the job in it, after some steps that went on, since the job began in `start`
+use Rattle.std.specs.Prelude.{◌≡◌, ◌⊎◌, ℕ, ◌+◌, ◌≤◌, true, false, List, [], ◌∷◌, length, take, Option, None, Some}
+use Rattle.hail_columns.specs.Verdicts.{Sums}
+use Rattle.hail_records.specs.Records.{Record, PutStart, PutDone, Drop, AuditStart, AuditDone, RepairDone}
+use Rattle.hail_records.specs.Table.{next_id, next_audit, due_of}
+use Rattle.hail_machine.specs.Jobs.{Kind, PutJob, GetJob, DropJob, AuditJob, RepairJob, Job}
+use Rattle.hail_machine.specs.Actions.{actions_of, appends_left}
+use Rattle.hail_machine.specs.States.{State, setup_in, file_in}
+use Rattle.hail_machine.specs.Space.{append_sizes}
+use Rattle.hail_machine.specs.Begins.{due_number, due_flags, pinned_for}
+use Rattle.hail_machine.specs.Audits.{HasSums}
+use Rattle.hail_machine.specs.Appends.{removable}
+use Rattle.sound_states.specs.Sound.{IsSound, IsAtRest}
+use Rattle.lone_laws.specs.Made.{With, Made}
+
+-- a vault was just opened
+pub record IsOpened (w : State) : Type 0 where
+  pub rest : IsAtRest w
+  pub opened : w.is_open ≡ true
+  pub next : w.next_job ≡ 1
+
+-- how many records a job of this kind appends
+abbrev pub appends_of : State → Kind → ℕ
+appends_of w kind = length (append_sizes (setup_in w) kind)
+
+-- the first record of a job of this kind
+abbrev pub first_record : State → Kind → Record
+first_record w (PutJob name bytes) = PutStart (next_id w.records) name
+first_record w (DropJob name) = Drop name
+first_record w AuditJob = AuditStart (next_audit w.records)
+first_record w kind = RepairDone (due_number (due_of w.records))
+
+-- the second record of a put or an audit
+abbrev pub IsSecondRecord : State → Job → Kind → Record → Type 0
+IsSecondRecord w job (PutJob name bytes) entry = entry ≡ PutDone (next_id w.records) (length bytes)
+IsSecondRecord w job AuditJob entry =
+    (sums : Sums) × HasSums (setup_in w) job sums × (entry ≡ AuditDone (next_audit w.records) sums.undecided sums.counts)
+IsSecondRecord w job kind entry = ⊥
+
+-- the number of a job
+abbrev pub HasSubject : State → Kind → Job → Type 0
+HasSubject w (PutJob name bytes) job = 1 ≤ job.place → job.subject ≡ next_id w.records
+HasSubject w AuditJob job = 1 ≤ job.place → job.subject ≡ next_audit w.records
+HasSubject w RepairJob job = job.subject ≡ due_number (due_of w.records)
+HasSubject w kind job = Unit {0}
+
+-- of a job's records those are in effect whose appends are done
+pub data RecordsAre (w : State) (kind : Kind) (job : Job) (rs : List Record) : Type 0 where
+  none : appends_left (setup_in w) job ≡ appends_of w kind → rs ≡ w.records → RecordsAre w kind job rs
+  one : appends_left (setup_in w) job + 1 ≡ appends_of w kind → rs ≡ first_record w kind ∷ w.records → RecordsAre w kind job rs
+  two : (entry : Record) → appends_left (setup_in w) job + 2 ≡ appends_of w kind → IsSecondRecord w job kind entry →
+      rs ≡ entry ∷ first_record w kind ∷ w.records → RecordsAre w kind job rs
+
+-- what the actions of a job are made with
+abbrev pub with_job_of : State → Kind → Job → With
+with_job_of w kind job = record { setup = setup_in w; kind = kind; subject = job.subject; pinned = pinned_for w kind }
+
+-- the object that a job takes away: that of the file that its name had at its begin, once its last append is done
+abbrev pub TakesAway : State → Kind → Job → Type 0
+TakesAway w (PutJob name bytes) job = appends_left (setup_in w) job ≡ 0 → job.older ≡ removable w (file_in w name)
+TakesAway w (DropJob name) job = appends_left (setup_in w) job ≡ 0 → job.older ≡ removable w (file_in w name)
+TakesAway w kind job = Unit {0}
+
+-- the state, and the job in it, after some steps that went on
+pub record Walked (start : State) (kind : Kind) (w : State) (job : Job) : Type 0 where
+  pub sound : IsSound 8 w
+  pub opened : w.is_open ≡ true
+  pub unbarred : w.is_barred ≡ false
+  pub setup : setup_in w ≡ setup_in start
+  pub jobs : w.jobs ≡ job ∷ []
+  pub number : job.number ≡ 1
+  pub kind_is : job.kind ≡ kind
+  pub pinned : job.pinned ≡ pinned_for start kind
+  pub flagged : job.flagged ≡ due_flags (setup_in start).tolerance (due_of start.records)
+  pub subject : HasSubject start kind job
+  pub older : TakesAway start kind job
+  pub records : RecordsAre start kind job w.records
+  pub made : Made (with_job_of start kind job) (take job.place (actions_of (setup_in start) job)) start.providers w.providers [] job.given
+  pub handed : w.handed ≡ start.handed
+  pub disk : start.disk_faults ≤ w.disk_faults

@@ -1,0 +1,30 @@
+//! A job that runs alone: its begin, its steps, and its last one.
+ghost use Rattle.std.specs.Prelude.{◌≡◌, ℕ, Some};
+ghost use Rattle.hail_machine.specs.Jobs.{Kind, Job, job_of};
+ghost use Rattle.hail_machine.specs.Actions.{Action};
+ghost use Rattle.hail_machine.specs.Answers.{Answer};
+ghost use Rattle.hail_machine.specs.Events.{Step, Begun, More, Ended, IsSpelledKind};
+ghost use Rattle.hail_machine.specs.States.{State};
+ghost use Rattle.hail_machine.specs.Begins.{Begins};
+ghost use Rattle.hail_machine.specs.Steps.{next_action, Acts};
+ghost use Rattle.hail_machine.specs.Machine.{Happens};
+ghost use Rattle.lone_laws.specs.Walked.{IsOpened, Walked};
+
+/// A job that begins in a state whose vault was just opened has made no step.
+pub fn begins_walk()
+    ensures { (moment number : ℕ) (start new : State) (kind : Kind) → IsOpened start → IsSpelledKind kind →
+        Begins 8 moment start kind (Begun number) new → (job : Job) × (number ≡ 1) × Walked start kind new job }
+{}
+
+/// A step that goes on goes one on.
+pub fn steps_walk()
+    ensures { (moment : ℕ) (start w new : State) (kind : Kind) (job : Job) → IsOpened start → Walked start kind w job →
+        Happens 8 moment w (Step 1) More new → (next : Job) × Walked start kind new next }
+{}
+
+/// A step that ends the job makes its next action.
+pub fn last_steps_act()
+    ensures { (moment : ℕ) (start w new : State) (kind : Kind) (job : Job) (answer : Answer) → IsOpened start → Walked start kind w job →
+        Happens 8 moment w (Step 1) (Ended answer) new →
+        (job_of w.jobs 1 ≡ Some job) × ((action : Action) × (next_action w job ≡ Some action) × Acts w job action (Ended answer) new) }
+{}

@@ -1,0 +1,12 @@
+pub mod Turns
+pub mod Quiet
+pub mod Blocks
+pub mod Places
+pub mod Files
+pub mod EveryRun
+pub mod Points
+pub mod Audits
+pub mod Readers
+pub mod SecondHalf
+pub mod InRuns
+pub mod InDoubt

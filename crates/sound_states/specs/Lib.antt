@@ -1,0 +1,4 @@
+pub mod Orders
+pub mod Follows
+pub mod SoundJobs
+pub mod Sound

@@ -1,0 +1,13 @@
+pub mod Lists
+pub mod Places
+pub mod Walk
+pub mod Passing
+pub mod MadeFacts
+pub mod GetFetches
+pub mod Finals
+pub mod Doubts
+pub mod Wholes
+pub mod Fall
+pub mod GivesRight
+pub mod ByteSteps
+pub mod ByteRun

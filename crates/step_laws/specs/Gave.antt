@@ -1,0 +1,56 @@
+-- What the actions that a job made gave it.
+--
+--   WasFetched start ms job j object stripe block  == a fetch that the job made since its begin gave this: what provider j held then, if it
+--                                       was of the size, or none and its count of failed calls rose
+--   WasAsked start ms job j object round symbol    == an ask that the job made since its begin gave this: what is honest by what provider j
+--                                       held then, or none and its count of failed calls rose
+--   WasOpened start ms job object stripe symbols   == blocks, each of which such a fetch gave, open to these symbols of the stripe
+use Rattle.std.specs.Prelude.{◌≡◌, ◌⊎◌, ℕ, ◌<◌, List, ◌∷◌, ◌++◌, length, Option}
+use Rattle.hail_columns.specs.Challenges.{honest_answer}
+use Rattle.hail_columns.specs.Opened.{SeenBlock, GivesSymbols, block_at}
+use Rattle.hail_devices.specs.ProviderCalls.{AskGives, FailsToGive}
+use Rattle.hail_machine.specs.Jobs.{Job}
+use Rattle.hail_machine.specs.Actions.{Fetch, Ask}
+use Rattle.hail_machine.specs.States.{State, setup_in, object_in}
+use Rattle.hail_machine.specs.Given.{pinned_size}
+use Rattle.hail_machine.specs.Audits.{challenge_in}
+use Rattle.hail_machine.specs.Runs.{Moment, now}
+use Rattle.hail_machine.specs.Deeds.{Makes}
+use Rattle.calm_laws.specs.Origins.{IsHeldThen}
+use Rattle.step_laws.specs.Made.{IsEarlier}
+
+-- a fetch that the job made since its begin gave it this block, or none
+pub record WasFetched (start : State) (ms : List Moment) (job : Job) (j object stripe : ℕ) (block : SeenBlock) : Type 0 where
+  pub later : List Moment
+  pub moment : Moment
+  pub before : List Moment
+  pub split : ms ≡ later ++ moment ∷ before
+  pub since : job.begun < length before
+  pub maker : Job
+  pub same : IsEarlier maker job
+  pub makes : Makes (now start before) moment maker (Fetch j object stripe)
+  pub held : IsHeldThen (now start before) moment.state j object stripe block
+
+-- an answer, or none, to the challenge of a round, by what a provider held between two states
+abbrev pub IsAnsweredThen : State → Job → State → State → ℕ → ℕ → ℕ → Option ℕ → Type 0
+IsAnsweredThen w job old new j object round symbol =
+    AskGives (honest_answer (challenge_in (setup_in w) job object (pinned_size job.pinned object) round)) object (old.providers j).held symbol
+    ⊎ FailsToGive (old.providers j) symbol (new.providers j)
+
+-- an ask that the job made since its begin gave it this answer, or none
+pub record WasAsked (start : State) (ms : List Moment) (job : Job) (j object round : ℕ) (symbol : Option ℕ) : Type 0 where
+  pub later : List Moment
+  pub moment : Moment
+  pub before : List Moment
+  pub split : ms ≡ later ++ moment ∷ before
+  pub since : job.begun < length before
+  pub maker : Job
+  pub same : IsEarlier maker job
+  pub makes : Makes (now start before) moment maker (Ask j object round)
+  pub answered : IsAnsweredThen (now start ms) job (now start before) moment.state j object round symbol
+
+-- blocks that fetches gave the job since its begin open to these symbols of a stripe
+pub record WasOpened (start : State) (ms : List Moment) (job : Job) (object stripe : ℕ) (symbols : List ℕ) : Type 0 where
+  pub blocks : List SeenBlock
+  pub opens : GivesSymbols (object_in (now start ms) object) stripe blocks symbols
+  pub fetched : (j : ℕ) → j < (setup_in (now start ms)).n → WasFetched start ms job j object stripe (block_at blocks j)

@@ -1,0 +1,13 @@
+-- Removals that a job counted and does not make.
+--
+--   SkipsRemovals s before job  == a job has decided, by the action between the two, that it takes no object away
+use Rattle.std.specs.Prelude.{◌≡◌, true, false, []}
+use Rattle.hail_records.specs.Records.{Setup}
+use Rattle.hail_machine.specs.Jobs.{Job}
+use Rattle.hail_machine.specs.Left.{is_undecided}
+
+-- a job has decided that it takes no object away
+pub record SkipsRemovals (s : Setup) (before job : Job) : Type 0 where
+  pub undecided : is_undecided s before ≡ true
+  pub decided : is_undecided s job ≡ false
+  pub none : job.older ≡ []
