@@ -69,7 +69,7 @@ pub struct AuditWork {
 }
 
 /// What a provider is to hold of a file of these bytes.
-fn held(
+fn held_by(
     alloc: Global,
     coded: &Coded,
     keys: &ObjectKeys,
@@ -98,7 +98,7 @@ fn all_held(alloc: Global, coded: &Coded) -> Result<Vec<Held>, Failure>
     let keys = ObjectKeys::new(&MASTER, &coded.file);
     let mut providers = Vec::new(alloc);
     for provider in 0..usize::from(coded.file.shape.n) {
-        let next = held(alloc, coded, &keys, &bytes, provider)?;
+        let next = held_by(alloc, coded, &keys, &bytes, provider)?;
         providers.push(next)?;
     }
     Ok(providers)
@@ -132,10 +132,20 @@ impl AuditWork {
         ) else {
             return Ok(None);
         };
-        if rounds > 64 || picks < 1 || picks > 64 || file.rows() < 1 {
+        let coded = Coded::new(alloc, file)?;
+        AuditWork::ready(alloc, coded, rounds, picks)
+    }
+
+    /// So many rounds and picks of a file, if there are at most 64 and the file has a row. Makes the blocks.
+    fn ready(
+        alloc: Global,
+        coded: Coded,
+        rounds: u32,
+        picks: u32,
+    ) -> Result<Option<AuditWork>, Failure> {
+        if rounds > 64 || picks < 1 || picks > 64 || coded.file.rows() < 1 {
             return Ok(None);
         }
-        let coded = Coded::new(alloc, file)?;
         let providers = all_held(alloc, &coded)?;
         Ok(Some(AuditWork {
             coded,
