@@ -1,6 +1,6 @@
 -- Sums over picks of which one differs.
-use Rattle.std.specs.Prelude.{◌≡◌, ◌≢◌, ℕ, zero, suc, ◌+◌, ◌<◌, ◌==◌, ◌&&◌, Bool, true, false, nat_eq, List, [], ◌∷◌, is_some, unwrap_or, Option, None, Some, if◌then◌else◌}
-use Rattle.std.proofs.Common.{arith, ap, sym, refl, ◌∙◌, eqb-true, get_or}
+use Rattle.std.specs.Prelude.{◌≡◌, ◌≢◌, ℕ, zero, suc, ◌<◌, ◌==◌, ◌&&◌, Bool, true, false, nat_eq, List, [], ◌∷◌, is_some, unwrap_or, Option, None, Some, if◌then◌else◌}
+use Rattle.std.proofs.Common.{arith, ap, sym, refl, ◌∙◌, eqb-true}
 use Rattle.field_laws.proofs.Inverse.{factor_zero}
 use Rattle.field_laws.proofs.Ring.{sum_zero}
 use Rattle.field_laws.proofs.Solve.{v, ◌⊞◌, ◌⊡◌, solve}

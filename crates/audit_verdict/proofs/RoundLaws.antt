@@ -1,7 +1,6 @@
 -- A round in which few answers are not right.
-use Rattle.std.specs.Prelude.{◌≡◌, ◌≢◌, ◌⊎◌, ℕ, zero, suc, ◌+◌, ◌<◌, ◌≤◌, Bool, true, false, not, List, [], ◌∷◌, length, map, slice_get, Option, None, Some, option_and_then, if◌then◌else◌}
-use Rattle.std.proofs.Common.{arith, ap, sym, refl, ◌∙◌, get_or, subst, inl, inr}
-use Rattle.std.specs.List.{range_with_len}
+use Rattle.std.specs.Prelude.{◌≡◌, ◌≢◌, ℕ, zero, suc, ◌+◌, ◌<◌, ◌≤◌, Bool, true, false, not, List, [], ◌∷◌, length, slice_get, Option, None, Some, option_and_then, if◌then◌else◌}
+use Rattle.std.proofs.Common.{arith, ap, sym, refl, ◌∙◌, get_or, inl, inr}
 use Rattle.std.specs.Option.{option_map}
 use Rattle.std.proofs.lemmas.List.FromFn.{length-map-range_with_len, get_or-map-range_with_len}
 use Rattle.hail_field.specs.Nim.{nim_add}
@@ -15,13 +14,13 @@ use Rattle.hail_columns.specs.Objects.{Object, is_primary, point, points}
 use Rattle.hail_columns.specs.Columns.{columns}
 use Rattle.hail_columns.specs.Forgeries.{count_of}
 use Rattle.hail_columns.specs.Challenges.{Challenge, honest_answer, right_answer, mask_sum, bare_answer, bare_answers}
-use Rattle.hail_columns.specs.Verdicts.{Sums, Decides, Judges, counted}
+use Rattle.hail_columns.specs.Verdicts.{Sums, Decides, Judges}
 use Rattle.hail_columns.proofs.PointLaws.{Apart-points}
 use Rattle.column_laws.proofs.Counts.{count_of-cover, agree-count}
 use Rattle.dispersal_code.proofs.Unique.{same_value}
 use Rattle.aggregate.proofs.RightRow.{right_row, IsRightRow-right_row}
 use Rattle.audit_verdict.specs.Rounds.{answer_of, is_right, wrong_answers, DiffersOnce, count_of_provider}
-use Rattle.audit_verdict.proofs.Places.{next_count, get_or-counted, length-bare_answers, get_or-bare_answers}
+use Rattle.audit_verdict.proofs.Places.{get_or-counted, length-bare_answers, get_or-bare_answers}
 use Rattle.audit_verdict.proofs.Picks.{honest-differ}
 
 -- a value is seen where it is the symbol

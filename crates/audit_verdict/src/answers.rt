@@ -10,8 +10,8 @@ use file_layout::FileShape;
 use hail_field::Symbol;
 use key_schedule::{Master, file_key, point, seed};
 
-/// The challenge of a round of audit `number` to a file.
-pub fn challenge(
+/// The challenge of a round of audit `number` to a file, which must have a row (`FileShape::rows`).
+pub fn round_challenge(
     master: &Master,
     file: &FileShape,
     number: u64,

@@ -6,7 +6,7 @@ ghost use Rattle.file_layout.specs.Files.{object_of};
 ghost use Rattle.record_codec.specs.Entries.{IsPadded};
 ghost use Rattle.audit_verdict.specs.Rounds.{sums_of};
 
-use crate::answers::{bare_answers_into, challenge, points_into};
+use crate::answers::{bare_answers_into, points_into, round_challenge};
 use crate::counting::count_wrong;
 use dispersal_code::open_row;
 use file_layout::FileShape;
@@ -51,7 +51,7 @@ pub fn judge_round(
     let mut all_points = [Symbol::ZERO; 16];
     let points = &mut all_points[..n];
     points_into(master, file, points);
-    let challenge = challenge(master, file, number, round, picks);
+    let challenge = round_challenge(master, file, number, round, picks);
     let mut all_answers = [None; 16];
     let answers = &mut all_answers[..n];
     bare_answers_into(master, file, &challenge, heard, answers);

@@ -6,6 +6,7 @@ mod counting;
 mod judge;
 pub mod laws;
 
+pub use answers::round_challenge;
 pub use judge::judge_round;
 pub use record_codec::Counts;
 

@@ -1,6 +1,7 @@
 //! `hail_bench WORK COUNT ..`: does a piece of hail's work, writes a checksum of its answers, and tells how long it took.
 #![tactic(auto)]
 
+mod audit;
 mod blocks;
 mod decode;
 mod encode;

@@ -33,8 +33,15 @@ impl Coded {
         let Some(file) = file_named(words) else {
             return Ok(None);
         };
+        Ok(Some(Coded::new(alloc, file)?))
+    }
+
+    /// A file with its code, which takes memory.
+    pub fn new(alloc: Global, file: FileShape) -> Result<Coded, Failure>
+        ensures { IfOk result (λ coded. coded.file ≡ file) }
+    {
         let code = AnyCode::new(alloc, file.profile)?;
-        Ok(Some(Coded { file, code }))
+        Ok(Coded { file, code })
     }
 
     /// Blocks of zeros, one a provider.
@@ -99,7 +106,7 @@ fn zeros(alloc: Global, count: usize, size: usize) -> Result<Vec<Block>, Failure
 }
 
 /// The shape that three words write.
-fn shape_named(n: &str, l: &str, b: &str) -> Option<Shape> {
+pub fn shape_named(n: &str, l: &str, b: &str) -> Option<Shape> {
     let n = n.parse::<u8>().ok()?;
     let l = l.parse::<u8>().ok()?;
     let b = b.parse::<u8>().ok()?;

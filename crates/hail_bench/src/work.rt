@@ -1,3 +1,4 @@
+use crate::audit::AuditWork;
 use crate::decode::DecodeWork;
 use crate::encode::EncodeWork;
 use crate::failure::Failure;
@@ -10,7 +11,7 @@ use std::fmt::{self, Display, Formatter, Write};
 
 /// The forms of a command line, a kind of work after another.
 pub const FORMS: &str =
-    "product|square|inverse COUNT, encode PROFILE BLOCKS, decode PROFILE BLOCKS ERRORS, or put-stripes|get-stripes N L B PROFILE BYTES";
+    "product|square|inverse COUNT, encode PROFILE BLOCKS, decode PROFILE BLOCKS ERRORS, put-stripes|get-stripes N L B PROFILE BYTES, or audit N L B ROUNDS PICKS";
 
 /// A piece of work that the words of a command line name. Each kind of work stands in a file of its own, as a type with `from_words`,
 /// `run` and `Display`; a further kind is one more variant here, and its forms in `FORMS`.
@@ -26,6 +27,8 @@ pub enum Work {
     Put(PutWork),
     /// Opening of a file's stripes.
     Get(GetWork),
+    /// Rounds of an audit of a file.
+    Audit(AuditWork),
 }
 
 impl Work {
@@ -46,6 +49,9 @@ impl Work {
         if let Some(work) = GetWork::from_words(alloc, words)? {
             return Ok(Some(Work::Get(work)));
         }
+        if let Some(work) = AuditWork::from_words(alloc, words)? {
+            return Ok(Some(Work::Audit(work)));
+        }
         Ok(None)
     }
 
@@ -57,6 +63,7 @@ impl Work {
             Work::Decode(work) => work.run(alloc),
             Work::Put(work) => work.run(alloc),
             Work::Get(work) => work.run(alloc),
+            Work::Audit(work) => work.run(alloc),
         }
     }
 }
@@ -69,6 +76,7 @@ impl Display for Work {
             Work::Decode(work) => write!(f, "{work}"),
             Work::Put(work) => write!(f, "{work}"),
             Work::Get(work) => write!(f, "{work}"),
+            Work::Audit(work) => write!(f, "{work}"),
         }
     }
 }
@@ -79,7 +87,7 @@ mod tests {
 
     #[test]
     fn does_the_work_that_is_named(rt: HostRuntime) {
-        let rows: [(&[&str], Option<u128>); 16] = [
+        let rows: [(&[&str], Option<u128>); 18] = [
             (&["product", "60"], Some(0xe7978f9a0a8b55eba3b120ca83c1579f)),
             (&["square", "60"], Some(0xf24dc31f95ee265573f96b936b77cfc9)),
             (
@@ -114,6 +122,11 @@ mod tests {
             (&["put-stripes", "5", "2", "2", "0", "1"], None),
             (&["put-stripes", "4", "1", "1", "5", "1"], None),
             (&["get-stripes", "4", "1", "1", "0", "4194305"], None),
+            (
+                &["audit", "4", "1", "1", "2", "3"],
+                Some(0x884a4135d531b39a05c9c968222a5b5e),
+            ),
+            (&["audit", "4", "1", "1", "65", "3"], None),
         ];
         for (words, want) in rows {
             let mut owned = Vec::new(rt.alloc());

@@ -1,6 +1,6 @@
 use Rattle.std.proofs.Common.{arith}
 use Rattle.hail_codes.proofs.Profiles.{size_is, some_kept, size-bound}
-use Rattle.audit_verdict.proofs.answers.challenge.Goals as goal
+use Rattle.audit_verdict.proofs.answers.round_challenge.Goals as goal
 
 pub invariant_of-result : goal.invariant_of-result
 invariant_of-result c =

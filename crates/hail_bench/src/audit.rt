@@ -1,0 +1,225 @@
+//! Rounds of an audit of a file, in memory.
+ghost use Rattle.std.specs.Prelude.{◌≡◌, ◌≤◌, ◌<◌, ◌+◌, ◌*◌, ℕ, IfOk, length, slice_get, slice_index};
+ghost use Rattle.hail_columns.specs.Objects.{stripes};
+ghost use Rattle.hail_columns.specs.Challenges.{symbol_at as symbol_at_of};
+ghost use Rattle.file_layout.specs.Files.{object_of};
+ghost use Rattle.hail_bench.specs.declared.stripes.TheConstants.{MASTER};
+
+use crate::blocks::mix;
+use crate::failure::Failure;
+use crate::outcome::Outcome;
+use crate::stripes::{Coded, MASTER, shape_named};
+use aggregate::{Blocks, answer};
+use audit_verdict::{Counts, judge_round, round_challenge};
+use code_points::find_profile;
+use column_codec::{Block, ObjectKeys};
+use file_layout::FileShape;
+use hail_field::Symbol;
+use hail_poly::Work;
+use std::alloc::Global;
+use std::fmt::{self, Display, Formatter, Write};
+
+/// How many bytes the audited file has.
+const BYTES: u32 = 65_536;
+
+/// The number of the audit.
+const AUDIT: u64 = 1;
+
+/// The blocks that one provider holds of the file, by stripe.
+#[derive(Drop)]
+struct Held {
+    blocks: Vec<Block>,
+}
+
+/// The symbol at a place of a block, none where the block is not of the size.
+fn symbol_at(block: &[Symbol], place: u32, size: u32) -> Option<Symbol>
+    requires { place < size }
+    ensures { result ≡ symbol_at_of size place (Some block.now) }
+{
+    if block.len() == size as usize {
+        Some(block[place as usize])
+    } else {
+        None
+    }
+}
+
+impl Blocks for Held {
+    ghost held = { λ held stripe. slice_get held.blocks.items stripe };
+
+    fn at(&self, stripe: u32, place: u32, size: u32) -> Option<Symbol> {
+        match self.blocks.get(stripe as usize) {
+            Some(block) => symbol_at(block.symbols(), place, size),
+            None => None,
+        }
+    }
+}
+
+/// Rounds of an audit of a file of 65,536 bytes at profile 4, of which all providers hold what they are to hold.
+#[derive(Drop)]
+pub struct AuditWork {
+    coded: Coded,
+    providers: Vec<Held>,
+    rounds: u32,
+    picks: u32,
+    ghost all: { length providers.items ≡ coded.file.shape.n },
+    ghost some_rows: { 1 ≤ stripes (object_of MASTER.0 coded.file) coded.file.length * coded.file.profile.size },
+    ghost few_rounds: { rounds ≤ 64 },
+    ghost some_picks: { 1 ≤ picks },
+    ghost few_picks: { picks ≤ 64 },
+}
+
+/// What a provider is to hold of a file of these bytes.
+fn held_by(
+    alloc: Global,
+    coded: &Coded,
+    keys: &ObjectKeys,
+    bytes: &[u8],
+    provider: usize,
+) -> Result<Held, Failure>
+    requires file { keys.now.file ≡ coded.now.file }
+    requires provider { provider < coded.now.file.shape.n }
+{
+    let mut blocks = Vec::new(alloc);
+    for stripe in 0..coded.file.stripes() {
+        let mut rows = coded.rows(alloc)?;
+        keys.symbols_into(stripe, bytes, &mut rows);
+        let mut block = Block::zeros(alloc, coded.file.profile.size as usize)?;
+        keys.column_into(&coded.code, stripe, &rows, provider, block.symbols_mut());
+        blocks.push(block)?;
+    }
+    Ok(Held { blocks })
+}
+
+/// What all providers are to hold of a file.
+fn all_held(alloc: Global, coded: &Coded) -> Result<Vec<Held>, Failure>
+    ensures { IfOk result (λ providers. length providers.items ≡ coded.now.file.shape.n) }
+{
+    let bytes = coded.bytes(alloc)?;
+    let keys = ObjectKeys::new(&MASTER, &coded.file);
+    let mut providers = Vec::new(alloc);
+    for provider in 0..usize::from(coded.file.shape.n) {
+        let next = held_by(alloc, coded, &keys, &bytes, provider)?;
+        providers.push(next)?;
+    }
+    Ok(providers)
+}
+
+/// The file that is audited, over as many providers as three words write, and no other number.
+fn file_over(n: &str, l: &str, b: &str) -> Option<FileShape> {
+    let shape = shape_named(n, l, b)?;
+    let profile = find_profile(4)?;
+    Some(FileShape {
+        id: 1,
+        length: BYTES,
+        shape,
+        profile,
+    })
+}
+
+impl AuditWork {
+    /// The work that these words name: `audit`, a shape, a count of rounds and one of picks, each at most 64. Makes the blocks.
+    pub fn from_words(alloc: Global, words: &[String]) -> Result<Option<AuditWork>, Failure> {
+        let [name, n, l, b, rounds, picks] = words else {
+            return Ok(None);
+        };
+        if name.as_str() != "audit" {
+            return Ok(None);
+        }
+        let (Some(file), Ok(rounds), Ok(picks)) = (
+            file_over(n, l, b),
+            rounds.parse::<u32>(),
+            picks.parse::<u32>(),
+        ) else {
+            return Ok(None);
+        };
+        let coded = Coded::new(alloc, file)?;
+        AuditWork::ready(alloc, coded, rounds, picks)
+    }
+
+    /// So many rounds and picks of a file, if there are at most 64 and the file has a row. Makes the blocks.
+    fn ready(
+        alloc: Global,
+        coded: Coded,
+        rounds: u32,
+        picks: u32,
+    ) -> Result<Option<AuditWork>, Failure> {
+        if rounds > 64 || picks < 1 || picks > 64 || coded.file.rows() < 1 {
+            return Ok(None);
+        }
+        let providers = all_held(alloc, &coded)?;
+        Ok(Some(AuditWork {
+            coded,
+            providers,
+            rounds,
+            picks,
+        }))
+    }
+
+    /// Asks all providers in a round, and judges what they answer. The checksum goes on over the answers.
+    fn judge(
+        &self,
+        round: u32,
+        start: u128,
+        counts: &mut Counts,
+        undecided: &mut u32,
+        work: &mut Work,
+    ) -> u128
+        requires round { round < 64 }
+        requires n { counts.old.n ≡ self.now.coded.file.shape.n }
+        requires counts { (j : ℕ) → slice_index counts.old.by j ≤ round }
+        requires undecided { undecided.old ≤ round }
+        requires room { 16 ≤ work.old.size }
+        ensures n { counts.new.n ≡ counts.old.n }
+        ensures counts { (j : ℕ) → slice_index counts.new.by j ≤ round + 1 }
+        ensures undecided { undecided.new ≤ round + 1 }
+        ensures room { work.new.size ≡ work.old.size }
+    {
+        let file = &self.coded.file;
+        let challenge = round_challenge(&MASTER, file, AUDIT, round, self.picks);
+        let mut heard = [None; 16];
+        let mut sum = start;
+        for j in 0..self.providers.len() {
+            heard[j] = answer(&challenge, &self.providers[j]);
+            sum = mix(sum, heard[j].unwrap_or(Symbol::ZERO));
+        }
+        let heard = &heard[..self.providers.len()];
+        judge_round(
+            &MASTER, file, AUDIT, round, self.picks, heard, counts, undecided, work,
+        );
+        sum
+    }
+
+    /// Does the rounds. The checksum is of each answer, then of each provider's count, and of how many rounds were undecided.
+    pub fn run(&self, alloc: Global) -> Result<Outcome, Failure>
+        ensures { IfOk result (λ outcome. outcome.count ≡ self.now.rounds) }
+    {
+        let mut work = Work::new(alloc, 16)?;
+        let mut counts = Counts {
+            n: self.coded.file.shape.n,
+            by: [0; 16],
+        };
+        let mut undecided = 0;
+        let mut sum = 0;
+        for round in 0..self.rounds {
+            sum = self.judge(round, sum, &mut counts, &mut undecided, &mut work);
+        }
+        for count in counts.by {
+            sum = mix(sum, Symbol(u128::from(count)));
+        }
+        Ok(Outcome {
+            count: self.rounds,
+            checksum: mix(sum, Symbol(u128::from(undecided))),
+        })
+    }
+}
+
+impl Display for AuditWork {
+    fn fmt<W: Write>(&self, f: &mut Formatter<W>) -> fmt::Result {
+        let shape = self.coded.file.shape;
+        write!(
+            f,
+            "audit {} {} {} {} {}",
+            shape.n, shape.l, shape.b, self.rounds, self.picks
+        )
+    }
+}
