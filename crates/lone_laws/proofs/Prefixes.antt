@@ -1,19 +1,18 @@
 -- The first part of a job's list of actions does not depend on what the job decides at the end of it.
-use Rattle.std.proofs.Common.{◌≡◌, ℕ, zero, suc, ◌+◌, ◌-◌, ◌<◌, ◌≤◌, List, [], ◌∷◌, ◌++◌, length, take, drop, None, Some, refl, ap, sym, subst, ◌∙◌, inl, inr, arith}
+use Rattle.std.proofs.Common.{◌≡◌, ℕ, zero, suc, ◌+◌, ◌-◌, ◌<◌, ◌≤◌, List, [], ◌∷◌, ◌++◌, length, take, drop, None, Some, refl, ap, sym, ◌∙◌, inl, inr, arith}
 use Rattle.std.specs.Prelude.{slice_get}
 use Rattle.std.proofs.Math.Seq.{drop-append-add}
 use Rattle.std.proofs.lemmas.Bool.{cases_lt}
 use Rattle.hail_records.specs.Records.{Setup}
-use Rattle.hail_machine.specs.Jobs.{Kind, PutJob, GetJob, DropJob, AuditJob, RepairJob, Job, advanced}
-use Rattle.hail_machine.specs.Actions.{Action, WriteBody, SyncBody, WriteGate, SyncGate, Store, Fetch, Ask, Work, Remove, End, append_actions, store_actions, ask_actions, repair_actions, actions_by, actions_of, actions_left, appends_left}
+use Rattle.hail_machine.specs.Jobs.{Kind, PutJob, GetJob, DropJob, AuditJob, RepairJob, Job}
+use Rattle.hail_machine.specs.Actions.{Action, SyncBody, WriteGate, SyncGate, End, append_actions, store_actions, ask_actions, repair_actions, actions_by, actions_of, appends_left}
 use Rattle.hail_machine.specs.States.{State, setup_in}
 use Rattle.hail_machine.specs.Space.{append_sizes}
 use Rattle.hail_machine.specs.Steps.{next_action}
 use Rattle.hail_machine.proofs.ActionLists.{split_get}
 use Rattle.hail_machine.proofs.Fair.{gate_place}
-use Rattle.sound_states.proofs.Orders.{others-repairs, put_rest, drop_rest, audit_rest, put-list, audit-list, appends_in, appends-append, appends-move, appends-cons, appends-others, appends-removals, next-listed, put-first, put-later, audit-first, drop-first, repair-first, get-none}
-use Rattle.sound_states.proofs.Going.{onward, actions-onward}
-use Rattle.sound_states.proofs.Gates.{decided, drop-list, put-behind, drop-gate, audit-same, repair-same}
+use Rattle.sound_states.proofs.Orders.{others-repairs, put_rest, drop_rest, audit_rest, put-list, audit-list, appends_in, appends-append, appends-move, appends-others, appends-removals, next-listed, put-first, audit-first, get-none}
+use Rattle.sound_states.proofs.Gates.{decided, drop-list, drop-gate, audit-same, repair-same}
 use Rattle.lone_laws.proofs.Lists.{take-append-add}
 
 -- behind the second append of a put nothing of the part before depends on what is taken away
@@ -61,7 +60,7 @@ module _ (w : State) (job : Job) (older : List ℕ) (next : next_action w job �
 
 -- ---- how many appends a job has left at its begin
 
-repair-list : (s : Setup) (job : Job) → job.kind ≡ RepairJob → actions_of s job ≡ repair_actions s job ++ (append_actions ++ End ∷ [])
+pub repair-list : (s : Setup) (job : Job) → job.kind ≡ RepairJob → actions_of s job ≡ repair_actions s job ++ (append_actions ++ End ∷ [])
 unfolding actions_of
 repair-list s job kind = ap (actions_by s job) kind
 
@@ -80,7 +79,7 @@ appends-whole w job RepairJob kind first =
 -- ---- an audit whose appends are done
 
 -- behind the first appends of a list, an element before the second has it still before it
-audit-within : (xs : List Action) (p : ℕ) → p < length xs → 0 < appends_in (drop p (xs ++ (append_actions ++ End ∷ [])))
+pub audit-within : (xs : List Action) (p : ℕ) → p < length xs → 0 < appends_in (drop p (xs ++ (append_actions ++ End ∷ [])))
 audit-within [] p l = absurd (omega (arith, l))
 audit-within (x ∷ xs) zero l = (let a = appends-append (x ∷ xs) (append_actions ++ End ∷ []) in let b = appends-move (End ∷ []) in omega (arith, a, b))
 audit-within (x ∷ xs) (suc p) l = audit-within xs p (omega (arith, l))

@@ -1,16 +1,16 @@
 -- A job that runs alone: its begin, and each of its steps that goes on.
-use Rattle.std.proofs.Common.{◌≡◌, ℕ, zero, suc, ◌+◌, ◌-◌, ◌<◌, ◌≤◌, ◌^◌, ◌==◌, ◌⊎◌, ◌||◌, Bool, true, false, cond, List, [], ◌∷◌, ◌++◌, length, take, drop, Option, Some, None, refl, ap, sym, subst, ◌∙◌, inl, inr, arith}
+use Rattle.std.proofs.Common.{◌≡◌, ℕ, ◌+◌, ◌<◌, ◌≤◌, ◌==◌, ◌⊎◌, ◌||◌, Bool, false, cond, List, [], ◌∷◌, ◌++◌, length, take, Option, Some, None, refl, ap, sym, subst, ◌∙◌, inl, inr, arith}
 use Rattle.std.specs.Prelude.{slice_get}
 use Rattle.std.specs.List.{list_any}
-use Rattle.std.proofs.lemmas.Bool.{cases_Bool, cases_lt, cases_eq, eq-eqb, false≢true}
+use Rattle.std.proofs.lemmas.Bool.{cases_lt, cases_eq, eq-eqb}
 use Rattle.hail_columns.specs.Challenges.{honest_answer}
 use Rattle.hail_columns.specs.Columns.{columns, column_of_symbols}
 use Rattle.hail_columns.specs.Opened.{GivesSymbols}
 use Rattle.hail_columns.specs.Verdicts.{Sums}
-use Rattle.hail_records.specs.Records.{Setup, Record, PutStart, PutDone, Drop, AuditStart, AuditDone, RepairDone}
-use Rattle.hail_records.specs.Table.{File, next_id, next_audit, file_of, due_of}
+use Rattle.hail_records.specs.Records.{Setup, Record, PutStart, PutDone, AuditStart, AuditDone, RepairDone}
+use Rattle.hail_records.specs.Table.{File, next_id, next_audit, file_of}
 use Rattle.hail_devices.specs.Providers.{Provider}
-use Rattle.hail_devices.specs.ProviderCalls.{Stores, Fetches, Asks, Removes}
+use Rattle.hail_devices.specs.ProviderCalls.{Stores, Fetches, Asks}
 use Rattle.hail_machine.specs.Jobs.{Kind, PutJob, GetJob, DropJob, AuditJob, RepairJob, Pinned, Given, Fetched, Answered, Worked, Job, job_of, with_job, advanced}
 use Rattle.hail_machine.specs.Setups.{object_of}
 use Rattle.hail_machine.specs.Actions.{Action, WriteBody, SyncBody, WriteGate, SyncGate, Store, Fetch, Ask, Work, Remove, End, append_actions, ends_append, actions_of, appends_left}
@@ -18,15 +18,15 @@ use Rattle.hail_machine.specs.Audits.{challenge_in, HasSums}
 use Rattle.hail_machine.specs.Given.{blocks_given, symbols_given, pinned_size}
 use Rattle.hail_machine.specs.Answers as answer
 use Rattle.hail_machine.specs.Events.{Step, Begun, More, Ended, Waiting, IsSpelledKind, Outcome}
-use Rattle.hail_machine.specs.States.{State, Append, Doubt, setup_in, file_in, object_in, with_provider, going_on}
-use Rattle.hail_machine.specs.Begins.{Begins, due_number, due_flags, pinned_for, subject_at_begin, new_job}
+use Rattle.hail_machine.specs.States.{State, Append, Doubt, setup_in, file_in, with_provider, going_on}
+use Rattle.hail_machine.specs.Begins.{Begins, pinned_for, new_job}
 use Rattle.hail_machine.specs.Appends.{Writes, is_pinned, removable, taken_out, subject_drawn, is_first_append, begun_append, done_append, Moves}
 use Rattle.hail_machine.specs.Steps.{block_to_store, next_action, holder_of, Acts, ActsOrWaits, StepsOn, StepsJob, StepsOpen, Steps}
 use Rattle.hail_machine.specs.Machine.{Happens}
 use Rattle.hail_machine.proofs.JobLists.{cond_true, cond_false, same_value}
 use Rattle.hail_machine.proofs.Numbers.{next_by, next_is_by, first_above, first_below, drawn_later}
 use Rattle.hail_machine.proofs.PinFacts.{setup_same}
-use Rattle.sound_states.specs.Sound.{IsSound, IsAtRest}
+use Rattle.sound_states.specs.Sound.{IsSound}
 use Rattle.sound_states.proofs.Orders.{gates, next-listed, body-within, put_rest, audit_rest, put-list, audit-list, put-first, put-later, audit-first, audit-later, drop-first, repair-first}
 use Rattle.sound_states.proofs.Records.{some-none, setup-more}
 use Rattle.sound_states.proofs.Written.{body-left}
@@ -38,7 +38,7 @@ use Rattle.sound_states.proofs.Going.{onward, actions-onward, count-onward}
 use Rattle.sound_states.proofs.Begun.{begun-job}
 use Rattle.sound_states.proofs.Resting.{rest-sound}
 use Rattle.sound_states.proofs.Events.{events-sound}
-use Rattle.lone_laws.specs.Made.{With, block_stored, challenge_made, CallsOne, Did, Made}
+use Rattle.lone_laws.specs.Made.{block_stored, Did, Made}
 use Rattle.lone_laws.specs.Walked.{IsOpened, appends_of, first_record, IsSecondRecord, HasSubject, RecordsAre, with_job_of, TakesAway, Walked}
 use Rattle.lone_laws.proofs.Lists.{take-more, made-append, made-one}
 use Rattle.lone_laws.proofs.Prefixes.{same-front, appends-whole, audit-over}
@@ -110,7 +110,7 @@ module _ (start : State) (O : IsOpened start) (kind : Kind) (w : State) (job : J
       on (Some action) e h = waits action (holder_of w.append action) r not_waiting e refl h
 
   -- a put or an audit at its start makes the first move of its append
-  first-body : (action : Action) → next_action w job ≡ Some action → (action ≡ WriteBody → ⊥) → (kd : Kind) → kind ≡ kd → ((name bytes : List ℕ) → kd ≡ PutJob name bytes → 1 ≤ job.place) × (kd ≡ AuditJob → 1 ≤ job.place)
+  pub first-body : (action : Action) → next_action w job ≡ Some action → (action ≡ WriteBody → ⊥) → (kd : Kind) → kind ≡ kd → ((name bytes : List ℕ) → kd ≡ PutJob name bytes → 1 ≤ job.place) × (kd ≡ AuditJob → 1 ≤ job.place)
   first-body action next n kd e = (
     λ name bytes put. elim (cases_eq job.place 0) [
       | inl zero_place ↦ absurd (n (same_value (next_action w job) action WriteBody next
@@ -205,7 +205,7 @@ module _ (start : State) (O : IsOpened start) (kind : Kind) (w : State) (job : J
 
   -- ---- the records of the job
 
-  left-start : (left : ℕ) → appends_left (setup_in w) job ≡ left → appends_left (setup_in start) job ≡ left
+  pub left-start : (left : ℕ) → appends_left (setup_in w) job ≡ left → appends_left (setup_in start) job ≡ left
   left-start left e = subst (λ (s : Setup). appends_left s job ≡ left) W.setup e
 
   -- the record that the job writes, by how many of its records are in effect
@@ -213,7 +213,7 @@ module _ (start : State) (O : IsOpened start) (kind : Kind) (w : State) (job : J
     first : appends_left (setup_in w) job ≡ appends_of start kind → w.records ≡ start.records → entry ≡ first_record start kind → Wrote entry
     second : appends_left (setup_in w) job + 1 ≡ appends_of start kind → w.records ≡ first_record start kind ∷ start.records → IsSecondRecord start job kind entry → Wrote entry
 
-  all-left : (kd : Kind) (k : ℕ) → kind ≡ kd → appends_of start kd ≡ k → appends_left (setup_in w) job ≡ k → w.records ≡ start.records
+  pub all-left : (kd : Kind) (k : ℕ) → kind ≡ kd → appends_of start kd ≡ k → appends_left (setup_in w) job ≡ k → w.records ≡ start.records
   all-left kd k e count left = records-by w.records W.records
     where
       total : appends_of start kind ≡ k
@@ -224,7 +224,7 @@ module _ (start : State) (O : IsOpened start) (kind : Kind) (w : State) (job : J
       records-by rs (RecordsAre.one l is) = absurd (let f = left-start k left in omega (arith, f, l, total))
       records-by rs (RecordsAre.two entry l sec is) = absurd (let f = left-start k left in omega (arith, f, l, total))
 
-  one-left : (kd : Kind) (k : ℕ) → kind ≡ kd → appends_of start kd ≡ k + 1 → appends_left (setup_in w) job ≡ k → w.records ≡ first_record start kind ∷ start.records
+  pub one-left : (kd : Kind) (k : ℕ) → kind ≡ kd → appends_of start kd ≡ k + 1 → appends_left (setup_in w) job ≡ k → w.records ≡ first_record start kind ∷ start.records
   one-left kd k e count left = records-by w.records W.records
     where
       total : appends_of start kind ≡ k + 1
@@ -519,5 +519,5 @@ module _ (start : State) (O : IsOpened start) (kind : Kind) (w : State) (job : J
       (let a = step-acts More new (λ n e. absurd (let f : More ≡ Waiting n = e in cc)) h in
       acts-walk a.0 new a.1 a.2 a.3 (events-sound 8 moment w W.sound (Step 1) More new (omega arith) h))
 
-  pub walk-last : (moment : ℕ) (new : State) (how : answer.Answer) → Happens 8 moment w (Step 1) (Ended how) new → (action : Action) × (next_action w job ≡ Some action) × Acts w job action (Ended how) new
-  walk-last moment new how h = (let a = step-acts (Ended how) new (λ n e. absurd (let f : Ended how ≡ Waiting n = e in cc)) h in (a.0, a.1, a.3))
+  pub walk-last : (moment : ℕ) (new : State) (how : answer.Answer) → Happens 8 moment w (Step 1) (Ended how) new → (action : Action) × (next_action w job ≡ Some action) × (holder_of w.append action ≡ None) × Acts w job action (Ended how) new
+  walk-last moment new how h = (let a = step-acts (Ended how) new (λ n e. absurd (let f : Ended how ≡ Waiting n = e in cc)) h in (a.0, a.1, a.2, a.3))

@@ -6,13 +6,14 @@
 --   IsSecondRecord w job kind entry  == the second one: a put's end, or an audit's end with the sums of all that it heard
 --   HasSubject w kind job    == the number of the job: that of a put or an audit from its first move on, that of a repair
 --   RecordsAre w kind job rs == of the job's records those are in effect whose appends are done
+--   TakesAway w kind job     == the object that a put or a drop takes away, once its last append is done
 --   with_job_of w kind job   == what the actions of a job of this kind are made with that began in this state
 --   Walked start kind w job  == this is the state, and the job in it, after some steps that went on, since the job began in `start`
-use Rattle.std.specs.Prelude.{◌≡◌, ◌⊎◌, ℕ, ◌+◌, ◌≤◌, true, false, List, [], ◌∷◌, length, take, Option, None, Some}
+use Rattle.std.specs.Prelude.{◌≡◌, ℕ, ◌+◌, ◌≤◌, true, false, List, [], ◌∷◌, length, take}
 use Rattle.hail_columns.specs.Verdicts.{Sums}
 use Rattle.hail_records.specs.Records.{Record, PutStart, PutDone, Drop, AuditStart, AuditDone, RepairDone}
 use Rattle.hail_records.specs.Table.{next_id, next_audit, due_of}
-use Rattle.hail_machine.specs.Jobs.{Kind, PutJob, GetJob, DropJob, AuditJob, RepairJob, Job}
+use Rattle.hail_machine.specs.Jobs.{Kind, PutJob, DropJob, AuditJob, RepairJob, Job}
 use Rattle.hail_machine.specs.Actions.{actions_of, appends_left}
 use Rattle.hail_machine.specs.States.{State, setup_in, file_in}
 use Rattle.hail_machine.specs.Space.{append_sizes}

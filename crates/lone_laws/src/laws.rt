@@ -1,12 +1,12 @@
 //! A job that runs alone: its begin, its steps, and its last one.
-ghost use Rattle.std.specs.Prelude.{◌≡◌, ℕ, Some};
+ghost use Rattle.std.specs.Prelude.{◌≡◌, ℕ, Some, None};
 ghost use Rattle.hail_machine.specs.Jobs.{Kind, Job, job_of};
 ghost use Rattle.hail_machine.specs.Actions.{Action};
 ghost use Rattle.hail_machine.specs.Answers.{Answer};
 ghost use Rattle.hail_machine.specs.Events.{Step, Begun, More, Ended, IsSpelledKind};
 ghost use Rattle.hail_machine.specs.States.{State};
 ghost use Rattle.hail_machine.specs.Begins.{Begins};
-ghost use Rattle.hail_machine.specs.Steps.{next_action, Acts};
+ghost use Rattle.hail_machine.specs.Steps.{next_action, holder_of, Acts};
 ghost use Rattle.hail_machine.specs.Machine.{Happens};
 ghost use Rattle.lone_laws.specs.Walked.{IsOpened, Walked};
 
@@ -26,5 +26,6 @@ pub fn steps_walk()
 pub fn last_steps_act()
     ensures { (moment : ℕ) (start w new : State) (kind : Kind) (job : Job) (answer : Answer) → IsOpened start → Walked start kind w job →
         Happens 8 moment w (Step 1) (Ended answer) new →
-        (job_of w.jobs 1 ≡ Some job) × ((action : Action) × (next_action w job ≡ Some action) × Acts w job action (Ended answer) new) }
+        (job_of w.jobs 1 ≡ Some job) × ((action : Action) × (next_action w job ≡ Some action) × (holder_of w.append action ≡ None)
+        × Acts w job action (Ended answer) new) }
 {}

@@ -94,7 +94,7 @@ module _ (limit : ℕ) (old : State) (kind : Kind) (allowed : begin_refusal limi
       none None h = refl
       none (Some d) h = absurd (false≢true (sym h))
 
-  begun-repair : kind ≡ RepairJob → is_some (due_of old.records) ≡ true
+  pub begun-repair : kind ≡ RepairJob → is_some (due_of old.records) ≡ true
   begun-repair e = not-false (is_some (due_of old.records)) ((none-applies (causes limit old RepairJob) (ap (begin_refusal limit old) (sym e) ∙ allowed)).1.1.0)
 
   -- the journal has room for all its records

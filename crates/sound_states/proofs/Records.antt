@@ -8,6 +8,7 @@ use Rattle.hail_records.specs.Records.{Setup, Record, SetUp, PutStart, PutDone, 
 use Rattle.hail_records.specs.Journal.{text_size}
 use Rattle.hail_records.specs.Table.{File, Due, setup_of, next_id, next_audit, started_as, is_same_name, is_start_of, file_of, due_of, exceeds}
 use Rattle.hail_records.specs.Acceptance as no
+use Rattle.hail_records.proofs.FilesLaws.{same-eq}
 use Rattle.hail_records.specs.Acceptance.{Refused, refused, AreAccepted}
 use Rattle.hail_machine.specs.Events.{AreBytes}
 use Rattle.hail_machine.proofs.JobLists.{cond_true, cond_false, same_value}
@@ -155,13 +156,7 @@ started-spelled (RepairDone number ∷ rs) id name g h = started-spelled rs id n
 -- the start that a put's end is of
 pub start-named : (q : List ℕ) (o : Option (List ℕ)) → is_start_of q o ≡ true → o ≡ Some q
 start-named q None h = absurd (false≢true h)
-start-named q (Some name) h = ap Some (same-name name q h)
-  where
-    same-name : (xs ys : List ℕ) → is_same_name xs ys ≡ true → xs ≡ ys
-    same-name [] [] h = refl
-    same-name [] (y ∷ ys) h = absurd (false≢true h)
-    same-name (x ∷ xs) [] h = absurd (false≢true h)
-    same-name (x ∷ xs) (y ∷ ys) h = grind (arith, h, same-name xs ys)
+start-named q (Some name) h = ap Some (same-eq name q h)
 
 -- what is told of a file in effect: it was so before, or the record that came is the end of a put of that name, with its number and size
 pub file-came : (r : Record) (rs : List Record) (name : List ℕ) (file : File) → file_of (r ∷ rs) name ≡ Some file →

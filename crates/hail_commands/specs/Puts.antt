@@ -1,0 +1,41 @@
+-- What a put leaves whose job was the only one.
+--
+--   put_records records name size   == the records that it appends, the oldest first, of the next number
+--   PutLeaves x name bytes answer   == what it leaves where it ended with this answer
+use Rattle.std.specs.Prelude.{ℕ, ◌<◌, List, [], ◌∷◌, length}
+use Rattle.hail_columns.specs.Objects.{Object}
+use Rattle.hail_devices.specs.Faults.{Rose}
+use Rattle.hail_records.specs.Records.{Record, PutStart, PutDone}
+use Rattle.hail_records.specs.Table.{next_id, file_of}
+use Rattle.hail_machine.specs.Setups.{object_of}
+use Rattle.hail_machine.specs.Answers.{Answer, Put, ProviderFault, DiskFault, Memory}
+use Rattle.hail_commands.specs.Ran.{Ran, setup_at_begin, EachHeldGoes, IsWhole, IsCut, IsCutInDoubt}
+use Rattle.hail_commands.specs.Blocks.{StoredOn, PartlyStored}
+
+-- the records that a put appends, the oldest first
+abbrev pub put_records : List Record → List ℕ → ℕ → List Record
+put_records records name size = PutStart (next_id records) name ∷ PutDone (next_id records) size ∷ []
+
+-- the object of the put
+abbrev pub object_put : Ran → Object
+object_put x = object_of (setup_at_begin x) (next_id x.records)
+
+-- the file is stored on each provider, and one that the name had before is taken away
+abbrev pub StoresFile : Ran → List ℕ → List ℕ → Type 0
+StoresFile x name bytes =
+    EachHeldGoes x (λ j. StoredOn (object_put x) bytes (file_of x.records name) (Rose (x.old j).other_faults (x.new j).other_faults) j)
+
+-- some blocks of the file may be stored, under a number that is not used again; all else is as before
+abbrev pub StoresPart : Ran → List ℕ → Type 0
+StoresPart x bytes = EachHeldGoes x (PartlyStored (object_put x) bytes)
+
+-- what a put leaves
+abbrev pub PutLeaves : Ran → List ℕ → List ℕ → Answer → Type 0
+PutLeaves x name bytes Put = IsWhole x (put_records x.records name (length bytes)) × StoresFile x name bytes
+PutLeaves x name bytes (ProviderFault j) =
+    (j < (setup_at_begin x).n) × Rose (x.old j).store_faults (x.new j).store_faults
+    × IsWhole x (PutStart (next_id x.records) name ∷ []) × StoresPart x bytes
+PutLeaves x name bytes DiskFault =
+    Rose x.disk_before x.disk_after × IsCutInDoubt x (put_records x.records name (length bytes)) × StoresPart x bytes
+PutLeaves x name bytes Memory = IsCut x (put_records x.records name (length bytes)) × StoresPart x bytes
+PutLeaves x name bytes answer = ⊥

@@ -1,0 +1,35 @@
+//! Worked rows: values of the definitions, computed by the checker.
+ghost use Rattle.std.specs.Prelude.{◌≡◌, ℕ, ◌+◌, ◌^◌, List, [], ◌∷◌, ◌++◌, length, codes, replicate, Some, None};
+ghost use Rattle.hail_records.specs.Records.{Setup, SetUp, PutStart, PutDone, AuditStart, AuditDone};
+ghost use Rattle.hail_records.specs.Table.{files_of};
+ghost use Rattle.hail_machine.specs.Jobs.{PutJob, GetJob, DropJob, AuditJob, RepairJob};
+ghost use Rattle.hail_machine.specs.Answers.{Put, Got, Dropped, Audited, Repaired, DiskFault};
+ghost use Rattle.hail_machine.specs.Refusals.{BadName, TooLong, NoSuchName, RepairDue, NothingDue};
+ghost use Rattle.hail_machine.specs.Examples.{six, one_file, flagged_file, hundred};
+ghost use Rattle.hail_commands.specs.Lines.{ready_line, list_lines, text_of};
+ghost use Rattle.hail_commands.specs.Refusals.{refusal_of};
+
+/// What the commands write.
+pub fn lines()
+    ensures ready { ready_line ≡ codes "ready" ++ 10 ∷ [] }
+    ensures stored { text_of 0 (PutJob (codes "notes.txt") hundred) Put ≡ codes "stored notes.txt 100" ++ 10 ∷ [] }
+    ensures got { text_of 0 (GetJob (codes "notes.txt")) (Got hundred) ≡ hundred }
+    ensures dropped { text_of 0 (DropJob (codes "a")) Dropped ≡ codes "dropped a" ++ 10 ∷ [] }
+    ensures audited { text_of 0 AuditJob (Audited 1 0 (4 ∷ 0 ∷ []))
+        ≡ codes "audit 1 undecided 0" ++ 10 ∷ codes "provider 0 count 4 flagged" ++ 10 ∷ codes "provider 1 count 0 ok" ++ 10 ∷ [] }
+    ensures repaired { text_of 0 RepairJob (Repaired 1) ≡ codes "repaired 1" ++ 10 ∷ [] }
+    ensures listed { list_lines (files_of one_file) ≡ codes "notes.txt 100" ++ 10 ∷ [] }
+    ensures fault { text_of 0 (GetJob (codes "notes.txt")) DiskFault ≡ [] }
+{}
+
+/// Why jobs are refused, in order.
+pub fn refusals()
+    ensures bad_name { refusal_of one_file (PutJob (codes "a/b") hundred) ≡ Some BadName }
+    ensures stored { refusal_of one_file (PutJob (codes "a") hundred) ≡ None }
+    ensures no_name { refusal_of one_file (GetJob (codes "a")) ≡ Some NoSuchName }
+    ensures bad_before_none { refusal_of one_file (DropJob []) ≡ Some BadName }
+    ensures got { refusal_of one_file (GetJob (codes "notes.txt")) ≡ None }
+    ensures due { refusal_of flagged_file AuditJob ≡ Some RepairDue }
+    ensures repaired { refusal_of flagged_file RepairJob ≡ None }
+    ensures nothing_due { refusal_of one_file RepairJob ≡ Some NothingDue }
+{}
