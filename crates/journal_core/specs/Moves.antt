@@ -6,8 +6,10 @@
 --   IsGivenUp n front body cells     after a fault of the move that came after n
 --   AllStandFor rs told              each image of the disk stands for these records
 --   MayStandFor rs r told            each image stands for these records, or for these with one more
-use Rattle.std.specs.Prelude.{◌≡◌, ◌≢◌, ◌⊎◌, ℕ, zero, suc, true, false, List, ◌∷◌, ◌++◌, Option}
-use Rattle.hail_devices.specs.Cells.{Cells, firm, loose}
+--   SameFrom at old new              what is read from an offset on is as before, also where it lies past an end
+--   IsWrite moves                    the move that comes after so many is a write
+use Rattle.std.specs.Prelude.{◌≡◌, ◌≢◌, ◌⊎◌, ℕ, zero, suc, true, false, List, ◌∷◌, ◌++◌, drop, Option}
+use Rattle.hail_devices.specs.Cells.{Cells, reads, firm, loose}
 use Rattle.hail_devices.specs.Images.{EachImage}
 use Rattle.hail_records.specs.Records.{Record}
 use Rattle.hail_records.specs.Journal.{StandsFor}
@@ -45,3 +47,11 @@ AllStandFor rs told = EachImage told (λ image. StandsFor image rs)
 -- each image stands for these records, or for these and one more
 abbrev pub MayStandFor : List Record → Record → Option Cells → Type 0
 MayStandFor rs r told = EachImage told (λ image. StandsFor image rs ⊎ StandsFor image (r ∷ rs))
+
+-- what is read from an offset on is as before
+abbrev pub SameFrom : ℕ → Cells → Cells → Type 0
+SameFrom at old new = drop at (reads new) ≡ drop at (reads old)
+
+-- the move that comes after so many is a write
+abbrev pub IsWrite : ℕ → Type 0
+IsWrite moves = (moves ≡ 0) ⊎ (moves ≡ 2)

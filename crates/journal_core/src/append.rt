@@ -1,11 +1,12 @@
 ghost use Rattle.std.specs.Prelude.{◌≡◌, ◌+◌, ◌^◌, ◌<◌, ◌≤◌, ◌++◌, [], ◌∷◌, ℕ, List, length, drop, OnOk, OnErr, IfSome, IfOk, IsErrOf, IsTrue, ◌↔◌};
 ghost use Rattle.stream_model.specs.declared.fault.WriteFault.TheVariants as write_fault;
 ghost use Rattle.hail_devices.specs.Faults.{HasCause};
+ghost use Rattle.hail_devices.specs.Told.{Goes};
 ghost use Rattle.hail_records.specs.Records.{Record as Entry, record_size};
 ghost use Rattle.hail_records.specs.Spellings.{spelling};
 ghost use Rattle.hail_records.specs.Journal.{before_gate};
 ghost use Rattle.record_codec.specs.Entries.{entry_of, IsInGrammar};
-ghost use Rattle.journal_core.specs.Moves.{IsClosed, IsAfterMoves, IsGivenUp, AllStandFor, MayStandFor};
+ghost use Rattle.journal_core.specs.Moves.{IsClosed, IsAfterMoves, IsGivenUp, AllStandFor, MayStandFor, SameFrom, IsWrite};
 
 use disk_model::Disk;
 use record_codec::Record;
@@ -80,6 +81,9 @@ impl Append {
         ensures after { (rs : List Entry) (r : Entry) → Appends rs r self.old (D.holds disk.old) → OnOk result (moves_of self.new ≡ 4 → AllStandFor (r ∷ rs) (D.holds disk.new)) }
         ensures closed { (rs : List Entry) (r : Entry) → Appends rs r self.old (D.holds disk.old)
             → OnOk result (moves_of self.new ≡ 4 → IfSome (D.holds disk.new) (IsClosed (before_gate (r ∷ rs)))) }
+        ensures beyond { Goes (SameFrom (gate_of self.old + 1 + length (body_of self.old))) (D.holds disk.old) (D.holds disk.new) }
+        ensures memory { IsErrOf result write_fault.Memory → D.holds disk.new ≡ D.holds disk.old }
+        ensures writes { IsErrOf result write_fault.Memory → IsWrite (moves_of self.old) }
         ensures cause { HasCause (D.faults disk.old) (D.faults disk.new) (IsErrOf result write_fault.Failed) }
     {
         if self.moves == 0 {

@@ -9,6 +9,8 @@ use Rattle.journal_core.specs.Appends.{body_of, moves_of}
 use Rattle.journal_core.specs.Moves.{IsClosed, IsAfterMoves, IsGivenUp}
 use Rattle.journal_core.proofs.MoveLemmas.{on_err, from_on_err, IfSome-mapped, body_written, gate_written, body_failed, gate_failed, synced}
 use Rattle.journal_core.proofs.ImageLemmas.{before_after, between_after, after_after, closed_after, before_given_up, between_given_up}
+use Rattle.journal_core.specs.Appends.{gate_of}
+use Rattle.journal_core.proofs.BeyondLemmas.{written_beyond, failed_beyond, synced_beyond, goes_still}
 use Rattle.journal_core.proofs.append.Append.turn.Goals as goal
 
 -- ---- the first move
@@ -131,3 +133,35 @@ returns-in_err-sync-clause-before g c = λ rs r a few.
 pub returns-in_err-sync-clause-between : goal.returns-in_err-sync-clause-between
 returns-in_err-sync-clause-between g c = λ rs r a.
     between_after rs r a.records a.entry (body_of c.args.self.now) _ a.body (moves_of c.args.self.now) (rw (c.in_err-sync.ensures.failed refl) a.disk)
+
+-- ---- what is read past the body
+
+pub returns-then-self-eq0-clause-beyond : goal.returns-then-self-eq0-clause-beyond
+returns-then-self-eq0-clause-beyond g c =
+    let at = gate_of c.args.self.now in
+    let body = body_of c.args.self.now in
+    written_beyond (at + 1 + length body) (at + 1) body _ _ (omega arith) c.in_ok-write_at.ensures.ok
+
+pub returns-in_err-write_at-clause-beyond : goal.returns-in_err-write_at-clause-beyond
+returns-in_err-write_at-clause-beyond g c =
+    let at = gate_of c.args.self.now in
+    let body = body_of c.args.self.now in
+    failed_beyond (at + 1 + length body) (at + 1) (length body) c.in_err-write_at.field-0.0 _ _ (omega arith) (λ is. c.in_err-write_at.ensures.failed (ap (λ (f : WriteFault). Err f) is)) (λ is. c.in_err-write_at.ensures.memory (ap (λ (f : WriteFault). Err f) is))
+
+pub returns-then-self-eq2-clause-beyond : goal.returns-then-self-eq2-clause-beyond
+returns-then-self-eq2-clause-beyond g c =
+    let at = gate_of c.args.self.now in
+    let body = body_of c.args.self.now in
+    written_beyond (at + 1 + length body) at (1 ∷ []) _ _ (omega arith) c.in_ok-write_at-2.ensures.ok
+
+pub returns-in_err-write_at-2-clause-beyond : goal.returns-in_err-write_at-2-clause-beyond
+returns-in_err-write_at-2-clause-beyond g c =
+    let at = gate_of c.args.self.now in
+    let body = body_of c.args.self.now in
+    failed_beyond (at + 1 + length body) at 1 c.in_err-write_at-2.field-0.0 _ _ (omega arith) (λ is. c.in_err-write_at-2.ensures.failed (ap (λ (f : WriteFault). Err f) is)) (λ is. c.in_err-write_at-2.ensures.memory (ap (λ (f : WriteFault). Err f) is))
+
+pub returns-clause-beyond : goal.returns-clause-beyond
+returns-clause-beyond g c = synced_beyond (gate_of c.args.self.now + 1 + length (body_of c.args.self.now)) _ _ c.in_ok-sync.ensures.ok
+
+pub returns-in_err-sync-clause-beyond : goal.returns-in_err-sync-clause-beyond
+returns-in_err-sync-clause-beyond g c = goes_still (gate_of c.args.self.now + 1 + length (body_of c.args.self.now)) _ _ (c.in_err-sync.ensures.failed refl)

@@ -1,0 +1,74 @@
+-- What an audit begins with.
+use Rattle.std.proofs.Common.{◌≡◌, ℕ, ◌*◌, ◌≤◌, List, [], ◌∷◌, length, take, drop, replicate, min, Option, refl, sym, ap, ◌∙◌, subst, arith}
+use Rattle.std.specs.Prelude.{IfSome}
+use Rattle.std.proofs.lemmas.List.{take-replicate, drop-replicate}
+use Rattle.hail_records.specs.Records.{Setup, most_files}
+use Rattle.hail_records.specs.Table.{File, files_of}
+use Rattle.hail_records.proofs.OrderLaws.{few-files_of}
+use Rattle.hail_machine.specs.Actions.{actions_left}
+use Rattle.hail_machine.specs.Begins.{new_job}
+use Rattle.hail_machine.specs.Jobs.{AuditJob}
+use Rattle.hail_machine.specs.States.{State, setup_in}
+use Rattle.sound_states.proofs.Written.{setup-providers}
+use Rattle.record_codec.specs.Entries.{counted}
+use Rattle.file_layout.specs.declared.file.FileShape.{FileShape}
+use Rattle.vault.specs.declared.heard.Ask.{Ask}
+use Rattle.vault.specs.declared.tasks.AuditTask.{AuditTask}
+use Rattle.vault.specs.declared.vault.Vault.{Vault}
+use Rattle.vault.specs.Devices.{Devices}
+use Rattle.vault.specs.Heard.{answered_entries}
+use Rattle.vault.specs.Orders.{asks_left}
+use Rattle.vault.specs.Rounds.{Round, rounds_in}
+use Rattle.vault.specs.Seen.{table_of}
+use Rattle.vault.specs.Stands.{Stands}
+use Rattle.vault.specs.Tasks.{IsAudit, IsAsked, IsFileOf}
+use Rattle.vault.specs.Benches.{IsNewAudit}
+use Rattle.vault.proofs.AskOrders.{audit-order, audit-count, length-pin_all}
+
+-- no ask is made in the first round yet
+started : (xs : List Round) (symbols : List (Option ℕ)) → symbols ≡ [] → IsAsked xs 0 symbols []
+started [] symbols is = tt
+started (x ∷ xs) symbols is = record { before = []; now = []; older = []; symbols_is = is; count = refl; given_is = refl }
+
+module _ (v : Vault) (d : Devices) (w : State) (moment : ℕ) (stands : Stands v d w) where
+  pub few-files : length (table_of v).files ≤ most_files
+  few-files = (let e = ap (λ (fs : List File). length fs) stands.core.table.files in let f = few-files_of w.records stands.core.sound.accepted in omega (arith, e, f))
+
+  pub audit-task : (t : AuditTask) (asks : ℕ) → IsNewAudit v.core.next_job v.setup.n asks t → asks ≡ length (table_of v).files * (v.setup.rounds * v.setup.n)
+      → IsAudit (setup_in w) t (new_job w moment AuditJob) (actions_left (setup_in w) (new_job w moment AuditJob))
+  audit-task t asks new asks_are =
+      let s = setup_in w in
+      let job = new_job w moment AuditJob in
+      let n_is : s.n ≡ v.setup.n = ap (λ (x : Setup). x.n) stands.setup in
+      let rounds_is : s.rounds ≡ v.setup.rounds = ap (λ (x : Setup). x.rounds) stands.setup in
+      let limits = setup-providers 8 w stands.core.sound stands.core.is_open in
+      let least = limits.0 in
+      let most = limits.1 in
+      let counts_n : t.counts.n ≡ s.n = new.n_is ∙ sym n_is in
+      let files : length job.pinned ≡ length (table_of v).files = length-pin_all w (files_of w.records) ∙ sym (ap (λ (fs : List File). length fs) stands.core.table.files) in
+      let few : asks_left (actions_left s job) ≤ length job.pinned * (s.rounds * s.n) = audit-count s job refl in
+      let same : length job.pinned * (s.rounds * s.n) ≡ asks = (λ i. files i * (rounds_is i * n_is i)) ∙ sym asks_are in
+      let room_asks = new.room_asks in
+      let room_symbols = new.room_symbols in
+      let zeros : counted t.counts ≡ replicate s.n 0 = (λ i. take (counts_n i) (new.by_is i)) ∙ take-replicate s.n 16 0 most in
+      record {
+        kind = refl;
+        job_is = new.job_is ∙ stands.core.next_job;
+        heard = ap (λ (xs : List Ask). answered_entries t.heard.job xs t.heard.symbols.items) new.no_asks;
+        asks = ap length new.no_asks ∙ sym (ap length new.no_symbols);
+        file = subst (λ (o : Option FileShape). IfSome o (IsFileOf s job.pinned)) (sym new.file) tt;
+        over = [];
+        left = rounds_in s job.pinned;
+        rounds = refl;
+        opening = λ few. refl;
+        asked = 0;
+        order = audit-order s (omega (arith, least)) job refl;
+        in_work = started (rounds_in s job.pinned) t.heard.symbols.items new.no_symbols;
+        counts = (counts_n, record { room = ap length new.by_is; at_most = omega (arith, counts_n, most); zeros = ap (drop t.counts.n) new.by_is ∙ drop-replicate t.counts.n 16 0 });
+        sums = (λ i. record { counts = zeros i; undecided = new.undecided i });
+        room_asks = omega (arith, few, same, room_asks);
+        room_symbols = omega (arith, few, same, room_symbols);
+      }
+
+pub least : (a b : ℕ) → a ≤ b → min a b ≡ a
+least a b le = omega (arith, le)

@@ -1,0 +1,52 @@
+-- Begins, accepted and refused, and the states that a vault stands for after them.
+use Rattle.std.proofs.Common.{◌≡◌, inl, ℕ, List, [], ◌∷◌, ◌++◌, Some, None, Ok, Err, refl, sym, ◌∙◌, subst}
+use Rattle.std.specs.Prelude.{not, is_some}
+use Rattle.hail_records.specs.Records.{Setup}
+use Rattle.hail_machine.specs.Actions.{actions_left}
+use Rattle.hail_machine.specs.Begins.{begin_refusal, new_job}
+use Rattle.hail_machine.specs.Jobs.{Kind, Job}
+use Rattle.hail_machine.specs.Refusals as refusal
+use Rattle.hail_machine.specs.Refusals.{Cause}
+use Rattle.hail_machine.specs.Space.{is_full}
+use Rattle.hail_machine.specs.States.{State, setup_in, file_in}
+use Rattle.vault_core.specs.declared.wish.BeginFault.{BeginFault}
+use Rattle.vault_core.specs.Carried.{CoreIs, refusal_of, begun}
+use Rattle.vault.specs.declared.vault.Vault.{Vault}
+use Rattle.vault.specs.declared.tasks.Running.{Running}
+use Rattle.vault.specs.declared.tasks.Task.{Task}
+use Rattle.vault.specs.Devices.{Devices}
+use Rattle.vault.specs.Running.{KeepsAll}
+use Rattle.vault.specs.Stands.{Stands, MakesBegin}
+use Rattle.vault.specs.Tasks.{IsTask, IsRunning, AreRunning}
+use Rattle.vault.proofs.Ways.{stands_on, handed_same}
+
+-- the causes of a get or a drop behind that of its name
+abbrev pub causes_of_name : State → Kind → List ℕ → List Cause
+causes_of_name w kind name = record { applies = not (is_some (file_in w name)); refusal = refusal.NoSuchName } ∷ record { applies = is_full w kind; refusal = refusal.JournalFull } ∷ []
+
+-- one job more
+running-push : (s : Setup) (rs : List Running) (js : List Job) (r : Running) (j : Job) → AreRunning s rs js → IsRunning s r j → AreRunning s (rs ++ r ∷ []) (js ++ j ∷ [])
+running-push s [] [] r j are is = (is, tt)
+running-push s [] (k ∷ js) r j are is = absurd are
+running-push s (q ∷ rs) [] r j are is = absurd are
+running-push s (q ∷ rs) (k ∷ js) r j are is = (are.0, running-push s rs js r j are.1 is)
+
+module _ (old new : Vault) (d : Devices) (w : State) (moment : ℕ) (kind : Kind) (stands : Stands old d w) where
+  -- a begin that is accepted
+  pub admitted : (number : ℕ) (task : Task) → CoreIs new.core (begun w moment kind) → begin_refusal 8 w kind ≡ None → number ≡ old.core.next_job
+      → IsTask (setup_in w) (new_job w moment kind) (actions_left (setup_in w) (new_job w moment kind)) task
+      → new.jobs.items ≡ old.jobs.items ++ record { number = number; task = task } ∷ [] → KeepsAll old new → new.flight ≡ old.flight → MakesBegin w moment kind (Ok number) new d
+  admitted number task core accepted number_is is jobs keeps flight =
+      let next : number ≡ w.next_job = number_is ∙ stands.core.next_job in
+      record {
+        state = begun w moment kind;
+        begins = (stands.core.is_open, accepted, next, refl);
+        stands = stands_on old new w (begun w moment kind) d.holds d.faults d.providers d.providers stands (record { records = refl; doubt = refl; append = refl; faults = refl; barred = refl })
+            (handed_same d.providers w (begun w moment kind) stands.devices.providers refl (λ j. refl)) core keeps flight
+            (subst (λ (items : List Running). AreRunning (setup_in w) items (w.jobs ++ new_job w moment kind ∷ [])) (sym jobs)
+            (running-push (setup_in w) old.jobs.items w.jobs _ _ stands.jobs (record { number = next; task = is })));
+      }
+
+  -- a begin that is refused, and leaves the vault as it was
+  pub turned_down : (why : BeginFault) → begin_refusal 8 w kind ≡ Some (refusal_of why) → MakesBegin w moment kind (Err why) old d
+  turned_down why is = record { state = w; begins = (stands.core.is_open, inl is, refl); stands = stands }

@@ -1,0 +1,184 @@
+-- The end of a job is a step of the machine.
+use Rattle.std.proofs.Common.{◌≡◌, ℕ, zero, suc, ◌==◌, Bool, false, List, [], ◌∷◌, length, take, drop, Option, Some, None, refl, sym, ap, subst, ◌∙◌, inl, inr, arith}
+use Rattle.std.specs.Prelude.{slice_get, IsTrue, nat_lt, not, ◌&&◌}
+use Rattle.std.specs.List.{flat_map, AllZip}
+use Rattle.std.specs.Option.{option_map}
+use Rattle.std.proofs.lemmas.Bool.{cases_Bool}
+use Rattle.std.proofs.lemmas.Bool.{le-ltb}
+use Rattle.hail_codes.specs.Points.{upto}
+use Rattle.hail_columns.specs.Objects.{bytes_of_symbols}
+use Rattle.hail_columns.specs.Verdicts.{Sums}
+use Rattle.hail_records.specs.Records.{Setup}
+use Rattle.hail_machine.specs.Actions.{Action, WriteBody, SyncBody, WriteGate, SyncGate, End, actions_of, actions_by, actions_left}
+use Rattle.hail_machine.specs.Answers as answers
+use Rattle.hail_machine.specs.Events.{Ended}
+use Rattle.hail_machine.specs.Appends.{is_first_append}
+use Rattle.hail_machine.specs.Audits.{HasSums}
+use Rattle.hail_machine.specs.Given.{symbols_given}
+use Rattle.hail_machine.specs.Jobs.{Kind, GetJob, AuditJob, Pinned, Job, job_of, without_job}
+use Rattle.hail_machine.specs.Setups.{stripes_of}
+use Rattle.hail_machine.specs.States.{State, setup_in, ended}
+use Rattle.hail_machine.specs.Steps.{Ends, GotBytes, next_action, is_idle_drop}
+use Rattle.hail_machine.proofs.JobLists.{number_of, cond_true, cond_false, same_value}
+use Rattle.record_codec.specs.declared.counts.Counts.{Counts}
+use Rattle.record_codec.specs.Entries.{counted}
+use Rattle.vault_core.specs.Carried.{ComesNext, IsJobOf, IsKindOf, has_asked, opens}
+use Rattle.vault_core.specs.Coming.{is_ask}
+use Rattle.vault_core.specs.View.{CoreJob, job_in}
+use Rattle.vault_core.specs.Replies.{Tells}
+use Rattle.vault_core.specs.declared.reply.Reply.TheVariants as reply
+use Rattle.vault_core.specs.declared.wish.Wish.{Wish}
+use Rattle.vault_core.specs.declared.wish.Wish.TheVariants as wish
+use Rattle.vault.specs.declared.tasks.Running.{Running}
+use Rattle.vault.specs.declared.tasks.Task.{Task}
+use Rattle.vault.specs.declared.tasks.Task.TheVariants as task
+use Rattle.vault.specs.declared.turn.Turn.{Turn}
+use Rattle.vault.specs.declared.vault.Vault.{Vault}
+use Rattle.vault.specs.Devices.{Devices}
+use Rattle.vault.specs.Ending.{answer_at_end}
+use Rattle.vault.specs.Orders.{OpensFrom}
+use Rattle.vault.specs.Outcomes.{answer_of}
+use Rattle.vault.specs.Running.{place_in, HasStopped}
+use Rattle.vault.specs.Stands.{Stands, Comes, MakesStep}
+use Rattle.vault.specs.Tasks.{IsTask}
+use Rattle.vault.proofs.RemoveStep.{set_same}
+use Rattle.vault.proofs.Stops.{ends_by}
+use Rattle.vault.proofs.Ways.{at_place, handed_same}
+
+-- ---- the job of the core
+
+-- a job of the machine has its job in the core
+pub record CoreOf (s : Setup) (cs : List CoreJob) (k : ℕ) (j : Job) : Type 0 where
+  pub job : CoreJob
+  pub runs : job_in cs k ≡ Some job
+  pub is : IsJobOf s job j
+
+pub core_of : (s : Setup) (cs : List CoreJob) (js : List Job) (k : ℕ) (j : Job) → AllZip (IsJobOf s) cs js → job_of js k ≡ Some j → CoreOf s cs k j
+core_of s [] [] k j are runs = (let e : None ≡ Some j = runs in cc)
+core_of s [] (x ∷ js) k j are runs = absurd are
+core_of s (c ∷ cs) [] k j are runs = absurd are
+core_of s (c ∷ cs) (x ∷ js) k j are runs = elim (cases_Bool (x.number == k)) [
+  | inl t ↦ (
+      let same : x ≡ j = same_value _ x j (cond_true _ (Some x) (job_of js k) t) runs in
+      record {
+        job = c;
+        runs = cond_true (c.number == k) (Some c) (job_in cs k) (ap (λ (n : ℕ). n == k) are.0.number ∙ t);
+        is = subst (λ (y : Job). IsJobOf s c y) same are.0;
+      })
+  | inr f ↦ (
+      let more = core_of s cs js k j are.1 (sym (cond_false _ (Some x) (job_of js k) f) ∙ runs) in
+      record {
+        job = more.job;
+        runs = cond_false (c.number == k) (Some c) (job_in cs k) (ap (λ (n : ℕ). n == k) are.0.number ∙ f) ∙ more.runs;
+        is = more.is;
+      })
+]
+
+-- ---- what is left at an end
+
+-- an action that is left is the first of those that are left
+first_left : {X : Type 0} (xs : List X) (place : ℕ) (x : X) → slice_get xs place ≡ Some x → slice_get (drop place xs) 0 ≡ Some x
+first_left [] place x is = (let e : None ≡ Some x = is in cc)
+first_left (y ∷ ys) zero x is = is
+first_left (y ∷ ys) (suc place) x is = first_left ys place x is
+
+-- at the end of a get all stripes are opened
+all_opened : (id total k : ℕ) (rest : List Action) → slice_get rest 0 ≡ Some End → OpensFrom id total k rest → k ≡ total
+all_opened id total k [] first opens = (let e : None ≡ Some End = first in cc)
+all_opened id total k (a ∷ rest) first opens =
+    (let same : a ≡ End = (let e : Some a ≡ Some End = first in cc) in (subst (λ (b : Action). OpensFrom id total k (b ∷ rest)) same opens).0)
+
+-- an audit that comes to its end is past its first append
+past_first : (s : Setup) (j : Job) (place : ℕ) → slice_get (actions_by s j AuditJob) place ≡ Some End → nat_lt place 4 ≡ false
+past_first s j zero is = (let e : Some WriteBody ≡ Some End = is in absurd cc)
+past_first s j (suc zero) is = (let e : Some SyncBody ≡ Some End = is in absurd cc)
+past_first s j (suc (suc zero)) is = (let e : Some WriteGate ≡ Some End = is in absurd cc)
+past_first s j (suc (suc (suc zero))) is = (let e : Some SyncGate ≡ Some End = is in absurd cc)
+past_first s j (suc (suc (suc (suc place)))) is = le-ltb (suc (suc (suc (suc place)))) 4 (omega arith)
+
+-- an audit of the core that is past its first append and has no ask next has asked all that it asks
+asked : (c : CoreJob) → c.wish ≡ wish.Audit → c.opening ≡ false → is_ask (slice_get c.rest 0) ≡ false → IsTrue (has_asked c)
+asked c audits opening next =
+    subst (λ (x : CoreJob). IsTrue (has_asked x)) (λ i. record c { wish = sym audits i; opening = sym opening i })
+    (subst (λ (b : Bool). IsTrue (not b)) (sym next) refl)
+
+-- the wish of an audit
+wish_of : (x : Wish) → IsKindOf x AuditJob → x ≡ wish.Audit
+wish_of (wish.Put name size) is = absurd is
+wish_of (wish.Get name) is = absurd is
+wish_of (wish.Drop name) is = absurd is
+wish_of wish.Audit is = refl
+wish_of wish.Repair is = absurd is
+
+module _ (w : State) (job : Job) (next : next_action w job ≡ Some End) where
+  listed : (kind : Kind) → job.kind ≡ kind → is_idle_drop w job kind ≡ false → slice_get (actions_of (setup_in w) job) job.place ≡ Some End
+  listed kind is busy =
+      sym (cond_false (is_idle_drop w job job.kind) (Some End) (slice_get (actions_of (setup_in w) job) job.place) (ap (is_idle_drop w job) is ∙ busy)) ∙ next
+
+  past : job.kind ≡ AuditJob → is_first_append job ≡ false
+  unfolding actions_of
+  past is = past_first (setup_in w) job job.place (ap (λ (k : Kind). slice_get (actions_by (setup_in w) job k) job.place) (sym is) ∙ listed AuditJob is refl)
+
+  -- the sums of an audit that comes to its end are those of all that it heard
+  sums_are : (c : CoreJob) → IsJobOf (setup_in w) c job → job.kind ≡ AuditJob → HasSums (setup_in w) job c.sums
+  sums_are c of is =
+      let audits : c.wish ≡ wish.Audit = wish_of c.wish (subst (λ (k : Kind). IsKindOf c.wish k) is of.kind) in
+      of.sums (asked c audits (of.opening ∙ (λ i. opens (audits i) && past is i))
+      (ap is_ask (ap (λ (l : List Action). slice_get l 0) of.rest ∙ first_left (actions_of (setup_in w) job) job.place End (listed AuditJob is refl))))
+
+  -- what a job answers at its end is what the machine says
+  ends : (c : CoreJob) → IsJobOf (setup_in w) c job → (subject undecided : ℕ) (counts : Counts) → c.subject ≡ subject → c.sums ≡ record { counts = counted counts; undecided = undecided }
+      → (t : Task) → IsTask (setup_in w) job (actions_left (setup_in w) job) t → Ends w job job.kind (answer_of (answer_at_end t subject undecided counts))
+  ends c of subject undecided counts drawn sums (task.Put t) is = subst (λ (k : Kind). Ends w job k answers.Put) (sym is.kind) tt
+  ends c of subject undecided counts drawn sums (task.Get t) is =
+      let whole : is.opened ≡ stripes_of (setup_in w) (length is.file.bytes) =
+      all_opened is.file.id (stripes_of (setup_in w) (length is.file.bytes)) is.opened (actions_left (setup_in w) job)
+      (first_left (actions_of (setup_in w) job) job.place End (listed (GetJob is.name) is.kind refl)) is.opens in
+      let bytes = is.bytes ∙ ap (λ (k : ℕ). flat_map (λ stripe. bytes_of_symbols (symbols_given job.given is.file.id stripe)) (upto k)) whole in
+      subst (λ (k : Kind). Ends w job k (answers.Got (take t.length t.bytes.items))) (sym is.kind)
+      (subst (λ (ps : List Pinned). GotBytes w job ps (take t.length t.bytes.items)) (sym is.pinned) (λ i. take (is.length_is i) (bytes i)))
+  ends c of subject undecided counts drawn sums task.Drop is = subst (λ (k : Kind). Ends w job k answers.Dropped) (sym is.kind) tt
+  ends c of subject undecided counts drawn sums (task.Audit t) is =
+      subst (λ (k : Kind). Ends w job k (answers.Audited subject undecided (counted counts))) (sym is.kind)
+      (sym drawn ∙ of.subject, subst (λ (x : Sums). HasSums (setup_in w) job x) sums (sums_are c of is.kind))
+  ends c of subject undecided counts drawn sums (task.Repair t) is =
+      subst (λ (k : Kind). Ends w job k (answers.Repaired subject)) (sym is.kind) (sym drawn ∙ of.subject)
+
+-- such an answer is that of a job that came to its end
+well : (number subject undecided : ℕ) (counts : Counts) (new : State) (t : Task) → Tells number reply.Done (Ended (answer_of (answer_at_end t subject undecided counts))) new
+well number subject undecided counts new (task.Put t) = tt
+well number subject undecided counts new (task.Get t) = tt
+well number subject undecided counts new task.Drop = tt
+well number subject undecided counts new (task.Audit t) = tt
+well number subject undecided counts new (task.Repair t) = tt
+
+some_of : {X Y : Type 0} (f : X → Y) (o : Option X) (x : X) (y : Y) → o ≡ Some x → option_map f o ≡ Some y → f x ≡ y
+some_of f o x y is e = (let h : Some (f x) ≡ Some y = ap (option_map f) (sym is) ∙ e in cc)
+
+module _ (v : Vault) (d : Devices) (w : State) (moment number : ℕ) (stands : Stands v d w) (comes : Comes v.core number End) where
+  coming : ComesNext w number End None
+  coming = comes.machine w stands.core
+
+  of_core : CoreOf (setup_in w) v.core.jobs number coming.job
+  of_core = core_of (setup_in w) v.core.jobs w.jobs number coming.job (subst (λ (s : Setup). AllZip (IsJobOf s) v.core.jobs w.jobs) stands.core.setup stands.core.jobs) coming.runs
+
+  -- the end is a step of the machine
+  pub end_step : (v2 : Vault) (t : Turn) (place subject undecided : ℕ) (counts : Counts) (r : Running)
+      → option_map (λ (j : CoreJob). j.subject) (job_in v.core.jobs number) ≡ Some subject
+      → option_map (λ (j : CoreJob). j.sums) (job_in v.core.jobs number) ≡ Some (record { counts = counted counts; undecided = undecided })
+      → place_in v.jobs.items number ≡ Some place → slice_get v.jobs.items place ≡ Some r
+      → HasStopped v number reply.Done (answer_at_end r.task subject undecided counts) t v2 → MakesStep w moment number t v2 d d
+  end_step v2 t place subject undecided counts r subject_is sums_is at there stopped =
+      let new : State = ended w coming.job in
+      let running = at_place v d w number place End r stands coming at there in
+      let drawn = some_of (λ (j : CoreJob). j.subject) _ of_core.job subject of_core.runs subject_is in
+      let sums = some_of (λ (j : CoreJob). j.sums) _ of_core.job _ of_core.runs sums_is in
+      ends_by v v v2 w new d.holds d.faults moment number place d.providers d.providers End r r reply.Done (answer_at_end r.task subject undecided counts) (Some t) stands coming
+      (ends w coming.job coming.comes of_core.job of_core.is subject undecided counts drawn sums r.task running.task, refl)
+      (record { records = refl; doubt = refl; append = refl; faults = refl; barred = refl })
+      (ap (without_job w.jobs) (number_of w.jobs number coming.job coming.runs))
+      at there
+      (record { core = refl; jobs = set_same v.jobs.items place r there; number = refl; heard = refl; keeps = record { setup = refl; master = refl; shape = refl; profile = refl } })
+      refl stopped
+      (well number subject undecided counts new r.task)
+      (handed_same d.providers w new stands.devices.providers refl (λ j. refl))

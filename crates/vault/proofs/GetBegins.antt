@@ -1,0 +1,100 @@
+-- What a get begins with.
+use Rattle.std.proofs.Common.{◌≡◌, ℕ, ◌+◌, ◌*◌, ◌≤◌, List, [], ◌∷◌, ◌++◌, length, min, Some, None, refl, sym, ap, ◌∙◌, subst, arith, append_assoc}
+use Rattle.std.specs.Prelude.{IsTrue, vec_len, vec_capacity}
+use Rattle.std.specs.List.{flat_map}
+use Rattle.hail_codes.specs.Points.{upto}
+use Rattle.hail_columns.specs.Objects.{Object, stripes, stripe_symbols}
+use Rattle.hail_records.specs.Records.{Setup, is_name, largest_file}
+use Rattle.hail_records.specs.Table.{File, find_file}
+use Rattle.hail_records.proofs.FilesLaws.{find-files_of}
+use Rattle.hail_machine.specs.Actions.{End, open_actions, actions_left, actions_of}
+use Rattle.hail_machine.specs.Begins.{new_job, pin_one, pinned_file}
+use Rattle.hail_machine.specs.Jobs.{GetJob}
+use Rattle.hail_machine.specs.Refusals as refusal
+use Rattle.hail_machine.specs.Refusals.{first_refusal}
+use Rattle.hail_machine.specs.Setups.{stripes_of}
+use Rattle.hail_machine.specs.States.{State, setup_in, file_in}
+use Rattle.sound_states.proofs.Records.{file-spelled}
+use Rattle.sound_states.proofs.Written.{setup-providers}
+use Rattle.vault.specs.declared.bench.Bench.{Bench}
+use Rattle.vault.specs.declared.tasks.GetTask.{GetTask}
+use Rattle.vault.specs.declared.vault.Vault.{Vault}
+use Rattle.vault.specs.declared.heard.Fetch.{Fetch}
+use Rattle.vault.specs.Devices.{Devices}
+use Rattle.vault.specs.Heard.{fetched_entries, blocks_in}
+use Rattle.vault.specs.Orders.{Between, GoesOn, OpensFrom, fetches_left, works_left}
+use Rattle.vault.specs.Seen.{table_of}
+use Rattle.vault.specs.Stands.{Stands}
+use Rattle.vault.specs.Tasks.{IsGet, IsBench, bench_object}
+use Rattle.vault.specs.Benches.{IsBenchFor, IsNewGet, stripes_on}
+use Rattle.vault.proofs.BenchLemmas.{bench-is}
+use Rattle.vault.proofs.Begun.{causes_of_name}
+use Rattle.vault.proofs.Puts.{name_cause}
+use Rattle.vault.proofs.StripeOrders.{get-order, get-opens, get-fetches, get-works}
+
+-- the table finds what is in effect
+pub found-in : (v : Vault) (d : Devices) (w : State) (name : List ℕ) → Stands v d w → find_file (table_of v).files name ≡ file_in w name
+found-in v d w name stands = ap (λ files. find_file files name) stands.core.table.files ∙ find-files_of w.records name
+
+pub no-such-name : (w : State) (name : List ℕ) → IsTrue (is_name name) → file_in w name ≡ None → first_refusal (name_cause name ∷ causes_of_name w (GetJob name) name) ≡ Some refusal.NoSuchName
+no-such-name w name named none = rw (named, none) refl
+
+module _ (v : Vault) (d : Devices) (w : State) (moment : ℕ) (stands : Stands v d w) (name : List ℕ) (file : File) (found : file_in w name ≡ Some file) where
+  abbrev s : Setup
+  s = setup_in w
+
+  pub size-fits : file.size ≤ largest_file
+  size-fits = (file-spelled w.records name file stands.core.sound.in_grammar found).1
+
+  size-is : length (w.bytes file.id) ≡ file.size
+  size-is = (stands.core.sound.files name file found).1
+
+  abbrev total : ℕ
+  total = stripes_of s (length (w.bytes file.id))
+
+  rest-is : actions_left s (new_job w moment (GetJob name)) ≡ flat_map (open_actions s file.id) (upto total) ++ End ∷ []
+  unfolding actions_of
+  rest-is = rw found (append_assoc (flat_map (open_actions s file.id) (upto total)) [] (End ∷ []))
+
+  pub get-task : (bench : Bench) (t : GetTask) → IsBenchFor v file.id file.size bench → IsNewGet v.core.next_job bench t
+      → IsGet s t (new_job w moment (GetJob name)) (actions_left s (new_job w moment (GetJob name)))
+  get-task bench t for_file new =
+      let limits = setup-providers 8 w stands.core.sound stands.core.is_open in
+      let least = limits.0 in
+      let is_bench = bench-is v s file.id file.size bench stands.shaped stands.setup for_file in
+      let same_length : bench.keys.file.length ≡ length (w.bytes file.id) = for_file.length_is ∙ sym size-is in
+      let same_stripes : stripes_on bench ≡ total = (λ i. stripes (is_bench i) (same_length i)) in
+      let same_n : bench.keys.file.shape.n ≡ s.n = ap (λ (o : Object). o.shape.n) is_bench in
+      let rest = actions_left s (new_job w moment (GetJob name)) in
+      let fetches_are : fetches_left rest ≡ total * s.n = ap fetches_left rest-is ∙ get-fetches s file.id total 0 in
+      let works_are : works_left rest ≡ total = ap works_left rest-is ∙ get-works s file.id total 0 in
+      let count_same : stripes_on bench * bench.keys.file.shape.n ≡ fetches_left rest = (λ i. same_stripes i * same_n i) ∙ sym fetches_are in
+      let no_blocks : length t.fetched.blocks.present.items ≡ 0 = ap length new.present in
+      let none : 0 ≡ 0 * t.fetched.blocks.size = omega arith in
+      record {
+        name = name;
+        kind = refl;
+        file = pinned_file w file;
+        pinned = ap (pin_one w) found;
+        length_is = new.length_is ∙ same_length;
+        bench = subst (IsBench s) (sym new.bench_is) is_bench;
+        size = new.size_is ∙ ap (λ (b : Bench). b.keys.file.profile.size) (sym new.bench_is);
+        job_is = new.job_is ∙ stands.core.next_job;
+        heard = ap (λ (fs : List Fetch). fetched_entries t.fetched.job fs (blocks_in t.fetched.blocks)) new.fetches;
+        fetches = ap length new.fetches ∙ sym no_blocks;
+        symbols = ap length new.symbols ∙ none ∙ ap (λ (k : ℕ). k * t.fetched.blocks.size) (sym no_blocks);
+        phase = Between;
+        order = subst (GoesOn s.n Between) (sym rest-is) (get-order s (omega (arith, least)) file.id (upto total));
+        in_work = tt;
+        opened = 0;
+        opens = subst (OpensFrom file.id total 0) (sym rest-is) (get-opens s file.id total total 0 (omega arith));
+        bytes = new.bytes;
+        room_fetches = subst (λ (k : ℕ). vec_len t.fetched.fetches + k ≤ vec_capacity t.fetched.fetches) count_same new.room_fetches;
+        room_present = subst (λ (k : ℕ). vec_len t.fetched.blocks.present + k ≤ vec_capacity t.fetched.blocks.present) count_same new.room_present;
+        room_symbols = subst (λ (k : ℕ). vec_len t.fetched.blocks.symbols + k * t.fetched.blocks.size ≤ vec_capacity t.fetched.blocks.symbols) count_same new.room_symbols;
+        room_bytes = subst (λ (k : ℕ). vec_len t.bytes + k ≤ vec_capacity t.bytes)
+            (λ i. (same_stripes ∙ sym works_are) i * (16 * stripe_symbols (bench_object (sym new.bench_is i)))) new.room_bytes;
+      }
+
+pub least : (a b : ℕ) → a ≤ b → min a b ≡ a
+least a b le = omega (arith, le)

@@ -1,0 +1,318 @@
+-- A move of an append is a step of the machine.
+use Rattle.std.proofs.Common.{◌≡◌, ℕ, zero, suc, ◌+◌, ◌≤◌, true, false, List, [], ◌∷◌, ◌++◌, length, Option, Some, None, refl, sym, ap, subst, ◌∙◌, inl, inr, arith, length-append}
+use Rattle.std.specs.Prelude.{◌≢◌, IsTrue, IfSome, slice_get, slice_set, nat_lt}
+use Rattle.std.specs.List.{list_all}
+use Rattle.std.proofs.lemmas.Bool.{cases_Bool, ltb-false}
+use Rattle.hail_devices.specs.Cells.{Cells}
+use Rattle.hail_devices.specs.Faults.{HasCause, Rose}
+use Rattle.hail_devices.specs.Providers.{Provider}
+use Rattle.hail_devices.specs.Told.{Goes}
+use Rattle.hail_records.specs.Records.{Record, Setup, is_in_grammar}
+use Rattle.hail_records.specs.Spellings.{spelling}
+use Rattle.hail_records.specs.Journal.{before_gate, text_size}
+use Rattle.hail_records.specs.Table.{setup_of}
+use Rattle.hail_records.proofs.Sizes.{length-spelling, length-text}
+use Rattle.hail_machine.specs.Actions.{Action, WriteBody}
+use Rattle.hail_machine.specs.Answers as answers
+use Rattle.hail_machine.specs.Appends.{Writes, subject_drawn, barred, begun_append}
+use Rattle.hail_machine.specs.Events.{More, Ended}
+use Rattle.hail_machine.specs.Jobs.{Kind, PutJob, GetJob, DropJob, AuditJob, RepairJob, Job, with_job, without_job}
+use Rattle.hail_machine.specs.Stands.{StandsForState}
+use Rattle.hail_machine.specs.States.{State, Append, Doubt, setup_in, ended}
+use Rattle.hail_machine.specs.Steps.{Acts, holder_of}
+use Rattle.hail_machine.proofs.JobLists.{number_of, cond_false}
+use Rattle.record_codec.specs.Entries.{with_master, entry_of, IsInGrammar}
+use Rattle.record_codec.specs.declared.records.Record.{Record as RecordValue}
+use Rattle.journal_core.specs.declared.append.Append.{Append as AppendValue}
+use Rattle.journal_core.specs.Appends.{Appends, gate_of, body_of, moves_of}
+use Rattle.journal_core.specs.Moves.{IsClosed, IsAfterMoves, AllStandFor, MayStandFor, SameFrom}
+use Rattle.journal_core.proofs.BeyondLemmas.{goes_still}
+use Rattle.vault_core.specs.Carried.{CoreIs, ComesNext, IsWriting}
+use Rattle.vault_core.specs.Coming.{entry_in}
+use Rattle.vault_core.specs.Replies.{Tells}
+use Rattle.vault_core.specs.View.{CoreView}
+use Rattle.vault_core.specs.declared.reply.Reply.{Reply}
+use Rattle.vault_core.specs.declared.reply.Reply.TheVariants as reply
+use Rattle.vault.specs.declared.flight.Flight.{Flight}
+use Rattle.vault.specs.declared.flight.Moved.{Moved}
+use Rattle.vault.specs.declared.flight.Moved.TheVariants as moves
+use Rattle.vault.specs.declared.tasks.Running.{Running}
+use Rattle.vault.specs.declared.turn.Answer.{Answer}
+use Rattle.vault.specs.declared.turn.Answer.TheVariants as answer
+use Rattle.vault.specs.declared.turn.Turn.{Turn}
+use Rattle.vault.specs.declared.turn.Turn.TheVariants as turn
+use Rattle.vault.specs.declared.vault.Vault.{Vault}
+use Rattle.vault.specs.Devices.{devices, AreHanded, IsSameBeyond, records_in_flight}
+use Rattle.vault.specs.Flights.{HasFailed, MakesMove, GoesOn, GivesUp}
+use Rattle.vault.specs.Outcomes.{answer_of}
+use Rattle.vault.specs.Running.{place_in, KeepsAll, IsFed, IsStopped}
+use Rattle.vault.specs.Stands.{Stands, Comes, IsFlight, MakesStep, MakesTurn}
+use Rattle.vault.specs.Tasks.{AreRunning}
+use Rattle.vault.proofs.JobPlaces.{place_is, put_back}
+use Rattle.vault.proofs.Moving.{IsMove, moved_on, move_runs}
+use Rattle.vault.proofs.Stops.{IsAside, is_left, not_gone}
+use Rattle.vault.proofs.Ways.{happens_by, shaped_on, setup_same, images_on, handed_same, working}
+
+-- ---- the state after
+
+-- what a move leaves: the disk and its count, and the append in flight
+pub record IsLeft (v' : Vault) (w new : State) (holds : Option Cells) (count : ℕ) (ps : List Provider) : Type 0 where
+  pub setup : setup_in new ≡ setup_in w
+  pub handed : AreHanded ps new
+  pub faults : new.disk_faults ≡ count
+  pub images : StandsForState holds new
+  pub flight : new.is_barred ≡ false → IsFlight v'.flight new.append new.records holds
+
+stands_left : (v v' v2 : Vault) (w new : State) (holds holds' : Option Cells) (faults faults' : ℕ) (ps : List Provider) → Stands v (devices holds faults ps) w → IsLeft v' w new holds' faults' ps
+    → CoreIs v2.core new → KeepsAll v v2 → v2.flight ≡ v'.flight → AreRunning (setup_in w) v2.jobs.items new.jobs → Stands v2 (devices holds' faults' ps) new
+stands_left v v' v2 w new holds holds' faults faults' ps stands left core keeps flight jobs = record {
+  devices = record { images = left.images; faults = left.faults; providers = left.handed };
+  core = core;
+  setup = left.setup ∙ stands.setup ∙ sym (λ i. with_master (keeps.setup i) (keeps.master i).0);
+  shaped = shaped_on v v2 keeps stands.shaped;
+  jobs = subst (λ (s : Setup). AreRunning s v2.jobs.items new.jobs) (sym left.setup) jobs;
+  flight = λ free. subst (λ (f : Option Flight). IsFlight f new.append new.records holds') (sym flight) (left.flight free);
+}
+
+pub set_same : {X : Type 0} (xs : List X) (p : ℕ) (x : X) → slice_get xs p ≡ Some x → slice_set xs p x ≡ xs
+set_same [] p x is = refl
+set_same (y ∷ ys) zero x is = (let e : y ≡ x = (let f : Some y ≡ Some x = is in cc) in ap (λ (z : _). z ∷ ys) (sym e))
+set_same (y ∷ ys) (suc p) x is = ap (λ (l : List _). y ∷ l) (set_same ys p x is)
+
+-- a job goes on behind a move
+pub moves_on : (v v' : Vault) (w new : State) (holds holds' : Option Cells) (faults faults' moment number : ℕ) (ps : List Provider) (action : Action) (subject : ℕ) (older : List ℕ)
+    → Stands v (devices holds faults ps) w → (next : ComesNext w number action None) → IsMove action → (4 ≤ next.job.place → subject ≡ next.job.subject) → Acts w next.job action More new
+    → new.jobs ≡ with_job w.jobs (moved_on next.job subject older) → v'.jobs.items ≡ v.jobs.items → IsLeft v' w new holds' faults' ps
+    → ((a : Append) → new.append ≡ Some a → a.job ≡ number → entry_in v.core number ≡ Some a.entry)
+    → IsSameBeyond new (devices holds faults ps) (devices holds' faults' ps) → KeepsAll v v' → IsFed v.core number reply.Done v'.core
+    → MakesStep w moment number turn.More v' (devices holds faults ps) (devices holds' faults' ps)
+moves_on v v' w new holds holds' faults faults' moment number ps action subject older stands next move kept acts jobs same left entry beyond keeps fed =
+    let f = working v (devices holds faults ps) w number action stands next in
+    let j = moved_on next.job subject older in
+    let running = move_runs w next.job action subject older f.running move next.comes kept f.is in
+    let happens = happens_by w new moment number action More stands.core.is_open next acts in
+    let mine : j.number ≡ number = number_of w.jobs number next.job next.runs in
+    let core = fed w new More moment stands.core happens (record { tells = tt; entry = entry }) in
+    let are : AreRunning (setup_in w) v'.jobs.items new.jobs =
+    subst (λ (js : List Job). AreRunning (setup_in w) v'.jobs.items js) (sym jobs)
+    (subst (λ (rs : List Running). AreRunning (setup_in w) rs (with_job w.jobs j)) (set_same v.jobs.items f.place f.running f.there ∙ sym same)
+    (put_back (setup_in w) number f.running j running mine v.jobs.items w.jobs f.place stands.jobs f.at)) in
+    record {
+      state = new;
+      happens = happens;
+      stands = stands_left v v' v' w new holds holds' faults faults' ps stands left core keeps refl are;
+      heard = tt;
+      beyond = λ on. beyond;
+    }
+
+-- a job ends by a move
+pub moves_end : (v v1 v2 : Vault) (w new : State) (holds holds' : Option Cells) (faults faults' moment number : ℕ) (ps : List Provider) (action : Action) (reply : Reply) (answer : Answer) (result : Option Turn)
+    → Stands v (devices holds faults ps) w → (next : ComesNext w number action None) → Acts w next.job action (Ended (answer_of answer)) new → new.jobs ≡ without_job w.jobs number
+    → v1.core ≡ v.core → v1.jobs.items ≡ v.jobs.items → KeepsAll v v1 → IsStopped v1 number reply answer result v2 → Tells number reply (Ended (answer_of answer)) new
+    → IsLeft v1 w new holds' faults' ps → new.append ≡ None
+    → (Ended (answer_of answer) ≢ Ended answers.DiskFault → IsSameBeyond new (devices holds faults ps) (devices holds' faults' ps))
+    → MakesTurn w moment number result v2 (devices holds faults ps) (devices holds' faults' ps)
+moves_end v v1 v2 w new holds holds' faults faults' moment number ps action reply answer None stands next acts jobs same_core same_jobs keeps stopped tells left none beyond =
+    let f = working v (devices holds faults ps) w number action stands next in
+    let at : place_in v.jobs.items number ≡ Some f.place = place_is v.jobs.items number ∙ f.at in
+    let aside : IsAside v v1 f.place f.running f.running = record { core = same_core; jobs = same_jobs ∙ sym (set_same v.jobs.items f.place f.running f.there); number = refl; heard = refl; keeps = keeps } in
+    absurd (not_gone v v1 (devices holds faults ps) w number f.place action f.running f.running stands next at f.there aside v2 reply answer stopped)
+moves_end v v1 v2 w new holds holds' faults faults' moment number ps action reply answer (Some t) stands next acts jobs same_core same_jobs keeps stopped tells left none beyond =
+    let f = working v (devices holds faults ps) w number action stands next in
+    let at : place_in v.jobs.items number ≡ Some f.place = place_is v.jobs.items number ∙ f.at in
+    let aside : IsAside v v1 f.place f.running f.running = record { core = same_core; jobs = same_jobs ∙ sym (set_same v.jobs.items f.place f.running f.there); number = refl; heard = refl; keeps = keeps } in
+    let gone = is_left v v1 (devices holds faults ps) w number f.place action f.running f.running stands next at f.there aside v2 reply answer t stopped in
+    let happens = happens_by w new moment number action (Ended (answer_of answer)) stands.core.is_open next acts in
+    let core = gone.fed w new (Ended (answer_of answer)) moment stands.core happens (record { tells = tells; entry = λ a is mine. (let e : None ≡ Some a = sym none ∙ is in absurd (none_some a e)) }) in
+    let are : AreRunning (setup_in w) v2.jobs.items new.jobs = subst (λ (js : List Job). AreRunning (setup_in w) v2.jobs.items js) (sym jobs) gone.jobs in
+    let keeps2 : KeepsAll v v2 = record {
+      setup = stopped.keeps.setup ∙ keeps.setup;
+      master = stopped.keeps.master ∙ keeps.master;
+      shape = stopped.keeps.shape ∙ keeps.shape;
+      profile = stopped.keeps.profile ∙ keeps.profile;
+    } in
+    subst (λ (x : Turn). MakesStep w moment number x v2 (devices holds faults ps) (devices holds' faults' ps)) (sym gone.turn_is)
+    (record {
+      state = new;
+      happens = happens;
+      stands = stands_left v v1 v2 w new holds holds' faults faults' ps stands left core keeps2 stopped.flight are;
+      heard = gone.heard_is;
+      beyond = beyond;
+    })
+  where
+    none_some : (a : Append) → None ≡ Some a → ⊥
+    none_some a e = cc
+
+-- ---- texts
+
+before_size : (rs : List Record) → IsTrue (list_all is_in_grammar rs) → length (before_gate rs) + 1 ≡ text_size rs
+before_size rs good = (let a = length-text rs good in let b = length-append (before_gate rs) (0 ∷ []) in omega (arith, a, b))
+
+-- the text with the record, by what an append writes
+past : (rs : List Record) (r : Record) (a : AppendValue) (holds : Option Cells) → Appends rs r a holds → gate_of a + 1 + length (body_of a) ≡ text_size (r ∷ rs)
+past rs r a holds appends =
+    let size = before_size rs appends.records in
+    let body : length (body_of a) ≡ length (spelling r ++ 0 ∷ []) = ap length appends.body in
+    let gate = appends.gate in
+    let long = length-append (spelling r) (0 ∷ []) in
+    let spelled = length-spelling r appends.entry in
+    omega (arith, size, body, gate, long, spelled)
+
+pub beyond_of : (rs : List Record) (r : Record) (a : AppendValue) (holds holds' : Option Cells) → Appends rs r a holds → Goes (SameFrom (gate_of a + 1 + length (body_of a))) holds holds' → Goes (SameFrom (text_size (r ∷ rs))) holds holds'
+beyond_of rs r a holds holds' appends = subst (λ (n : ℕ). Goes (SameFrom n) holds holds') (past rs r a holds appends)
+
+-- ---- images
+
+pub all_images : (told : Option Cells) (new : State) → AllStandFor new.records told → StandsForState told new
+all_images None new all = tt
+all_images (Some cells) new all = λ image is. inl (inl (all image is))
+
+pub doubted_images : (told : Option Cells) (new : State) (entry : Record) (d : Doubt) → new.doubt ≡ Some d → d.entry ≡ entry → MayStandFor new.records entry told → StandsForState told new
+doubted_images None new entry d doubt same may = tt
+doubted_images (Some cells) new entry d doubt same may = λ image is. elim (may image is) [
+  | inl s ↦ inl (inl s)
+  | inr s ↦ inr (record { doubt = d; in_doubt = doubt; stands = subst (λ (r : Record). Rattle.hail_records.specs.Journal.StandsFor image (r ∷ new.records)) (sym same) s })
+]
+
+-- ---- the number of a job
+
+subject_kept : (w : State) (job : Job) (kind : Kind) → 4 ≤ job.place → subject_drawn w job kind ≡ job.subject
+subject_kept w job (PutJob name bytes) many = cond_false (nat_lt job.place 4) (Rattle.hail_records.specs.Table.next_id w.records) job.subject (few job.place many)
+  where
+    few : (n : ℕ) → 4 ≤ n → nat_lt n 4 ≡ false
+    few n many = elim (cases_Bool (nat_lt n 4)) [
+      | inl t ↦ absurd (let a = Rattle.std.proofs.lemmas.Bool.ltb-true n 4 t in omega (arith, a, many))
+      | inr f ↦ f
+    ]
+subject_kept w job (GetJob name) many = refl
+subject_kept w job (DropJob name) many = refl
+subject_kept w job AuditJob many = cond_false (nat_lt job.place 4) (Rattle.hail_records.specs.Table.next_audit w.records) job.subject (few job.place many)
+  where
+    few : (n : ℕ) → 4 ≤ n → nat_lt n 4 ≡ false
+    few n many = elim (cases_Bool (nat_lt n 4)) [
+      | inl t ↦ absurd (let a = Rattle.std.proofs.lemmas.Bool.ltb-true n 4 t in omega (arith, a, many))
+      | inr f ↦ f
+    ]
+subject_kept w job RepairJob many = refl
+
+-- ---- the append in flight
+
+-- no append is in flight where one begins
+none_held : (flight : Option Append) → holder_of flight WriteBody ≡ None → flight ≡ None
+none_held None free = refl
+none_held (Some a) free = (let e : Some a.job ≡ None = free in absurd (some_none a.job e))
+  where
+    some_none : (n : ℕ) → Some n ≡ None → ⊥
+    some_none n e = cc
+
+-- the disk has a closed gate where none is in flight
+closed_of : (f : Option Flight) (rs : List Record) (told : Option Cells) → IsFlight f None rs told → IfSome told (IsClosed (before_gate rs))
+closed_of None rs told is = is
+closed_of (Some f) rs told is = absurd is
+
+pub closed_after : (told : Option Cells) (front body : List ℕ) → IfSome told (IsAfterMoves 2 front body) → IfSome told (IsClosed front)
+closed_after None front body is = tt
+closed_after (Some cells) front body is = (is.0, Rattle.hail_devices.specs.Cells.firm body ++ is.1, is.2, is.3)
+
+-- ---- the write of a body
+
+module _ (v : Vault) (w : State) (holds holds' : Option Cells) (faults faults' moment number : ℕ) (ps : List Provider) (stands : Stands v (devices holds faults ps) w) (comes : Comes v.core number WriteBody)
+    (entry : RecordValue) (gate : ℕ) (f : Flight) (given : entry_in v.core number ≡ Some (entry_of entry)) (writing : IsWriting w number (entry_of entry)) (good : IsInGrammar entry) (at : v.core.end ≡ gate + 1)
+    (gate_is : gate_of f.append ≡ gate) (moves_is : moves_of f.append ≡ 0) (body_is : body_of f.append ≡ spelling (entry_of entry) ++ 0 ∷ []) where
+  next : ComesNext w number WriteBody None
+  next = comes.machine w stands.core
+
+  alone : w.append ≡ None
+  alone = none_held w.append next.holder
+
+  closed : IfSome holds (IsClosed (before_gate w.records))
+  closed = closed_of v.flight w.records holds (subst (λ (o : Option Append). IsFlight v.flight o w.records holds) alone (stands.flight next.unbarred))
+
+  begun : Appends w.records (entry_of entry) f.append holds
+  begun = record {
+    records = stands.core.sound.in_grammar;
+    entry = good.spelled;
+    gate = (let size = before_size w.records stands.core.sound.in_grammar in let end = stands.core.end in let g = gate_is in let a = at in omega (arith, size, end, g, a));
+    body = body_is;
+    disk = subst (λ (n : ℕ). IfSome holds (IsAfterMoves n (before_gate w.records) (body_of f.append))) (sym moves_is) closed;
+  }
+
+  writes : Writes w next.job next.job.kind (entry_of entry)
+  writes =
+      let same : writing.job ≡ next.job = (let e : Some writing.job ≡ Some next.job = sym writing.runs ∙ next.runs in cc) in
+      subst (λ (j : Job). Writes w j j.kind (entry_of entry)) same writing.writes
+
+  counts : (m : Moved) → HasCause faults faults' (HasFailed m) → w.disk_faults ≤ faults'
+  counts m cause = (let a = stands.devices.faults in let b = cause.never_falls in omega (arith, a, b))
+
+  pub body_written : (v' : Vault) (g : Flight) → MakesMove f.append holds (moves.On g) holds' → Goes (SameFrom (gate_of f.append + 1 + length (body_of f.append))) holds holds' → HasCause faults faults' (HasFailed (moves.On g))
+      → v'.flight ≡ Some g → v'.jobs.items ≡ v.jobs.items → KeepsAll v v' → IsFed v.core number reply.Done v'.core
+      → MakesStep w moment number turn.More v' (devices holds faults ps) (devices holds' faults' ps)
+  body_written v' g made beyond cause flight jobs keeps fed =
+      let job = next.job in
+      let on : GoesOn f.append g.append w.records (entry_of entry) holds' = made.3 w.records (entry_of entry) begun in
+      let new : State = record (begun_append w job (entry_of entry)) { disk_faults = faults' } in
+      moves_on v v' w new holds holds' faults faults' moment number ps WriteBody (subject_drawn w job job.kind) job.older stands next tt (subject_kept w job job.kind)
+      (entry_of entry, writes, (faults', counts (moves.On g) cause, refl))
+      refl jobs
+      (record {
+        setup = setup_same w new refl;
+        handed = handed_same ps w new stands.devices.providers refl (λ j. refl);
+        faults = refl;
+        images = all_images holds' new (on.before (let m = moves_is in omega (arith, m)));
+        flight = λ free. subst (λ (x : Option Flight). IsFlight x new.append new.records holds') (sym flight) ((let m = moves_is in let k = made.0 in omega (arith, m, k)), on.appends);
+      })
+      (λ a is mine. given ∙ ap (λ (x : Append). Some x.entry) (let e : Some (record { job = job.number; entry = entry_of entry; moves = 1 }) ≡ Some a = is in one_of _ a e))
+      (beyond_of w.records (entry_of entry) f.append holds holds' begun beyond)
+      keeps fed
+    where
+      one_of : (a b : Append) → Some a ≡ Some b → a ≡ b
+      one_of a b e = cc
+
+  pub body_failed : (v2 : Vault) (result : Option Turn) → MakesMove f.append holds moves.Failed holds' → HasCause faults faults' (HasFailed moves.Failed) → IsStopped v number reply.Failed answer.DiskFault result v2
+      → MakesTurn w moment number result v2 (devices holds faults ps) (devices holds' faults' ps)
+  body_failed v2 result made cause stopped =
+      let job = next.job in
+      let up : GivesUp f.append w.records (entry_of entry) holds' = made w.records (entry_of entry) begun in
+      let new : State = record (barred (ended w job)) { disk_faults = faults' } in
+      moves_end v v v2 w new holds holds' faults faults' moment number ps WriteBody reply.Failed answer.DiskFault result stands next
+      (faults', counts moves.Failed cause, subst (λ (n : ℕ). Rose n faults') (sym stands.devices.faults) (cause.rose tt), refl)
+      (ap (without_job w.jobs) (number_of w.jobs number job next.runs))
+      refl refl (record { setup = refl; master = refl; shape = refl; profile = refl }) stopped tt
+      (record {
+        setup = setup_same w new refl;
+        handed = handed_same ps w new stands.devices.providers refl (λ j. refl);
+        faults = refl;
+        images = all_images holds' new (up.before (let m = moves_is in omega (arith, m)));
+        flight = λ free. absurd (let e : true ≡ false = free in true_false e);
+      })
+      refl (λ on. absurd (on refl))
+    where
+      true_false : true ≡ false → ⊥
+      true_false e = cc
+
+  pub body_unwritten : (v2 : Vault) (result : Option Turn) → MakesMove f.append holds moves.Memory holds' → HasCause faults faults' (HasFailed moves.Memory) → IsStopped v number reply.Memory answer.Memory result v2
+      → MakesTurn w moment number result v2 (devices holds faults ps) (devices holds' faults' ps)
+  body_unwritten v2 result made cause stopped =
+      let job = next.job in
+      let new : State = record (ended w job) { disk_faults = faults' } in
+      moves_end v v v2 w new holds holds' faults faults' moment number ps WriteBody reply.Memory answer.Memory result stands next
+      (faults', counts moves.Memory cause, refl)
+      (ap (without_job w.jobs) (number_of w.jobs number job next.runs))
+      refl refl (record { setup = refl; master = refl; shape = refl; profile = refl }) stopped tt
+      (record {
+        setup = setup_same w new refl;
+        handed = handed_same ps w new stands.devices.providers refl (λ j. refl);
+        faults = refl;
+        images = subst (λ (t : Option Cells). StandsForState t new) (sym made.1) (images_on holds w new refl refl stands.devices.images);
+        flight = λ free. subst (λ (t : Option Cells). IsFlight v.flight w.append w.records t) (sym made.1) (stands.flight free);
+      })
+      alone (λ on. goes_still (text_size (records_in_flight new.records new.append)) holds holds' made.1)
+
+long_text : (rs : List Record) → 9 ≤ text_size rs
+long_text [] = omega arith
+long_text (r ∷ rs) = (let a = long_text rs in omega (arith, a))
+
+-- a core ends behind the closed gate
+pub has_end : (c : CoreView) (w : State) → CoreIs c w → 9 ≤ c.end
+has_end c w core = (let a = long_text w.records in let b = core.end in omega (arith, a, b))

@@ -1,0 +1,24 @@
+-- Begins of puts.
+use Rattle.std.proofs.Common.{◌≡◌, ℕ, ◌<◌, true, List, [], ◌∷◌, length, Some, refl}
+use Rattle.std.specs.Prelude.{IsTrue, not, nat_lt}
+use Rattle.std.proofs.lemmas.Bool.{lt-ltb}
+use Rattle.hail_records.specs.Records.{is_name, largest_file}
+use Rattle.hail_machine.specs.Begins.{is_crowded}
+use Rattle.hail_machine.specs.Jobs.{PutJob}
+use Rattle.hail_machine.specs.Refusals as refusal
+use Rattle.hail_machine.specs.Refusals.{Cause, first_refusal}
+use Rattle.hail_machine.specs.Space.{is_full}
+use Rattle.hail_machine.specs.States.{State}
+
+-- the causes of a put behind that of its name
+abbrev pub causes_of_put : State → List ℕ → List ℕ → List Cause
+causes_of_put w name bytes =
+    record { applies = nat_lt largest_file (length bytes); refusal = refusal.TooLong } ∷ record { applies = is_crowded w name; refusal = refusal.TooManyFiles }
+    ∷ record { applies = is_full w (PutJob name bytes); refusal = refusal.JournalFull } ∷ []
+
+-- the cause of its name
+abbrev pub name_cause : List ℕ → Cause
+name_cause name = record { applies = not (is_name name); refusal = refusal.BadName }
+
+pub too-long : (w : State) (name bytes : List ℕ) → IsTrue (is_name name) → largest_file < length bytes → first_refusal (name_cause name ∷ causes_of_put w name bytes) ≡ Some refusal.TooLong
+too-long w name bytes named long = (let long_is : nat_lt largest_file (length bytes) ≡ true = lt-ltb largest_file (length bytes) long in rw (named, long_is) refl)

@@ -1,0 +1,82 @@
+-- A removal is a step of the machine.
+use Rattle.std.proofs.Common.{◌≡◌, ℕ, zero, suc, ◌<◌, List, [], ◌∷◌, length, Option, Some, None, refl, sym, ap, subst, ◌∙◌}
+use Rattle.std.specs.Prelude.{slice_get, slice_set}
+use Rattle.hail_devices.specs.Cells.{Cells}
+use Rattle.hail_devices.specs.Providers.{Provider}
+use Rattle.hail_devices.specs.ProviderCalls.{Removes}
+use Rattle.hail_machine.specs.Actions.{Remove, actions_left}
+use Rattle.hail_machine.specs.Jobs.{Kind, PutJob, GetJob, DropJob, AuditJob, RepairJob, Job, advanced}
+use Rattle.hail_machine.specs.States.{State, setup_in, going_on, with_provider}
+use Rattle.hail_machine.specs.Steps.{next_action}
+use Rattle.vault_core.specs.Carried.{ComesNext}
+use Rattle.vault_core.specs.declared.reply.Reply.TheVariants as reply
+use Rattle.vault.specs.declared.tasks.Running.{Running}
+use Rattle.vault.specs.declared.tasks.Task.{Task}
+use Rattle.vault.specs.declared.tasks.Task.TheVariants as task
+use Rattle.vault.specs.declared.turn.Turn.TheVariants as turn
+use Rattle.vault.specs.declared.vault.Vault.{Vault}
+use Rattle.vault.specs.Devices.{devices, AreHanded}
+use Rattle.vault.specs.Running.{KeepsAll, IsFed}
+use Rattle.vault.specs.Stands.{Stands, Comes, MakesStep}
+use Rattle.vault.specs.Tasks.{IsTask, IsRunning}
+use Rattle.vault.proofs.Allowed.{IsAllowed, next_allowed}
+use Rattle.vault.proofs.JobPlaces.{place_is}
+use Rattle.vault.proofs.Ways.{working, is_handed, handed_on, goes_on}
+
+module _ (w : State) (job : Job) (k o : ℕ) (next : next_action w job ≡ Some (Remove k o)) where
+  not_allowed : (kind : Kind) → job.kind ≡ kind → IsAllowed (setup_in w).n kind (Remove k o)
+  not_allowed kind is = subst (λ (x : Kind). IsAllowed (setup_in w).n x (Remove k o)) is (next_allowed w job (Remove k o) next)
+
+  -- the provider is one of the setup's
+  within : k < (setup_in w).n
+  within = by_kind job.kind (next_allowed w job (Remove k o) next)
+    where
+      by_kind : (kind : Kind) → IsAllowed (setup_in w).n kind (Remove k o) → k < (setup_in w).n
+      by_kind (PutJob name bytes) h = h
+      by_kind (GetJob name) h = absurd h
+      by_kind (DropJob name) h = h
+      by_kind AuditJob h = absurd h
+      by_kind RepairJob h = absurd h
+
+  -- a put and a drop work with the same as before
+  runs_on : (r : Running) → IsRunning (setup_in w) r job → IsRunning (setup_in w) r (advanced job)
+  runs_on r running = record { number = running.number; task = by_task r.task running.task }
+    where
+      by_task : (t : Task) → IsTask (setup_in w) job (actions_left (setup_in w) job) t → IsTask (setup_in w) (advanced job) (actions_left (setup_in w) (advanced job)) t
+      by_task (task.Put t) is = record { name = is.name; kind = is.kind; bench = is.bench }
+      by_task (task.Get t) is = absurd (not_allowed (GetJob is.name) is.kind)
+      by_task task.Drop is = record { name = is.name; kind = is.kind }
+      by_task (task.Audit t) is = absurd (not_allowed AuditJob is.kind)
+      by_task (task.Repair t) is = absurd (not_allowed RepairJob is.kind)
+
+pub set_same : {X : Type 0} (xs : List X) (p : ℕ) (x : X) → slice_get xs p ≡ Some x → xs ≡ slice_set xs p x
+set_same [] p x there = (let e : None ≡ Some x = there in cc)
+set_same (y ∷ ys) zero x there = (let same : y ≡ x = (let e : Some y ≡ Some x = there in cc) in ap (λ (z : _). z ∷ ys) same)
+set_same (y ∷ ys) (suc p) x there = ap (λ (l : List _). y ∷ l) (set_same ys p x there)
+
+module _ (v : Vault) (w : State) (holds : Option Cells) (faults moment number k o : ℕ) (ps : List Provider) (stands : Stands v (devices holds faults ps) w) (comes : Comes v.core number (Remove k o)) where
+  coming : ComesNext w number (Remove k o) None
+  coming = comes.machine w stands.core
+
+  -- the provider is there
+  pub provider_there : k < length ps
+  provider_there = is_handed v (devices holds faults ps) w k stands (within w coming.job k o coming.comes)
+
+  -- the removal is a step of the machine
+  pub remove_step : (v' : Vault) (ps' : List Provider) (p q : Provider) → Removes o p q → slice_get ps k ≡ Some p → ps' ≡ slice_set ps k q
+      → v'.jobs.items ≡ v.jobs.items → KeepsAll v v' → v'.flight ≡ v.flight → IsFed v.core number reply.Done v'.core
+      → MakesStep w moment number turn.More v' (devices holds faults ps) (devices holds faults ps')
+  remove_step v' ps' p q removes p_is ps_is jobs keeps flight fed =
+      let job = coming.job in
+      let f = working v (devices holds faults ps) w number (Remove k o) stands coming in
+      let new : State = record (going_on w (advanced job)) { providers = with_provider w.providers k q } in
+      let seen : p ≡ w.providers k = (let e : Some p ≡ Some (w.providers k) = sym p_is ∙ stands.devices.providers.each k provider_there in cc) in
+      goes_on v v' w new holds faults moment number f.place ps ps' (Remove k o) f.running (advanced job) stands coming
+      (q, subst (λ (x : Provider). Removes o x q) seen removes, refl)
+      (record { records = refl; doubt = refl; append = refl; faults = refl; barred = refl })
+      refl refl
+      (runs_on w job k o coming.comes f.running f.is)
+      (place_is v.jobs.items number ∙ f.at)
+      (jobs ∙ set_same v.jobs.items f.place f.running f.there)
+      (subst (λ (l : List Provider). AreHanded l new) (sym ps_is) (handed_on ps w new k q stands.devices.providers provider_there refl (λ j. refl)))
+      keeps flight fed

@@ -1,0 +1,137 @@
+-- A job ends by its step.
+use Rattle.std.proofs.Common.{◌≡◌, ℕ, zero, suc, ◌==◌, cond, List, [], ◌∷◌, Option, Some, None, refl, sym, ap, subst, ◌∙◌}
+use Rattle.std.specs.Prelude.{slice_get, slice_set}
+use Rattle.std.specs.List.{remove}
+use Rattle.std.specs.Option.{option_map}
+use Rattle.hail_devices.specs.Cells.{Cells}
+use Rattle.hail_devices.specs.Providers.{Provider}
+use Rattle.hail_records.specs.Records.{Setup}
+use Rattle.hail_machine.specs.Actions.{Action, actions_left}
+use Rattle.hail_machine.specs.Events.{Ended}
+use Rattle.hail_machine.specs.Heard.{Entry, heard_by, heard_by_kind}
+use Rattle.hail_machine.specs.Jobs.{Job, job_of, without_job}
+use Rattle.hail_machine.specs.States.{State, setup_in}
+use Rattle.hail_machine.specs.Steps.{Acts}
+use Rattle.vault_core.specs.View.{CoreView}
+use Rattle.vault_core.specs.Carried.{ComesNext}
+use Rattle.vault_core.specs.Replies.{Tells}
+use Rattle.vault_core.specs.declared.reply.Reply.{Reply}
+use Rattle.vault.specs.declared.tasks.Running.{Running}
+use Rattle.vault.specs.declared.tasks.Task.{Task}
+use Rattle.vault.specs.declared.tasks.Task.TheVariants as task
+use Rattle.vault.specs.declared.turn.Answer.{Answer}
+use Rattle.vault.specs.declared.turn.Turn.{Turn}
+use Rattle.vault.specs.declared.turn.Turn.TheVariants as turn
+use Rattle.vault.specs.declared.vault.Vault.{Vault}
+use Rattle.vault.specs.Devices.{Devices, devices, AreHanded}
+use Rattle.vault.specs.Outcomes.{answer_of}
+use Rattle.vault.specs.Running.{place_in, heard_of, KeepsAll, IsFed, HasStopped, IsStopped}
+use Rattle.vault.specs.Stands.{Stands, MakesStep, MakesTurn}
+use Rattle.vault.specs.Tasks.{IsTask, IsRunning, AreRunning}
+use Rattle.vault.proofs.JobPlaces.{at_number, place_is, taken_out}
+use Rattle.vault.proofs.Ways.{happens_by, IsQuiet, stands_on, at_place, entry_kept, same_beyond}
+
+-- ---- the job in its list
+
+-- another job of the same number at a place
+at_set : (rs : List Running) (k p : ℕ) (r r' : Running) → slice_get rs p ≡ Some r → r'.number ≡ r.number → at_number (slice_set rs p r') k ≡ at_number rs k
+at_set [] k p r r' there same = refl
+at_set (x ∷ rs) k zero r r' there same =
+    let number : r'.number ≡ x.number = same ∙ (let e : Some x ≡ Some r = there in let f : x ≡ r = cc in ap (λ (y : Running). y.number) (sym f)) in
+    ap (λ (n : ℕ). cond (n == k) (Some 0) (option_map suc (at_number rs k))) number
+at_set (x ∷ rs) k (suc p) r r' there same = ap (λ (o : Option ℕ). cond (x.number == k) (Some 0) (option_map suc o)) (at_set rs k p r r' there same)
+
+removed_same : {X : Type 0} (xs : List X) (p : ℕ) (x : X) → remove (slice_set xs p x) p ≡ remove xs p
+removed_same [] p x = refl
+removed_same (y ∷ ys) zero x = refl
+removed_same (y ∷ ys) (suc p) x = ap (λ (l : List _). y ∷ l) (removed_same ys p x)
+
+-- what a job heard is what the machine says of it
+pub heard_is : (s : Setup) (r : Running) (j : Job) → IsRunning s r j → heard_of r.task ≡ heard_by (Some j)
+heard_is s r j running = by_task r.task running.task
+  where
+    by_task : (t : Task) → IsTask s j (actions_left s j) t → heard_of t ≡ heard_by (Some j)
+    by_task (task.Put t) is = ap (heard_by_kind j) (sym is.kind)
+    by_task (task.Get t) is = is.heard ∙ ap (heard_by_kind j) (sym is.kind)
+    by_task task.Drop is = ap (heard_by_kind j) (sym is.kind)
+    by_task (task.Audit t) is = is.heard ∙ ap (heard_by_kind j) (sym is.kind)
+    by_task (task.Repair t) is = ap (heard_by_kind j) (sym is.kind)
+
+-- ---- the step
+
+-- a vault but for what one of its jobs works with
+pub record IsAside (v v' : Vault) (place : ℕ) (r r' : Running) : Type 0 where
+  pub core : v'.core ≡ v.core
+  pub jobs : v'.jobs.items ≡ slice_set v.jobs.items place r'
+  pub number : r'.number ≡ r.number
+  pub heard : heard_of r'.task ≡ heard_of r.task
+  pub keeps : KeepsAll v v'
+
+-- what is left of the jobs, and what the turn tells
+pub record Leaves (v2 : Vault) (w : State) (number : ℕ) (reply : Reply) (answer : Answer) (t : Turn) (core : CoreView) : Type 0 where
+  pub heard : List Entry
+  pub turn_is : t ≡ turn.Done (record { answer = answer; heard = heard })
+  pub heard_is : heard ≡ heard_by (job_of w.jobs number)
+  pub jobs : AreRunning (setup_in w) v2.jobs.items (without_job w.jobs number)
+  pub fed : IsFed core number reply v2.core
+
+module _ (v v1 : Vault) (d : Devices) (w : State) (number place : ℕ) (action : Action) (r r' : Running) (stands : Stands v d w) (next : ComesNext w number action None)
+    (at : place_in v.jobs.items number ≡ Some place) (there : slice_get v.jobs.items place ≡ Some r) (aside : IsAside v v1 place r r') where
+  at_first : at_number v.jobs.items number ≡ Some place
+  at_first = sym (place_is v.jobs.items number) ∙ at
+
+  at_aside : place_in v1.jobs.items number ≡ Some place
+  at_aside = ap (λ (l : List Running). place_in l number) aside.jobs ∙ place_is (slice_set v.jobs.items place r') number ∙ at_set v.jobs.items number place r r' there aside.number ∙ at_first
+
+  set_there : {X : Type 0} (xs : List X) (p : ℕ) (x y : X) → slice_get xs p ≡ Some x → slice_get (slice_set xs p y) p ≡ Some y
+  set_there [] p x y h = (let e : None ≡ Some x = h in cc)
+  set_there (z ∷ zs) zero x y h = refl
+  set_there (z ∷ zs) (suc p) x y h = set_there zs p x y h
+
+  pub is_left : (v2 : Vault) (reply : Reply) (answer : Answer) (t : Turn) → HasStopped v1 number reply answer t v2 → Leaves v2 w number reply answer t v.core
+  is_left v2 reply answer t stopped =
+      let same : stopped.place ≡ place = (let e : Some stopped.place ≡ Some place = sym stopped.found ∙ at_aside in cc) in
+      let there' : slice_get v1.jobs.items place ≡ Some r' = ap (λ (l : List Running). slice_get l place) aside.jobs ∙ set_there v.jobs.items place r r' there in
+      let one : stopped.running ≡ r' = (let e : Some stopped.running ≡ Some r' = sym stopped.there ∙ ap (slice_get v1.jobs.items) same ∙ there' in cc) in
+      let running = at_place v d w number place action r stands next at there in
+      record {
+        heard = heard_of stopped.running.task;
+        turn_is = stopped.turn_is;
+        heard_is = ap (λ (x : Running). heard_of x.task) one ∙ aside.heard ∙ heard_is (setup_in w) r next.job running ∙ ap heard_by (sym next.runs);
+        jobs =
+            subst (λ (l : List Running). AreRunning (setup_in w) l (without_job w.jobs number))
+            (sym (stopped.jobs ∙ (λ i. remove (aside.jobs i) (same i)) ∙ removed_same v.jobs.items place r'))
+            (taken_out (setup_in w) v.jobs.items w.jobs 0 w.next_job number place stands.core.sound.numbered stands.jobs at_first);
+        fed = subst (λ (c : CoreView). IsFed c number reply v2.core) aside.core stopped.fed;
+      }
+
+  pub not_gone : (v2 : Vault) (reply : Reply) (answer : Answer) → IsStopped v1 number reply answer None v2 → ⊥
+  not_gone v2 reply answer none = (let e : None ≡ Some place = sym none ∙ at_aside in cc)
+
+-- a job ends, and another state is left of it alone, and of the providers
+pub ends_by : (v v1 v2 : Vault) (w new : State) (holds : Option Cells) (faults moment number place : ℕ) (ps ps' : List Provider) (action : Action) (r r' : Running) (reply : Reply) (answer : Answer) (result : Option Turn)
+    → Stands v (devices holds faults ps) w → (next : ComesNext w number action None) → Acts w next.job action (Ended (answer_of answer)) new → IsQuiet w new → new.jobs ≡ without_job w.jobs number
+    → place_in v.jobs.items number ≡ Some place → slice_get v.jobs.items place ≡ Some r → IsAside v v1 place r r' → v1.flight ≡ v.flight
+    → IsStopped v1 number reply answer result v2 → Tells number reply (Ended (answer_of answer)) new → AreHanded ps' new
+    → MakesTurn w moment number result v2 (devices holds faults ps) (devices holds faults ps')
+ends_by v v1 v2 w new holds faults moment number place ps ps' action r r' reply answer None stands next acts quiet jobs at there aside flight stopped tells handed =
+    absurd (not_gone v v1 (devices holds faults ps) w number place action r r' stands next at there aside v2 reply answer stopped)
+ends_by v v1 v2 w new holds faults moment number place ps ps' action r r' reply answer (Some t) stands next acts quiet jobs at there aside flight stopped tells handed =
+    let left = is_left v v1 (devices holds faults ps) w number place action r r' stands next at there aside v2 reply answer t stopped in
+    let happens = happens_by w new moment number action (Ended (answer_of answer)) stands.core.is_open next acts in
+    let core = left.fed w new (Ended (answer_of answer)) moment stands.core happens (record { tells = tells; entry = λ a is mine. entry_kept v.core w w.append number stands.core.append a (sym quiet.append ∙ is) mine }) in
+    let are : AreRunning (setup_in w) v2.jobs.items new.jobs = subst (λ (js : List Job). AreRunning (setup_in w) v2.jobs.items js) (sym jobs) left.jobs in
+    let keeps : KeepsAll v v2 = record {
+      setup = stopped.keeps.setup ∙ aside.keeps.setup;
+      master = stopped.keeps.master ∙ aside.keeps.master;
+      shape = stopped.keeps.shape ∙ aside.keeps.shape;
+      profile = stopped.keeps.profile ∙ aside.keeps.profile;
+    } in
+    subst (λ (x : Turn). MakesStep w moment number x v2 (devices holds faults ps) (devices holds faults ps')) (sym left.turn_is)
+    (record {
+      state = new;
+      happens = happens;
+      stands = stands_on v v2 w new holds faults ps ps' stands quiet handed core keeps (stopped.flight ∙ flight) are;
+      heard = left.heard_is;
+      beyond = λ ended. same_beyond new holds faults ps ps';
+    })

@@ -1,0 +1,269 @@
+-- A store is a step of the machine.
+use Rattle.std.proofs.Common.{◌≡◌, ℕ, ◌+◌, ◌*◌, ◌<◌, ◌≤◌, Vec, Global, vec_capacity, List, ◌∷◌, length, drop, Option, Some, None, Result, Ok, Err, refl, sym, ap, subst, ◌∙◌}
+use Rattle.std.specs.Prelude.{slice_get, slice_set}
+use Rattle.hail_columns.specs.Columns.{column_of_symbols}
+use Rattle.hail_columns.specs.Objects.{Object, symbols_in}
+use Rattle.hail_devices.specs.Cells.{Cells}
+use Rattle.hail_devices.specs.Providers.{Provider}
+use Rattle.hail_devices.specs.ProviderCalls.{Stores, FailsToStore, FindsNoMemory}
+use Rattle.hail_field.specs.declared.symbol.Symbol.{Symbol}
+use Rattle.hail_records.specs.Records.{Setup}
+use Rattle.hail_machine.specs.Actions.{Action, Store, actions_of, actions_left}
+use Rattle.hail_machine.specs.Given.{symbols_given}
+use Rattle.hail_machine.specs.Jobs.{Kind, PutJob, GetJob, DropJob, AuditJob, RepairJob, Given, Job, advanced, without_job}
+use Rattle.hail_machine.specs.Setups.{object_of}
+use Rattle.hail_machine.specs.States.{State, setup_in, going_on, ended, with_provider}
+use Rattle.hail_machine.specs.Steps.{next_action, block_to_store}
+use Rattle.hail_machine.proofs.JobLists.{number_of}
+use Rattle.provider_model.specs.declared.fault.StoreFault.{StoreFault}
+use Rattle.provider_model.specs.declared.fault.StoreFault.TheVariants as store_fault
+use Rattle.sound_states.proofs.Orders.{next-left}
+use Rattle.vault_core.specs.Carried.{ComesNext}
+use Rattle.vault_core.specs.declared.reply.Reply.TheVariants as reply
+use Rattle.vault.specs.declared.bench.Bench.{Bench}
+use Rattle.vault.specs.declared.blocks.Blocks.{Blocks}
+use Rattle.vault.specs.declared.tasks.RepairTask.{RepairTask}
+use Rattle.vault.specs.declared.tasks.Running.{Running}
+use Rattle.vault.specs.declared.tasks.Task.{Task}
+use Rattle.vault.specs.declared.tasks.Task.TheVariants as task
+use Rattle.vault.specs.declared.turn.Answer.TheVariants as answer
+use Rattle.vault.specs.declared.turn.Turn.{Turn}
+use Rattle.vault.specs.declared.turn.Turn.TheVariants as turn
+use Rattle.vault.specs.declared.vault.Vault.{Vault}
+use Rattle.vault.specs.Devices.{devices, AreHanded}
+use Rattle.vault.specs.Orders.{Phase, Between, Fetching, Opened, GoesOn}
+use Rattle.vault.specs.Running.{place_in, heard_of, KeepsAll, IsFed, IsStopped}
+use Rattle.vault.specs.Stands.{Stands, Comes, MakesStep, MakesTurn}
+use Rattle.vault.specs.Storing.{StoresAs, turned, stored_block, KeepsTask, IsStorer}
+use Rattle.vault.specs.Tasks.{bench_object, fetched_in, IsBench, IsInWork, IsRepair, IsTask, IsRunning}
+use Rattle.vault.proofs.Allowed.{IsAllowed, next_allowed}
+use Rattle.vault.proofs.Stops.{IsAside, ends_by}
+use Rattle.vault.proofs.Ways.{actions_same, at_place, is_handed, handed_on, goes_on}
+
+-- ---- benches
+
+-- the object of a bench of the setup that was turned to another number
+pub turned_is : (s : Setup) (bench : Bench) (o : ℕ) → IsBench s bench → turned bench o ≡ object_of s o
+turned_is s bench o is = ap (λ (x : Object). record x { id = o }) is
+
+-- a bench that was turned is one of the setup
+pub bench_after : (s : Setup) (bench bench' : Bench) (o : ℕ) → IsBench s bench → bench_object bench' ≡ turned bench o → IsBench s bench'
+bench_after s bench bench' o is turned_to =
+    turned_to ∙ turned_is s bench o is ∙ ap (object_of s) (sym (ap (λ (x : Object). x.id) turned_to))
+
+-- it has the setup's providers
+pub bench_count : (s : Setup) (bench : Bench) → IsBench s bench → bench.keys.file.shape.n ≡ s.n
+bench_count s bench is = ap (λ (x : Object). x.shape.n) is
+
+-- ---- the order of stores
+
+module _ (n k o s : ℕ) (tail : List Action) where
+  -- the symbols at hand are those of the stripe
+  pub rows_are : (phase : Phase) (b : Blocks) (rows : List ℕ) (given : List Given) → GoesOn n phase (Store k o s ∷ tail) → IsInWork phase b rows given → rows ≡ symbols_given given o s
+  rows_are Between b rows given order work = absurd order
+  rows_are (Fetching p t c) b rows given order work = absurd order
+  rows_are (Opened p t) b rows given order work = work ∙ (λ i. symbols_given given (sym order.1 i) (sym order.2 i))
+
+  -- and the order goes on
+  pub order_on : (phase : Phase) → GoesOn n phase (Store k o s ∷ tail) → GoesOn n phase tail
+  order_on Between order = absurd order
+  order_on (Fetching p t c) order = absurd order
+  order_on (Opened p t) order = order.3
+
+-- ---- the job
+
+module _ (w : State) (job : Job) (k o s : ℕ) (next : next_action w job ≡ Some (Store k o s)) where
+  not_allowed : (kind : Kind) → job.kind ≡ kind → IsAllowed (setup_in w).n kind (Store k o s)
+  not_allowed kind is = subst (λ (x : Kind). IsAllowed (setup_in w).n x (Store k o s)) is (next_allowed w job (Store k o s) next)
+
+  within : k < (setup_in w).n
+  within = by_kind job.kind (next_allowed w job (Store k o s) next)
+    where
+      by_kind : (kind : Kind) → IsAllowed (setup_in w).n kind (Store k o s) → k < (setup_in w).n
+      by_kind (PutJob name bytes) h = h
+      by_kind (GetJob name) h = absurd h
+      by_kind (DropJob name) h = absurd h
+      by_kind AuditJob h = absurd h
+      by_kind RepairJob h = h
+
+  after : List Action
+  after = drop (job.place + 1) (actions_of (setup_in w) job)
+
+  left_is : actions_left (setup_in w) job ≡ Store k o s ∷ drop (job.place + 1) (actions_of (setup_in w) job)
+  left_is = next-left w job (Store k o s) next (λ e. absurd (let f : ⊥ = cc in f))
+
+  listed : (r : Running) → IsRunning (setup_in w) r job → IsTask (setup_in w) job (Store k o s ∷ drop (job.place + 1) (actions_of (setup_in w) job)) r.task
+  listed r running = subst (λ (l : List Action). IsTask (setup_in w) job l r.task) left_is running.task
+
+  -- a job whose next action is a store has what it stores
+  pub is_storer : (r : Running) → IsRunning (setup_in w) r job → IsStorer r.task k
+  is_storer r running = by_task r.task (listed r running)
+    where
+      by_task : (t : Task) → IsTask (setup_in w) job (Store k o s ∷ drop (job.place + 1) (actions_of (setup_in w) job)) t → IsStorer t k
+      by_task (task.Put t) is = subst (λ (m : ℕ). k < m) (sym (bench_count (setup_in w) t.bench is.bench)) within
+      by_task (task.Get t) is = absurd (not_allowed (GetJob is.name) is.kind)
+      by_task task.Drop is = absurd (not_allowed (DropJob is.name) is.kind)
+      by_task (task.Audit t) is = absurd (not_allowed AuditJob is.kind)
+      by_task (task.Repair t) is = subst (λ (m : ℕ). k < m) (sym (bench_count (setup_in w) t.bench is.bench)) within
+
+  -- it stores the block that the machine says
+  pub block_is : (r : Running) → IsRunning (setup_in w) r job → stored_block r.task o k s ≡ block_to_store w job job.kind k o s
+  block_is r running = by_task r.task (listed r running)
+    where
+      by_task : (t : Task) → IsTask (setup_in w) job (Store k o s ∷ drop (job.place + 1) (actions_of (setup_in w) job)) t → stored_block t o k s ≡ block_to_store w job job.kind k o s
+      by_task (task.Put t) is =
+          ap (λ (x : Object). column_of_symbols x (symbols_in x t.bytes s) k s) (turned_is (setup_in w) t.bench o is.bench)
+          ∙ ap (λ (kind : Kind). block_to_store w job kind k o s) (sym is.kind)
+      by_task (task.Get t) is = absurd (not_allowed (GetJob is.name) is.kind)
+      by_task task.Drop is = absurd (not_allowed (DropJob is.name) is.kind)
+      by_task (task.Audit t) is = absurd (not_allowed AuditJob is.kind)
+      by_task (task.Repair t) is =
+          (λ i. column_of_symbols (turned_is (setup_in w) t.bench o is.bench i)
+          (rows_are (setup_in w).n k o s (drop (job.place + 1) (actions_of (setup_in w) job)) is.phase t.blocks t.bench.rows.items job.given is.order is.in_work i) k s)
+          ∙ ap (λ (kind : Kind). block_to_store w job kind k o s) (sym is.kind)
+
+  -- the job goes on
+  pub runs_on : (r r' : Running) → IsRunning (setup_in w) r job → r'.number ≡ r.number → KeepsTask r.task r'.task o → IsRunning (setup_in w) r' (advanced job)
+  runs_on r r' running number keeps = record {
+    number = number ∙ running.number;
+    task = subst (λ (l : List Action). IsTask (setup_in w) (advanced job) l r'.task) (sym tail_is) (by_task r.task r'.task (listed r running) keeps);
+  }
+    where
+      tail_is : actions_left (setup_in w) (advanced job) ≡ drop (job.place + 1) (actions_of (setup_in w) job)
+      tail_is = ap (drop (job.place + 1)) (actions_same (setup_in w) job (job.place + 1) job.given)
+
+      repaired : (t u : RepairTask) → IsRepair (setup_in w) t job (Store k o s ∷ drop (job.place + 1) (actions_of (setup_in w) job)) → KeepsTask (task.Repair t) (task.Repair u) o
+          → IsRepair (setup_in w) u (advanced job) (drop (job.place + 1) (actions_of (setup_in w) job))
+      repaired t u is keeps =
+          let profile = ap (λ (x : Object). x.profile.size) keeps.2 in
+          record {
+            kind = is.kind;
+            bench = bench_after (setup_in w) t.bench u.bench o is.bench keeps.2;
+            size = ap (λ (b : Blocks). b.size) keeps.0 ∙ is.size ∙ sym profile;
+            phase = is.phase;
+            order = order_on (setup_in w).n k o s (drop (job.place + 1) (actions_of (setup_in w) job)) is.phase is.order;
+            in_work =
+                subst (λ (b : Blocks). IsInWork is.phase b u.bench.rows.items job.given) (sym keeps.0)
+                (subst (λ (rows : Vec Symbol Global). IsInWork is.phase t.blocks rows.items job.given) (sym keeps.1) is.in_work);
+            present = subst (λ (b : Blocks). length b.present.items ≡ fetched_in is.phase) (sym keeps.0) is.present;
+            symbols = subst (λ (b : Blocks). length b.symbols.items ≡ fetched_in is.phase * b.size) (sym keeps.0) is.symbols;
+            room_present = subst (λ (b : Blocks). (setup_in w).n ≤ vec_capacity b.present) (sym keeps.0) is.room_present;
+            room_symbols = subst (λ (b : Blocks). (setup_in w).n * b.size ≤ vec_capacity b.symbols) (sym keeps.0) is.room_symbols;
+          }
+
+      by_task : (t t' : Task) → IsTask (setup_in w) job (Store k o s ∷ drop (job.place + 1) (actions_of (setup_in w) job)) t → KeepsTask t t' o → IsTask (setup_in w) (advanced job) (drop (job.place + 1) (actions_of (setup_in w) job)) t'
+      by_task (task.Put t) (task.Put u) is keeps = record {
+        name = is.name;
+        kind = is.kind ∙ ap (PutJob is.name) (sym keeps.0);
+        bench = bench_after (setup_in w) t.bench u.bench o is.bench keeps.1;
+      }
+      by_task (task.Repair t) (task.Repair u) is keeps = repaired t u is keeps
+      by_task (task.Put t) (task.Get u) is keeps = absurd keeps
+      by_task (task.Put t) task.Drop is keeps = absurd keeps
+      by_task (task.Put t) (task.Audit u) is keeps = absurd keeps
+      by_task (task.Put t) (task.Repair u) is keeps = absurd keeps
+      by_task (task.Repair t) (task.Get u) is keeps = absurd keeps
+      by_task (task.Repair t) (task.Put u) is keeps = absurd keeps
+      by_task (task.Repair t) task.Drop is keeps = absurd keeps
+      by_task (task.Repair t) (task.Audit u) is keeps = absurd keeps
+      by_task (task.Get t) u is keeps = absurd keeps
+      by_task task.Drop u is keeps = absurd keeps
+      by_task (task.Audit t) u is keeps = absurd keeps
+
+-- what a job that stores heard is nothing, before and after
+heard_same : (t u : Task) (o : ℕ) → KeepsTask t u o → heard_of u ≡ heard_of t
+heard_same (task.Put t) (task.Put u) o keeps = refl
+heard_same (task.Repair t) (task.Repair u) o keeps = refl
+heard_same (task.Put t) (task.Get u) o keeps = absurd keeps
+heard_same (task.Put t) task.Drop o keeps = absurd keeps
+heard_same (task.Put t) (task.Audit u) o keeps = absurd keeps
+heard_same (task.Put t) (task.Repair u) o keeps = absurd keeps
+heard_same (task.Repair t) (task.Get u) o keeps = absurd keeps
+heard_same (task.Repair t) (task.Put u) o keeps = absurd keeps
+heard_same (task.Repair t) task.Drop o keeps = absurd keeps
+heard_same (task.Repair t) (task.Audit u) o keeps = absurd keeps
+heard_same (task.Get t) u o keeps = absurd keeps
+heard_same task.Drop u o keeps = absurd keeps
+heard_same (task.Audit t) u o keeps = absurd keeps
+
+module _ (v : Vault) (w : State) (holds : Option Cells) (faults moment number k o s : ℕ) (ps : List Provider) (stands : Stands v (devices holds faults ps) w) (comes : Comes v.core number (Store k o s)) where
+  coming : ComesNext w number (Store k o s) None
+  coming = comes.machine w stands.core
+
+  -- the provider is there
+  pub provider_there : k < length ps
+  provider_there = is_handed v (devices holds faults ps) w k stands (within w coming.job k o s coming.comes)
+
+  after_call : Provider → State → State
+  after_call q left = record left { providers = with_provider w.providers k q }
+
+  module _ (place : ℕ) (r : Running) (at : place_in v.jobs.items number ≡ Some place) (there : slice_get v.jobs.items place ≡ Some r) where
+    runs : IsRunning (setup_in w) r coming.job
+    runs = at_place v (devices holds faults ps) w number place (Store k o s) r stands coming at there
+
+    -- there is something to store
+    pub storer_there : IsStorer r.task k
+    storer_there = is_storer w coming.job k o s coming.comes r runs
+
+    module _ (r' : Running) (same_number : r'.number ≡ r.number) (keeps : KeepsTask r.task r'.task o) (ps' : List Provider) (p q : Provider) (p_is : slice_get ps k ≡ Some p) (ps_is : ps' ≡ slice_set ps k q) where
+      seen : p ≡ w.providers k
+      seen = (let e : Some p ≡ Some (w.providers k) = sym p_is ∙ stands.devices.providers.each k provider_there in cc)
+
+      -- a store that is done is a step of the machine
+      pub store_step : (v' : Vault) → Stores o s (stored_block r.task o k s) p q → v'.jobs.items ≡ slice_set v.jobs.items place r' → KeepsAll v v' → v'.flight ≡ v.flight → IsFed v.core number reply.Done v'.core
+          → MakesStep w moment number turn.More v' (devices holds faults ps) (devices holds faults ps')
+      store_step v' stores jobs keeps_all flight fed =
+          let new : State = record (going_on w (advanced coming.job)) { providers = with_provider w.providers k q } in
+          let call : Stores o s (block_to_store w coming.job coming.job.kind k o s) (w.providers k) q =
+          subst (λ (x : Provider). Stores o s (block_to_store w coming.job coming.job.kind k o s) x q) seen
+          (subst (λ (b : List ℕ). Stores o s b p q) (block_is w coming.job k o s coming.comes r runs) stores) in
+          goes_on v v' w new holds faults moment number place ps ps' (Store k o s) r' (advanced coming.job) stands coming
+          (q, call, refl)
+          (record { records = refl; doubt = refl; append = refl; faults = refl; barred = refl })
+          refl refl
+          (runs_on w coming.job k o s coming.comes r r' runs same_number keeps)
+          at jobs
+          (subst (λ (l : List Provider). AreHanded l new) (sym ps_is) (handed_on ps w new k q stands.devices.providers provider_there refl (λ j. refl)))
+          keeps_all flight fed
+
+      module _ (v1 v2 : Vault) (result : Option Turn) (core : v1.core ≡ v.core) (jobs : v1.jobs.items ≡ slice_set v.jobs.items place r') (keeps_all : KeepsAll v v1) (flight : v1.flight ≡ v.flight) where
+        aside : IsAside v v1 place r r'
+        aside = record { core = core; jobs = jobs; number = same_number; heard = heard_same r.task r'.task o keeps; keeps = keeps_all }
+
+        left : State
+        left = record (ended w coming.job) { providers = with_provider w.providers k q }
+
+        handed : AreHanded ps' (record (ended w coming.job) { providers = with_provider w.providers k q })
+        handed = subst (λ (l : List Provider). AreHanded l (record (ended w coming.job) { providers = with_provider w.providers k q })) (sym ps_is)
+            (handed_on ps w (record (ended w coming.job) { providers = with_provider w.providers k q }) k q stands.devices.providers provider_there refl (λ j. refl))
+
+        -- a store that failed ends the job
+        pub failed_step : FailsToStore p q → IsStopped v1 number reply.Failed (answer.ProviderFault k) result v2
+            → MakesTurn w moment number result v2 (devices holds faults ps) (devices holds faults ps')
+        failed_step fails stopped =
+            ends_by v v1 v2 w (record (ended w coming.job) { providers = with_provider w.providers k q }) holds faults moment number place ps ps' (Store k o s) r r' reply.Failed (answer.ProviderFault k) result stands coming
+            (refl, (q, subst (λ (x : Provider). FailsToStore x q) seen fails, refl))
+            (record { records = refl; doubt = refl; append = refl; faults = refl; barred = refl })
+            (ap (without_job w.jobs) (number_of w.jobs number coming.job coming.runs))
+            at there aside flight stopped tt handed
+
+        -- and so does one that found no memory
+        pub no_memory_step : FindsNoMemory p q → IsStopped v1 number reply.Memory answer.Memory result v2
+            → MakesTurn w moment number result v2 (devices holds faults ps) (devices holds faults ps')
+        no_memory_step finds stopped =
+            ends_by v v1 v2 w (record (ended w coming.job) { providers = with_provider w.providers k q }) holds faults moment number place ps ps' (Store k o s) r r' reply.Memory answer.Memory result stands coming
+            (q, subst (λ (x : Provider). FindsNoMemory x q) seen finds, refl)
+            (record { records = refl; doubt = refl; append = refl; faults = refl; barred = refl })
+            (ap (without_job w.jobs) (number_of w.jobs number coming.job coming.runs))
+            at there aside flight stopped tt handed
+
+-- ---- what came of the call
+
+pub was_stored : (o s : ℕ) (block : List ℕ) (r : Result Unit StoreFault) (x : Unit) (p q : Provider) → r ≡ Ok x → StoresAs o s block r p q → Stores o s block p q
+was_stored o s block r x p q is as_ = subst (λ (y : Result Unit StoreFault). StoresAs o s block y p q) is as_
+
+pub was_failed : (o s : ℕ) (block : List ℕ) (r : Result Unit StoreFault) (f : StoreFault) (p q : Provider) → r ≡ Err f → f ≡ store_fault.Failed → StoresAs o s block r p q → FailsToStore p q
+was_failed o s block r f p q is fault as_ = subst (λ (y : Result Unit StoreFault). StoresAs o s block y p q) (is ∙ ap (λ (y : StoreFault). Err y) fault) as_
+
+pub found_no_memory : (o s : ℕ) (block : List ℕ) (r : Result Unit StoreFault) (f : StoreFault) (p q : Provider) → r ≡ Err f → f ≡ store_fault.Memory → StoresAs o s block r p q → FindsNoMemory p q
+found_no_memory o s block r f p q is fault as_ = subst (λ (y : Result Unit StoreFault). StoresAs o s block y p q) (is ∙ ap (λ (y : StoreFault). Err y) fault) as_

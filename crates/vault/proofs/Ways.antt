@@ -1,0 +1,211 @@
+-- What every step of a job has in common.
+use Rattle.std.proofs.Common.{◌≡◌, ℕ, zero, suc, ◌<◌, ◌≤◌, ◌==◌, Bool, true, List, [], ◌∷◌, length, Option, Some, None, refl, sym, ap, subst, ◌∙◌, inl, inr, arith}
+use Rattle.std.specs.Prelude.{slice_get, slice_set}
+use Rattle.std.proofs.Common.{length-set}
+use Rattle.std.proofs.lemmas.Bool.{cases_eq, eq-eqb, ne_eqb}
+use Rattle.hail_devices.specs.Cells.{Cells}
+use Rattle.hail_devices.specs.Providers.{Provider}
+use Rattle.hail_records.specs.Records.{Setup, Record}
+use Rattle.hail_records.specs.Table.{setup_of}
+use Rattle.hail_records.specs.Journal.{StandsOrIsEmpty, text_size}
+use Rattle.hail_machine.specs.Actions.{Action, actions_of, actions_by}
+use Rattle.hail_machine.specs.Events.{Outcome, Step, More}
+use Rattle.hail_machine.specs.Jobs.{Kind, PutJob, GetJob, DropJob, AuditJob, RepairJob, Given, Job, with_job}
+use Rattle.hail_machine.specs.Machine.{Happens}
+use Rattle.hail_machine.specs.Setups.{setup_or_none}
+use Rattle.hail_machine.specs.Stands.{StandsForState}
+use Rattle.hail_machine.specs.States.{State, Append, setup_in, with_provider}
+use Rattle.hail_machine.specs.Steps.{Acts, ActsOrWaits, StepsOn, StepsJob, StepsOpen, Steps}
+use Rattle.hail_machine.proofs.JobLists.{cond_true, cond_false, number_of}
+use Rattle.vault_core.specs.Carried.{CoreIs, ComesNext, IsFlight as IsCoreFlight}
+use Rattle.vault_core.specs.Coming.{entry_in}
+use Rattle.vault_core.specs.View.{CoreView}
+use Rattle.vault.specs.Devices.{Devices, devices, AreHanded, IsSameBeyond, records_in_flight}
+use Rattle.vault.specs.declared.vault.Vault.{Vault}
+use Rattle.vault.specs.declared.flight.Flight.{Flight}
+use Rattle.record_codec.specs.declared.setup.Setup.{Setup as SetupValue}
+use Rattle.record_codec.specs.Entries.{with_master}
+use Rattle.hail_field.specs.declared.shape.Shape.{Shape as ShapeValue}
+use Rattle.hail_codes.specs.Profiles.{profile_of}
+use Rattle.code_points.specs.Profile.{plain_profile}
+use Rattle.vault.specs.Running.{KeepsAll, IsFed, place_in}
+use Rattle.vault.specs.declared.turn.Turn.TheVariants as turn
+use Rattle.vault.specs.declared.tasks.Running.{Running}
+use Rattle.vault_core.specs.Replies.{Tells}
+use Rattle.vault_core.specs.declared.reply.Reply.{Reply}
+use Rattle.vault_core.specs.declared.reply.Reply.TheVariants as reply
+use Rattle.vault.specs.Stands.{Stands, IsFlight, IsShaped, MakesStep}
+use Rattle.vault.specs.Tasks.{IsRunning, AreRunning}
+use Rattle.vault.proofs.JobPlaces.{Found, found, place_is, put_back}
+use Rattle.journal_core.proofs.BeyondLemmas.{goes_still}
+
+-- what comes of the next action of a job is a step of the machine
+pub happens_by : (w new : State) (moment number : ℕ) (action : Action) (outcome : Outcome) → w.is_open ≡ true → (next : ComesNext w number action None) → Acts w next.job action outcome new
+    → Happens 8 moment w (Step number) outcome new
+happens_by w new moment number action outcome opened next acts =
+    subst (λ (b : Bool). Steps w number b outcome new) (sym opened)
+    (subst (λ (b : Bool). StepsOpen w number b outcome new) (sym next.unbarred)
+    (subst (λ (o : Option Job). StepsJob w o outcome new) (sym next.runs)
+    (subst (λ (o : Option Action). StepsOn w next.job o outcome new) (sym next.comes)
+    (subst (λ (h : Option ℕ). ActsOrWaits w next.job action h outcome new) (sym next.holder) acts))))
+
+-- the actions of a job do not depend on its place and on what it was given
+pub actions_same : (s : Setup) (j : Job) (place : ℕ) (given : List Given) → actions_of s (record j { place = place; given = given }) ≡ actions_of s j
+unfolding actions_of
+actions_same s j place given = by_kind j.kind
+  where
+    by_kind : (kind : Kind) → actions_by s (record j { place = place; given = given }) kind ≡ actions_by s j kind
+    by_kind (PutJob name bytes) = refl
+    by_kind (GetJob name) = refl
+    by_kind (DropJob name) = refl
+    by_kind AuditJob = refl
+    by_kind RepairJob = refl
+
+-- a state whose setup is the same
+pub setup_same : (w new : State) → new.records ≡ w.records → setup_in new ≡ setup_in w
+unfolding setup_in
+setup_same w new is = ap (λ (rs : List Record). setup_or_none (setup_of rs)) is
+
+-- what the images stand for, where neither records nor a doubt changed
+pub images_on : (told : Option Cells) (w new : State) → new.records ≡ w.records → new.doubt ≡ w.doubt → StandsForState told w → StandsForState told new
+images_on None w new records doubt stands = tt
+images_on (Some cells) w new records doubt stands = λ image is. elim (stands image is) [
+  | inl s ↦ inl (subst (StandsOrIsEmpty image) (sym records) s)
+  | inr s ↦ inr (record { doubt = s.doubt; in_doubt = doubt ∙ s.in_doubt; stands = subst (λ (rs : List Record). Rattle.hail_records.specs.Journal.StandsFor image (s.doubt.entry ∷ rs)) (sym records) s.stands })
+]
+
+-- ---- providers
+
+get_there : {X : Type 0} (xs : List X) (k : ℕ) (x : X) → k < length xs → slice_get (slice_set xs k x) k ≡ Some x
+get_there [] k x less = absurd (omega arith)
+get_there (y ∷ ys) zero x less = refl
+get_there (y ∷ ys) (suc k) x less = get_there ys k x (omega arith)
+
+get_elsewhere : {X : Type 0} (xs : List X) (k j : ℕ) (x : X) → (j ≡ k → ⊥) → slice_get (slice_set xs k x) j ≡ slice_get xs j
+get_elsewhere [] k j x other = refl
+get_elsewhere (y ∷ ys) zero zero x other = absurd (other refl)
+get_elsewhere (y ∷ ys) zero (suc j) x other = refl
+get_elsewhere (y ∷ ys) (suc k) zero x other = refl
+get_elsewhere (y ∷ ys) (suc k) (suc j) x other = get_elsewhere ys k j x (λ e. other (ap suc e))
+
+-- one of the providers handed in changed
+pub handed_on : (ps : List Provider) (w new : State) (k : ℕ) (p : Provider) → AreHanded ps w → k < length ps → new.handed ≡ w.handed
+    → ((j : ℕ) → new.providers j ≡ with_provider w.providers k p j) → AreHanded (slice_set ps k p) new
+handed_on ps w new k p are less handed providers = record {
+  count = handed ∙ are.count ∙ sym (length-set ps k p);
+  each = λ j below. elim (cases_eq j k) [
+    | inl same ↦ ap (slice_get (slice_set ps k p)) same ∙ get_there ps k p less ∙ ap Some (sym (providers j ∙ cond_true (j == k) p (w.providers j) (eq-eqb j k same)))
+    | inr other ↦ get_elsewhere ps k j p other ∙ are.each j (subst (λ (n : ℕ). j < n) (length-set ps k p) below) ∙ ap Some (sym (providers j ∙ cond_false (j == k) p (w.providers j) (ne_eqb j k other)))
+  ];
+}
+
+-- none of them did
+pub handed_same : (ps : List Provider) (w new : State) → AreHanded ps w → new.handed ≡ w.handed → ((j : ℕ) → new.providers j ≡ w.providers j) → AreHanded ps new
+handed_same ps w new are handed providers = record { count = handed ∙ are.count; each = λ j below. are.each j below ∙ ap Some (sym (providers j)) }
+
+-- ---- the state after
+
+-- a step that changes neither the records nor what is in doubt, nor the append in flight, nor the disk
+pub record IsQuiet (w new : State) : Type 0 where
+  pub records : new.records ≡ w.records
+  pub doubt : new.doubt ≡ w.doubt
+  pub append : new.append ≡ w.append
+  pub faults : new.disk_faults ≡ w.disk_faults
+  pub barred : new.is_barred ≡ w.is_barred
+
+pub shaped_on : (v v' : Vault) → KeepsAll v v' → IsShaped v → IsShaped v'
+shaped_on v v' keeps is = record {
+  n = ap (λ (s : ShapeValue). s.n) keeps.shape ∙ is.n ∙ sym (ap (λ (s : SetupValue). s.n) keeps.setup);
+  l = ap (λ (s : ShapeValue). s.l) keeps.shape ∙ is.l ∙ sym (ap (λ (s : SetupValue). s.l) keeps.setup);
+  b = ap (λ (s : ShapeValue). s.b) keeps.shape ∙ is.b ∙ sym (ap (λ (s : SetupValue). s.b) keeps.setup);
+  profile = ap plain_profile keeps.profile ∙ is.profile ∙ ap (λ (s : SetupValue). profile_of s.profile) (sym keeps.setup);
+}
+
+pub stands_on : (v v' : Vault) (w new : State) (holds : Option Cells) (faults : ℕ) (ps ps' : List Provider) → Stands v (devices holds faults ps) w → IsQuiet w new → AreHanded ps' new
+    → CoreIs v'.core new → KeepsAll v v' → v'.flight ≡ v.flight → AreRunning (setup_in w) v'.jobs.items new.jobs → Stands v' (devices holds faults ps') new
+stands_on v v' w new holds faults ps ps' stands quiet handed core keeps flight jobs = record {
+  devices = record {
+    images = images_on holds w new quiet.records quiet.doubt stands.devices.images;
+    faults = quiet.faults ∙ stands.devices.faults;
+    providers = handed;
+  };
+  core = core;
+  setup = setup_same w new quiet.records ∙ stands.setup ∙ sym (λ i. with_master (keeps.setup i) (keeps.master i).0);
+  shaped = shaped_on v v' keeps stands.shaped;
+  jobs = subst (λ (s : Setup). AreRunning s v'.jobs.items new.jobs) (sym (setup_same w new quiet.records)) jobs;
+  flight = λ free.
+      subst (λ (f : Option Flight). IsFlight f new.append new.records holds) (sym flight)
+      (subst (λ (a : Option Append). IsFlight v.flight a new.records holds) (sym quiet.append)
+      (subst (λ (rs : List Record). IsFlight v.flight w.append rs holds) (sym quiet.records) (stands.flight (sym quiet.barred ∙ free))));
+}
+
+-- ---- a job goes on
+
+-- the record in flight is the one that the core gave
+pub entry_kept : (c : CoreView) (w : State) (flight : Option Append) (number : ℕ) → IsCoreFlight c flight → (a : Append) → flight ≡ Some a → a.job ≡ number → entry_in c number ≡ Some a.entry
+entry_kept c w None number is a flight mine = (let e : None ≡ Some a = flight in cc)
+entry_kept c w (Some b) number is a flight mine =
+    let same : b ≡ a = (let e : Some b ≡ Some a = flight in cc) in
+    subst (λ (n : ℕ). entry_in c n ≡ Some a.entry) mine (subst (λ (x : Append). entry_in c x.job ≡ Some x.entry) same is.1)
+
+-- what is read past the text is as before where the disk was not called
+pub same_beyond : (w : State) (holds : Option Cells) (faults : ℕ) (ps ps' : List Provider) → IsSameBeyond w (devices holds faults ps) (devices holds faults ps')
+same_beyond w holds faults ps ps' = goes_still (text_size (records_in_flight w.records w.append)) holds holds refl
+
+-- a job goes on, and another state is left of it alone, and of the providers
+pub goes_told : (v v' : Vault) (w new : State) (holds : Option Cells) (faults moment number place : ℕ) (ps ps' : List Provider) (action : Action) (r : Running) (j : Job) (answer : Reply)
+    → Stands v (devices holds faults ps) w → (next : ComesNext w number action None) → Acts w next.job action More new → IsQuiet w new → new.jobs ≡ with_job w.jobs j
+    → j.number ≡ next.job.number → IsRunning (setup_in w) r j → place_in v.jobs.items number ≡ Some place → v'.jobs.items ≡ slice_set v.jobs.items place r
+    → AreHanded ps' new → KeepsAll v v' → v'.flight ≡ v.flight → IsFed v.core number answer v'.core → Tells number answer More new
+    → MakesStep w moment number turn.More v' (devices holds faults ps) (devices holds faults ps')
+goes_told v v' w new holds faults moment number place ps ps' action r j answer stands next acts quiet jobs numbered running at jobs' handed keeps flight fed tells =
+    let happens = happens_by w new moment number action More stands.core.is_open next acts in
+    let mine : j.number ≡ number = numbered ∙ number_of w.jobs number next.job next.runs in
+    let core = fed w new More moment stands.core happens (record { tells = tells; entry = λ a is mine. entry_kept v.core w w.append number stands.core.append a (sym quiet.append ∙ is) mine }) in
+    let are : AreRunning (setup_in w) v'.jobs.items new.jobs =
+    subst (λ (js : List Job). AreRunning (setup_in w) v'.jobs.items js) (sym jobs)
+    (subst (λ (rs : List Running). AreRunning (setup_in w) rs (with_job w.jobs j)) (sym jobs')
+    (put_back (setup_in w) number r j running mine v.jobs.items w.jobs place stands.jobs (sym (place_is v.jobs.items number) ∙ at))) in
+    record {
+      state = new;
+      happens = happens;
+      stands = stands_on v v' w new holds faults ps ps' stands quiet handed core keeps flight are;
+      heard = tt;
+      beyond = λ ended. same_beyond new holds faults ps ps';
+    }
+
+-- the same, where all that came of it is that it was done
+pub goes_on : (v v' : Vault) (w new : State) (holds : Option Cells) (faults moment number place : ℕ) (ps ps' : List Provider) (action : Action) (r : Running) (j : Job)
+    → Stands v (devices holds faults ps) w → (next : ComesNext w number action None) → Acts w next.job action More new → IsQuiet w new → new.jobs ≡ with_job w.jobs j
+    → j.number ≡ next.job.number → IsRunning (setup_in w) r j → place_in v.jobs.items number ≡ Some place → v'.jobs.items ≡ slice_set v.jobs.items place r
+    → AreHanded ps' new → KeepsAll v v' → v'.flight ≡ v.flight → IsFed v.core number reply.Done v'.core
+    → MakesStep w moment number turn.More v' (devices holds faults ps) (devices holds faults ps')
+goes_on v v' w new holds faults moment number place ps ps' action r j stands next acts quiet jobs numbered running at jobs' handed keeps flight fed =
+    goes_told v v' w new holds faults moment number place ps ps' action r j reply.Done stands next acts quiet jobs numbered running at jobs' handed keeps flight fed tt
+
+-- ---- what a job works with
+
+-- the job of a next action has its place
+pub working : (v : Vault) (d : Devices) (w : State) (number : ℕ) (action : Action) → Stands v d w → (next : ComesNext w number action None) → Found (setup_in w) v.jobs.items number next.job
+working v d w number action stands next = found (setup_in w) v.jobs.items w.jobs number next.job stands.jobs next.runs
+
+pub no_place : (v : Vault) (d : Devices) (w : State) (number : ℕ) (action : Action) → Stands v d w → ComesNext w number action None → place_in v.jobs.items number ≡ None → ⊥
+no_place v d w number action stands next none =
+    let f = working v d w number action stands next in
+    let e : None ≡ Some f.place = sym none ∙ place_is v.jobs.items number ∙ f.at in
+    absurd cc
+
+-- what stands at its place
+pub at_place : (v : Vault) (d : Devices) (w : State) (number place : ℕ) (action : Action) (r : Running) → Stands v d w → (next : ComesNext w number action None)
+    → place_in v.jobs.items number ≡ Some place → slice_get v.jobs.items place ≡ Some r → IsRunning (setup_in w) r next.job
+at_place v d w number place action r stands next at there =
+    let f = working v d w number action stands next in
+    let same : f.place ≡ place = (let e : Some f.place ≡ Some place = sym f.at ∙ sym (place_is v.jobs.items number) ∙ at in cc) in
+    let one : f.running ≡ r = (let e : Some f.running ≡ Some r = sym f.there ∙ ap (slice_get v.jobs.items) same ∙ there in cc) in
+    subst (λ (x : Running). IsRunning (setup_in w) x next.job) one f.is
+
+-- a provider of the setup is handed in
+pub is_handed : (v : Vault) (d : Devices) (w : State) (k : ℕ) → Stands v d w → k < (setup_in w).n → k < length d.providers
+is_handed v d w k stands below =
+    let handed : (setup_in w).n ≤ w.handed = stands.core.sound.handed stands.core.is_open in
+    omega (arith, below, handed, stands.devices.providers.count)

@@ -1,0 +1,29 @@
+use Rattle.std.proofs.Common.{◌≡◌, ℕ, ◌+◌, ◌*◌, ◌≤◌, refl, sym, arith}
+use Rattle.vault.specs.Benches.{stripes_on}
+use Rattle.vault.proofs.tasks.GetTask.new.Goals as goal
+
+room : (len cap count made : ℕ) → len ≡ 0 → count ≡ made → made ≤ cap → len + count ≤ cap
+room len cap count made none same fits = omega (arith, none, same, fits)
+
+pub returns : goal.returns
+returns c =
+    let bench = c.args.bench in
+    let file = bench.keys.file in
+    let total : c.stripes-stripes.result ≡ stripes_on bench = c.stripes-stripes.ensures.value bench.keys.master.0 in
+    let b = c.in_ok-blocks.ensures in
+    let f = c.in_ok-fetches.ensures in
+    let y = c.in_ok-bytes.ensures in
+    record {
+      job_is = refl;
+      bench_is = refl;
+      length_is = refl;
+      size_is = b.size;
+      fetches = f.items;
+      present = b.present;
+      symbols = b.symbols;
+      bytes = y.items;
+      room_fetches = room _ _ _ _ f.len (λ i. sym total i * sym c.from.ensures i) f.capacity;
+      room_present = room _ _ _ _ b.no_present (λ i. sym total i * sym c.from.ensures i) b.room_present;
+      room_symbols = room _ _ _ _ b.no_symbols (λ i. sym total i * sym c.from.ensures i * b.size i) b.room_symbols;
+      room_bytes = room _ _ _ _ y.len (λ i. sym total i * (16 * (sym c.from-2.ensures i * file.profile.keep))) y.capacity;
+    }

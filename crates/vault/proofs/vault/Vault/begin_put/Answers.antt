@@ -1,0 +1,16 @@
+use Rattle.std.proofs.Common.{Result, ℕ, sym, subst}
+use Rattle.hail_machine.specs.Jobs.{PutJob}
+use Rattle.vault_core.specs.declared.wish.BeginFault.{BeginFault}
+use Rattle.vault.specs.Stands.{MakesBegin}
+use Rattle.vault.proofs.Begun.{turned_down}
+use Rattle.vault.proofs.Puts.{causes_of_put}
+use Rattle.vault.proofs.InitEvents.{err-is}
+use Rattle.vault.proofs.vault.Vault.begin_put.Goals as goal
+
+pub returns-in_err-name-clause-machine : goal.returns-in_err-name-clause-machine
+returns-in_err-name-clause-machine c = λ w d moment stands.
+    let v = c.args.self.now in
+    let kind = PutJob c.args.name.now c.args.bytes in
+    let why = c.in_err-name.field-0.0 in
+    subst (λ (r : Result ℕ BeginFault). MakesBegin w moment kind r v d) (sym (err-is c.from_residual.result why c.from_residual.ensures.1))
+    (turned_down v v d w moment kind stands why (c.in_err-name.ensures.refused w (causes_of_put w c.args.name.now c.args.bytes) stands.core))

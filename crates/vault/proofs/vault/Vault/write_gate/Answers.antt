@@ -1,0 +1,27 @@
+use Rattle.std.proofs.Common.{refl, sym, arith}
+use Rattle.vault.proofs.LaterMoves.{not_none, gate_written, gate_failed, gate_unwritten, gate_otherwise}
+use Rattle.vault.proofs.vault.Vault.write_gate.Goals as goal
+
+pub returns-in_err-take-clause-machine : goal.returns-in_err-take-clause-machine
+returns-in_err-take-clause-machine g c = λ w moment providers stands.
+    absurd (not_none c.args.self.now w _ _ c.args.job providers stands _ c.requires (omega arith) (sym c.in_err-take.ensures.value))
+
+pub returns-in-On-clause-machine : goal.returns-in-On-clause-machine
+returns-in-On-clause-machine g c = λ w moment providers stands.
+    gate_written c.args.self.now w _ _ _ _ moment c.args.job providers stands c.requires c.in_ok-take.field-0 (sym c.in_ok-take.ensures.value)
+    _ _ c.in-On.ensures.made c.turn.ensures.beyond c.in-On.ensures.cause refl refl (record { setup = refl; master = refl; shape = refl; profile = refl }) c.feed.ensures.step
+
+pub returns-in-Failed-clause-machine : goal.returns-in-Failed-clause-machine
+returns-in-Failed-clause-machine g c = λ w moment providers stands.
+    gate_failed c.args.self.now w _ _ _ _ moment c.args.job providers stands c.requires c.in_ok-take.field-0 (sym c.in_ok-take.ensures.value)
+    _ _ _ c.in-Failed.ensures.made c.in-Failed.ensures.cause refl refl (record { setup = refl; master = refl; shape = refl; profile = refl }) c.stop.ensures
+
+pub returns-in-Done-clause-machine : goal.returns-in-Done-clause-machine
+returns-in-Done-clause-machine g c = λ w moment providers stands.
+    absurd (gate_otherwise c.args.self.now w _ _ _ (g.D.Disk.faults c.turn.new.disk) moment c.args.job providers stands c.requires c.in_ok-take.field-0 (sym c.in_ok-take.ensures.value)
+    c.in-Done.ensures.made)
+
+pub returns-in-Memory-clause-machine : goal.returns-in-Memory-clause-machine
+returns-in-Memory-clause-machine g c = λ w moment providers stands.
+    gate_unwritten c.args.self.now w _ _ _ _ moment c.args.job providers stands c.requires c.in_ok-take.field-0 (sym c.in_ok-take.ensures.value)
+    _ _ _ c.in-Memory.ensures.made c.in-Memory.ensures.cause refl refl c.take.ensures.after (record { setup = refl; master = refl; shape = refl; profile = refl }) c.stop-in-Memory.ensures

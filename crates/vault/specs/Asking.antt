@@ -1,0 +1,174 @@
+-- What an ask does to what an audit works with.
+--
+--   length_among pinned object  == the length of the file of an object number among those that a job works on; None where there is none
+--   length_in c job object      == the same of those of a running job
+--   IsQuestion v job object round q == the file, the audit's number, the round and the picks of an ask
+--   challenge_put master q      == the challenge of it
+--   GrowsAnswers old new ask symbol == one answer more was heard
+--   last_answers n symbols      == the last n answers
+--   HasJudged master q old new  == the round of the last answers turned the sums of the audit into those
+--   TakesAsk master q k old new symbol == provider k was asked, and the round was judged where it is the last
+--   HasRoomForAsk a, CanJudge q t, CanAsk q k t == there is room for an answer; the round can be judged; both, where there has to be
+--   Asked, MayAsk               == the same of what a job works with
+--   sums_on t                   == the sums of an audit so far
+--   TellsAsk is_last n t reply  == the reply to an ask: a verdict to the last, with the sums of what the audit works with
+--   MayTell n t                 == its counts are padded, and those of so many providers
+--   MayPut v job object         == there is such a file, which has rows
+use Rattle.std.specs.Prelude.{◌≡◌, ℕ, ◌+◌, ◌-◌, ◌*◌, ◌≤◌, ◌<◌, ◌^◌, ◌==◌, Bool, true, false, List, [], ◌∷◌, ◌++◌, length, drop, Option, None, Some, vec_len, vec_capacity, nat_lt, position, slice_get}
+use Rattle.std.specs.List.{list_all}
+use Rattle.std.specs.Option.{option_map}
+use Rattle.hail_columns.specs.Challenges.{Challenge, challenge_of}
+use Rattle.code_points.specs.Profile.{plain_profile}
+use Rattle.hail_columns.specs.Objects.{Object, stripes}
+use Rattle.hail_columns.specs.Verdicts.{Sums, Judges}
+use Rattle.file_layout.specs.Files.{object_of}
+use Rattle.record_codec.specs.Entries.{IsPadded}
+use Rattle.audit_verdict.specs.Rounds.{sums_of}
+use Rattle.vault_core.specs.View.{CoreJob, CoreView, job_in}
+use Rattle.vault_core.specs.declared.pinned.Pinned.{Pinned}
+use Rattle.vault_core.specs.declared.reply.Reply.{Reply}
+use Rattle.vault_core.specs.declared.reply.Reply.TheVariants as reply
+use Rattle.vault.specs.declared.question.Question.{Question}
+use Rattle.vault.specs.declared.heard.Ask.{Ask}
+use Rattle.vault.specs.declared.heard.Answers.{Answers}
+use Rattle.vault.specs.declared.tasks.AuditTask.{AuditTask}
+use Rattle.vault.specs.declared.tasks.Task.{Task}
+use Rattle.vault.specs.declared.tasks.Task.TheVariants as task
+use Rattle.vault.specs.declared.vault.Vault.{Vault}
+
+-- the length of the file at a place
+abbrev pub length_at : List Pinned → Option ℕ → Option ℕ
+length_at fs None = None
+length_at fs (Some k) = option_map (λ (f : Pinned). f.length) (slice_get fs k)
+
+-- the length of the file of an object number
+abbrev pub length_among : List Pinned → ℕ → Option ℕ
+length_among fs object = length_at fs (position (λ (f : Pinned). f.id == object) fs)
+
+-- the same of the files of a job, if it runs
+abbrev pub length_found : Option CoreJob → ℕ → Option ℕ
+length_found None object = None
+length_found (Some j) object = length_among j.pinned object
+
+-- the same of those of the job of a number
+abbrev pub length_in : CoreView → ℕ → ℕ → Option ℕ
+length_in c job object = length_found (job_in c.jobs job) object
+
+-- the number of a job as an audit, if it runs
+abbrev pub IsSubject : Option CoreJob → ℕ → Type 0
+IsSubject None number = ⊥
+IsSubject (Some j) number = number ≡ j.subject
+
+-- the file, the audit's number, the round and the picks of an ask
+pub record IsQuestion (v : Vault) (job object round : ℕ) (q : Question) : Type 0 where
+  pub id_is : q.file.id ≡ object
+  pub shape_is : q.file.shape ≡ v.shape
+  pub profile_is : q.file.profile ≡ v.profile
+  pub length_is : length_in v.core job object ≡ Some q.file.length
+  pub number_is : IsSubject (job_in v.core.jobs job) q.number
+  pub round_is : q.round ≡ round
+  pub picks_is : q.picks ≡ v.setup.picks
+
+-- the challenge of an ask
+abbrev pub challenge_put : List ℕ → Question → Challenge
+challenge_put master q = challenge_of (object_of master q.file) q.file.length q.picks q.number q.round
+
+-- one answer more was heard
+pub record GrowsAnswers (old new : Answers) (ask : Ask) (symbol : Option ℕ) : Type 0 where
+  pub job : new.job ≡ old.job
+  pub asks : new.asks.items ≡ old.asks.items ++ ask ∷ []
+  pub symbols : new.symbols.items ≡ old.symbols.items ++ symbol ∷ []
+  pub room_asks : vec_capacity old.asks ≤ vec_capacity new.asks
+  pub room_symbols : vec_capacity old.symbols ≤ vec_capacity new.symbols
+
+-- the last answers
+abbrev pub last_answers : ℕ → List (Option ℕ) → List (Option ℕ)
+last_answers n symbols = drop (length symbols - n) symbols
+
+-- the sums of an audit so far
+abbrev pub sums_on : AuditTask → Sums
+sums_on t = sums_of t.counts t.undecided
+
+-- the round of the last answers was judged
+pub record HasJudged (master : List ℕ) (q : Question) (old new : AuditTask) : Type 0 where
+  pub judges : Judges (object_of master q.file) (challenge_put master q) (last_answers q.file.shape.n old.heard.symbols.items) (sums_on old) (sums_on new)
+  pub n_is : new.counts.n ≡ old.counts.n
+  pub padded : IsPadded old.counts → IsPadded new.counts
+  pub heard : new.heard ≡ old.heard
+  pub file : new.file ≡ old.file
+
+-- what an ask was for
+abbrev pub ask_put : Question → ℕ → Ask
+ask_put q k = record { provider = k; object = q.file.id; round = q.round }
+
+-- one answer more was heard, and nothing else changed
+pub record HasHeard (q : Question) (k : ℕ) (old new : AuditTask) (symbol : Option ℕ) : Type 0 where
+  pub heard : GrowsAnswers old.heard new.heard (ask_put q k) symbol
+  pub file : new.file ≡ old.file
+  pub counts : new.counts ≡ old.counts
+  pub undecided : new.undecided ≡ old.undecided
+
+-- provider k was asked, and the round was judged where it is the last
+pub record TakesAsk (master : List ℕ) (q : Question) (k : ℕ) (old new : AuditTask) (symbol : Option ℕ) : Type 0 where
+  pub mid : AuditTask
+  pub hears : HasHeard q k old mid symbol
+  pub judged : k + 1 ≡ q.file.shape.n → HasJudged master q mid new
+  pub kept : (k + 1 ≡ q.file.shape.n → ⊥) → new ≡ mid
+
+-- there is room for one more answer
+pub record HasRoomForAsk (a : Answers) : Type 0 where
+  pub asks : vec_len a.asks + 1 ≤ vec_capacity a.asks
+  pub symbols : vec_len a.symbols + 1 ≤ vec_capacity a.symbols
+
+-- the counters have room, and the counts are those of so many providers
+pub record CanCount (n : ℕ) (t : AuditTask) : Type 0 where
+  pub n_is : t.counts.n ≡ n
+  pub small : list_all (λ count. nat_lt count (2 ^ 31)) t.counts.by ≡ true
+  pub few : t.undecided < 2 ^ 31
+
+-- a round can be judged
+pub record CanJudge (n : ℕ) (t : AuditTask) : Type 0 where
+  pub counts : CanCount n t
+  pub heard : n ≤ vec_len t.heard.symbols
+
+-- an ask can be made
+pub record CanAsk (n k : ℕ) (t : AuditTask) : Type 0 where
+  pub room : HasRoomForAsk t.heard
+  pub counts : CanCount n t
+  pub heard : k + 1 ≡ n → n ≤ vec_len t.heard.symbols + 1
+
+-- the same of what a job works with
+abbrev pub Asked : List ℕ → Question → ℕ → Task → Task → Option ℕ → Type 0
+Asked master q k (task.Audit t) (task.Audit u) symbol = TakesAsk master q k t u symbol
+Asked master q k old new symbol = ⊥
+
+-- a job can ask
+abbrev pub MayAsk : ℕ → ℕ → Task → Type 0
+MayAsk n k (task.Audit t) = CanAsk n k t
+MayAsk n k t = ⊥
+
+-- the reply to an ask: a verdict to the last, with the sums of what the audit works with
+abbrev pub TellsAsk : Bool → ℕ → Task → Reply → Type 0
+TellsAsk true n (task.Audit t) (reply.Verdict undecided counts) = (undecided ≡ t.undecided) × (counts ≡ t.counts) × (counts.n ≡ n) × IsPadded counts
+TellsAsk false n t reply.Done = Unit {0}
+TellsAsk is_last n t r = ⊥
+
+-- an audit whose counts are padded, of so many providers
+abbrev pub MayTell : ℕ → Task → Type 0
+MayTell n (task.Audit t) = (t.counts.n ≡ n) × IsPadded t.counts
+MayTell n t = ⊥
+
+-- an object of the shape and the profile of a vault
+abbrev pub object_put : Vault → ℕ → Object
+object_put v object = record { shape = record { n = v.shape.n; l = v.shape.l; b = v.shape.b }; profile = plain_profile v.profile; master = []; id = object }
+
+-- an ask can be put: there is such a file, which has rows
+pub record MayPut (v : Vault) (job object : ℕ) : Type 0 where
+  pub size : ℕ
+  pub length_is : length_in v.core job object ≡ Some size
+  pub few : size ≤ 2 ^ 22
+  pub number : ℕ
+  pub number_is : IsSubject (job_in v.core.jobs job) number
+  pub rows : 1 ≤ stripes (object_put v object) size * v.profile.size
+  pub some_picks : 1 ≤ v.setup.picks
+  pub few_picks : v.setup.picks ≤ 64

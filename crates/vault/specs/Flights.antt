@@ -1,0 +1,44 @@
+-- What a move of an append does.
+--
+--   HasFailed moved               == the disk failed
+--   GoesOn, Ends, GivesUp         == the disk after a move behind which others are left, after the last one, after one that failed
+--   MakesMove a old moved new     == by what came of it
+use Rattle.std.specs.Prelude.{◌≡◌, ◌+◌, ◌<◌, List, ◌∷◌, Option, IfSome}
+use Rattle.hail_devices.specs.Cells.{Cells}
+use Rattle.hail_records.specs.Records.{Record}
+use Rattle.hail_records.specs.Journal.{before_gate}
+use Rattle.journal_core.specs.declared.append.Append.{Append}
+use Rattle.journal_core.specs.Appends.{Appends, gate_of, body_of, moves_of}
+use Rattle.journal_core.specs.Moves.{IsClosed, AllStandFor, MayStandFor, IsWrite}
+use Rattle.vault.specs.declared.flight.Moved.{Moved}
+use Rattle.vault.specs.declared.flight.Moved.TheVariants as moved
+
+-- the disk failed
+abbrev pub HasFailed : Moved → Type 0
+HasFailed moved.Failed = Unit {0}
+HasFailed m = ⊥
+
+-- after a move behind which others are left
+pub record GoesOn (a b : Append) (rs : List Record) (r : Record) (told : Option Cells) : Type 0 where
+  pub appends : Appends rs r b told
+  pub before : moves_of a < 2 → AllStandFor rs told
+  pub between : MayStandFor rs r told
+
+-- after the last move
+pub record Ends (rs : List Record) (r : Record) (told : Option Cells) : Type 0 where
+  pub closed : IfSome told (IsClosed (before_gate (r ∷ rs)))
+  pub after : AllStandFor (r ∷ rs) told
+
+-- after a move that failed
+pub record GivesUp (a : Append) (rs : List Record) (r : Record) (told : Option Cells) : Type 0 where
+  pub before : moves_of a < 2 → AllStandFor rs told
+  pub between : MayStandFor rs r told
+
+-- a move of an append behind records whose text the disk holds
+abbrev pub MakesMove : Append → Option Cells → Moved → Option Cells → Type 0
+MakesMove a old (moved.On f) new =
+    (moves_of f.append ≡ moves_of a + 1) × (gate_of f.append ≡ gate_of a) × (body_of f.append ≡ body_of a)
+    × ((rs : List Record) (r : Record) → Appends rs r a old → GoesOn a f.append rs r new)
+MakesMove a old moved.Done new = (moves_of a ≡ 3) × ((rs : List Record) (r : Record) → Appends rs r a old → Ends rs r new)
+MakesMove a old moved.Failed new = (rs : List Record) (r : Record) → Appends rs r a old → GivesUp a rs r new
+MakesMove a old moved.Memory new = IsWrite (moves_of a) × (new ≡ old)

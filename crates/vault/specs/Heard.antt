@@ -1,0 +1,46 @@
+-- What a job heard, as entries of a report.
+--
+--   fetched_entries job fetches blocks == an entry for each fetch, with what it gave
+--   answered_entries job asks symbols  == an entry for each ask
+--   entries_in parts                   == all that a job heard, in order
+--   entry_of heard                     == one of them
+use Rattle.std.specs.Prelude.{ℕ, List, [], ◌∷◌, Option}
+use Rattle.std.specs.Option.{option_map}
+use Rattle.column_codec.specs.PresentBlocks.{present_blocks}
+use Rattle.hail_machine.specs.Jobs.{Fetched, Answered}
+use Rattle.hail_machine.specs.Heard.{Entry}
+use Rattle.vault.specs.declared.blocks.Blocks.{Blocks}
+use Rattle.vault.specs.declared.heard.Fetch.{Fetch}
+use Rattle.vault.specs.declared.heard.Ask.{Ask}
+use Rattle.vault.specs.declared.heard.Parts.{Parts}
+use Rattle.vault.specs.declared.heard.Parts.TheVariants as part
+use Rattle.vault.specs.declared.heard.Heard.{Heard}
+use Rattle.vault.specs.declared.heard.Heard.TheVariants as heard
+
+-- the blocks that were fetched, each where its provider gave it
+abbrev pub blocks_in : Blocks → List (Option (List ℕ))
+blocks_in b = present_blocks b.size b.present.items b.symbols.items
+
+-- an entry for each fetch, with what it gave
+abbrev pub fetched_entries : ℕ → List Fetch → List (Option (List ℕ)) → List Entry
+fetched_entries job (f ∷ fs) (block ∷ blocks) =
+    record { job = job; given = Fetched f.provider f.object f.stripe block } ∷ fetched_entries job fs blocks
+fetched_entries job fs blocks = []
+
+-- an entry for each ask, with what it gave
+abbrev pub answered_entries : ℕ → List Ask → List (Option ℕ) → List Entry
+answered_entries job (a ∷ asks) (symbol ∷ symbols) =
+    record { job = job; given = Answered a.provider a.object a.round symbol } ∷ answered_entries job asks symbols
+answered_entries job asks symbols = []
+
+-- all that a job heard, in order
+abbrev pub entries_in : Parts → List Entry
+entries_in part.Nothing = []
+entries_in (part.Fetched f) = fetched_entries f.job f.fetches.items (blocks_in f.blocks)
+entries_in (part.Answered a) = answered_entries a.job a.asks.items a.symbols.items
+
+-- one thing that a job heard
+abbrev pub entry_of : Heard → Entry
+entry_of (heard.Fetched job provider object stripe block) =
+    record { job = job; given = Fetched provider object stripe (option_map (λ b. b.now) block) }
+entry_of (heard.Answered job provider object round symbol) = record { job = job; given = Answered provider object round symbol }

@@ -1,0 +1,90 @@
+-- What the work on a stripe does to what a job works with.
+--
+--   OpensAs o stripe seen result rows == seen blocks opened to these rows, or lost one
+--   last_blocks n b         == the last n blocks
+--   HasLast bench b         == there are a block for each provider of an object, of its size
+--   HasEmptied b b'         == the blocks are gone, and their room is left
+--   work_blocks task        == the blocks that a job opens
+--   OpensTo, Loses          == they open to the rows that are at hand then; a row of them is not accepted
+--   TakesWork old new object == a job has opened a stripe: a get has its bytes, and a repair has room for the next blocks
+--   WorksAs old new object stripe result == what the work on a stripe came to
+--   CanWork task            == a job has the blocks of a stripe, and room for its bytes
+use Rattle.std.specs.Prelude.{◌≡◌, ℕ, ◌+◌, ◌-◌, ◌*◌, ◌≤◌, List, [], ◌++◌, length, drop, Result, Ok, Err, vec_len, vec_capacity}
+use Rattle.hail_columns.specs.Objects.{Object, bytes_of_symbols, stripe_symbols}
+use Rattle.hail_columns.specs.Opened.{SeenBlock, GivesSymbols, LosesRow}
+use Rattle.column_codec.specs.PresentBlocks.{present_blocks}
+use Rattle.column_codec.specs.declared.opening.RowLost.{RowLost}
+use Rattle.vault.specs.declared.bench.Bench.{Bench}
+use Rattle.vault.specs.declared.blocks.Blocks.{Blocks}
+use Rattle.vault.specs.declared.tasks.Task.{Task}
+use Rattle.vault.specs.declared.tasks.Task.TheVariants as task
+use Rattle.vault.specs.Storing.{turned}
+use Rattle.vault.specs.Tasks.{bench_object}
+
+-- seen blocks of a stripe opened to rows, or lost one
+abbrev pub OpensAs : Object → ℕ → List SeenBlock → Result Unit RowLost → List ℕ → Type 0
+OpensAs o stripe seen (Ok done) rows = GivesSymbols o stripe seen rows
+OpensAs o stripe seen (Err lost) rows = LosesRow o stripe seen lost.row
+
+-- the last blocks
+abbrev pub last_blocks : ℕ → Blocks → List SeenBlock
+last_blocks n b =
+    present_blocks b.size (drop (length b.present.items - n) b.present.items) (drop (length b.symbols.items - n * b.size) b.symbols.items)
+
+-- there is a block for each provider of an object, of its size
+pub record HasLast (bench : Bench) (b : Blocks) : Type 0 where
+  pub size : b.size ≡ bench.keys.file.profile.size
+  pub present : bench.keys.file.shape.n ≤ length b.present.items
+  pub symbols : bench.keys.file.shape.n * b.size ≤ length b.symbols.items
+
+-- the blocks are gone, and their room is left
+pub record HasEmptied (old new : Blocks) : Type 0 where
+  pub present : new.present.items ≡ []
+  pub symbols : new.symbols.items ≡ []
+  pub size : new.size ≡ old.size
+  pub present_room : vec_capacity new.present ≡ vec_capacity old.present
+  pub symbols_room : vec_capacity new.symbols ≡ vec_capacity old.symbols
+
+-- the blocks of a stripe that a job opens
+abbrev pub work_blocks : Task → List SeenBlock
+work_blocks (task.Get t) = last_blocks t.bench.keys.file.shape.n t.fetched.blocks
+work_blocks (task.Repair t) = last_blocks t.bench.keys.file.shape.n t.blocks
+work_blocks t = []
+
+-- the blocks at hand open to the rows that are at hand then
+abbrev pub OpensTo : Task → Task → ℕ → ℕ → Type 0
+OpensTo (task.Get t) (task.Get u) object stripe = GivesSymbols (turned t.bench object) stripe (work_blocks (task.Get t)) u.bench.rows.items
+OpensTo (task.Repair t) (task.Repair u) object stripe = GivesSymbols (turned t.bench object) stripe (work_blocks (task.Repair t)) u.bench.rows.items
+OpensTo t u object stripe = ⊥
+
+-- a row of the blocks at hand is not accepted
+abbrev pub Loses : Task → ℕ → ℕ → ℕ → Type 0
+Loses (task.Get t) object stripe row = LosesRow (turned t.bench object) stripe (work_blocks (task.Get t)) row
+Loses (task.Repair t) object stripe row = LosesRow (turned t.bench object) stripe (work_blocks (task.Repair t)) row
+Loses t object stripe row = ⊥
+
+-- a job has opened a stripe
+abbrev pub TakesWork : Task → Task → ℕ → Type 0
+TakesWork (task.Get t) (task.Get u) object =
+    (u.fetched ≡ t.fetched) × (u.length ≡ t.length) × (bench_object u.bench ≡ turned t.bench object)
+    × (u.bytes.items ≡ t.bytes.items ++ bytes_of_symbols u.bench.rows.items) × (vec_capacity t.bytes ≤ vec_capacity u.bytes)
+TakesWork (task.Repair t) (task.Repair u) object = HasEmptied t.blocks u.blocks × (bench_object u.bench ≡ turned t.bench object)
+TakesWork t u object = ⊥
+
+-- what a job heard is as before
+abbrev pub KeepsHeard : Task → Task → Type 0
+KeepsHeard (task.Get t) (task.Get u) = u.fetched ≡ t.fetched
+KeepsHeard (task.Repair t) (task.Repair u) = Unit {0}
+KeepsHeard t u = ⊥
+
+-- the work on a stripe came to this
+abbrev pub WorksAs : Task → Task → ℕ → ℕ → Result Unit RowLost → Type 0
+WorksAs old new object stripe (Ok done) = OpensTo old new object stripe × TakesWork old new object
+WorksAs old new object stripe (Err lost) = Loses old object stripe lost.row × KeepsHeard old new
+
+-- a job has the blocks of a stripe, and room for its bytes
+abbrev pub CanWork : Task → Type 0
+CanWork (task.Get t) =
+    HasLast t.bench t.fetched.blocks × (vec_len t.bytes + 16 * stripe_symbols (bench_object t.bench) ≤ vec_capacity t.bytes)
+CanWork (task.Repair t) = HasLast t.bench t.blocks
+CanWork t = ⊥

@@ -1,0 +1,109 @@
+-- What a disk reads when a store is set up or a vault is opened.
+--
+--   journal_read cells        == the bytes that are looked at: the first 2^24
+--   StopsBehind bytes rs at   == behind these records the bytes end at a gate, or no record stands, or one that may not follow
+--   IsBadStart bytes at       == the first place at which bytes are no journal, or a record may not follow those before it
+--   IsStartFault bytes fault  == the causes for which no vault is opened
+--   IsRead told rs            == the disk, where it tells, reads these records
+--   IsBadInit bytes at        == bytes are no journal, or the first record is no setup
+--   IsInitFault bytes setup fault == the causes for which a store is not set up
+--   IsNoWrite fault            == an answer of init for which nothing is written
+--   IsSetUpOn setup old new    == a store is set up on a disk that read no records
+--   MayBeLeft setup old image == an image that a failed init may leave
+--   IsResynced old new        == a disk that was synced, or was left as it was
+use Rattle.std.specs.Prelude.{◌≡◌, ◌≢◌, ◌⊎◌, ℕ, ◌+◌, ◌<◌, ◌≤◌, false, IsTrue, List, [], ◌∷◌, ◌++◌, length, take, drop, Option, None, IfSome}
+use Rattle.std.specs.List.{list_all}
+use Rattle.hail_devices.specs.Cells.{Cells, reads, firm}
+use Rattle.hail_devices.specs.Disks.{synced}
+use Rattle.hail_devices.specs.Images.{IsImage}
+use Rattle.hail_records.specs.Records.{Record, Setup, SetUp, is_setup, is_in_grammar, largest_journal}
+use Rattle.hail_records.specs.Journal.{magic, before_gate, text, text_size, StandsFor, EndsAtGate, BreaksAfterGate, IsBadAt}
+use Rattle.hail_records.specs.Acceptance.{refused, AreAccepted}
+use Rattle.vault.specs.declared.fault.InitFault.{InitFault}
+use Rattle.vault.specs.declared.fault.InitFault.TheVariants as init_fault
+use Rattle.vault.specs.declared.fault.StartFault.{StartFault}
+use Rattle.vault.specs.declared.fault.StartFault.TheVariants as start_fault
+
+-- the bytes that are looked at
+abbrev pub journal_read : Cells → List ℕ
+journal_read cells = take largest_journal (reads cells)
+
+-- a record stands behind these that may not follow them
+pub record RefusesBehind (bytes : List ℕ) (rs : List Record) (at : ℕ) : Type 0 where
+  pub entry : Record
+  pub rest : List ℕ
+  pub in_grammar : IsTrue (list_all is_in_grammar (entry ∷ rs))
+  pub bytes_are : bytes ≡ before_gate (entry ∷ rs) ++ rest
+  pub refused_is : refused rs entry ≢ None
+  pub place : at ≡ length (before_gate rs) + 1
+
+-- behind these records the bytes end at a gate, or no record stands, or one that may not follow
+abbrev pub StopsBehind : List ℕ → List Record → ℕ → Type 0
+StopsBehind bytes rs at =
+    ((e : EndsAtGate bytes at) × (e.records ≡ rs)) ⊎ (((b : BreaksAfterGate bytes at) × (b.records ≡ rs)) ⊎ RefusesBehind bytes rs at)
+
+-- the first place at which bytes are no journal, or a record may not follow those before it
+abbrev pub IsBadStart : List ℕ → ℕ → Type 0
+IsBadStart bytes at = ((take 8 bytes ≢ magic) × (at ≡ 0)) ⊎ ((rs : List Record) × AreAccepted rs × StopsBehind bytes rs at)
+
+-- why no vault is opened over these bytes
+abbrev pub IsStartFault : List ℕ → StartFault → Type 0
+IsStartFault bytes start_fault.NotSetUp = (length bytes ≤ 9) ⊎ StandsFor bytes []
+IsStartFault bytes (start_fault.BadJournal at) = (9 < length bytes) × IsBadStart bytes at
+IsStartFault bytes start_fault.DiskFault = Unit {0}
+IsStartFault bytes start_fault.Memory = Unit {0}
+
+-- the disk, where it tells, reads these records, of which there is one
+pub record IsRead (told : Option Cells) (rs : List Record) : Type 0 where
+  pub some : rs ≢ []
+  pub in_grammar : IsTrue (list_all is_in_grammar rs)
+  pub accepted : AreAccepted rs
+  pub room : text_size rs ≤ largest_journal
+  pub reads_are : IfSome told (λ cells. (9 < length (reads cells)) × StandsFor (journal_read cells) rs)
+
+-- the oldest record is a setup
+abbrev pub BeginsWithSetup : List Record → Type 0
+BeginsWithSetup [] = ⊥
+BeginsWithSetup (SetUp s ∷ []) = Unit {0}
+BeginsWithSetup (r ∷ []) = ⊥
+BeginsWithSetup (r ∷ rs) = BeginsWithSetup rs
+
+-- the oldest record is another one
+abbrev pub BeginsOtherwise : List Record → Type 0
+BeginsOtherwise [] = ⊥
+BeginsOtherwise (SetUp s ∷ []) = ⊥
+BeginsOtherwise (r ∷ []) = Unit {0}
+BeginsOtherwise (r ∷ rs) = BeginsOtherwise rs
+
+-- bytes are no journal, or the first record is no setup
+abbrev pub IsBadInit : List ℕ → ℕ → Type 0
+IsBadInit bytes at = IsBadAt bytes at ⊎ ((rs : List Record) × StandsFor bytes rs × BeginsOtherwise rs × (at ≡ 9))
+
+-- why a store is not set up on a disk of which these bytes are looked at
+abbrev pub IsInitFault : List ℕ → Setup → InitFault → Type 0
+IsInitFault bytes s init_fault.BadSetup = is_setup s ≡ false
+IsInitFault bytes s (init_fault.BadJournal at) = (9 < length bytes) × IsBadInit bytes at
+IsInitFault bytes s init_fault.Already = (9 < length bytes) × ((rs : List Record) × StandsFor bytes rs × BeginsWithSetup rs)
+IsInitFault bytes s init_fault.DiskFault = Unit {0}
+IsInitFault bytes s init_fault.Memory = Unit {0}
+
+-- an answer for which nothing is written
+abbrev pub IsNoWrite : InitFault → Type 0
+IsNoWrite init_fault.BadSetup = Unit {0}
+IsNoWrite (init_fault.BadJournal at) = Unit {0}
+IsNoWrite init_fault.Already = Unit {0}
+IsNoWrite init_fault.DiskFault = ⊥
+IsNoWrite init_fault.Memory = ⊥
+
+-- a store is set up on a disk that read no records: it reads the text of the one setup, then what it read past that end, and no byte is loose
+pub record IsSetUpOn (s : Setup) (old new : Cells) : Type 0 where
+  pub free : (length (reads old) ≤ 9) ⊎ StandsFor (journal_read old) []
+  pub reads_are : new ≡ firm (text (SetUp s ∷ []) ++ drop (length (text (SetUp s ∷ []))) (reads old))
+
+-- an image that a failed init may leave
+abbrev pub MayBeLeft : Setup → Cells → List ℕ → Type 0
+MayBeLeft s old image = IsImage old image ⊎ ((length image ≤ 9) ⊎ (StandsFor image [] ⊎ StandsFor image (SetUp s ∷ [])))
+
+-- a disk that was synced, or was left as it was
+abbrev pub IsResynced : Cells → Cells → Type 0
+IsResynced old new = (new ≡ old) ⊎ (new ≡ synced old)

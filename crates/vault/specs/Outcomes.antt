@@ -1,0 +1,72 @@
+-- What the answers of the calls are as outcomes of the machine.
+--
+--   begin_outcome result  == of a begin
+--   answer_of answer      == how a job ended
+--   outcome_of turn       == of a step
+--   init_outcome result   == of an init
+--   IfEnded turn P        == P holds of the job's end, where the step was its last
+--   HasPaddedCounts answer == the counts of an audit are padded
+use Rattle.std.specs.Prelude.{ℕ, Result, Ok, Err}
+use Rattle.hail_machine.specs.Refusals.{Refusal}
+use Rattle.hail_machine.specs.Refusals as refusal
+use Rattle.hail_machine.specs.Answers as answers
+use Rattle.hail_machine.specs.Events as events
+use Rattle.hail_machine.specs.Events.{Outcome}
+use Rattle.record_codec.specs.Entries.{counted, IsPadded}
+use Rattle.vault_core.specs.declared.wish.BeginFault.{BeginFault}
+use Rattle.vault_core.specs.Carried.{refusal_of}
+use Rattle.vault.specs.declared.fault.InitFault.{InitFault}
+use Rattle.vault.specs.declared.fault.InitFault.TheVariants as init_fault
+use Rattle.vault.specs.declared.turn.Answer.{Answer}
+use Rattle.vault.specs.declared.turn.Answer.TheVariants as answer
+use Rattle.vault.specs.declared.turn.Ended.{Ended}
+use Rattle.vault.specs.declared.turn.Turn.{Turn}
+use Rattle.vault.specs.declared.turn.Turn.TheVariants as turn
+
+-- the outcome of a begin
+abbrev pub begin_outcome : Result ℕ BeginFault → Outcome
+begin_outcome (Ok job) = events.Begun job
+begin_outcome (Err fault) = events.Refused (refusal_of fault)
+
+-- how a job ended
+abbrev pub answer_of : Answer → answers.Answer
+answer_of answer.Put = answers.Put
+answer_of (answer.Got bytes) = answers.Got bytes
+answer_of answer.Dropped = answers.Dropped
+answer_of (answer.Audited number undecided counts) = answers.Audited number undecided (counted counts)
+answer_of (answer.Repaired number) = answers.Repaired number
+answer_of (answer.Lost stripe row) = answers.Lost stripe row
+answer_of (answer.ProviderFault provider) = answers.ProviderFault provider
+answer_of answer.DiskFault = answers.DiskFault
+answer_of answer.Memory = answers.Memory
+
+-- the outcome of a step
+abbrev pub outcome_of : Turn → Outcome
+outcome_of turn.More = events.More
+outcome_of (turn.Waiting holder) = events.Waiting holder
+outcome_of (turn.Done ended) = events.Ended (answer_of ended.answer)
+outcome_of turn.NoSuchJob = events.Refused refusal.NoSuchJob
+outcome_of turn.MustReopen = events.Refused refusal.MustReopen
+
+-- a fact of the job's end, where the step was its last
+abbrev pub IfEnded : Turn → (Ended → Type 0) → Type 0
+IfEnded (turn.Done ended) P = P ended
+IfEnded t P = Unit {0}
+
+-- the counts of an audit are padded
+abbrev pub HasPaddedCounts : Answer → Type 0
+HasPaddedCounts (answer.Audited number undecided counts) = IsPadded counts
+HasPaddedCounts a = Unit {0}
+
+-- why an init was refused
+abbrev pub init_refusal : InitFault → Refusal
+init_refusal init_fault.BadSetup = refusal.BadSetup
+init_refusal init_fault.DiskFault = refusal.DiskFault
+init_refusal (init_fault.BadJournal at) = refusal.BadJournal at
+init_refusal init_fault.Already = refusal.Already
+init_refusal init_fault.Memory = refusal.Memory
+
+-- the outcome of an init
+abbrev pub init_outcome : Result Unit InitFault → Outcome
+init_outcome (Ok done) = events.Ready
+init_outcome (Err fault) = events.Refused (init_refusal fault)

@@ -1,0 +1,44 @@
+-- The rounds of an audit, one after the other.
+--
+--   Round                     == a round of a file
+--   rounds_in s fs            == the rounds of these files, in order
+--   JudgesAll s job rounds old new == these rounds turn these sums into those
+--   AsksOn n rounds c rest    == the asks that are left are those of these rounds, from provider c on in the first of them
+use Rattle.std.specs.Prelude.{◌≡◌, ℕ, ◌+◌, ◌==◌, List, [], ◌∷◌, length, map, if◌then◌else◌}
+use Rattle.std.specs.List.{flat_map}
+use Rattle.hail_columns.specs.Verdicts.{Sums}
+use Rattle.hail_records.specs.Records.{Setup}
+use Rattle.hail_machine.specs.Jobs.{Pinned, Job}
+use Rattle.hail_machine.specs.Actions.{Action, Ask, End, rounds_of}
+use Rattle.hail_machine.specs.Audits.{JudgesRound}
+
+-- a round of a file
+pub record Round : Type 0 where
+  pub file : Pinned
+  pub number : ℕ
+
+-- the rounds of files, in order
+abbrev pub rounds_in : Setup → List Pinned → List Round
+rounds_in s fs = flat_map (λ (f : Pinned). map (λ r. record { file = f; number = r }) (rounds_of s (length f.bytes))) fs
+
+-- rounds are judged one after the other
+abbrev pub JudgesAll : Setup → Job → List Round → Sums → Sums → Type 0
+JudgesAll s job [] old new = new ≡ old
+JudgesAll s job (x ∷ xs) old new = (mid : Sums) × JudgesRound s job x.file x.number old mid × JudgesAll s job xs mid new
+
+-- the rounds behind an ask of provider c in the first of these
+abbrev pub rounds_after : ℕ → Round → List Round → ℕ → List Round
+rounds_after n x xs c = if c + 1 == n then xs else x ∷ xs
+
+-- the provider that is asked after provider c
+abbrev pub asked_after : ℕ → ℕ → ℕ
+asked_after n c = if c + 1 == n then 0 else c + 1
+
+-- the asks that are left are those of these rounds, from provider c on in the first of them
+abbrev pub AsksOn : ℕ → List Round → ℕ → List Action → Type 0
+AsksOn n xs c [] = Unit {0}
+AsksOn n [] c (Ask j o r ∷ rest) = ⊥
+AsksOn n (x ∷ xs) c (Ask j o r ∷ rest) =
+    (j ≡ c) × (o ≡ x.file.id) × (r ≡ x.number) × AsksOn n (rounds_after n x xs c) (asked_after n c) rest
+AsksOn n xs c (End ∷ rest) = (xs ≡ []) × AsksOn n xs c rest
+AsksOn n xs c (a ∷ rest) = AsksOn n xs c rest

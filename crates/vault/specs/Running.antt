@@ -1,0 +1,64 @@
+-- The running jobs of a vault, and the end of one of them.
+--
+--   place_in jobs number    == the place of the job of a number; None where there is none
+--   heard_of task           == what a job heard, by what it works with
+--   IsFed old job reply new == the core was given a reply
+--   KeepsAll old new        == nothing but the core, the running jobs and the append in flight may have changed
+--   HasStopped, IsStopped   == a job was ended with an answer
+use Rattle.std.specs.Prelude.{◌≡◌, ℕ, ◌==◌, List, [], Option, Some, None, slice_get, position}
+use Rattle.std.specs.List.{remove}
+use Rattle.hail_machine.specs.Events.{Outcome, Step}
+use Rattle.hail_machine.specs.Heard.{Entry}
+use Rattle.hail_machine.specs.Machine.{Happens}
+use Rattle.hail_machine.specs.States.{State}
+use Rattle.vault_core.specs.declared.reply.Reply.{Reply}
+use Rattle.vault_core.specs.View.{CoreView}
+use Rattle.vault_core.specs.Carried.{CoreIs}
+use Rattle.vault_core.specs.Replies.{IsReplyTo}
+use Rattle.vault.specs.declared.tasks.Running.{Running}
+use Rattle.vault.specs.declared.tasks.Task.{Task}
+use Rattle.vault.specs.declared.tasks.Task.TheVariants as task
+use Rattle.vault.specs.declared.turn.Answer.{Answer}
+use Rattle.vault.specs.declared.turn.Turn.{Turn}
+use Rattle.vault.specs.declared.turn.Turn.TheVariants as turn
+use Rattle.vault.specs.declared.vault.Vault.{Vault}
+use Rattle.vault.specs.Heard.{fetched_entries, answered_entries, blocks_in}
+
+-- the place of the job of a number
+abbrev pub place_in : List Running → ℕ → Option ℕ
+place_in jobs number = position (λ (r : Running). r.number == number) jobs
+
+-- what a job heard
+abbrev pub heard_of : Task → List Entry
+heard_of (task.Get t) = fetched_entries t.fetched.job t.fetched.fetches.items (blocks_in t.fetched.blocks)
+heard_of (task.Audit t) = answered_entries t.heard.job t.heard.asks.items t.heard.symbols.items
+heard_of t = []
+
+-- the core was given a reply
+abbrev pub IsFed : CoreView → ℕ → Reply → CoreView → Type 0
+IsFed old job reply new =
+    (w n : State) (outcome : Outcome) (moment : ℕ) → CoreIs old w → Happens 8 moment w (Step job) outcome n → IsReplyTo old job reply outcome n → CoreIs new n
+
+-- nothing but the core, the running jobs and the append in flight may have changed
+pub record KeepsAll (old new : Vault) : Type 0 where
+  pub setup : new.setup ≡ old.setup
+  pub master : new.master ≡ old.master
+  pub shape : new.shape ≡ old.shape
+  pub profile : new.profile ≡ old.profile
+
+-- a job was ended with an answer
+pub record HasStopped (old : Vault) (job : ℕ) (reply : Reply) (answer : Answer) (t : Turn) (new : Vault) : Type 0 where
+  pub place : ℕ
+  pub running : Running
+  pub found : place_in old.jobs.items job ≡ Some place
+  pub there : slice_get old.jobs.items place ≡ Some running
+  pub turn_is : t ≡ turn.Done (record { answer = answer; heard = heard_of running.task })
+  pub jobs : new.jobs.items ≡ remove old.jobs.items place
+  pub flight : new.flight ≡ old.flight
+  pub fed : IsFed old.core job reply new.core
+  pub keeps : KeepsAll old new
+
+-- a job was ended with an answer, where it runs
+abbrev pub IsStopped : Vault → ℕ → Reply → Answer → Option Turn → Vault → Type 0
+IsStopped old job reply answer None new = place_in old.jobs.items job ≡ None
+IsStopped old job reply answer (Some t) new = HasStopped old job reply answer t new

@@ -1,0 +1,43 @@
+-- What a vault tells of itself.
+--
+--   setup_of, master_of, table_of, next_job_of, provider_count v == its setup, its master key, the fold of the records in effect, the
+--                          number of the next job, how many providers it uses
+--   left_of v job       == how many steps of a job may remain at most; 0 where it does not run
+--   IsUnchanged old new == the same jobs with what they work with, the same core, the same append; spare room does not count
+use Rattle.std.specs.Prelude.{◌≡◌, ℕ, List, unwrap_or}
+use Rattle.vault_core.specs.Coming.{left_in}
+use Rattle.record_codec.specs.declared.setup.Setup.{Setup}
+use Rattle.vault_table.specs.Values.{Kept}
+use Rattle.vault.specs.declared.vault.Vault.{Vault}
+
+-- the numbers of the setup
+abbrev pub setup_of : Vault → Setup
+setup_of v = v.setup
+
+-- the master key
+abbrev pub master_of : Vault → List ℕ
+master_of v = v.master.0
+
+-- the fold of the records in effect
+abbrev pub table_of : Vault → Kept
+table_of v = v.core.table
+
+-- the number of the next job
+abbrev pub next_job_of : Vault → ℕ
+next_job_of v = v.core.next_job
+
+-- how many providers a step uses
+abbrev pub provider_count : Vault → ℕ
+provider_count v = v.setup.n
+
+-- how many steps of a job may remain at most; 0 where it does not run
+abbrev pub left_of : Vault → ℕ → ℕ
+left_of v job = unwrap_or (left_in v.core job) 0
+
+-- nothing changed but spare room
+pub record IsUnchanged (old new : Vault) : Type 0 where
+  pub core : new.core ≡ old.core
+  pub setup : new.setup ≡ old.setup
+  pub master : new.master ≡ old.master
+  pub flight : new.flight ≡ old.flight
+  pub jobs : new.jobs.items ≡ old.jobs.items

@@ -1,0 +1,60 @@
+ghost use Rattle.std.specs.Prelude.{◌≡◌, ◌∷◌, ◌<◌, ◌-◌, ◌^◌, None, Some, not, nat_le, length, List, ℕ, IfOk, IfErr, OnOk, OnErr, IsTrue};
+ghost use Rattle.hail_records.specs.Records.{is_name};
+ghost use Rattle.hail_machine.specs.Actions.{actions_left};
+ghost use Rattle.hail_machine.specs.Begins.{begin_refusal, new_job};
+ghost use Rattle.hail_machine.specs.Events.{AreBytes, IsSpelledKind};
+ghost use Rattle.hail_machine.specs.Jobs.{Kind};
+ghost use Rattle.hail_machine.specs.Refusals as refusal;
+ghost use Rattle.hail_machine.specs.Refusals.{Cause, first_refusal};
+ghost use Rattle.hail_machine.specs.States.{State, setup_in};
+ghost use Rattle.vault_core.specs.Carried.{CoreIs, IsKindOf, refusal_of};
+ghost use Rattle.vault_core.specs.Wished.{IsShort};
+ghost use Rattle.vault.specs.Devices.{Devices};
+ghost use Rattle.vault.specs.Seen.{next_job_of, IsUnchanged};
+ghost use Rattle.vault.specs.Stands.{Stands, MakesBegin};
+ghost use Rattle.vault.specs.Tasks.{IsTask};
+
+use crate::tasks::{Running, Task};
+use crate::vault::Vault;
+use record_codec::Name;
+use vault_core::{BeginFault, Wish};
+
+impl Vault {
+    /// The name of these bytes, or why a put, a get or a drop of it does not begin.
+    pub(crate) fn checked_name(&self, name: &[u8]) -> Result<Name, BeginFault>
+        ensures named { IfOk result (λ n. n ≡ name.now) }
+        ensures is_name { OnOk result (IsTrue (is_name name.now)) }
+        ensures bytes { AreBytes name.now }
+        ensures free { (w : State) (more : List Cause) → CoreIs self.now.core w → OnOk result (first_refusal (
+            record { applies = w.is_barred; refusal = refusal.MustReopen } ∷ record { applies = nat_le 8 (length w.jobs); refusal = refusal.Busy } ∷ more) ≡ first_refusal more) }
+        ensures refused { (w : State) (more : List Cause) → CoreIs self.now.core w → IfErr result (λ why. first_refusal (
+            record { applies = w.is_barred; refusal = refusal.MustReopen } ∷ record { applies = nat_le 8 (length w.jobs); refusal = refusal.Busy }
+            ∷ record { applies = not (is_name name.now); refusal = refusal.BadName } ∷ more) ≡ Some (refusal_of why)) }
+    {
+        if let Some(fault) = self.core.barred() {
+            return Err(fault);
+        }
+        match Name::new(name) {
+            Some(name) => Ok(name),
+            None => Err(BeginFault::BadName),
+        }
+    }
+
+    /// Takes a job in with what it works with, where its begin is accepted. Conditions: a number is left for the job, and a
+    /// put has at most 2^22 bytes.
+    pub(crate) fn admit(&mut self, wish: Wish, task: Task) -> Result<u32, BeginFault>
+        requires number { next_job_of self.old < 2 ^ 32 - 1 }
+        requires size { IsShort wish }
+        ensures machine { (w : State) (d : Devices) (moment : ℕ) (kind : Kind) → Stands self.old d w → IsKindOf wish kind → IsSpelledKind kind
+            → (begin_refusal 8 w kind ≡ None → IsTask (setup_in w) (new_job w moment kind) (actions_left (setup_in w) (new_job w moment kind)) task)
+            → MakesBegin w moment kind result self.new d }
+        ensures unchanged { OnErr result (IsUnchanged self.old self.new) }
+    {
+        if self.jobs.reserve(1).is_err() {
+            return Err(BeginFault::Memory);
+        }
+        let number = self.core.begin(wish)?;
+        self.jobs.push_reserved(Running { number, task });
+        Ok(number)
+    }
+}

@@ -1,0 +1,102 @@
+ghost use Rattle.std.specs.Prelude.{◌≡◌, ◌<◌, ◌-◌, ◌^◌, ℕ, OnErr};
+ghost use Rattle.hail_machine.specs.Jobs.{PutJob, GetJob, DropJob, AuditJob, RepairJob};
+ghost use Rattle.hail_machine.specs.States.{State};
+ghost use Rattle.vault.specs.Devices.{Devices};
+ghost use Rattle.vault.specs.Seen.{next_job_of, IsUnchanged};
+ghost use Rattle.vault.specs.Stands.{Stands, MakesBegin};
+
+use crate::benches::bytes_are_bytes;
+use crate::blocks::Blocks;
+use crate::tasks::{AuditTask, GetTask, PutTask, RepairTask, Task};
+use crate::vault::Vault;
+use stream_model::Bytes;
+use vault_core::{BeginFault, Wish};
+
+/// The largest length of a file, in bytes.
+const LARGEST_FILE: usize = 1 << 22;
+
+/// How many files can be in effect.
+const MOST_FILES: usize = 1024;
+
+impl Vault {
+    /// Begins to put a file under a name. All that its steps work with is reserved here.
+    pub fn begin_put(&mut self, name: &[u8], bytes: Bytes) -> Result<u32, BeginFault>
+        requires { next_job_of self.old < 2 ^ 32 - 1 }
+        ensures machine { (w : State) (d : Devices) (moment : ℕ) → Stands self.old d w
+            → MakesBegin w moment (PutJob name.now bytes) result self.new d }
+        ensures unchanged { OnErr result (IsUnchanged self.old self.new) }
+    {
+        let name = self.checked_name(name)?;
+        bytes_are_bytes(bytes.as_slice());
+        let length = bytes.as_slice().len();
+        if length > LARGEST_FILE {
+            return Err(BeginFault::TooLong);
+        }
+        let bench = self.bench_for(0, length as u32)?;
+        let wish = Wish::Put {
+            name,
+            length: length as u32,
+        };
+        self.admit(wish, Task::Put(PutTask { bytes, bench }))
+    }
+
+    /// Begins to get the file of a name. No step of it takes memory.
+    pub fn begin_get(&mut self, name: &[u8]) -> Result<u32, BeginFault>
+        requires { next_job_of self.old < 2 ^ 32 - 1 }
+        ensures machine { (w : State) (d : Devices) (moment : ℕ) → Stands self.old d w
+            → MakesBegin w moment (GetJob name.now) result self.new d }
+        ensures unchanged { OnErr result (IsUnchanged self.old self.new) }
+    {
+        let name = self.checked_name(name)?;
+        let Some(file) = self.core.table().find(&name) else {
+            return Err(BeginFault::NoSuchName);
+        };
+        let bench = self.bench_for(file.id, file.length.min(LARGEST_FILE as u32))?;
+        match GetTask::new(self.alloc, self.core.next_job(), bench) {
+            Ok(task) => self.admit(Wish::Get { name }, Task::Get(task)),
+            Err(_) => Err(BeginFault::Memory),
+        }
+    }
+
+    /// Begins to drop the file of a name.
+    pub fn begin_drop(&mut self, name: &[u8]) -> Result<u32, BeginFault>
+        requires { next_job_of self.old < 2 ^ 32 - 1 }
+        ensures machine { (w : State) (d : Devices) (moment : ℕ) → Stands self.old d w
+            → MakesBegin w moment (DropJob name.now) result self.new d }
+        ensures unchanged { OnErr result (IsUnchanged self.old self.new) }
+    {
+        let name = self.checked_name(name)?;
+        self.admit(Wish::Drop { name }, Task::Drop)
+    }
+
+    /// Begins to audit all files in effect.
+    pub fn begin_audit(&mut self) -> Result<u32, BeginFault>
+        requires { next_job_of self.old < 2 ^ 32 - 1 }
+        ensures machine { (w : State) (d : Devices) (moment : ℕ) → Stands self.old d w
+            → MakesBegin w moment AuditJob result self.new d }
+        ensures unchanged { OnErr result (IsUnchanged self.old self.new) }
+    {
+        let files = self.core.table().count().min(MOST_FILES);
+        let n = self.setup.n;
+        let asks = files * (usize::from(self.setup.rounds) * usize::from(n));
+        match AuditTask::new(self.alloc, self.core.next_job(), n, asks) {
+            Ok(task) => self.admit(Wish::Audit, Task::Audit(task)),
+            Err(_) => Err(BeginFault::Memory),
+        }
+    }
+
+    /// Begins to rebuild the providers that the last audit flagged.
+    pub fn begin_repair(&mut self) -> Result<u32, BeginFault>
+        requires { next_job_of self.old < 2 ^ 32 - 1 }
+        ensures machine { (w : State) (d : Devices) (moment : ℕ) → Stands self.old d w
+            → MakesBegin w moment RepairJob result self.new d }
+        ensures unchanged { OnErr result (IsUnchanged self.old self.new) }
+    {
+        let bench = self.bench_for(0, 0)?;
+        let size = bench.keys.file.profile.size as usize;
+        match Blocks::with_room(self.alloc, usize::from(self.setup.n), size) {
+            Ok(blocks) => self.admit(Wish::Repair, Task::Repair(RepairTask { blocks, bench })),
+            Err(_) => Err(BeginFault::Memory),
+        }
+    }
+}

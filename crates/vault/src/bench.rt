@@ -1,0 +1,98 @@
+ghost use Rattle.std.specs.Prelude.{◌≡◌, ◌*◌, length, All};
+
+use crate::codec::{Codec, Codes};
+use column_codec::{Block, ObjectKeys, RowLost};
+use file_layout::FileShape;
+use hail_field::Symbol;
+
+/// What the stripes of an object are made and opened with: its keys, the symbols of one stripe in layout order, the block of
+/// one provider, and room for a block of each.
+#[derive(Drop)]
+pub struct Bench {
+    pub keys: ObjectKeys,
+    pub rows: Vec<Symbol>,
+    pub column: Vec<Symbol>,
+    pub scratch: Vec<Block>,
+    ghost rows_fit: { length rows.items ≡ keys.file.shape.l * keys.file.profile.keep },
+    ghost column_fits: { length column.items ≡ keys.file.profile.size },
+    ghost scratch_fits: { length scratch.items ≡ keys.file.shape.n },
+    ghost blocks_fit: { All (λ block. length block ≡ keys.file.profile.size) scratch.items },
+}
+
+impl Bench {
+    ghost use Rattle.std.specs.Prelude.{◌≡◌, ◌<◌, ◌*◌, ◌↔◌, length, IsSome, OnSome, OnOk, OnErr, IfErr, IfSome, IsTrue};
+    ghost use Rattle.hail_columns.specs.Columns.{column_of_symbols};
+    ghost use Rattle.hail_columns.specs.Objects.{symbols_in};
+    ghost use Rattle.file_layout.specs.Files.{object_of};
+    ghost use Rattle.column_codec.specs.PresentBlocks.{present_blocks};
+    ghost use Rattle.vault.specs.Tasks.{bench_object};
+    ghost use Rattle.vault.specs.Opening.{OpensAs};
+
+    /// Turns to another object of the same shape and profile.
+    pub fn turn_to(&mut self, object: u64)
+        ensures object { bench_object self.new ≡ record (bench_object self.old) { id = object } }
+        ensures rows { self.new.rows ≡ self.old.rows }
+    {
+        if self.keys.file.id == object {
+            return;
+        }
+        let file = FileShape {
+            id: object,
+            length: self.keys.file.length,
+            shape: self.keys.file.shape,
+            profile: self.keys.file.profile,
+        };
+        let master = self.keys.master;
+        self.keys = ObjectKeys::new(&master, &file);
+    }
+
+    /// Takes the symbols of a stripe out of the bytes of a file.
+    pub fn take_stripe(&mut self, bytes: &[u8], stripe: u32)
+        ensures keys { self.new.keys ≡ self.old.keys }
+        ensures rows { self.new.rows.items ≡ symbols_in (bench_object self.old) bytes.now stripe }
+    {
+        self.keys.symbols_into(stripe, bytes, &mut self.rows);
+    }
+
+    /// Makes a provider's block of the stripe whose symbols are at hand; false where there is no such provider.
+    pub fn make_column(&mut self, codes: &Codes, stripe: u32, provider: u32) -> bool
+        ensures there { IsTrue result ↔ (provider < self.old.keys.file.shape.n) }
+        ensures keys { self.new.keys ≡ self.old.keys }
+        ensures rows { self.new.rows ≡ self.old.rows }
+        ensures column { IsTrue result → self.new.column.items ≡ column_of_symbols (bench_object self.old) self.old.rows.items provider stripe }
+    {
+        let provider = provider as usize;
+        if provider >= usize::from(self.keys.file.shape.n) {
+            return false;
+        }
+        let code = codes.code(self.keys.file.profile);
+        self.keys
+            .column_into(code, stripe, &self.rows, provider, &mut self.column);
+        true
+    }
+
+    /// Opens a stripe: the symbols at hand are then its own.
+    pub fn open(
+        &mut self,
+        codec: &mut Codec,
+        stripe: u32,
+        seen: &[Symbol],
+        present: &[bool],
+    ) -> Result<(), RowLost>
+        requires seen { length seen.now ≡ self.old.keys.file.shape.n * self.old.keys.file.profile.size }
+        requires present { length present.now ≡ self.old.keys.file.shape.n }
+        ensures opened { OpensAs (bench_object self.old) stripe (present_blocks self.old.keys.file.profile.size present.now seen.now) result self.new.rows.items }
+        ensures keys { self.new.keys ≡ self.old.keys }
+    {
+        let code = codec.codes.code(self.keys.file.profile);
+        self.keys.open_present(
+            code,
+            stripe,
+            seen,
+            present,
+            &mut self.rows,
+            &mut self.scratch,
+            &mut codec.work,
+        )
+    }
+}

@@ -1,0 +1,79 @@
+ghost use Rattle.std.specs.Prelude.{◌≡◌, ◌+◌, ◌≤◌, ◌++◌, ℕ, Bool, List, Some, None, length, take, drop, replicate, IsOk, OnOk, vec_len, vec_capacity, if◌then◌else◌};
+ghost use Rattle.hail_devices.specs.ProviderCalls.{Fetches};
+ghost use Rattle.vault.specs.Devices.{as_seen};
+
+use hail_field::Symbol;
+use hail_field::laws::symbols_are_numbers;
+use provider_model::Provider;
+use stream_model::Memory;
+
+/// Blocks that were fetched, one after the other, each with whether the provider gave it.
+#[derive(Drop)]
+pub struct Blocks {
+    pub present: Vec<bool>,
+    pub symbols: Vec<Symbol>,
+    /// How many symbols a block has.
+    pub size: usize,
+    ghost fits: { (1 ≤ size) × (size ≤ 128) },
+}
+
+/// Fetches a block into the symbols from `start` on, and tells whether the provider gave it.
+fn fetch_into<P: Provider>(
+    from: &mut P,
+    object: u64,
+    stripe: u32,
+    all: &mut [Symbol],
+    start: usize,
+) -> bool
+    requires within { start ≤ length all.old }
+    requires some { start + 1 ≤ length all.old }
+    requires few { length all.old ≤ start + 128 }
+    ensures front { take start all.new ≡ take start all.old }
+    ensures fetched { Fetches (length (drop start all.old)) object stripe (as_seen P.held P.store_faults P.other_faults P.fetches from.old)
+        (if result then Some (drop start all.new) else None) (as_seen P.held P.store_faults P.other_faults P.fetches from.new) }
+{
+    let out = &mut all[start..];
+    let found = match from.fetch(object, stripe, out) {
+        Ok(found) => found,
+        Err(_) => false,
+    };
+    symbols_are_numbers(out);
+    found
+}
+
+/// Puts so many zeros at the end.
+fn push_zeros(symbols: &mut Vec<Symbol>, count: usize) -> Result<(), Memory>
+    ensures ok { OnOk result (symbols.new.items ≡ symbols.old.items ++ replicate count 0) }
+    ensures capacity { vec_capacity symbols.old ≤ vec_capacity symbols.new }
+    ensures fits { vec_len symbols.old + count ≤ vec_capacity symbols.old → IsOk result }
+{
+    symbols.reserve(count)?;
+    for _ in 0..count {
+        symbols.push_reserved(Symbol::ZERO);
+    }
+    Ok(())
+}
+
+impl Blocks {
+    ghost use Rattle.vault.specs.Blocks.{given_of, Grows, HasRoom};
+
+    /// Fetches one block more. It takes no memory where there is room for the block.
+    pub fn fetch<P: Provider>(
+        &mut self,
+        from: &mut P,
+        object: u64,
+        stripe: u32,
+    ) -> Result<(), Memory>
+        ensures fetched { OnOk result ((found : Bool) × (block : List ℕ) × Grows self.old self.new found block
+            × Fetches self.old.size object stripe (as_seen P.held P.store_faults P.other_faults P.fetches from.old)
+            (given_of found block) (as_seen P.held P.store_faults P.other_faults P.fetches from.new)) }
+        ensures room { HasRoom self.old → IsOk result }
+    {
+        self.present.reserve(1)?;
+        let start = self.symbols.len();
+        push_zeros(&mut self.symbols, self.size)?;
+        let found = fetch_into(from, object, stripe, &mut self.symbols, start);
+        self.present.push_reserved(found);
+        Ok(())
+    }
+}

@@ -1,0 +1,134 @@
+ghost use Rattle.std.specs.Prelude.{◌≡◌, ◌<◌, ℕ, [], Some, IfSome};
+ghost use Rattle.hail_machine.specs.Actions.{End};
+ghost use Rattle.hail_machine.specs.States.{State};
+ghost use Rattle.vault_core.specs.Coming.{TakesReply};
+ghost use Rattle.vault.specs.Devices.{Devices};
+ghost use Rattle.vault.specs.Ending.{answer_at_end};
+ghost use Rattle.vault.specs.Outcomes.{IfEnded, HasPaddedCounts};
+ghost use Rattle.vault.specs.Running.{place_in, heard_of, IsStopped};
+ghost use Rattle.vault.specs.Seen.{left_of};
+ghost use Rattle.vault.specs.Stands.{Stands, Comes, MakesTurn};
+ghost use Rattle.vault.specs.declared.turn.Turn.TheVariants as turn;
+
+use crate::heard::{HeardList, Parts};
+use crate::tasks::{GetTask, Running, Task};
+use crate::turn::{Answer, Ended, Turn};
+use crate::vault::Vault;
+use record_codec::Counts;
+use stream_model::Bytes;
+use vault_core::Reply;
+
+/// The place of a job among the running ones.
+pub(crate) fn place_of(jobs: &[Running], job: u32) -> Option<usize>
+    ensures { result ≡ place_in jobs.now job }
+{
+    jobs.iter().position(|running| running.number == job)
+}
+
+impl Task {
+    /// What the job heard.
+    fn into_heard(self) -> HeardList
+        ensures { result ≡ heard_of self }
+    {
+        match self {
+            Task::Get(get) => HeardList {
+                parts: Parts::Fetched(get.fetched),
+            },
+            Task::Audit(audit) => HeardList {
+                parts: Parts::Answered(audit.heard),
+            },
+            _ => HeardList {
+                parts: Parts::Nothing,
+            },
+        }
+    }
+}
+
+/// The end of a job that heard nothing.
+fn quiet(answer: Answer) -> Ended
+    ensures answer { result.answer ≡ answer }
+    ensures heard { result.heard ≡ [] }
+{
+    Ended {
+        answer,
+        heard: HeardList::new(),
+    }
+}
+
+impl GetTask {
+    ghost use Rattle.std.specs.Prelude.{◌≡◌, take};
+    ghost use Rattle.vault.specs.declared.tasks.Task.TheVariants as task;
+    ghost use Rattle.vault.specs.declared.turn.Answer.TheVariants as answer;
+    ghost use Rattle.vault.specs.Running.{heard_of};
+
+    /// The bytes of the file that were opened, and what was heard.
+    fn into_end(self) -> Ended
+        ensures answer { result.answer ≡ answer.Got (take self.length self.bytes.items) }
+        ensures heard { result.heard ≡ heard_of (task.Get self) }
+    {
+        let mut bytes = self.bytes;
+        bytes.truncate(self.length);
+        Ended {
+            answer: Answer::Got {
+                bytes: Bytes::from_vec(bytes),
+            },
+            heard: HeardList {
+                parts: Parts::Fetched(self.fetched),
+            },
+        }
+    }
+}
+
+impl Task {
+    /// The end of a job that made all its actions, with its number and its sums.
+    fn into_end(self, number: u64, undecided: u32, counts: Counts) -> Ended
+        ensures answer { result.answer ≡ answer_at_end self number undecided counts }
+        ensures heard { result.heard ≡ heard_of self }
+    {
+        match self {
+            Task::Put(_) => quiet(Answer::Put),
+            Task::Get(get) => get.into_end(),
+            Task::Drop => quiet(Answer::Dropped),
+            Task::Audit(audit) => Ended {
+                answer: Answer::Audited {
+                    number,
+                    undecided,
+                    counts,
+                },
+                heard: HeardList {
+                    parts: Parts::Answered(audit.heard),
+                },
+            },
+            Task::Repair(_) => quiet(Answer::Repaired { number }),
+        }
+    }
+}
+
+impl Vault {
+    /// Ends a job that made all its actions: what it did, read or found.
+    pub(crate) fn end(&mut self, job: u32) -> Option<Turn>
+        requires { Comes self.old.core job End }
+        ensures machine { (w : State) (moment : ℕ) (d : Devices) → Stands self.old d w → MakesTurn w moment job result self.new d d }
+        ensures left { result ≡ Some turn.More → left_of self.new job < left_of self.old job }
+        ensures padded { IfSome result (λ turn. IfEnded turn (λ ended. HasPaddedCounts ended.answer)) }
+    {
+        let place = place_of(&self.jobs, job)?;
+        let number = self.core.subject(job)?;
+        let (undecided, counts) = self.core.sums(job)?;
+        self.core.feed(job, Reply::Done);
+        let running = self.jobs.remove(place);
+        Some(Turn::Done(running.task.into_end(number, undecided, counts)))
+    }
+
+    /// Ends a job with this answer, for which the core is given this reply.
+    pub(crate) fn stop(&mut self, job: u32, reply: Reply, answer: Answer) -> Option<Turn>
+        requires { TakesReply self.old.core job reply }
+        ensures { IsStopped self.old job reply answer result self.new }
+    {
+        let place = place_of(&self.jobs, job)?;
+        self.core.feed(job, reply);
+        let running = self.jobs.remove(place);
+        let heard = running.task.into_heard();
+        Some(Turn::Done(Ended { answer, heard }))
+    }
+}

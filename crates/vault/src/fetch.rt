@@ -1,0 +1,87 @@
+ghost use Rattle.std.specs.Prelude.{◌≡◌, ℕ, Bool, List, Option, length, map, IsOk, IsSome, OnOk, OnSome, ◌<◌, Some, IfSome};
+ghost use Rattle.hail_devices.specs.Cells.{Cells};
+ghost use Rattle.hail_devices.specs.ProviderCalls.{Fetches as FetchesOf};
+ghost use Rattle.hail_machine.specs.Actions.{Fetch as FetchAction};
+ghost use Rattle.hail_machine.specs.States.{State};
+ghost use Rattle.vault.specs.Devices.{as_seen, devices};
+ghost use Rattle.vault.specs.Blocks.{given_of};
+ghost use Rattle.vault.specs.Fetching.{TakesFetch, HasRoomFor, GrowsFetches, HasRoomForFetch, fetch_size};
+ghost use Rattle.vault.specs.Stands.{Stands, Comes, MakesTurn};
+ghost use Rattle.vault.specs.declared.turn.Turn.TheVariants as turn;
+ghost use Rattle.vault.specs.Outcomes.{IfEnded, HasPaddedCounts};
+ghost use Rattle.vault.specs.Seen.{left_of};
+
+use crate::end::place_of;
+use crate::heard::{Fetch, Fetches};
+use crate::tasks::Task;
+use crate::turn::Turn;
+use crate::vault::Vault;
+use provider_model::Provider;
+use stream_model::Memory;
+use vault_core::Reply;
+
+impl Fetches {
+    /// Makes one fetch more. It takes no memory where there is room.
+    fn fetch<P: Provider>(&mut self, from: &mut P, fetch: Fetch) -> Result<(), Memory>
+        ensures fetched { OnOk result ((found : Bool) × (block : List ℕ) × GrowsFetches self.old self.new fetch found block
+            × FetchesOf self.old.blocks.size fetch.object fetch.stripe (as_seen P.held P.store_faults P.other_faults P.fetches from.old)
+            (given_of found block) (as_seen P.held P.store_faults P.other_faults P.fetches from.new)) }
+        ensures room { HasRoomForFetch self.old → IsOk result }
+    {
+        self.fetches.reserve(1)?;
+        self.blocks.fetch(from, fetch.object, fetch.stripe)?;
+        self.fetches.push_reserved(fetch);
+        Ok(())
+    }
+}
+
+impl Task {
+    /// Makes a fetch of a get or a repair.
+    fn fetch<P: Provider>(&mut self, from: &mut P, fetch: Fetch) -> Option<()>
+        ensures fetched { OnSome result ((found : Bool) × (block : List ℕ) × TakesFetch self.old self.new fetch found block
+            × FetchesOf (fetch_size self.old) fetch.object fetch.stripe (as_seen P.held P.store_faults P.other_faults P.fetches from.old)
+            (given_of found block) (as_seen P.held P.store_faults P.other_faults P.fetches from.new)) }
+        ensures room { HasRoomFor self.old → IsSome result }
+    {
+        match self {
+            Task::Get(get) => get.fetched.fetch(from, fetch).ok(),
+            Task::Repair(repair) => repair.blocks.fetch(from, fetch.object, fetch.stripe).ok(),
+            _ => None,
+        }
+    }
+}
+
+impl Vault {
+    /// Fetches a block of the stripe in work. A provider that fails gives none.
+    pub(crate) fn fetch<P: Provider>(
+        &mut self,
+        job: u32,
+        provider: u32,
+        object: u64,
+        stripe: u32,
+        providers: &mut [P],
+    ) -> Option<Turn>
+        requires { Comes self.old.core job (FetchAction provider object stripe) }
+        ensures machine { (w : State) (moment : ℕ) (holds : Option Cells) (faults : ℕ)
+            → Stands self.old (devices holds faults (map (as_seen P.held P.store_faults P.other_faults P.fetches) providers.old)) w
+            → MakesTurn w moment job result self.new
+            (devices holds faults (map (as_seen P.held P.store_faults P.other_faults P.fetches) providers.old))
+            (devices holds faults (map (as_seen P.held P.store_faults P.other_faults P.fetches) providers.new)) }
+        ensures left { result ≡ Some turn.More → left_of self.new job < left_of self.old job }
+        ensures padded { IfSome result (λ turn. IfEnded turn (λ ended. HasPaddedCounts ended.answer)) }
+    {
+        let place = place_of(&self.jobs, job)?;
+        let index = provider as usize;
+        if index >= providers.len() {
+            return None;
+        }
+        let fetch = Fetch {
+            provider,
+            object,
+            stripe,
+        };
+        self.jobs[place].task.fetch(&mut providers[index], fetch)?;
+        self.core.feed(job, Reply::Done);
+        Some(Turn::More)
+    }
+}

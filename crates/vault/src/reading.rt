@@ -1,0 +1,39 @@
+ghost use Rattle.std.specs.Prelude.{◌≡◌, ◌<◌, ◌≤◌, ◌^◌, length, IfOk, IfSome, IfNone, OnOk, IsErrOf};
+ghost use Rattle.std.specs.Option.{option_map};
+ghost use Rattle.stream_model.specs.declared.fault.WriteFault.TheVariants as write_fault;
+ghost use Rattle.hail_devices.specs.Cells.{reads};
+ghost use Rattle.hail_devices.specs.Disks.{synced};
+ghost use Rattle.hail_devices.specs.Faults.{HasCause};
+ghost use Rattle.hail_devices.specs.Told.{Goes};
+ghost use Rattle.vault.specs.Openings.{journal_read, IsResynced};
+
+use disk_model::Disk;
+use std::alloc::Global;
+use stream_model::WriteFault;
+
+/// How many bytes of a disk are looked at.
+const LIMIT: u64 = 1 << 24;
+
+/// The largest length of a disk that counts as empty, in bytes.
+const EMPTY: u64 = 9;
+
+/// The bytes of a disk that are looked at, after a sync; None where it has at most nine, of which none is read.
+pub(crate) fn read_disk<D: Disk>(alloc: Global, disk: &mut D) -> Result<Option<Vec<u8>>, WriteFault>
+    ensures empty { IfOk result (λ found. IfSome (D.holds disk.old) (λ cells. IfNone found (length (reads cells) ≤ 9))) }
+    ensures bytes { IfOk result (λ found. IfSome (D.holds disk.old) (λ cells. IfSome found (λ v.
+        (9 < length (reads cells)) × (v.items ≡ journal_read cells)))) }
+    ensures few { IfOk result (λ found. IfSome found (λ v. length v.items ≤ 2 ^ 24)) }
+    ensures synced { OnOk result (D.holds disk.new ≡ option_map synced (D.holds disk.old)) }
+    ensures disk { Goes IsResynced (D.holds disk.old) (D.holds disk.new) }
+    ensures cause { HasCause (D.faults disk.old) (D.faults disk.new) (IsErrOf result write_fault.Failed) }
+{
+    disk.sync()?;
+    let len = disk.len()?;
+    if len <= EMPTY {
+        return Ok(None);
+    }
+    let mut bytes = vec![in alloc; 0u8; len.min(LIMIT) as usize]?;
+    let count = disk.read_at(0, &mut bytes)?;
+    bytes.truncate(count);
+    Ok(Some(bytes))
+}

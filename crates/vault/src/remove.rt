@@ -1,0 +1,50 @@
+ghost use Rattle.std.specs.Prelude.{◌≡◌, ℕ, Option, length, map, ◌<◌, Some, IfSome};
+ghost use Rattle.hail_devices.specs.Cells.{Cells};
+ghost use Rattle.hail_devices.specs.ProviderCalls.{Removes};
+ghost use Rattle.hail_machine.specs.Actions.{Remove};
+ghost use Rattle.hail_machine.specs.States.{State};
+ghost use Rattle.vault.specs.Devices.{as_seen, devices};
+ghost use Rattle.vault.specs.Stands.{Stands, Comes, MakesTurn};
+ghost use Rattle.vault.specs.declared.turn.Turn.TheVariants as turn;
+ghost use Rattle.vault.specs.Outcomes.{IfEnded, HasPaddedCounts};
+ghost use Rattle.vault.specs.Seen.{left_of};
+
+use crate::turn::Turn;
+use crate::vault::Vault;
+use provider_model::Provider;
+use vault_core::Reply;
+
+/// Takes an object away from a provider; that it failed does not count.
+fn remove_from<P: Provider>(from: &mut P, object: u64)
+    ensures { Removes object (as_seen P.held P.store_faults P.other_faults P.fetches from.old) (as_seen P.held P.store_faults P.other_faults P.fetches from.new) }
+{
+    let _ = from.remove(object);
+}
+
+impl Vault {
+    /// Takes an object that is no longer in effect away from a provider. A failure is passed over: what is left is never read.
+    pub(crate) fn remove<P: Provider>(
+        &mut self,
+        job: u32,
+        provider: u32,
+        object: u64,
+        providers: &mut [P],
+    ) -> Option<Turn>
+        requires { Comes self.old.core job (Remove provider object) }
+        ensures machine { (w : State) (moment : ℕ) (holds : Option Cells) (faults : ℕ)
+            → Stands self.old (devices holds faults (map (as_seen P.held P.store_faults P.other_faults P.fetches) providers.old)) w
+            → MakesTurn w moment job result self.new
+            (devices holds faults (map (as_seen P.held P.store_faults P.other_faults P.fetches) providers.old))
+            (devices holds faults (map (as_seen P.held P.store_faults P.other_faults P.fetches) providers.new)) }
+        ensures left { result ≡ Some turn.More → left_of self.new job < left_of self.old job }
+        ensures padded { IfSome result (λ turn. IfEnded turn (λ ended. HasPaddedCounts ended.answer)) }
+    {
+        let index = provider as usize;
+        if index >= providers.len() {
+            return None;
+        }
+        remove_from(&mut providers[index], object);
+        self.core.feed(job, Reply::Done);
+        Some(Turn::More)
+    }
+}

@@ -1,0 +1,43 @@
+ghost use Rattle.std.specs.Prelude.{◌≡◌, ℕ, List, IfSome, IfOk, IfErr, OnOk, IsErrOf, true};
+ghost use Rattle.std.specs.Option.{option_map};
+ghost use Rattle.hail_devices.specs.Disks.{synced};
+ghost use Rattle.hail_devices.specs.Faults.{HasCause};
+ghost use Rattle.hail_devices.specs.Told.{Goes};
+ghost use Rattle.hail_devices.specs.Providers.{Provider};
+ghost use Rattle.hail_records.specs.Records.{Record};
+ghost use Rattle.hail_machine.specs.States.{State};
+ghost use Rattle.vault.specs.declared.fault.StartFault.TheVariants as start_fault;
+ghost use Rattle.vault.specs.Devices.{devices};
+ghost use Rattle.vault.specs.Openings.{journal_read, IsStartFault, IsRead, IsResynced};
+ghost use Rattle.vault.specs.Seen.{next_job_of};
+ghost use Rattle.vault.specs.Stands.{Stands, Carries};
+ghost use Rattle.vault.specs.Starts.{IsJustOpened};
+
+use crate::fault::StartFault;
+use crate::folding::fold_journal;
+use crate::fresh::open_fresh;
+use crate::reading::read_disk;
+use crate::vault::Vault;
+use disk_model::Disk;
+use std::alloc::Global;
+
+impl Vault {
+    /// Opens a vault over what the disk reads; what lies beyond 2^24 bytes is not looked at. Jobs are numbered from `first` on.
+    pub fn start<D: Disk>(alloc: Global, disk: &mut D, first: u32) -> Result<Vault, StartFault>
+        ensures opened { IfOk result (λ v. (rs : List Record) × IsRead (D.holds disk.old) rs
+            × ((w : State) (providers : List Provider) → IsJustOpened w rs first (D.faults disk.new) providers
+            → Stands v (devices (D.holds disk.new) (D.faults disk.new) providers) w)) }
+        ensures carries { IfOk result (λ v. Carries v (D.holds disk.new)) }
+        ensures number { IfOk result (λ v. next_job_of v ≡ first) }
+        ensures refused { IfErr result (λ why. IfSome (D.holds disk.old) (λ cells. IsStartFault (journal_read cells) why)) }
+        ensures synced { OnOk result (D.holds disk.new ≡ option_map synced (D.holds disk.old)) }
+        ensures disk { Goes IsResynced (D.holds disk.old) (D.holds disk.new) }
+        ensures cause { HasCause (D.faults disk.old) (D.faults disk.new) (IsErrOf result start_fault.DiskFault) }
+    {
+        let Some(bytes) = read_disk(alloc, disk)? else {
+            return Err(StartFault::NotSetUp);
+        };
+        let (table, end) = fold_journal(alloc, &bytes)?;
+        open_fresh(alloc, table, end, first)
+    }
+}

@@ -1,0 +1,87 @@
+ghost use Rattle.std.specs.Prelude.{◌≡◌, ◌<◌, ◌≤◌, ℕ, Some, IfSome, length, map};
+ghost use Rattle.hail_machine.specs.States.{State};
+ghost use Rattle.vault.specs.Devices.{Devices, as_seen, devices};
+ghost use Rattle.vault.specs.Outcomes.{IfEnded, HasPaddedCounts};
+ghost use Rattle.vault.specs.declared.turn.Turn.TheVariants as turn;
+ghost use Rattle.vault.specs.Seen.{provider_count, left_of};
+ghost use Rattle.vault.specs.Stands.{Stands, Comes, MakesStep, MakesTurn};
+ghost use Rattle.vault_core.specs.Coming.{seen_action};
+
+use crate::turn::Turn;
+use crate::vault::Vault;
+use disk_model::Disk;
+use provider_model::Provider;
+use vault_core::{Action, Next};
+
+impl Vault {
+    /// Makes the next action of a job, with at most one call of a device. Conditions: the setup's `n` providers at least, of
+    /// which only these are used; and the disk is the one that the vault was opened over.
+    pub fn step<D: Disk, P: Provider>(
+        &mut self,
+        job: u32,
+        disk: &mut D,
+        providers: &mut [P],
+    ) -> Turn
+        requires { provider_count self.old ≤ length providers.old }
+        ensures machine { (w : State) (moment : ℕ)
+            → Stands self.old (devices (D.holds disk.old) (D.faults disk.old) (map (as_seen P.held P.store_faults P.other_faults P.fetches) providers.old)) w
+            → MakesStep w moment job result self.new
+            (devices (D.holds disk.old) (D.faults disk.old) (map (as_seen P.held P.store_faults P.other_faults P.fetches) providers.old))
+            (devices (D.holds disk.new) (D.faults disk.new) (map (as_seen P.held P.store_faults P.other_faults P.fetches) providers.new)) }
+        ensures left { result ≡ turn.More → left_of self.new job < left_of self.old job }
+        ensures padded { IfEnded result (λ ended. HasPaddedCounts ended.answer) }
+    {
+        match self.core.next(job) {
+            Next::Act(action) => match self.act(job, action, disk, providers) {
+                Some(turn) => turn,
+                None => Turn::NoSuchJob,
+            },
+            Next::Waiting { holder } => Turn::Waiting { holder },
+            Next::NoSuchJob => Turn::NoSuchJob,
+            Next::MustReopen => Turn::MustReopen,
+        }
+    }
+
+    /// Makes this action of a job, which comes next for it; None where there is nothing to make it with.
+    fn act<D: Disk, P: Provider>(
+        &mut self,
+        job: u32,
+        action: Action,
+        disk: &mut D,
+        providers: &mut [P],
+    ) -> Option<Turn>
+        requires { Comes self.old.core job (seen_action action) }
+        ensures machine { (w : State) (moment : ℕ)
+            → Stands self.old (devices (D.holds disk.old) (D.faults disk.old) (map (as_seen P.held P.store_faults P.other_faults P.fetches) providers.old)) w
+            → MakesTurn w moment job result self.new
+            (devices (D.holds disk.old) (D.faults disk.old) (map (as_seen P.held P.store_faults P.other_faults P.fetches) providers.old))
+            (devices (D.holds disk.new) (D.faults disk.new) (map (as_seen P.held P.store_faults P.other_faults P.fetches) providers.new)) }
+        ensures left { result ≡ Some turn.More → left_of self.new job < left_of self.old job }
+        ensures padded { IfSome result (λ turn. IfEnded turn (λ ended. HasPaddedCounts ended.answer)) }
+    {
+        match action {
+            Action::WriteBody => self.write_body(job, disk),
+            Action::SyncBody => self.sync_body(job, disk),
+            Action::WriteGate => self.write_gate(job, disk),
+            Action::SyncGate => self.sync_gate(job, disk),
+            Action::Store {
+                provider,
+                object,
+                stripe,
+            } => self.store(job, provider, object, stripe, providers),
+            Action::Fetch {
+                provider,
+                object,
+                stripe,
+            } => self.fetch(job, provider, object, stripe, providers),
+            Action::Ask {
+                provider,
+                object,
+                round,
+            } => self.ask(job, provider, object, round, providers),
+            Action::Work { object, stripe } => self.work(job, object, stripe),
+            Action::Remove { provider, object } => self.remove(job, provider, object, providers),
+            Action::End => self.end(job),
+        }
+    }
+}

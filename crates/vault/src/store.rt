@@ -1,0 +1,136 @@
+ghost use Rattle.std.specs.Prelude.{◌≡◌, ◌≤◌, ◌<◌, ℕ, List, Option, length, map, IfSome, IsSome, Some};
+ghost use Rattle.hail_columns.specs.Columns.{column_of_symbols};
+ghost use Rattle.hail_devices.specs.Cells.{Cells};
+ghost use Rattle.hail_machine.specs.Actions.{Store};
+ghost use Rattle.hail_machine.specs.States.{State};
+ghost use Rattle.vault.specs.Devices.{as_seen, devices};
+ghost use Rattle.vault.specs.Storing.{StoresAs, turned, stored_block, KeepsTask, IsStorer};
+ghost use Rattle.vault.specs.Stands.{Stands, Comes, MakesTurn};
+ghost use Rattle.vault.specs.declared.turn.Turn.TheVariants as turn;
+ghost use Rattle.vault.specs.Outcomes.{IfEnded, HasPaddedCounts};
+ghost use Rattle.vault.specs.Seen.{left_of};
+
+use crate::bench::Bench;
+use crate::codec::Codes;
+use crate::end::place_of;
+use crate::tasks::Task;
+use crate::turn::{Answer, Turn};
+use crate::vault::Vault;
+use hail_field::Symbol;
+use provider_model::{Provider, StoreFault};
+use vault_core::Reply;
+
+/// Stores one block.
+fn store_block<P: Provider>(
+    to: &mut P,
+    object: u64,
+    stripe: u32,
+    block: &[Symbol],
+) -> Result<(), StoreFault>
+    requires some { 1 ≤ length block.now }
+    requires few { length block.now ≤ 128 }
+    ensures { StoresAs object stripe block.now result (as_seen P.held P.store_faults P.other_faults P.fetches to.old)
+        (as_seen P.held P.store_faults P.other_faults P.fetches to.new) }
+{
+    to.store(object, stripe, block)
+}
+
+impl Bench {
+    ghost use Rattle.std.specs.Prelude.{◌≡◌, ◌<◌, IfSome, IsSome};
+    ghost use Rattle.hail_columns.specs.Columns.{column_of_symbols};
+    ghost use Rattle.vault.specs.Devices.{as_seen};
+    ghost use Rattle.vault.specs.Storing.{StoresAs, turned};
+    ghost use Rattle.vault.specs.Tasks.{bench_object};
+
+    /// Stores a provider's block of the stripe at hand; None where there is no such provider.
+    fn store<P: Provider>(
+        &mut self,
+        codes: &Codes,
+        to: &mut P,
+        provider: u32,
+        object: u64,
+        stripe: u32,
+    ) -> Option<Result<(), StoreFault>>
+        ensures stored { IfSome result (λ r. StoresAs object stripe (column_of_symbols (turned self.old object) self.old.rows.items provider stripe) r
+            (as_seen P.held P.store_faults P.other_faults P.fetches to.old) (as_seen P.held P.store_faults P.other_faults P.fetches to.new)) }
+        ensures there { provider < self.old.keys.file.shape.n → IsSome result }
+        ensures object { bench_object self.new ≡ turned self.old object }
+        ensures rows { self.new.rows ≡ self.old.rows }
+    {
+        self.turn_to(object);
+        if !self.make_column(codes, stripe, provider) {
+            return None;
+        }
+        Some(store_block(to, object, stripe, &self.column))
+    }
+}
+
+impl Task {
+    /// Stores a block of a put or a repair; None where there is nothing to store, or no such provider.
+    fn store<P: Provider>(
+        &mut self,
+        codes: &Codes,
+        to: &mut P,
+        provider: u32,
+        object: u64,
+        stripe: u32,
+    ) -> Option<Result<(), StoreFault>>
+        ensures stored { IfSome result (λ r. StoresAs object stripe (stored_block self.old object provider stripe) r
+            (as_seen P.held P.store_faults P.other_faults P.fetches to.old) (as_seen P.held P.store_faults P.other_faults P.fetches to.new)) }
+        ensures there { IsStorer self.old provider → IsSome result }
+        ensures keeps { IfSome result (λ _. KeepsTask self.old self.new object) }
+    {
+        match self {
+            Task::Put(put) => {
+                put.bench.take_stripe(put.bytes.as_slice(), stripe);
+                put.bench.store(codes, to, provider, object, stripe)
+            }
+            Task::Repair(repair) => repair.bench.store(codes, to, provider, object, stripe),
+            _ => None,
+        }
+    }
+}
+
+impl Vault {
+    /// Stores a block of a put's file, or of a stripe that a repair opened. A store that fails ends the job.
+    pub(crate) fn store<P: Provider>(
+        &mut self,
+        job: u32,
+        provider: u32,
+        object: u64,
+        stripe: u32,
+        providers: &mut [P],
+    ) -> Option<Turn>
+        requires { Comes self.old.core job (Store provider object stripe) }
+        ensures machine { (w : State) (moment : ℕ) (holds : Option Cells) (faults : ℕ)
+            → Stands self.old (devices holds faults (map (as_seen P.held P.store_faults P.other_faults P.fetches) providers.old)) w
+            → MakesTurn w moment job result self.new
+            (devices holds faults (map (as_seen P.held P.store_faults P.other_faults P.fetches) providers.old))
+            (devices holds faults (map (as_seen P.held P.store_faults P.other_faults P.fetches) providers.new)) }
+        ensures left { result ≡ Some turn.More → left_of self.new job < left_of self.old job }
+        ensures padded { IfSome result (λ turn. IfEnded turn (λ ended. HasPaddedCounts ended.answer)) }
+    {
+        let place = place_of(&self.jobs, job)?;
+        let index = provider as usize;
+        if index >= providers.len() {
+            return None;
+        }
+        let task = &mut self.jobs[place].task;
+        match task.store(
+            &self.codec.codes,
+            &mut providers[index],
+            provider,
+            object,
+            stripe,
+        )? {
+            Ok(()) => {
+                self.core.feed(job, Reply::Done);
+                Some(Turn::More)
+            }
+            Err(StoreFault::Failed) => {
+                self.stop(job, Reply::Failed, Answer::ProviderFault { provider })
+            }
+            Err(StoreFault::Memory) => self.stop(job, Reply::Memory, Answer::Memory),
+        }
+    }
+}

@@ -1,0 +1,56 @@
+use crate::bench::Bench;
+use crate::blocks::Blocks;
+use crate::heard::{Answers, Fetches};
+use file_layout::FileShape;
+use record_codec::Counts;
+use stream_model::Bytes;
+
+/// What a put works with: the bytes of its file.
+#[derive(Drop)]
+pub struct PutTask {
+    pub bytes: Bytes,
+    pub bench: Bench,
+}
+
+/// What a get works with: what its fetches gave, and the bytes that were opened so far, of a file of this length.
+#[derive(Drop)]
+pub struct GetTask {
+    pub fetched: Fetches,
+    pub bytes: Vec<u8>,
+    pub length: usize,
+    pub bench: Bench,
+}
+
+/// What an audit works with: what its asks gave, the sums of the rounds that all providers were asked in, and the file
+/// that was asked for last.
+#[derive(Drop)]
+pub struct AuditTask {
+    pub heard: Answers,
+    pub undecided: u32,
+    pub counts: Counts,
+    pub file: Option<FileShape>,
+}
+
+/// What a repair works with: the blocks of the stripe in work.
+#[derive(Drop)]
+pub struct RepairTask {
+    pub blocks: Blocks,
+    pub bench: Bench,
+}
+
+/// What a running job works with.
+#[derive(Drop)]
+pub enum Task {
+    Put(PutTask),
+    Get(GetTask),
+    Drop,
+    Audit(AuditTask),
+    Repair(RepairTask),
+}
+
+/// A running job and what it works with.
+#[derive(Drop)]
+pub struct Running {
+    pub number: u32,
+    pub task: Task,
+}

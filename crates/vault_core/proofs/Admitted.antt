@@ -1,0 +1,184 @@
+-- A core with one more job: it is kept, and stands for the state after the begin.
+use Rattle.std.proofs.Common.{◌≡◌, ℕ, zero, suc, ◌+◌, ◌*◌, ◌-◌, ◌<◌, ◌≤◌, ◌^◌, Bool, true, false, cond, List, [], ◌∷◌, ◌++◌, Option, Some, None, Vec, Global, length, map, take, drop, get_or, inl, inr, refl, ap, sym, subst, ◌∙◌, append_assoc, length-append, arith}
+use Rattle.std.specs.Prelude.{◌⊎◌, nat_lt, nat_le, ◌==◌, ◌&&◌, ◌||◌, not, IsTrue, sum, sum_by, if◌then◌else◌}
+use Rattle.std.specs.List.{All, AllZip}
+use Rattle.std.specs.Option.{option_map}
+use Rattle.std.specs.Prelude.{Result, Ok, Err, is_err, OnOk}
+use Rattle.std.proofs.lemmas.Bool.{cases_Bool, lt-ltb, ltb-true, le-leb, false≢true}
+use Rattle.std.proofs.lemmas.Bool.Decides.{nat_tests}
+use Rattle.std.proofs.lemmas.List.Elements.{All-push}
+use Rattle.std.proofs.lemmas.List.Sums.{sum_by-cons, sum_by_push}
+use Rattle.hail_records.specs.Records.{Setup, Record, is_setup, largest_journal}
+use Rattle.hail_machine.specs.Jobs.{Kind}
+use Rattle.hail_machine.specs.Jobs.{Job as MachineJob}
+use Rattle.hail_machine.specs.Refusals.{Refusal}
+use Rattle.hail_machine.specs.Events.{Begin, Begun, IsSpelledKind}
+use Rattle.hail_machine.specs.States.{State, Append, setup_in}
+use Rattle.hail_machine.specs.Begins.{begin_refusal, new_job}
+use Rattle.sound_states.proofs.Events.{events-sound}
+use Rattle.vault_table.specs.Values.{Kept, IsFoldOf}
+use Rattle.vault_core.specs.declared.wish.Wish.{Wish}
+use Rattle.vault_core.specs.declared.wish.Wish.TheVariants as wish
+use Rattle.vault_core.specs.declared.wish.BeginFault.{BeginFault}
+use Rattle.vault_core.specs.declared.wish.BeginFault.TheVariants as fault
+use Rattle.vault_core.specs.declared.cursor.Cursor.{Cursor}
+use Rattle.vault_core.specs.declared.job.Task.{Task}
+use Rattle.vault_core.specs.declared.job.Job.{Job}
+use Rattle.vault_core.specs.declared.own.Core.TheInside.{Inside}
+use Rattle.vault_core.specs.View.{CoreJob, CoreView, AreRising, job_in}
+use Rattle.vault_core.specs.Reserves.{sizes_of, reserved_of, starts_of, Reserves}
+use Rattle.vault_core.specs.Coming.{entry_of_job, entry_of_found, entry_in}
+use Rattle.vault_core.specs.Carried.{IsKindOf, IsJobOf, IsFlight, CoreIs, begun}
+use Rattle.vault_core.specs.Parts.{seen, view_of, setup_kept, comes_to, is_opening, is_past, IsKept, IsCore}
+use Rattle.vault_core.specs.Refusing.{is_busy_in, is_kept_out, wishes_of, word_refusal_in, is_too_full_in, is_used_up, is_full_in, or_full, refusal_in}
+use Rattle.vault_core.specs.Making.{cursor_on, cursor_first, starts_for, admitted, IsMade}
+use Rattle.vault_core.proofs.Counts.{gates_at, reserved_is, reserved_at, reserved_opening}
+use Rattle.vault_core.proofs.Joins.{made-is}
+use Rattle.vault_core.proofs.Refusals.{length-seen}
+
+-- ---- lists
+
+zip-push : {X Y : Type 0} (R : X → Y → Type 0) (xs : List X) (ys : List Y) (x : X) (y : Y) → AllZip R xs ys → R x y → AllZip R (xs ++ x ∷ []) (ys ++ y ∷ [])
+zip-push R [] [] x y h r = (r, tt)
+zip-push R [] (b ∷ ys) x y h r = absurd h
+zip-push R (a ∷ xs) [] x y h r = absurd h
+zip-push R (a ∷ xs) (b ∷ ys) x y h r = (h.0, zip-push R xs ys x y h.1 r)
+
+seen-push : (n : ℕ) (js : List Job) (j : Job) → map (seen n) (js ++ j ∷ []) ≡ map (seen n) js ++ seen n j ∷ []
+seen-push n [] j = refl
+seen-push n (i ∷ js) j = ap (λ (xs : List CoreJob). seen n i ∷ xs) (seen-push n js j)
+
+-- ---- the room of a new job
+
+cursor-room : (n : ℕ) (v : Wish) (ts : List Task) → reserved_at n v (cursor_first v ts) ≡ sum (sizes_of n v)
+cursor-room n (wish.Put name size) ts = refl
+cursor-room n (wish.Get name) ts = none (length (sizes_of n (wish.Get name)) - gates_at (wish.Get name) (cursor_first (wish.Get name) ts))
+  where
+    none : (k : ℕ) → sum (drop {A = ℕ} k []) ≡ 0
+    none zero = refl
+    none (suc k) = refl
+cursor-room n (wish.Drop name) ts = refl
+cursor-room n wish.Audit ts = refl
+cursor-room n wish.Repair [] = refl
+cursor-room n wish.Repair (t ∷ ts) = refl
+
+pub made-room : (t : Kept) (s : Setup) (k : ℕ) (v : Wish) (job : Job) → IsMade t s k v job → reserved_of s.n (seen s.n job) ≡ sum (sizes_of s.n v)
+made-room t s k v job made = reserved_is s.n job ∙ (ap (λ (x : Wish). reserved_at s.n x job.cursor) made.wish ∙ (ap (reserved_at s.n v) made.cursor ∙ cursor-room s.n v job.tasks.items))
+
+none-by : (b u f : Bool) (o : Option BeginFault) → None ≡ (if b then Some fault.MustReopen else (if u then Some fault.Busy else or_full o f)) → (u ≡ false) × (f ≡ false)
+none-by true u f o h = cc
+none-by false true f o h = cc
+none-by false false true None h = cc
+none-by false false false None h = (refl, refl)
+none-by false false f (Some x) h = cc
+
+pub room-left : (c : CoreView) (v : Wish) → Reserves c → None ≡ refusal_in c v → c.end + sum_by (reserved_of c.setup.n) c.jobs + sum (sizes_of c.setup.n v) ≤ largest_journal
+room-left c v res h = by v (none-by c.barred (is_busy_in c v) (is_full_in c v) (word_refusal_in c v) h).1
+  where
+    within : (k : ℕ) (u : Bool) → (nat_lt largest_journal k || u) ≡ false → k ≤ largest_journal
+    within k u e = grind (arith, nat_tests, e)
+
+    by : (x : Wish) → is_full_in c x ≡ false → c.end + sum_by (reserved_of c.setup.n) c.jobs + sum (sizes_of c.setup.n x) ≤ largest_journal
+    by (wish.Put name size) e = within _ (is_used_up c.table (wish.Put name size)) e
+    by (wish.Get name) e = let r = res.room in let z : sum (sizes_of c.setup.n (wish.Get name)) ≡ 0 = refl in omega (arith, r, z)
+    by (wish.Drop name) e = within _ false e
+    by wish.Audit e = within _ (is_used_up c.table wish.Audit) e
+    by wish.Repair e = within _ false e
+
+-- ---- the core is kept
+
+rising-more : (low : ℕ) (js : List CoreJob) (next : ℕ) (x : CoreJob) → x.number ≡ next → AreRising low js next → AreRising low (js ++ x ∷ []) (next + 1)
+rising-more low [] next x e h = ((let l : low ≤ next = h in omega (arith, l, e)), (let l : x.number + 1 ≤ next + 1 = omega (arith, e) in l))
+rising-more low (j ∷ js) next x e h = (h.0, rising-more (j.number + 1) js next x e h.1)
+
+starts-le : (j : CoreJob) (v : Wish) → j.wish ≡ v → starts_of j ≤ starts_for v
+starts-le j v e = subst (λ (k : ℕ). k ≤ starts_for v) (sym (ap (λ (x : Wish). starts_of (record j { wish = x })) e)) (by v)
+  where
+    by : (x : Wish) → starts_of (record j { wish = x }) ≤ starts_for x
+    by (wish.Put name size) = one j.opening
+      where
+        one : (b : Bool) → ◌≤◌ (if b then 1 else 0) 1
+        one true = omega arith
+        one false = omega arith
+    by (wish.Get name) = omega arith
+    by (wish.Drop name) = omega arith
+    by wish.Audit = omega arith
+    by wish.Repair = omega arith
+
+module _ (a : Inside) (job : Job) (t : Kept) (js : Vec Job Global) (k : ℕ) (table : t ≡ record a.table { spare = a.table.spare + starts_for job.wish }) (jobs : js.items ≡ a.jobs.items ++ job ∷ []) where
+  jobs-seen : map (seen a.setup.n) js.items ≡ map (seen a.setup.n) a.jobs.items ++ seen a.setup.n job ∷ []
+  jobs-seen = ap (map (seen a.setup.n)) jobs ∙ seen-push a.setup.n a.jobs.items job
+
+  pub admitted-view : (v : CoreView) → view_of a ≡ v → view_of (record a { table = t; jobs = js; next_job = a.next_job + 1 }) ≡ admitted v job.wish job
+  admitted-view v e = subst (λ (c : CoreView). view_of (record a { table = t; jobs = js; next_job = a.next_job + 1 }) ≡ admitted c job.wish job) e
+      (ap (λ (x : Kept). record (view_of a) { table = x; jobs = map (seen a.setup.n) js.items; next_job = a.next_job + 1 }) table
+      ∙ ap (λ (xs : List CoreJob). record (view_of a) { table = record a.table { spare = a.table.spare + starts_for job.wish }; jobs = xs; next_job = a.next_job + 1 }) jobs-seen)
+
+  pub admitted-core : IsCore a → job.number ≡ a.next_job → IsKept a.setup.n job → length a.jobs.items < 8 →
+      a.end + sum_by (reserved_of a.setup.n) (map (seen a.setup.n) a.jobs.items) + reserved_of a.setup.n (seen a.setup.n job) ≤ largest_journal →
+      IsCore (record a { table = t; jobs = js; next_job = a.next_job + 1 })
+  admitted-core core number kept few room = record {
+    set_up = core.set_up;
+    kept = subst (All (IsKept a.setup.n)) (sym jobs) (All-push (IsKept a.setup.n) a.jobs.items job core.kept kept);
+    few = (let e = ap (λ (xs : List Job). length xs) jobs in let l = length-append a.jobs.items (job ∷ []) in let o : length (job ∷ []) ≡ 1 = refl in omega (arith, e, l, o, few));
+    begun = core.begun;
+    numbered = subst (λ (xs : List CoreJob). AreRising 0 xs (a.next_job + 1)) (sym jobs-seen) (rising-more 0 (map (seen a.setup.n) a.jobs.items) a.next_job (seen a.setup.n job) number core.numbered);
+    reserves = record {
+      room = (let e = ap (λ (xs : List CoreJob). sum_by (reserved_of a.setup.n) xs) jobs-seen in let p = sum_by_push (reserved_of a.setup.n) (map (seen a.setup.n) a.jobs.items) (seen a.setup.n job) in omega (arith, e, p, room));
+      spare = (let e = ap (λ (xs : List CoreJob). sum_by starts_of xs) jobs-seen in let p = sum_by_push starts_of (map (seen a.setup.n) a.jobs.items) (seen a.setup.n job) in
+          let q = starts-le (seen a.setup.n job) job.wish refl in let r = core.reserves.spare in let z = ap (λ (x : Kept). x.spare) table in omega (arith, e, p, q, r, z));
+    };
+  }
+
+-- ---- the core stands for the state after the begin
+
+same-entry : (t : Kept) (m : ℕ) (o : Option CoreJob) → entry_of_found (record t { spare = m }) o ≡ entry_of_found t o
+same-entry t m None = refl
+same-entry t m (Some j) = refl
+
+found-more : (js : List CoreJob) (x : CoreJob) (k : ℕ) (t : Kept) (e : Record) → entry_of_found t (job_in js k) ≡ Some e → job_in (js ++ x ∷ []) k ≡ job_in js k
+found-more [] x k t e h = let f : None ≡ Some e = h in cc
+found-more (j ∷ js) x k t e h = elim (cases_Bool (j.number == k)) [
+  | inl y ↦ rw y refl
+  | inr n ↦ rw n (found-more js x k t e (subst (λ (b : Bool). entry_of_found t (if b then Some j else job_in js k) ≡ Some e) n h))
+]
+
+flight-more : (c : CoreView) (v : Wish) (job : Job) (o : Option Append) → IsFlight c o → IsFlight (admitted c v job) o
+flight-more c v job None h = h
+flight-more c v job (Some a) h = (
+  h.0,
+  same-entry c.table (c.table.spare + starts_for v) (job_in (c.jobs ++ seen c.setup.n job ∷ []) a.job)
+      ∙ (ap (entry_of_found c.table) (found-more c.jobs (seen c.setup.n job) a.job c.table a.entry h.1) ∙ h.1),
+)
+
+pub core-begun : (c : CoreView) (w : State) (kind : Kind) (moment : ℕ) (v : Wish) (job : Job) → CoreIs c w → IsKindOf v kind → IsSpelledKind kind → begin_refusal 8 w kind ≡ None →
+    4 ≤ c.setup.n → c.setup.n ≤ 16 → IsMade c.table c.setup c.next_job v job → CoreIs (admitted c v job) (begun w moment kind)
+unfolding setup_in
+core-begun c w kind moment v job is of spelled allowed least most made = record {
+  sound = events-sound 8 moment w is.sound (Begin kind) (Begun w.next_job) (begun w moment kind) spelled (is.is_open, allowed, refl, refl);
+  is_open = is.is_open;
+  table = record { setup = is.table.setup; files = is.table.files; started = is.table.started; id = is.table.id; audit = is.table.audit; running = is.table.running; due = is.table.due };
+  setup = is.setup;
+  end = is.end;
+  jobs = zip-push (IsJobOf c.setup) c.jobs w.jobs (seen c.setup.n job) (new_job w moment kind) is.jobs
+      (made-is c.table c.setup w moment v kind job (subst (λ (k : ℕ). IsMade c.table c.setup k v job) is.next_job made) least most is.table is.setup is.sound.files of);
+  next_job = ap (λ (k : ℕ). k + 1) is.next_job;
+  append = flight-more c v job w.append is.append;
+  barred = is.barred;
+}
+
+-- ---- what a call gave
+
+pub on_ok : {A E : Type 0} (r : Result A E) (P : Type 0) → is_err r ≡ false → OnOk r P → P
+on_ok (Ok x) P e h = h
+on_ok (Err x) P e h = absurd (false≢true (sym e))
+
+pub on_ok_then : {A E : Type 0} (r : Result A E) (P Q : Type 0) → (P → Q) → OnOk r P → OnOk r Q
+on_ok_then (Ok x) P Q f h = f h
+on_ok_then (Err x) P Q f h = h
+
+pub limits : (s : Setup) → IsTrue (is_setup s) → (4 ≤ s.n) × (s.n ≤ 16)
+limits s h = (grind (arith, nat_tests, h), grind (arith, nat_tests, h))
+
+pub fewer-than : (n : ℕ) (js : List Job) → length (map (seen n) js) < 8 → length js < 8
+fewer-than n js h = let e = length-seen n js in omega (arith, e, h)

@@ -1,0 +1,141 @@
+-- The sums of an audit, before an action and after it.
+use Rattle.std.proofs.Common.{◌≡◌, ℕ, ◌+◌, Bool, true, false, List, [], ◌∷◌, Some, None, drop, inl, inr, refl, ap, sym, subst, ◌∙◌}
+use Rattle.std.specs.Prelude.{Option, ◌⊎◌, ◌&&◌, not, slice_get, IsTrue, nat_lt}
+use Rattle.std.proofs.lemmas.Bool.{cases_Bool, false≢true}
+use Rattle.hail_columns.specs.Verdicts.{Sums}
+use Rattle.hail_machine.specs.Jobs.{Kind, PutJob, GetJob, DropJob, AuditJob, RepairJob, Given, Job}
+use Rattle.hail_machine.specs.Actions.{Action, WriteBody, SyncBody, WriteGate, SyncGate, Store, Fetch, Ask, Work, Remove, End, actions_of}
+use Rattle.hail_machine.specs.States.{State, setup_in}
+use Rattle.hail_machine.specs.Audits.{HasSums}
+use Rattle.hail_machine.specs.Steps.{next_action}
+use Rattle.sound_states.proofs.Orders.{next-listed}
+use Rattle.sound_states.proofs.Going.{onward}
+use Rattle.vault_core.specs.declared.wish.Wish.{Wish}
+use Rattle.vault_core.specs.declared.wish.Wish.TheVariants as wish
+use Rattle.vault_core.specs.View.{CoreJob}
+use Rattle.vault_core.specs.Coming.{is_ask, begins_append, is_last_ask}
+use Rattle.vault_core.specs.Carried.{IsKindOf, is_audit, has_asked, opens, IsJobOf}
+use Rattle.vault_core.specs.Fed.{goes_plainly, is_gate, moved, judged}
+use Rattle.vault_core.proofs.Kept.{and_left}
+use Rattle.vault_core.proofs.Gating.{and_first}
+use Rattle.vault_core.proofs.Standing.{get-drop}
+use Rattle.vault_core.proofs.Onward.{opens-list, ask_behind, sums-same, ask-then, head-here, left-here, rest-on, opening-on}
+
+audit_is : (v : Wish) → is_audit v ≡ true → v ≡ wish.Audit
+audit_is (wish.Put name size) h = absurd (false≢true h)
+audit_is (wish.Get name) h = absurd (false≢true h)
+audit_is (wish.Drop name) h = absurd (false≢true h)
+audit_is wish.Audit h = refl
+audit_is wish.Repair h = absurd (false≢true h)
+
+pub audit_kind : (v : Wish) (k : Kind) → v ≡ wish.Audit → IsKindOf v k → k ≡ AuditJob
+audit_kind wish.Audit AuditJob e h = refl
+audit_kind wish.Audit k e h = absurd h
+audit_kind (wish.Put name size) k e h = cc
+audit_kind (wish.Get name) k e h = cc
+audit_kind (wish.Drop name) k e h = cc
+audit_kind wish.Repair k e h = cc
+
+not_false : (b : Bool) → not b ≡ true → b ≡ false
+not_false true h = absurd (false≢true h)
+not_false false h = refl
+
+-- what it says that an audit has asked all
+pub record Asked (c : CoreJob) : Type 0 where
+  pub audit : c.wish ≡ wish.Audit
+  pub opened : c.opening ≡ false
+  pub head : is_ask (slice_get c.rest 0) ≡ false
+
+pub asked_parts : (c : CoreJob) → has_asked c ≡ true → Asked c
+asked_parts c h =
+    let a = and_first (is_audit c.wish) (not c.opening && not (is_ask (slice_get c.rest 0))) h in
+    let b = and_first (not c.opening) (not (is_ask (slice_get c.rest 0))) a.1 in
+    record { audit = audit_is c.wish a.0; opened = not_false c.opening b.0; head = not_false (is_ask (slice_get c.rest 0)) b.1 }
+
+pub asked_whole : (c : CoreJob) → c.wish ≡ wish.Audit → c.opening ≡ false → is_ask (slice_get c.rest 0) ≡ false → has_asked c ≡ true
+asked_whole c a o h = ap (λ (v : Wish). is_audit v && (not c.opening && not (is_ask (slice_get c.rest 0)))) a
+    ∙ (ap (λ (b : Bool). not b && not (is_ask (slice_get c.rest 0))) o ∙ ap not h)
+
+second_here : (xs : List Action) → slice_get xs 1 ≡ slice_get (drop 1 xs) 0
+second_here [] = refl
+second_here (x ∷ xs) = refl
+
+no_gate : (a : Action) → goes_plainly (Some a) ≡ true → is_gate (Some a) ≡ false
+no_gate WriteBody h = refl
+no_gate SyncBody h = refl
+no_gate WriteGate h = refl
+no_gate SyncGate h = absurd (false≢true h)
+no_gate (Store j o t) h = refl
+no_gate (Fetch j o t) h = refl
+no_gate (Ask j o t) h = refl
+no_gate (Work o t) h = refl
+no_gate (Remove j o) h = refl
+no_gate End h = refl
+
+pub and_true : (b : Bool) → (b && true) ≡ b
+and_true true = refl
+and_true false = refl
+
+module _ (w : State) (c : CoreJob) (m : Job) (a : Action) (is : IsJobOf (setup_in w) c m) (next : next_action w m ≡ Some a) (on : a ≡ End → ⊥) where
+  -- an action that is not the last ask of an audit changes nothing of what is judged
+  pub sums-on : (given : List Given) → goes_plainly (Some a) ≡ true → is_last_ask c.rest ≡ false → (given ≡ m.given) ⊎ (m.kind ≡ AuditJob → is_ask (Some a) ≡ true) →
+      IsTrue (has_asked (moved c)) → HasSums (setup_in w) (onward m m.subject given) c.sums
+  sums-on given plain last gave has = by (is_ask (Some a)) refl
+    where
+      parts : Asked (moved c)
+      parts = asked_parts (moved c) has
+
+      kind : m.kind ≡ AuditJob
+      kind = audit_kind c.wish m.kind parts.audit is.kind
+
+      opened : c.opening ≡ false
+      opened = sym (and_true c.opening) ∙ (ap (λ (b : Bool). c.opening && not b) (sym (ap is_gate (head-here w c m a is next on) ∙ no_gate a plain)) ∙ parts.opened)
+
+      head : slice_get (moved c).rest 0 ≡ slice_get (actions_of (setup_in w) m) (m.place + 1)
+      head = ap (λ (xs : List Action). slice_get (drop 1 xs) 0) (left-here w c m a is next on) ∙ get-drop (m.place + 1) (actions_of (setup_in w) m)
+
+      by : (b : Bool) → is_ask (Some a) ≡ b → HasSums (setup_in w) (onward m m.subject given) c.sums
+      by false e = elim gave [
+        | inl g ↦ sums-same (setup_in w) m (onward m m.subject given) (sym g) refl c.sums refl (is.sums (asked_whole c parts.audit opened (ap is_ask (head-here w c m a is next on) ∙ e)))
+        | inr h ↦ absurd (false≢true (sym e ∙ h kind))
+      ]
+      by true e = absurd (not_ask a e (next-listed w m a next on))
+        where
+          not_ask : (x : Action) → is_ask (Some x) ≡ true → slice_get (actions_of (setup_in w) m) m.place ≡ Some x → ⊥
+          not_ask (Ask j o t) f listed = elim (ask-then (setup_in w) m j o t kind listed) [
+            | inl asks ↦ false≢true (sym parts.head ∙ (ap is_ask head ∙ asks))
+            | inr starts ↦ false≢true (sym last ∙ (ap (λ (o : Option Action). is_ask o && begins_append (slice_get c.rest 1)) (head-here w c m a is next on)
+                ∙ (ap (λ (b : Bool). b && begins_append (slice_get c.rest 1)) e ∙ (ap begins_append (second_here c.rest ∙ head) ∙ starts))))
+          ]
+          not_ask WriteBody f listed = false≢true f
+          not_ask SyncBody f listed = false≢true f
+          not_ask WriteGate f listed = false≢true f
+          not_ask SyncGate f listed = false≢true f
+          not_ask (Store j o t) f listed = false≢true f
+          not_ask (Fetch j o t) f listed = false≢true f
+          not_ask (Work o t) f listed = false≢true f
+          not_ask (Remove j o) f listed = false≢true f
+          not_ask End f listed = false≢true f
+
+  -- an audit that is judged
+  pub on-judged : (j o t : ℕ) → a ≡ Ask j o t → (given : List Given) (sums : Sums) → HasSums (setup_in w) (onward m m.subject given) sums → IsJobOf (setup_in w) (judged c sums) (onward m m.subject given)
+  on-judged j o t e given sums h = record {
+    number = is.number;
+    kind = is.kind;
+    pinned = is.pinned;
+    flagged = is.flagged;
+    subject = is.subject;
+    opening = opening-on w c m a is next on;
+    rest = rest-on w c m a is next on given;
+    unjudged = λ p. absurd (false≢true (sym opened ∙ and_left c.opening (not (is_gate (slice_get c.rest 0))) p));
+    sums = λ p. h;
+  }
+    where
+      opened : c.opening ≡ false
+      opened = is.opening ∙ by (opens c.wish) refl
+        where
+          by : (b : Bool) → opens c.wish ≡ b → (opens c.wish && nat_lt m.place 4) ≡ false
+          by false f = ap (λ (x : Bool). x && nat_lt m.place 4) f
+          by true f = (let l = opens-list (setup_in w) m c.wish m.kind refl is.kind f in
+              ap (λ (x : Bool). x && nat_lt m.place 4) f
+              ∙ ask_behind l.0 m.place j o t (ap (λ (xs : List Action). slice_get xs m.place) (sym l.1) ∙ (next-listed w m a next on ∙ ap Some e)))

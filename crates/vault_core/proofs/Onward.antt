@@ -1,0 +1,208 @@
+-- A job of a core stands for a job of the machine, before an action and after it.
+use Rattle.std.proofs.Common.{◌≡◌, ℕ, zero, suc, ◌+◌, ◌-◌, ◌<◌, ◌≤◌, Bool, true, false, List, [], ◌∷◌, ◌++◌, Some, None, length, map, drop, replicate, inl, inr, refl, ap, sym, subst, ◌∙◌, arith}
+use Rattle.std.specs.Prelude.{Option, ◌⊎◌, if◌then◌else◌, ◌&&◌, not, nat_lt, slice_get, IsTrue}
+use Rattle.std.specs.List.{flat_map, range_with_len}
+use Rattle.std.proofs.lemmas.Bool.{cases_Bool, cases_lt, le-ltb, lt-ltb, ltb-true, false≢true}
+use Rattle.hail_codes.specs.Points.{upto}
+use Rattle.hail_columns.specs.Verdicts.{Sums, Judges}
+use Rattle.hail_columns.specs.Challenges.{challenge_of}
+use Rattle.hail_records.specs.Records.{Setup}
+use Rattle.hail_machine.specs.Setups.{object_of}
+use Rattle.hail_machine.specs.Jobs.{Kind, PutJob, GetJob, DropJob, AuditJob, RepairJob, Pinned, Given, Job}
+use Rattle.hail_machine.specs.Actions.{Action, WriteBody, SyncBody, WriteGate, SyncGate, Store, Fetch, Ask, Work, Remove, End, append_actions, on_each_provider, rounds_of, ask_actions, remove_actions, actions_of, actions_left}
+use Rattle.hail_machine.specs.Given.{answers_given}
+use Rattle.hail_machine.specs.States.{State, setup_in}
+use Rattle.hail_machine.specs.Appends.{is_first_append}
+use Rattle.hail_machine.specs.Audits.{JudgesRound, JudgesRounds, JudgesFiles, HasSums}
+use Rattle.hail_machine.specs.Steps.{next_action}
+use Rattle.hail_machine.proofs.ActionLists.{Each, each_get, each_append, each_map, each_flat}
+use Rattle.sound_states.proofs.Orders.{put-list, audit-list, put_rest, drop_rest, audit_rest, next-listed, next-left}
+use Rattle.sound_states.proofs.Gates.{drop-list}
+use Rattle.sound_states.proofs.Going.{onward, actions-onward}
+use Rattle.vault_core.specs.declared.wish.Wish.{Wish}
+use Rattle.vault_core.specs.declared.wish.Wish.TheVariants as wish
+use Rattle.vault_core.specs.View.{CoreJob}
+use Rattle.vault_core.specs.Coming.{is_ask, begins_append, is_last_ask}
+use Rattle.vault_core.specs.Carried.{IsKindOf, has_asked, opens, IsJobOf}
+use Rattle.vault_core.specs.Fed.{goes_plainly, is_gate, moved, judged}
+use Rattle.vault_core.proofs.Kept.{and_left}
+use Rattle.vault_core.proofs.Standing.{get-drop}
+
+-- ---- the first append
+
+-- the list of a job that has a first append begins with it
+pub opens-list : (s : Setup) (m : Job) (v : Wish) (k : Kind) → m.kind ≡ k → IsKindOf v k → opens v ≡ true → (rest : List Action) × (actions_of s m ≡ append_actions ++ rest)
+opens-list s m (wish.Put name size) (PutJob called bytes) e h o = (put_rest s m bytes, put-list s m called bytes e)
+opens-list s m (wish.Drop name) (DropJob called) e h o = (drop_rest s m, drop-list s m called e)
+opens-list s m wish.Audit AuditJob e h o = (audit_rest s m, audit-list s m e)
+opens-list s m (wish.Get name) k e h o = absurd (false≢true o)
+opens-list s m wish.Repair k e h o = absurd (false≢true o)
+opens-list s m v k e h o = absurd h
+
+far : (p : ℕ) → nat_lt (suc (suc (suc (suc p)))) 4 ≡ false
+far p = le-ltb (suc (suc (suc (suc p)))) 4 (omega arith)
+
+-- an action leaves the first append where it is the fourth move
+gate_step : (rest : List Action) (p : ℕ) (a : Action) → slice_get (append_actions ++ rest) p ≡ Some a → (nat_lt p 4 && not (is_gate (Some a))) ≡ nat_lt (p + 1) 4
+gate_step rest zero a e = ap (λ (o : Option Action). nat_lt 0 4 && not (is_gate o)) (sym e)
+gate_step rest (suc zero) a e = ap (λ (o : Option Action). nat_lt 1 4 && not (is_gate o)) (sym e)
+gate_step rest (suc (suc zero)) a e = ap (λ (o : Option Action). nat_lt 2 4 && not (is_gate o)) (sym e)
+gate_step rest (suc (suc (suc zero))) a e = ap (λ (o : Option Action). nat_lt 3 4 && not (is_gate o)) (sym e)
+gate_step rest (suc (suc (suc (suc p)))) a e = ap (λ (b : Bool). b && not (is_gate (Some a))) (far p) ∙ sym (le-ltb (suc (suc (suc (suc p))) + 1) 4 (omega arith))
+
+-- no ask stands in a first append
+pub ask_behind : (rest : List Action) (p j o t : ℕ) → slice_get (append_actions ++ rest) p ≡ Some (Ask j o t) → nat_lt p 4 ≡ false
+ask_behind rest zero j o t e = let f : Some WriteBody ≡ Some (Ask j o t) = e in cc
+ask_behind rest (suc zero) j o t e = let f : Some SyncBody ≡ Some (Ask j o t) = e in cc
+ask_behind rest (suc (suc zero)) j o t e = let f : Some WriteGate ≡ Some (Ask j o t) = e in cc
+ask_behind rest (suc (suc (suc zero))) j o t e = let f : Some SyncGate ≡ Some (Ask j o t) = e in cc
+ask_behind rest (suc (suc (suc (suc p)))) j o t e = far p
+
+-- ---- the sums of an audit
+
+module _ (s : Setup) (i j : Job) (given : i.given ≡ j.given) (subject : i.subject ≡ j.subject) where
+  rounds_same : (f : Pinned) (rounds : List ℕ) (old new : Sums) → JudgesRounds s i f rounds old new → JudgesRounds s j f rounds old new
+  rounds_same f [] old new h = h
+  rounds_same f (r ∷ rs) old new h = (
+    h.0,
+    subst (λ (n : ℕ). Judges (object_of s f.id) (challenge_of (object_of s f.id) (length f.bytes) s.picks n r) (answers_given j.given s.n f.id r) old h.0) subject
+        (subst (λ (g : List Given). Judges (object_of s f.id) (challenge_of (object_of s f.id) (length f.bytes) s.picks i.subject r) (answers_given g s.n f.id r) old h.0) given h.1),
+    rounds_same f rs h.0 new h.2,
+  )
+
+  files_same : (fs : List Pinned) (old new : Sums) → JudgesFiles s i fs old new → JudgesFiles s j fs old new
+  files_same [] old new h = h
+  files_same (f ∷ fs) old new h = (h.0, rounds_same f (rounds_of s (length f.bytes)) old h.0 h.1, files_same fs h.0 new h.2)
+
+  pub sums-same : (sums : Sums) → i.pinned ≡ j.pinned → HasSums s i sums → HasSums s j sums
+  sums-same sums pinned h = subst (λ (fs : List Pinned). JudgesFiles s j fs (record { counts = replicate s.n 0; undecided = 0 }) sums) pinned (files_same i.pinned (record { counts = replicate s.n 0; undecided = 0 }) sums h)
+
+-- an audit with nothing to ask has no sums
+module _ (s : Setup) (m : Job) (some : 0 < s.n) where
+  asks_of : Pinned → List Action
+  asks_of f = flat_map (λ round. on_each_provider s (λ j. Ask j f.id round)) (rounds_of s (length f.bytes))
+
+  providers : (n : ℕ) → 0 < n → (f : ℕ → Action) (xs : List Action) → map f (upto n) ++ xs ≡ [] → ⊥
+  providers zero l f xs e = omega arith
+  providers (suc n) l f xs e = let g : f 0 ∷ (map f (range_with_len (0 + 1) n) ++ xs) ≡ [] = e in cc
+
+  no_rounds : (f : Pinned) (rounds : List ℕ) (sums : Sums) → flat_map (λ round. on_each_provider s (λ j. Ask j f.id round)) rounds ≡ [] → JudgesRounds s m f rounds sums sums
+  no_rounds f [] sums e = refl
+  no_rounds f (r ∷ rs) sums e = absurd (providers s.n some (λ j. Ask j f.id r) _ e)
+
+  none_both : (xs ys : List Action) → xs ++ ys ≡ [] → (xs ≡ []) × (ys ≡ [])
+  none_both [] ys e = (refl, e)
+  none_both (x ∷ xs) ys e = let f : x ∷ (xs ++ ys) ≡ [] = e in cc
+
+  no_files : (fs : List Pinned) (sums : Sums) → flat_map (λ (f : Pinned). flat_map (λ round. on_each_provider s (λ j. Ask j f.id round)) (rounds_of s (length f.bytes))) fs ≡ [] → JudgesFiles s m fs sums sums
+  no_files [] sums e = refl
+  no_files (f ∷ fs) sums e =
+      let b = none_both (flat_map (λ round. on_each_provider s (λ j. Ask j f.id round)) (rounds_of s (length f.bytes)))
+      (flat_map (λ (f : Pinned). flat_map (λ round. on_each_provider s (λ j. Ask j f.id round)) (rounds_of s (length f.bytes))) fs) e in
+      (sums, no_rounds f (rounds_of s (length f.bytes)) sums b.0, no_files fs sums b.1)
+
+  pub no-sums : ask_actions s m ≡ [] → HasSums s m (record { counts = replicate s.n 0; undecided = 0 })
+  no-sums e = no_files m.pinned (record { counts = replicate s.n 0; undecided = 0 }) e
+
+-- ---- asks
+
+IsAnAsk : Action → Type 0
+IsAnAsk a = is_ask (Some a) ≡ true
+
+NoAsk : Action → Type 0
+NoAsk a = is_ask (Some a) ≡ false
+
+asks_ask : (s : Setup) (m : Job) → Each IsAnAsk (ask_actions s m)
+unfolding IsAnAsk
+asks_ask s m = each_flat IsAnAsk (λ (f : Pinned). flat_map (λ round. on_each_provider s (λ j. Ask j f.id round)) (rounds_of s (length f.bytes))) m.pinned
+    (λ f. each_flat IsAnAsk (λ round. on_each_provider s (λ j. Ask j f.id round)) (rounds_of s (length f.bytes)) (λ r. each_map IsAnAsk (λ j. Ask j f.id r) (upto s.n) (λ j. refl)))
+
+-- behind asks comes the first move of the next append
+ask_then : (xs ys : List Action) (p j o t : ℕ) → Each IsAnAsk xs → Each NoAsk ys → slice_get (xs ++ WriteBody ∷ ys) p ≡ Some (Ask j o t) →
+    (is_ask (slice_get (xs ++ WriteBody ∷ ys) (suc p)) ≡ true) ⊎ (begins_append (slice_get (xs ++ WriteBody ∷ ys) (suc p)) ≡ true)
+unfolding IsAnAsk NoAsk
+ask_then [] ys zero j o t h n e = let f : Some WriteBody ≡ Some (Ask j o t) = e in cc
+ask_then [] ys (suc p) j o t h n e = absurd (false≢true (sym (each_get NoAsk ys p (Ask j o t) n e)))
+ask_then (x ∷ []) ys zero j o t h n e = inr refl
+ask_then (x ∷ (y ∷ xs)) ys zero j o t h n e = inl h.1.0
+ask_then (x ∷ xs) ys (suc p) j o t h n e = ask_then xs ys p j o t h.1 n e
+
+-- an ask of an audit stands before another ask, or before the first move of its last append
+pub ask-then : (s : Setup) (m : Job) (j o t : ℕ) → m.kind ≡ AuditJob → slice_get (actions_of s m) m.place ≡ Some (Ask j o t) →
+    (is_ask (slice_get (actions_of s m) (m.place + 1)) ≡ true) ⊎ (begins_append (slice_get (actions_of s m) (m.place + 1)) ≡ true)
+unfolding NoAsk
+ask-then s m j o t kind e = subst (λ (xs : List Action). (is_ask (slice_get xs (m.place + 1)) ≡ true) ⊎ (begins_append (slice_get xs (m.place + 1)) ≡ true)) (sym (audit-list s m kind))
+    (subst (λ (k : ℕ). (is_ask (slice_get (append_actions ++ audit_rest s m) k) ≡ true) ⊎ (begins_append (slice_get (append_actions ++ audit_rest s m) k) ≡ true)) (let k : suc m.place ≡ m.place + 1 = omega arith in k)
+    (by m.place (ap (λ (xs : List Action). slice_get xs m.place) (sym (audit-list s m kind)) ∙ e)))
+  where
+    by : (p : ℕ) → slice_get (append_actions ++ audit_rest s m) p ≡ Some (Ask j o t) →
+        (is_ask (slice_get (append_actions ++ audit_rest s m) (suc p)) ≡ true) ⊎ (begins_append (slice_get (append_actions ++ audit_rest s m) (suc p)) ≡ true)
+    by zero f = (let g : Some WriteBody ≡ Some (Ask j o t) = f in cc)
+    by (suc zero) f = (let g : Some SyncBody ≡ Some (Ask j o t) = f in cc)
+    by (suc (suc zero)) f = (let g : Some WriteGate ≡ Some (Ask j o t) = f in cc)
+    by (suc (suc (suc zero))) f = (let g : Some SyncGate ≡ Some (Ask j o t) = f in cc)
+    by (suc (suc (suc (suc p)))) f = ask_then (ask_actions s m) (SyncBody ∷ WriteGate ∷ SyncGate ∷ End ∷ []) p j o t (asks_ask s m) (refl, (refl, (refl, (refl, tt)))) f
+
+nothing : (xs ys : List Action) → Each IsAnAsk xs → is_ask (slice_get (xs ++ ys) 0) ≡ false → xs ≡ []
+unfolding IsAnAsk
+nothing [] ys h e = refl
+nothing (x ∷ xs) ys h e = absurd (false≢true (sym e ∙ h.0))
+
+-- where no ask stands behind its first append an audit asks nothing
+pub asks-none : (s : Setup) (m : Job) → m.kind ≡ AuditJob → is_ask (slice_get (actions_of s m) 4) ≡ false → ask_actions s m ≡ []
+asks-none s m kind e = nothing (ask_actions s m) (append_actions ++ End ∷ []) (asks_ask s m) (ap (λ (xs : List Action). is_ask (slice_get xs 4)) (sym (audit-list s m kind)) ∙ e)
+
+-- an audit neither fetches nor works
+abbrev pub IsAudits : Action → Type 0
+IsAudits (Fetch j o t) = ⊥
+IsAudits (Work o t) = ⊥
+IsAudits (Store j o t) = ⊥
+IsAudits (Remove j o) = ⊥
+IsAudits a = Unit {0}
+
+pub audit-action : (s : Setup) (m : Job) (a : Action) → m.kind ≡ AuditJob → slice_get (actions_of s m) m.place ≡ Some a → IsAudits a
+audit-action s m a kind e = each_get IsAudits (append_actions ++ audit_rest s m) m.place a
+    (each_append IsAudits append_actions (audit_rest s m) (tt, (tt, (tt, (tt, tt))))
+    (each_append IsAudits (ask_actions s m) (append_actions ++ End ∷ []) asks (tt, (tt, (tt, (tt, (tt, tt)))))))
+    (ap (λ (xs : List Action). slice_get xs m.place) (sym (audit-list s m kind)) ∙ e)
+  where
+    asks : Each IsAudits (ask_actions s m)
+    asks = each_flat IsAudits (λ (f : Pinned). flat_map (λ round. on_each_provider s (λ j. Ask j f.id round)) (rounds_of s (length f.bytes))) m.pinned
+        (λ f. each_flat IsAudits (λ round. on_each_provider s (λ j. Ask j f.id round)) (rounds_of s (length f.bytes)) (λ r. each_map IsAudits (λ j. Ask j f.id r) (upto s.n) (λ j. tt)))
+
+-- ---- a job that has made a plain action
+
+module _ (w : State) (c : CoreJob) (m : Job) (a : Action) (is : IsJobOf (setup_in w) c m) (next : next_action w m ≡ Some a) (on : a ≡ End → ⊥) where
+  pub left-here : c.rest ≡ a ∷ drop (m.place + 1) (actions_of (setup_in w) m)
+  left-here = is.rest ∙ next-left w m a next on
+
+  pub head-here : slice_get c.rest 0 ≡ Some a
+  head-here = ap (λ (xs : List Action). slice_get xs 0) left-here
+
+  pub rest-on : (given : List Given) → drop 1 c.rest ≡ actions_left (setup_in w) (onward m m.subject given)
+  rest-on given = ap (drop 1) left-here ∙ ap (drop (m.place + 1)) (sym (actions-onward (setup_in w) m given))
+
+  pub opening-on : (c.opening && not (is_gate (slice_get c.rest 0))) ≡ (opens c.wish && nat_lt (m.place + 1) 4)
+  opening-on =
+      ap (λ (b : Bool). b && not (is_gate (slice_get c.rest 0))) is.opening
+      ∙ (ap (λ (o : Option Action). (opens c.wish && nat_lt m.place 4) && not (is_gate o)) head-here ∙ by (opens c.wish) refl)
+    where
+      by : (b : Bool) → opens c.wish ≡ b → ((opens c.wish && nat_lt m.place 4) && not (is_gate (Some a))) ≡ (opens c.wish && nat_lt (m.place + 1) 4)
+      by false e = ap (λ (x : Bool). (x && nat_lt m.place 4) && not (is_gate (Some a))) e ∙ sym (ap (λ (x : Bool). x && nat_lt (m.place + 1) 4) e)
+      by true e = (let l = opens-list (setup_in w) m c.wish m.kind refl is.kind e in
+          ap (λ (x : Bool). (x && nat_lt m.place 4) && not (is_gate (Some a))) e
+          ∙ (gate_step l.0 m.place a (ap (λ (xs : List Action). slice_get xs m.place) (sym l.1) ∙ next-listed w m a next on)
+          ∙ sym (ap (λ (x : Bool). x && nat_lt (m.place + 1) 4) e)))
+
+  pub on-moved : (given : List Given) → (IsTrue (has_asked (moved c)) → HasSums (setup_in w) (onward m m.subject given) c.sums) → IsJobOf (setup_in w) (moved c) (onward m m.subject given)
+  on-moved given sums = record {
+    number = is.number;
+    kind = is.kind;
+    pinned = is.pinned;
+    flagged = is.flagged;
+    subject = is.subject;
+    opening = opening-on;
+    rest = rest-on given;
+    unjudged = λ o. is.unjudged (and_left c.opening (not (is_gate (slice_get c.rest 0))) o);
+    sums = sums;
+  }

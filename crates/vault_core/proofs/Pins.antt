@@ -1,0 +1,118 @@
+-- How a new job is made, piece by piece.
+use Rattle.std.proofs.Common.{◌≡◌, ℕ, zero, suc, ◌+◌, ◌*◌, ◌-◌, ◌<◌, ◌≤◌, ◌^◌, Bool, true, false, cond, List, [], ◌∷◌, ◌++◌, Option, Some, None, length, map, take, drop, get_or, inl, inr, refl, ap, sym, subst, ◌∙◌, append_assoc, length-append, arith}
+use Rattle.std.specs.Prelude.{nat_lt, nat_eq, ◌==◌, IfSome, sum_by, replicate, slice_get, if◌then◌else◌}
+use Rattle.std.specs.List.{All, flat_map, insert}
+use Rattle.std.proofs.lemmas.Bool.{cases_Bool, lt-ltb, ltb-true, eq-eqb, false≢true}
+use Rattle.std.proofs.lemmas.Bool.Decides.{nat_tests}
+use Rattle.std.proofs.lemmas.List.Sums.{sum_by-cons}
+use Rattle.hail_records.specs.Records.{Setup}
+use Rattle.hail_records.specs.Table.{File}
+use Rattle.hail_machine.specs.Setups.{stripes_of}
+use Rattle.record_codec.specs.declared.counts.Counts.{Counts}
+use Rattle.record_codec.specs.Entries.{counted, IsPadded}
+use Rattle.sound_states.proofs.Orders.{drop-get}
+use Rattle.vault_core.specs.declared.pinned.Pinned.{Pinned}
+use Rattle.vault_core.specs.declared.wish.Wish.{Wish}
+use Rattle.vault_core.specs.declared.wish.Wish.TheVariants as wish
+use Rattle.vault_core.specs.declared.job.Task.{Task}
+use Rattle.vault_core.specs.View.{flag_at}
+use Rattle.vault_table.specs.Values.{Kept}
+use Rattle.hail_machine.specs.Begins.{due_number}
+use Rattle.vault_core.specs.Parts.{is_rewriter}
+use Rattle.vault_core.specs.Rest.{rewrites_from}
+use Rattle.vault_core.specs.Making.{pin_of_file, put_pin, pins_of, turns_for, tasks_made, targets_of, subject_for}
+use Rattle.vault_core.proofs.Rests.{rewrites_take, rewrites_skip}
+
+-- ---- flags
+
+zeros_at : (k j : ℕ) → ◌≡◌ {A = ℕ} (get_or (replicate k 0) j 0) 0
+zeros_at zero j = refl
+zeros_at (suc k) zero = refl
+zeros_at (suc k) (suc j) = zeros_at k j
+
+pub read_taken : (n k : ℕ) (xs : List ℕ) (j : ℕ) → drop n xs ≡ replicate k 0 → get_or (take n xs) j 0 ≡ get_or xs j 0
+read_taken zero k xs j e = sym (ap (λ (ys : List ℕ). get_or ys j 0) e ∙ zeros_at k j)
+read_taken (suc n) k [] j e = refl
+read_taken (suc n) k (x ∷ xs) zero e = refl
+read_taken (suc n) k (x ∷ xs) (suc j) e = read_taken n k xs j e
+
+pub flags_read : (counts : Counts) (tolerance j : ℕ) (b : Bool) → IsPadded counts → b ≡ nat_lt tolerance (get_or counts.by j 0) → b ≡ nat_lt tolerance (get_or (counted counts) j 0)
+flags_read counts tolerance j b padded e = e ∙ ap (nat_lt tolerance) (sym (read_taken counts.n (16 - counts.n) counts.by j padded.zeros))
+
+pub rewrites-flagged : (j n : ℕ) (fl : List Bool) → j < n → flag_at fl j ≡ true → length (rewrites_from j n fl 0 0) ≡ 1 + length (rewrites_from (j + 1) n fl 0 0)
+rewrites-flagged j n fl l f = ap length (rewrites_take j n fl 0 0 l f) ∙ (let e : suc (length (rewrites_from (j + 1) n fl 0 0)) ≡ 1 + length (rewrites_from (j + 1) n fl 0 0) = omega arith in e)
+
+pub rewrites-unflagged : (j n : ℕ) (fl : List Bool) → j < n → flag_at fl j ≡ false → length (rewrites_from j n fl 0 0) ≡ length (rewrites_from (j + 1) n fl 0 0)
+rewrites-unflagged j n fl l f = ap length (rewrites_skip j n fl 0 0 l f)
+
+-- ---- turns
+
+pub turns_zero : (s : Setup) (w : Wish) (size k : ℕ) → w ≡ wish.Audit → k ≡ stripes_of s size → k ≡ 0 → 0 ≡ turns_for s w size
+turns_zero s w size k e h z = subst (λ (v : Wish). 0 ≡ turns_for s v size) (sym e) (none (stripes_of s size) (sym h ∙ z))
+  where
+    none : (m : ℕ) → m ≡ 0 → 0 ≡ (if m == 0 then 0 else s.rounds)
+    none m f = rw (f) refl
+
+pub turns_some : (s : Setup) (w : Wish) (size k : ℕ) → w ≡ wish.Audit → k ≡ stripes_of s size → (k ≡ 0 → ⊥) → s.rounds ≡ turns_for s w size
+turns_some s w size k e h z = subst (λ (v : Wish). s.rounds ≡ turns_for s v size) (sym e) (some (stripes_of s size) (λ f. z (h ∙ f)))
+  where
+    some : (m : ℕ) → (m ≡ 0 → ⊥) → s.rounds ≡ (if m == 0 then 0 else s.rounds)
+    some m f = grind (arith, nat_tests, f)
+
+pub turns_other : (s : Setup) (w : Wish) (size k : ℕ) → (w ≡ wish.Audit → ⊥) → k ≡ stripes_of s size → k ≡ turns_for s w size
+turns_other s (wish.Put name n) size k f h = h
+turns_other s (wish.Get name) size k f h = h
+turns_other s (wish.Drop name) size k f h = h
+turns_other s wish.Audit size k f h = absurd (f refl)
+turns_other s wish.Repair size k f h = h
+
+-- ---- tasks
+
+pub tasks-append : (f : ℕ → ℕ) (xs ys : List Pinned) → tasks_made f (xs ++ ys) ≡ tasks_made f xs ++ tasks_made f ys
+tasks-append f [] ys = refl
+tasks-append f (x ∷ xs) ys = elim (cases_Bool (nat_lt 0 (f x.length))) [
+  | inl t ↦ rw (t, tasks-append f xs ys) refl
+  | inr e ↦ rw (e, tasks-append f xs ys) refl
+]
+
+take_next : (xs : List Pinned) (i : ℕ) (d : Pinned) → i < length xs → take (suc i) xs ≡ take i xs ++ get_or xs i d ∷ []
+take_next [] i d l = absurd (omega arith)
+take_next (x ∷ xs) zero d l = refl
+take_next (x ∷ xs) (suc i) d l = ap (λ (ys : List Pinned). x ∷ ys) (take_next xs i d (omega arith))
+
+pub tasks_more : (f : ℕ → ℕ) (files : List Pinned) (i : ℕ) (d : Pinned) (old new : List Task) → i < length files → old ≡ tasks_made f (take i files) →
+    new ≡ old ++ tasks_made f (get_or files i d ∷ []) → new ≡ tasks_made f (take (i + 1) files)
+tasks_more f files i d old new l o e = e ∙ (ap (λ (xs : List Task). xs ++ tasks_made f (get_or files i d ∷ [])) o ∙ (sym (tasks-append f (take i files) (get_or files i d ∷ []))
+    ∙ (ap (tasks_made f) (sym (take_next files i d l)) ∙ ap (λ (k : ℕ). tasks_made f (take k files)) (let k : suc i ≡ i + 1 = omega arith in k))))
+
+pub take_over : (xs : List Pinned) (i : ℕ) → length xs ≤ i → take i xs ≡ xs
+take_over [] zero l = refl
+take_over [] (suc i) l = refl
+take_over (x ∷ xs) zero l = absurd (omega arith)
+take_over (x ∷ xs) (suc i) l = ap (λ (ys : List Pinned). x ∷ ys) (take_over xs i (omega arith))
+
+pub targets_other : (w : Wish) (pins : List Pinned) → ((name : List ℕ) (size : ℕ) → w ≡ wish.Put name size → ⊥) → pins ≡ targets_of w pins
+targets_other (wish.Put name size) pins h = absurd (h name size refl)
+targets_other (wish.Get name) pins h = refl
+targets_other (wish.Drop name) pins h = refl
+targets_other wish.Audit pins h = refl
+targets_other wish.Repair pins h = refl
+
+-- ---- pinned files
+
+pub pins_step : (files : List File) (k : ℕ) (f : File) (old new : List Pinned) → 0 < k → Some f ≡ slice_get files (k - 1) → old ≡ pins_of (drop k files) → new ≡ put_pin (pin_of_file f) old →
+    new ≡ pins_of (drop (k - 1) files)
+pins_step files k f old new l g o e = e ∙ (ap (put_pin (pin_of_file f)) (o ∙ ap (λ (m : ℕ). pins_of (drop m files)) (let m : k ≡ k - 1 + 1 = omega arith in m))
+    ∙ ap pins_of (sym (drop-get files (k - 1) f (sym g))))
+
+pub get_some : (files : List File) (k : ℕ) → k < length files → None ≡ slice_get files k → ⊥
+get_some [] k l e = omega arith
+get_some (f ∷ fs) zero l e = let h : None ≡ Some f = e in cc
+get_some (f ∷ fs) (suc k) l e = get_some fs k (omega arith) e
+
+pub subject_is : (t : Kept) (v : Wish) (k : ℕ) → (is_rewriter v ≡ true → k ≡ due_number t.due) → (is_rewriter v ≡ false → k ≡ 0) → k ≡ subject_for t v
+subject_is t (wish.Put name size) k r o = o refl
+subject_is t (wish.Get name) k r o = o refl
+subject_is t (wish.Drop name) k r o = o refl
+subject_is t wish.Audit k r o = o refl
+subject_is t wish.Repair k r o = r refl

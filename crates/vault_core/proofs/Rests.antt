@@ -1,0 +1,343 @@
+-- How the actions that a job has not yet made follow one another.
+use Rattle.std.proofs.Common.{◌≡◌, ℕ, zero, suc, ◌+◌, ◌-◌, ◌<◌, ◌≤◌, Bool, true, false, List, [], ◌∷◌, ◌++◌, Some, length, map, take, drop, set, get_or, None, inl, inr, refl, ap, sym, subst, ◌∙◌, append_assoc, arith}
+use Rattle.std.specs.Prelude.{slice_get}
+use Rattle.std.proofs.lemmas.Bool.{cases_Bool}
+use Rattle.std.proofs.lemmas.List.Elements.{All-head, All-tail}
+use Rattle.std.specs.List.{All, flat_map, range_with_len}
+use Rattle.hail_machine.specs.Actions.{Action, Store, Work, Remove, End}
+use Rattle.vault_core.specs.declared.wish.Wish.{Wish}
+use Rattle.vault_core.specs.declared.wish.Wish.TheVariants as wish
+use Rattle.vault_core.specs.declared.cursor.Move.{Move}
+use Rattle.vault_core.specs.declared.cursor.Move.TheVariants as move
+use Rattle.vault_core.specs.declared.cursor.Spot.{Spot}
+use Rattle.vault_core.specs.declared.cursor.Cursor.{Cursor}
+use Rattle.vault_core.specs.declared.cursor.Cursor.TheVariants as at
+use Rattle.vault_core.specs.declared.job.Task.{Task}
+use Rattle.vault_core.specs.declared.job.Job.{Job}
+use Rattle.vault_core.specs.View.{flag_at}
+use Rattle.vault_core.specs.Rest.{numbers, call_of, calls_from, rewrite_of, rewrites_from, work_of, turn_of, turns_from, tasks_of, moves_from, moves_after, closing_of, tasks_on, beyond, rest_at, rest_of}
+use Rattle.vault_core.specs.Going.{aimed}
+use Rattle.vault_core.specs.Parts.{comes_to, is_caller, is_worker, is_rewriter, IsWithin, IsSet, IsAt, IsKept}
+
+pub numbers_here : (a b : ℕ) → a < b → numbers a b ≡ a ∷ numbers (a + 1) b
+numbers_here a b l = let e : b - a ≡ suc (b - (a + 1)) = omega arith in ap (range_with_len a) e
+
+pub numbers_none : (a b : ℕ) → b ≤ a → numbers a b ≡ []
+numbers_none a b l = let e : b - a ≡ 0 = omega arith in ap (range_with_len a) e
+
+pub calls_here : (j n : ℕ) (w : Wish) (o t : ℕ) → j < n → calls_from j n w o t ≡ call_of w o t j ∷ calls_from (j + 1) n w o t
+calls_here j n w o t l = ap (map (call_of w o t)) (numbers_here j n l)
+
+pub calls_none : (j n : ℕ) (w : Wish) (o t : ℕ) → n ≤ j → calls_from j n w o t ≡ []
+calls_none j n w o t l = ap (map (call_of w o t)) (numbers_none j n l)
+
+pub rewrites_take : (j n : ℕ) (fl : List Bool) (o t : ℕ) → j < n → flag_at fl j ≡ true → rewrites_from j n fl o t ≡ Store j o t ∷ rewrites_from (j + 1) n fl o t
+rewrites_take j n fl o t l f = ap (flat_map (rewrite_of fl o t)) (numbers_here j n l) ∙ rw f refl
+
+pub rewrites_skip : (j n : ℕ) (fl : List Bool) (o t : ℕ) → j < n → flag_at fl j ≡ false → rewrites_from j n fl o t ≡ rewrites_from (j + 1) n fl o t
+rewrites_skip j n fl o t l f = ap (flat_map (rewrite_of fl o t)) (numbers_here j n l) ∙ rw f refl
+
+pub rewrites_none : (j n : ℕ) (fl : List Bool) (o t : ℕ) → n ≤ j → rewrites_from j n fl o t ≡ []
+rewrites_none j n fl o t l = ap (flat_map (rewrite_of fl o t)) (numbers_none j n l)
+
+pub turns_here : (a n : ℕ) (w : Wish) (fl : List Bool) (o b : ℕ) → a < b → turns_from a n w fl o b ≡ turn_of n w fl o a ++ turns_from (a + 1) n w fl o b
+turns_here a n w fl o b l = ap (flat_map (turn_of n w fl o)) (numbers_here a b l)
+
+pub turns_none : (a n : ℕ) (w : Wish) (fl : List Bool) (o b : ℕ) → b ≤ a → turns_from a n w fl o b ≡ []
+turns_none a n w fl o b l = ap (flat_map (turn_of n w fl o)) (numbers_none a b l)
+
+-- ---- the first of them
+
+pub rest_is : (n : ℕ) (job : Job) (c : Cursor) → job.cursor ≡ c → rest_of n job ≡ rest_at n job c
+unfolding rest_of
+rest_is n job c e = ap (rest_at n job) e
+
+first_of_front : (x : Action) (xs ys zs : List Action) → xs ≡ x ∷ ys → slice_get (xs ++ zs) 0 ≡ Some x
+first_of_front x xs ys zs e = rw e refl
+
+pub first_calling : (n : ℕ) (job : Job) (spot : Spot) (j : ℕ) → job.cursor ≡ at.Calling spot j → IsWithin n job.flagged job.cursor →
+    slice_get (rest_of n job) 0 ≡ Some (call_of job.wish spot.object spot.turn j)
+first_calling n job spot j e h =
+    let w = subst (IsWithin n job.flagged) e h in
+    ap (λ (xs : List Action). slice_get xs 0) (rest_is n job _ e)
+    ∙ first_of_front _ _ _ _ (calls_here j n job.wish spot.object spot.turn w.0)
+
+pub first_rewriting : (n : ℕ) (job : Job) (spot : Spot) (j : ℕ) → job.cursor ≡ at.Rewriting spot j → IsWithin n job.flagged job.cursor →
+    slice_get (rest_of n job) 0 ≡ Some (Store j spot.object spot.turn)
+first_rewriting n job spot j e h =
+    let w = subst (IsWithin n job.flagged) e h in
+    ap (λ (xs : List Action). slice_get xs 0) (rest_is n job _ e)
+    ∙ first_of_front _ _ _ _ (rewrites_take j n job.flagged spot.object spot.turn w.0 w.1)
+
+first_work : (n : ℕ) (w : Wish) (fl : List Bool) (o t : ℕ) (zs : List Action) → is_worker w ≡ true → slice_get (work_of n w fl o t ++ zs) 0 ≡ Some (Work o t)
+first_work n (wish.Get name) fl o t zs h = refl
+first_work n wish.Repair fl o t zs h = refl
+first_work n (wish.Put name size) fl o t zs h = cc
+first_work n (wish.Drop name) fl o t zs h = cc
+first_work n wish.Audit fl o t zs h = cc
+
+pub first_working : (n : ℕ) (job : Job) (spot : Spot) → job.cursor ≡ at.Working spot → comes_to job.wish job.cursor ≡ true →
+    slice_get (rest_of n job) 0 ≡ Some (Work spot.object spot.turn)
+first_working n job spot e h =
+    ap (λ (xs : List Action). slice_get xs 0) (rest_is n job _ e)
+    ∙ first_work n job.wish job.flagged spot.object spot.turn _ (subst (λ (c : Cursor). comes_to job.wish c ≡ true) e h)
+
+pub first_removing : (n : ℕ) (job : Job) (object j : ℕ) → job.cursor ≡ at.Removing object j → IsWithin n job.flagged job.cursor →
+    slice_get (rest_of n job) 0 ≡ Some (Remove j object)
+first_removing n job object j e h =
+    let w = subst (IsWithin n job.flagged) e h in
+    ap (λ (xs : List Action). slice_get xs 0) (rest_is n job _ e)
+    ∙ first_of_front _ _ _ _ (ap (map (λ k. Remove k object)) (numbers_here j n w))
+
+pub first_ending : (n : ℕ) (job : Job) → job.cursor ≡ at.Ending → slice_get (rest_of n job) 0 ≡ Some End
+first_ending n job e = ap (λ (xs : List Action). slice_get xs 0) (rest_is n job _ e)
+
+pub first_opening : (n : ℕ) (job : Job) (m : Move) (x : Action) (xs : List Action) → job.cursor ≡ at.Opening m → moves_from m ≡ x ∷ xs →
+    slice_get (rest_of n job) 0 ≡ Some x
+first_opening n job m x xs e h = ap (λ (ys : List Action). slice_get ys 0) (rest_is n job _ e) ∙ first_of_front x (moves_from m) xs _ h
+
+pub first_closing : (n : ℕ) (job : Job) (m : Move) (x : Action) (xs : List Action) → job.cursor ≡ at.Closing m → moves_from m ≡ x ∷ xs →
+    slice_get (rest_of n job) 0 ≡ Some x
+first_closing n job m x xs e h = ap (λ (ys : List Action). slice_get ys 0) (rest_is n job _ e) ∙ first_of_front x (moves_from m) xs _ h
+
+-- ---- the cursors behind
+
+pub get_here : {X : Type 0} (xs ys : List X) (i : ℕ) (x : X) → ys ≡ xs → i < length ys → x ≡ get_or ys i x → slice_get xs i ≡ Some x
+get_here xs ys i x e l h = subst (λ (zs : List _). slice_get zs i ≡ Some x) e (there ys i x l (sym h))
+  where
+    there : {X : Type 0} (zs : List X) (k : ℕ) (z : X) → k < length zs → get_or zs k z ≡ z → slice_get zs k ≡ Some z
+    there [] k z m g = absurd (omega arith)
+    there (y ∷ zs) zero z m g = ap Some g
+    there (y ∷ zs) (suc k) z m g = there zs k z (omega arith) g
+
+pub get_past : {X : Type 0} (xs ys : List X) (i : ℕ) → ys ≡ xs → length ys ≤ i → slice_get xs i ≡ None
+get_past xs ys i e l = subst (λ (zs : List _). slice_get zs i ≡ None) e (none ys i l)
+  where
+    none : {X : Type 0} (zs : List X) (k : ℕ) → length zs ≤ k → slice_get zs k ≡ None
+    none [] k m = refl
+    none (y ∷ zs) zero m = absurd (omega arith)
+    none (y ∷ zs) (suc k) m = none zs k (omega arith)
+
+drop_here : {X : Type 0} (xs : List X) (i : ℕ) (x : X) → slice_get xs i ≡ Some x → drop i xs ≡ x ∷ drop (i + 1) xs
+drop_here [] i x e = let f : None ≡ Some x = e in cc
+drop_here (y ∷ ys) zero x e = let f : Some y ≡ Some x = e in let g : y ≡ x = cc in ap (λ z. z ∷ ys) g
+drop_here (y ∷ ys) (suc i) x e = drop_here ys i x e ∙ ap (λ (k : ℕ). x ∷ drop k (y ∷ ys)) (let k : suc (i + 1) ≡ suc i + 1 = omega arith in k)
+
+drop_past : {X : Type 0} (xs : List X) (i : ℕ) → slice_get xs i ≡ None → drop i xs ≡ []
+drop_past [] zero e = refl
+drop_past [] (suc i) e = refl
+drop_past (y ∷ ys) zero e = let f : Some y ≡ None = e in cc
+drop_past (y ∷ ys) (suc i) e = drop_past ys i e
+
+turn_joined : (n : ℕ) (w : Wish) (fl : List Bool) (o t : ℕ) (more rest : List Action) →
+    (turn_of n w fl o t ++ more) ++ rest ≡ calls_from 0 n w o t ++ (work_of n w fl o t ++ (more ++ rest))
+turn_joined n w fl o t more rest = simp append_assoc
+
+pub task_here : (n : ℕ) (job : Job) (place : ℕ) (t : Task) → 0 < n → is_caller job.wish ≡ true → 0 < t.turns → slice_get job.tasks.items place ≡ Some t →
+    IsAt n job (at.Calling (record { object = t.object; turn = 0; turns = t.turns; behind = place + 1 }) 0) (tasks_on n job (drop place job.tasks.items))
+task_here n job place t l w some e = record {
+  comes = w;
+  within = (l, some);
+  rest = sym (
+      ap (tasks_on n job) (drop_here job.tasks.items place t e)
+      ∙ (ap (λ (xs : List Action). (xs ++ tasks_of n job.wish job.flagged (drop (place + 1) job.tasks.items)) ++ closing_of job.wish) (turns_here 0 n job.wish job.flagged t.object t.turns some)
+      ∙ (append_assoc _ (tasks_of n job.wish job.flagged (drop (place + 1) job.tasks.items)) (closing_of job.wish)
+      ∙ turn_joined n job.wish job.flagged t.object 0 (turns_from 1 n job.wish job.flagged t.object t.turns) (tasks_on n job (drop (place + 1) job.tasks.items))))
+      );
+}
+
+pub tasks_over : (n : ℕ) (job : Job) (place : ℕ) (c : Cursor) → slice_get job.tasks.items place ≡ None → IsAt n job c (closing_of job.wish) →
+    IsAt n job c (tasks_on n job (drop place job.tasks.items))
+tasks_over n job place c e h = subst (IsAt n job c) (sym (ap (tasks_on n job) (drop_past job.tasks.items place e))) h
+
+pub turn_here : (n : ℕ) (job : Job) (spot : Spot) → 0 < n → is_caller job.wish ≡ true → spot.turn + 1 < spot.turns →
+    IsAt n job (at.Calling (record spot { turn = spot.turn + 1 }) 0) (beyond n job spot)
+turn_here n job spot l w h = record {
+  comes = w;
+  within = (l, h);
+  rest = sym (
+      ap (λ (xs : List Action). xs ++ tasks_on n job (drop spot.behind job.tasks.items)) (turns_here (spot.turn + 1) n job.wish job.flagged spot.object spot.turns h)
+      ∙ turn_joined n job.wish job.flagged spot.object (spot.turn + 1) (turns_from (spot.turn + 1 + 1) n job.wish job.flagged spot.object spot.turns) (tasks_on n job (drop spot.behind job.tasks.items))
+      );
+}
+
+pub turns_over : (n : ℕ) (job : Job) (spot : Spot) (c : Cursor) → spot.turns ≤ spot.turn + 1 →
+    IsAt n job c (tasks_on n job (drop spot.behind job.tasks.items)) → IsAt n job c (beyond n job spot)
+turns_over n job spot c h is = subst (IsAt n job c)
+    (sym (ap (λ (xs : List Action). xs ++ tasks_on n job (drop spot.behind job.tasks.items)) (turns_none (spot.turn + 1) n job.wish job.flagged spot.object spot.turns h))) is
+
+pub all_get : {X : Type 0} (P : X → Type 0) (xs : List X) (i : ℕ) (x : X) → slice_get xs i ≡ Some x → All P xs → P x
+all_get P [] i x e h = let f : None ≡ Some x = e in cc
+all_get P (y ∷ ys) zero x e h = let f : Some y ≡ Some x = e in let g : y ≡ x = cc in subst P g (All-head P y ys h)
+all_get P (y ∷ ys) (suc i) x e h = all_get P ys i x e (All-tail P y ys h)
+
+pub at_along : (n : ℕ) (job : Job) (c : Cursor) (xs ys : List Action) → xs ≡ ys → IsAt n job c xs → IsAt n job c ys
+at_along n job c xs ys e h = subst (IsAt n job c) e h
+
+pub task_found : (n : ℕ) (job : Job) (place : ℕ) (t : Task) → 0 < n → IsSet n job → slice_get job.tasks.items place ≡ Some t →
+    IsAt n job (at.Calling (record { object = t.object; turn = 0; turns = t.turns; behind = place + 1 }) 0) (tasks_on n job (drop place job.tasks.items))
+task_found n job place t l stays e = task_here n job place t l (calls job.tasks.items stays.idle e) (all_get (λ (x : Task). 0 < x.turns) job.tasks.items place t e stays.tasks) e
+  where
+    calls : (xs : List Task) → (is_caller job.wish ≡ false → xs ≡ []) → slice_get xs place ≡ Some t → is_caller job.wish ≡ true
+    calls xs idle f = elim (cases_Bool (is_caller job.wish)) [
+      | inl h ↦ h
+      | inr h ↦ (let g : slice_get [] place ≡ Some t = subst (λ (ys : List Task). slice_get ys place ≡ Some t) (idle h) f in let k : None ≡ Some t = g in cc)
+    ]
+
+-- a job that works on no stripes goes on to the next turn
+pub no_work : (n : ℕ) (job : Job) (spot : Spot) (c : Cursor) → ((name : List ℕ) → job.wish ≡ wish.Get name → ⊥) → (job.wish ≡ wish.Repair → ⊥) →
+    IsAt n job c (beyond n job spot) → IsAt n job c (work_of n job.wish job.flagged spot.object spot.turn ++ beyond n job spot)
+no_work n job spot c get repair h = at_along n job c _ _ (ap (λ (xs : List Action). xs ++ beyond n job spot) (sym (none job.wish get repair))) h
+  where
+    none : (w : Wish) → ((name : List ℕ) → w ≡ wish.Get name → ⊥) → (w ≡ wish.Repair → ⊥) → work_of n w job.flagged spot.object spot.turn ≡ []
+    none (wish.Put name size) g r = refl
+    none (wish.Get name) g r = absurd (g name refl)
+    none (wish.Drop name) g r = refl
+    none wish.Audit g r = refl
+    none wish.Repair g r = absurd (r refl)
+
+-- ---- what is left behind the next action
+
+moves_shift : (m : Move) (more : List Action) → drop 1 (moves_from m ++ more) ≡ moves_after m ++ more
+moves_shift move.Body more = refl
+moves_shift move.BodySync more = refl
+moves_shift move.Gate more = refl
+moves_shift move.GateSync more = refl
+
+drop_front : (x : Action) (xs ys zs : List Action) → xs ≡ x ∷ ys → drop 1 (xs ++ zs) ≡ ys ++ zs
+drop_front x xs ys zs e = ap (λ (l : List Action). drop 1 (l ++ zs)) e
+
+pub rest_opening : (n : ℕ) (job : Job) (m : Move) → job.cursor ≡ at.Opening m → drop 1 (rest_of n job) ≡ moves_after m ++ tasks_on n job job.tasks.items
+rest_opening n job m e = ap (drop 1) (rest_is n job _ e) ∙ moves_shift m (tasks_on n job job.tasks.items)
+
+pub rest_closing : (n : ℕ) (job : Job) (m : Move) → job.cursor ≡ at.Closing m → drop 1 (rest_of n job) ≡ moves_after m ++ End ∷ []
+rest_closing n job m e = ap (drop 1) (rest_is n job _ e) ∙ moves_shift m (End ∷ [])
+
+pub rest_calling : (n : ℕ) (job : Job) (spot : Spot) (j : ℕ) → job.cursor ≡ at.Calling spot j → IsWithin n job.flagged job.cursor →
+    drop 1 (rest_of n job) ≡ calls_from (j + 1) n job.wish spot.object spot.turn ++ (work_of n job.wish job.flagged spot.object spot.turn ++ beyond n job spot)
+rest_calling n job spot j e h =
+    let w = subst (IsWithin n job.flagged) e h in
+    ap (drop 1) (rest_is n job _ e) ∙ drop_front _ _ _ _ (calls_here j n job.wish spot.object spot.turn w.0)
+
+pub rest_rewriting : (n : ℕ) (job : Job) (spot : Spot) (j : ℕ) → job.cursor ≡ at.Rewriting spot j → IsWithin n job.flagged job.cursor →
+    drop 1 (rest_of n job) ≡ rewrites_from (j + 1) n job.flagged spot.object spot.turn ++ beyond n job spot
+rest_rewriting n job spot j e h =
+    let w = subst (IsWithin n job.flagged) e h in
+    ap (drop 1) (rest_is n job _ e) ∙ drop_front _ _ _ _ (rewrites_take j n job.flagged spot.object spot.turn w.0 w.1)
+
+work_shift : (n : ℕ) (w : Wish) (fl : List Bool) (o t : ℕ) (more : List Action) → is_worker w ≡ true →
+    drop 1 (work_of n w fl o t ++ more) ≡ drop 1 (work_of n w fl o t) ++ more
+work_shift n (wish.Get name) fl o t more h = refl
+work_shift n wish.Repair fl o t more h = refl
+work_shift n (wish.Put name size) fl o t more h = cc
+work_shift n (wish.Drop name) fl o t more h = cc
+work_shift n wish.Audit fl o t more h = cc
+
+pub rest_working : (n : ℕ) (job : Job) (spot : Spot) → job.cursor ≡ at.Working spot → is_worker job.wish ≡ true →
+    drop 1 (rest_of n job) ≡ drop 1 (work_of n job.wish job.flagged spot.object spot.turn) ++ beyond n job spot
+rest_working n job spot e h = ap (drop 1) (rest_is n job _ e) ∙ work_shift n job.wish job.flagged spot.object spot.turn (beyond n job spot) h
+
+pub rest_removing : (n : ℕ) (job : Job) (object j : ℕ) → job.cursor ≡ at.Removing object j → IsWithin n job.flagged job.cursor →
+    drop 1 (rest_of n job) ≡ map (λ k. Remove k object) (numbers (j + 1) n) ++ End ∷ []
+rest_removing n job object j e h =
+    let w = subst (IsWithin n job.flagged) e h in
+    ap (drop 1) (rest_is n job _ e) ∙ drop_front _ _ _ _ (ap (map (λ k. Remove k object)) (numbers_here j n w))
+
+-- ---- where a job is behind its next action
+
+pub opened_on : (n : ℕ) (job : Job) (m next : Move) → job.cursor ≡ at.Opening m → comes_to job.wish job.cursor ≡ true → moves_from next ≡ moves_after m →
+    IsAt n job (at.Opening next) (drop 1 (rest_of n job))
+opened_on n job m next e h f = record {
+  comes = subst (λ (c : Cursor). comes_to job.wish c ≡ true) e h;
+  within = tt;
+  rest = ap (λ (xs : List Action). xs ++ tasks_on n job job.tasks.items) f ∙ sym (rest_opening n job m e);
+}
+
+pub opened : (n : ℕ) (job : Job) (m : Move) (c : Cursor) → job.cursor ≡ at.Opening m → [] ≡ moves_after m →
+    IsAt n job c (tasks_on n job job.tasks.items) → IsAt n job c (drop 1 (rest_of n job))
+opened n job m c e f h = at_along n job c _ _ (ap (λ (xs : List Action). xs ++ tasks_on n job job.tasks.items) f ∙ sym (rest_opening n job m e)) h
+
+pub closed_on : (n : ℕ) (job : Job) (m next : Move) → job.cursor ≡ at.Closing m → comes_to job.wish job.cursor ≡ true → moves_from next ≡ moves_after m →
+    IsAt n job (at.Closing next) (drop 1 (rest_of n job))
+closed_on n job m next e h f = record {
+  comes = subst (λ (c : Cursor). comes_to job.wish c ≡ true) e h;
+  within = tt;
+  rest = ap (λ (xs : List Action). xs ++ End ∷ []) f ∙ sym (rest_closing n job m e);
+}
+
+pub closed : (n : ℕ) (job : Job) (m : Move) → job.cursor ≡ at.Closing m → [] ≡ moves_after m → IsAt n job at.Ending (drop 1 (rest_of n job))
+closed n job m e f = record {
+  comes = refl;
+  within = tt;
+  rest = ap (λ (xs : List Action). xs ++ End ∷ []) f ∙ sym (rest_closing n job m e);
+}
+
+pub removed_on : (n : ℕ) (job : Job) (object j : ℕ) → job.cursor ≡ at.Removing object j → comes_to job.wish job.cursor ≡ true → IsWithin n job.flagged job.cursor →
+    j + 1 < n → IsAt n job (at.Removing object (j + 1)) (drop 1 (rest_of n job))
+removed_on n job object j e h w l = record {
+  comes = subst (λ (c : Cursor). comes_to job.wish c ≡ true) e h;
+  within = l;
+  rest = sym (rest_removing n job object j e w);
+}
+
+pub removed : (n : ℕ) (job : Job) (object j : ℕ) → job.cursor ≡ at.Removing object j → IsWithin n job.flagged job.cursor → n ≤ j + 1 →
+    IsAt n job at.Ending (drop 1 (rest_of n job))
+removed n job object j e w l = record {
+  comes = refl;
+  within = tt;
+  rest = ap (λ (xs : List ℕ). map (λ k. Remove k object) xs ++ End ∷ []) (sym (numbers_none (j + 1) n l)) ∙ sym (rest_removing n job object j e w);
+}
+
+-- calls of no further provider
+pub called : (n : ℕ) (job : Job) (spot : Spot) (j : ℕ) (c : Cursor) → n ≤ j →
+    IsAt n job c (work_of n job.wish job.flagged spot.object spot.turn ++ beyond n job spot) →
+    IsAt n job c (calls_from j n job.wish spot.object spot.turn ++ (work_of n job.wish job.flagged spot.object spot.turn ++ beyond n job spot))
+called n job spot j c l h = at_along n job c _ _
+    (ap (λ (xs : List Action). xs ++ (work_of n job.wish job.flagged spot.object spot.turn ++ beyond n job spot)) (sym (calls_none j n job.wish spot.object spot.turn l))) h
+
+-- stores on no further provider
+pub rewritten : (n : ℕ) (job : Job) (spot : Spot) (j : ℕ) (c : Cursor) → rewrites_from j n job.flagged spot.object spot.turn ≡ [] →
+    IsAt n job c (beyond n job spot) → IsAt n job c (rewrites_from j n job.flagged spot.object spot.turn ++ beyond n job spot)
+rewritten n job spot j c e h = at_along n job c _ _ (ap (λ (xs : List Action). xs ++ beyond n job spot) (sym e)) h
+
+-- a get has no stores behind its work
+pub worked : (n : ℕ) (job : Job) (spot : Spot) (c : Cursor) → (job.wish ≡ wish.Repair → ⊥) → is_worker job.wish ≡ true →
+    IsAt n job c (beyond n job spot) → IsAt n job c (drop 1 (work_of n job.wish job.flagged spot.object spot.turn) ++ beyond n job spot)
+worked n job spot c repair works h = at_along n job c _ _ (ap (λ (xs : List Action). xs ++ beyond n job spot) (sym (none job.wish repair works))) h
+  where
+    none : (w : Wish) → (w ≡ wish.Repair → ⊥) → is_worker w ≡ true → drop 1 (work_of n w job.flagged spot.object spot.turn) ≡ []
+    none (wish.Put name size) r f = refl
+    none (wish.Get name) r f = refl
+    none (wish.Drop name) r f = refl
+    none wish.Audit r f = refl
+    none wish.Repair r f = absurd (r refl)
+
+pub rewriter_calls : (w : Wish) → is_rewriter w ≡ true → is_caller w ≡ true
+rewriter_calls (wish.Put name size) h = refl
+rewriter_calls (wish.Get name) h = refl
+rewriter_calls (wish.Drop name) h = cc
+rewriter_calls wish.Audit h = refl
+rewriter_calls wish.Repair h = refl
+
+pub worker_calls : (w : Wish) → is_worker w ≡ true → is_caller w ≡ true
+worker_calls (wish.Put name size) h = refl
+worker_calls (wish.Get name) h = refl
+worker_calls (wish.Drop name) h = cc
+worker_calls wish.Audit h = refl
+worker_calls wish.Repair h = refl
+
+-- ---- the object of a put's own file
+
+abbrev pub front_aimed : ℕ → ℕ → List Task → List Task
+front_aimed o i xs = map (aimed o) (take i xs) ++ drop i xs
+
+aims : (o : ℕ) (d : Task) (xs : List Task) (i : ℕ) → i < length xs →
+    set (front_aimed o i xs) i (record { object = o; turns = (get_or (front_aimed o i xs) i d).turns }) ≡ front_aimed o (suc i) xs
+aims o d [] i l = absurd (omega arith)
+aims o d (x ∷ xs) zero l = refl
+aims o d (x ∷ xs) (suc i) l = ap (λ (ys : List Task). aimed o x ∷ ys) (aims o d xs i (omega arith))
+
+pub aim_more : (o : ℕ) (d : Task) (xs ys : List Task) (i : ℕ) → i < length xs → ys ≡ front_aimed o i xs →
+    set ys i (record { object = o; turns = (get_or ys i d).turns }) ≡ front_aimed o (i + 1) xs
+aim_more o d xs ys i l e = subst (λ (zs : List Task). set zs i (record { object = o; turns = (get_or zs i d).turns }) ≡ front_aimed o (i + 1) xs) (sym e)
+    (aims o d xs i l ∙ ap (λ (k : ℕ). front_aimed o k xs) (let k : suc i ≡ i + 1 = omega arith in k))

@@ -1,0 +1,178 @@
+-- What comes next for a job, by what a contract sees of a core.
+--
+--   seen_action a       == the action of the machine
+--   Coming, seen_next   == what comes next: an action, the job to wait for, or why none does; the same of an answer
+--   next_in c number    == what comes next for the job of a number
+--   takes_older wish    == the job takes an older object away, where there is one
+--   most_of n j         == how many steps a job may still make at most
+--   left_in c number    == the same of the job of a number; None where there is none
+--   left_of c number    == the same; 0 where there is none
+--   entry_in c number   == the record that the job's append writes; None outside an append
+--   HasReply c number coming reply  == the reply is one that this action has
+--   TakesReply c number reply  == the reply is one that the next action has
+use Rattle.std.specs.Prelude.{◌≡◌, ℕ, ◌+◌, ◌&&◌, Bool, true, false, not, List, [], ◌∷◌, length, Option, None, Some, is_some, nat_lt, unwrap_or, count_by, slice_get, if◌then◌else◌}
+use Rattle.std.specs.Option.{option_map}
+use Rattle.hail_records.specs.Records.{Record, PutStart, PutDone, Drop, AuditStart, AuditDone, RepairDone}
+use Rattle.hail_records.specs.Table.{find_file}
+use Rattle.hail_machine.specs.Actions.{Action, WriteBody, SyncBody, WriteGate, SyncGate, Store, Fetch, Ask, Work, Remove, End, ends_append}
+use Rattle.record_codec.specs.Entries.{IsPadded}
+use Rattle.vault_table.specs.Values.{Kept, id_after}
+use Rattle.vault_core.specs.declared.action.Action.{Action as ActionValue}
+use Rattle.vault_core.specs.declared.action.Action.TheVariants as act
+use Rattle.vault_core.specs.declared.action.Next.{Next}
+use Rattle.vault_core.specs.declared.action.Next.TheVariants as next
+use Rattle.vault_core.specs.declared.reply.Reply.{Reply}
+use Rattle.vault_core.specs.declared.reply.Reply.TheVariants as reply
+use Rattle.vault_core.specs.declared.wish.Wish.{Wish}
+use Rattle.vault_core.specs.declared.wish.Wish.TheVariants as wish
+use Rattle.vault_core.specs.View.{CoreJob, CoreView, job_in}
+
+-- the action of the machine
+abbrev pub seen_action : ActionValue → Action
+seen_action act.WriteBody = WriteBody
+seen_action act.SyncBody = SyncBody
+seen_action act.WriteGate = WriteGate
+seen_action act.SyncGate = SyncGate
+seen_action (act.Store provider object stripe) = Store provider object stripe
+seen_action (act.Fetch provider object stripe) = Fetch provider object stripe
+seen_action (act.Ask provider object round) = Ask provider object round
+seen_action (act.Work object stripe) = Work object stripe
+seen_action (act.Remove provider object) = Remove provider object
+seen_action act.End = End
+
+-- what comes next for a job
+pub data Coming : Type 0 where
+  Acts : (action : Action) → Coming
+  Waits : (holder : ℕ) → Coming
+  IsNoJob : Coming
+  IsBarred : Coming
+
+-- what an answer says of it
+abbrev pub seen_next : Next → Coming
+seen_next (next.Act a) = Acts (seen_action a)
+seen_next (next.Waiting holder) = Waits holder
+seen_next next.NoSuchJob = IsNoJob
+seen_next next.MustReopen = IsBarred
+
+-- the name of a drop is not in effect
+abbrev pub is_gone : Kept → Wish → Bool
+is_gone t (wish.Drop name) = not (is_some (find_file t.files name))
+is_gone t w = false
+
+-- an action begins an append
+abbrev pub begins_append : Option Action → Bool
+begins_append (Some WriteBody) = true
+begins_append action = false
+
+-- an action is a move of an append
+abbrev pub is_move : Option Action → Bool
+is_move (Some WriteBody) = true
+is_move (Some SyncBody) = true
+is_move (Some WriteGate) = true
+is_move (Some SyncGate) = true
+is_move action = false
+
+-- a drop that has not begun its append and whose name is not in effect
+abbrev pub is_idle : Kept → CoreJob → Bool
+is_idle t j = is_gone t j.wish && (j.opening && begins_append (slice_get j.rest 0))
+
+-- the next action of a job; an idle drop has only its end left
+abbrev pub action_next : Kept → CoreJob → Option Action
+action_next t j = if is_idle t j then Some End else slice_get j.rest 0
+
+-- an action waits where it begins an append and another is in flight
+abbrev pub waits_or_acts : Option ℕ → Option Action → Coming
+waits_or_acts flight None = IsNoJob
+waits_or_acts (Some holder) (Some WriteBody) = Waits holder
+waits_or_acts flight (Some action) = Acts action
+
+-- what comes next for a job, if it runs
+abbrev pub next_of : CoreView → Option CoreJob → Coming
+next_of c None = IsNoJob
+next_of c (Some j) = waits_or_acts c.append (action_next c.table j)
+
+-- what comes next for the job of a number
+abbrev pub next_in : CoreView → ℕ → Coming
+next_in c number = if c.barred then IsBarred else next_of c (job_in c.jobs number)
+
+-- a job takes an older object away, where there is one: a put, a drop
+abbrev pub takes_older : Wish → Bool
+takes_older (wish.Put name size) = true
+takes_older (wish.Drop name) = true
+takes_older w = false
+
+-- how many steps a job may still make at most: a removal from each provider counts until it is decided
+abbrev pub most_of : ℕ → CoreJob → ℕ
+most_of n j = length j.rest + (if takes_older j.wish && nat_lt 0 (count_by ends_append j.rest) then n else 0)
+
+-- the same of the job of a number
+abbrev pub left_in : CoreView → ℕ → Option ℕ
+left_in c number = option_map (most_of c.setup.n) (job_in c.jobs number)
+
+-- the same; 0 where there is none
+abbrev pub left_of : CoreView → ℕ → ℕ
+left_of c number = unwrap_or (left_in c number) 0
+
+-- the record of a job's append, by which of its appends it is at
+abbrev pub written_by : Kept → CoreJob → Wish → Option Record
+written_by t j (wish.Put name size) = Some (if j.opening then PutStart (id_after t) name else PutDone j.subject size)
+written_by t j (wish.Get name) = None
+written_by t j (wish.Drop name) = Some (Drop name)
+written_by t j wish.Audit = Some (if j.opening then AuditStart t.next_audit else AuditDone j.subject j.sums.undecided j.sums.counts)
+written_by t j wish.Repair = Some (RepairDone j.subject)
+
+-- the record that a job's append writes, if it is in one
+abbrev pub entry_of_job : Kept → CoreJob → Option Record
+entry_of_job t j = if is_move (action_next t j) then written_by t j j.wish else None
+
+-- the same of the job of a number
+abbrev pub entry_of_found : Kept → Option CoreJob → Option Record
+entry_of_found t None = None
+entry_of_found t (Some j) = entry_of_job t j
+
+-- the record that the append of the job of a number writes
+abbrev pub entry_in : CoreView → ℕ → Option Record
+entry_in c number = entry_of_found c.table (job_in c.jobs number)
+
+-- an action asks a provider
+abbrev pub is_ask : Option Action → Bool
+is_ask (Some (Ask j object round)) = true
+is_ask action = false
+
+-- the first of these actions is the last ask of an audit
+abbrev pub is_last_ask : List Action → Bool
+is_last_ask actions = is_ask (slice_get actions 0) && begins_append (slice_get actions 1)
+
+-- the same of the job of a number
+abbrev pub is_last_ask_of : Option CoreJob → Bool
+is_last_ask_of None = false
+is_last_ask_of (Some j) = is_last_ask j.rest
+
+-- a reply is one that an action of a job has; the last ask of an audit has a verdict
+abbrev pub HasReply : CoreView → ℕ → Coming → Reply → Type 0
+HasReply c number (Acts WriteBody) reply.Done = Unit {0}
+HasReply c number (Acts WriteBody) reply.Failed = Unit {0}
+HasReply c number (Acts WriteBody) reply.Memory = Unit {0}
+HasReply c number (Acts SyncBody) reply.Done = Unit {0}
+HasReply c number (Acts SyncBody) reply.Failed = Unit {0}
+HasReply c number (Acts WriteGate) reply.Done = Unit {0}
+HasReply c number (Acts WriteGate) reply.Failed = Unit {0}
+HasReply c number (Acts WriteGate) reply.Memory = Unit {0}
+HasReply c number (Acts SyncGate) reply.Done = Unit {0}
+HasReply c number (Acts SyncGate) reply.Failed = Unit {0}
+HasReply c number (Acts (Store j object stripe)) reply.Done = Unit {0}
+HasReply c number (Acts (Store j object stripe)) reply.Failed = Unit {0}
+HasReply c number (Acts (Store j object stripe)) reply.Memory = Unit {0}
+HasReply c number (Acts (Fetch j object stripe)) reply.Done = Unit {0}
+HasReply c number (Acts (Ask j object round)) reply.Done = is_last_ask_of (job_in c.jobs number) ≡ false
+HasReply c number (Acts (Ask j object round)) (reply.Verdict undecided counts) =
+    (is_last_ask_of (job_in c.jobs number) ≡ true) × (counts.n ≡ c.setup.n) × IsPadded counts
+HasReply c number (Acts (Work object stripe)) reply.Done = Unit {0}
+HasReply c number (Acts (Work object stripe)) (reply.Lost row) = Unit {0}
+HasReply c number (Acts (Remove j object)) reply.Done = Unit {0}
+HasReply c number (Acts End) reply.Done = Unit {0}
+HasReply c number coming r = ⊥
+
+-- a reply is one that what comes next for a job has
+abbrev pub TakesReply : CoreView → ℕ → Reply → Type 0
+TakesReply c number r = HasReply c number (next_in c number) r

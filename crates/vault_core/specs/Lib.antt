@@ -1,0 +1,12 @@
+pub mod View
+pub mod Rest
+pub mod Parts
+pub mod Coming
+pub mod Carried
+pub mod Replies
+pub mod Wished
+pub mod Going
+pub mod Reserves
+pub mod Fed
+pub mod Refusing
+pub mod Making

@@ -1,0 +1,171 @@
+-- How a core is kept.
+--
+--   seen n job       == what a contract sees of a job
+--   view_of a        == what a contract sees of a core
+--   most_of n j      == how many steps a job may still make at most: a removal from each provider counts until it is decided
+--   IsWithin n flagged cursor == the cursor is at a provider, and at a stripe or round that there is, and is one that a job of this wish comes to
+--   IsSet n job      == what stays of a job as it is kept while it goes on
+--   IsAt n job c xs  == a job may be at a cursor, and then these are the actions that it has not yet made
+--   IsKept n job     == a job as it is kept
+--   IsCore a         == a core as it is kept
+use Rattle.std.specs.Prelude.{◌≡◌, ℕ, ◌+◌, ◌*◌, ◌^◌, ◌<◌, ◌≤◌, ◌&&◌, Bool, true, false, IsTrue, List, [], ◌∷◌, length, map, nat_lt, count_by, sum_by, if◌then◌else◌}
+use Rattle.std.specs.List.{All}
+use Rattle.hail_columns.specs.Verdicts.{Sums}
+use Rattle.hail_records.specs.Records.{Setup, is_setup, is_name, largest_file, largest_journal}
+use Rattle.hail_machine.specs.Actions.{Action, ends_append}
+use Rattle.record_codec.specs.Entries.{counted, with_master, IsPadded}
+use Rattle.vault_core.specs.declared.wish.Wish.{Wish}
+use Rattle.vault_core.specs.declared.wish.Wish.TheVariants as wish
+use Rattle.vault_core.specs.declared.cursor.Move.TheVariants as move
+use Rattle.vault_core.specs.declared.cursor.Spot.{Spot}
+use Rattle.vault_core.specs.declared.cursor.Cursor.{Cursor}
+use Rattle.vault_core.specs.declared.cursor.Cursor.TheVariants as at
+use Rattle.vault_core.specs.declared.job.Task.{Task}
+use Rattle.vault_core.specs.declared.job.Job.{Job}
+use Rattle.vault_core.specs.declared.own.Core.TheInside.{Inside}
+use Rattle.vault_core.specs.View.{CoreJob, CoreView, AreRising, flag_at}
+use Rattle.vault_core.specs.Rest.{rest_at, rest_of}
+use Rattle.vault_core.specs.Reserves.{Reserves}
+use Rattle.vault_core.specs.Coming.{most_of, takes_older}
+
+-- a cursor is at a first append
+abbrev pub is_opening : Cursor → Bool
+is_opening (at.Opening m) = true
+is_opening c = false
+
+-- a cursor is at the first move of a first append
+abbrev pub is_unbegun : Cursor → Bool
+is_unbegun (at.Opening move.Body) = true
+is_unbegun c = false
+
+-- a cursor is at the first move of an append
+abbrev pub is_start : Cursor → Bool
+is_start (at.Opening move.Body) = true
+is_start (at.Closing move.Body) = true
+is_start c = false
+
+-- a cursor is behind all appends
+abbrev pub is_past : Cursor → Bool
+is_past (at.Removing object j) = true
+is_past at.Ending = true
+is_past c = false
+
+-- a cursor is at the end
+abbrev pub is_over : Cursor → Bool
+is_over at.Ending = true
+is_over c = false
+
+-- what a contract sees of a job
+abbrev pub seen : ℕ → Job → CoreJob
+seen n job = record {
+  number = job.number;
+  wish = job.wish;
+  pinned = job.pinned.items;
+  flagged = job.flagged;
+  subject = job.subject;
+  opening = is_opening job.cursor;
+  rest = rest_of n job;
+  sums = record { counts = counted job.counts; undecided = job.undecided };
+}
+
+-- the setup of a core
+abbrev pub setup_kept : Inside → Setup
+setup_kept a = with_master a.setup a.master.0
+
+-- what a contract sees of a core
+abbrev pub view_of : Inside → CoreView
+view_of a = record {
+  table = a.table;
+  setup = setup_kept a;
+  end = a.end;
+  jobs = map (seen a.setup.n) a.jobs.items;
+  next_job = a.next_job;
+  append = a.append;
+  barred = a.barred;
+}
+
+-- a wish that has a first append
+abbrev pub is_opener : Wish → Bool
+is_opener (wish.Put name size) = true
+is_opener (wish.Drop name) = true
+is_opener wish.Audit = true
+is_opener w = false
+
+-- a wish that has a last append
+abbrev pub is_closer : Wish → Bool
+is_closer (wish.Put name size) = true
+is_closer wish.Audit = true
+is_closer wish.Repair = true
+is_closer w = false
+
+-- a wish that calls providers
+abbrev pub is_caller : Wish → Bool
+is_caller (wish.Drop name) = false
+is_caller w = true
+
+-- a wish that works on stripes
+abbrev pub is_worker : Wish → Bool
+is_worker (wish.Get name) = true
+is_worker wish.Repair = true
+is_worker w = false
+
+-- a wish that rewrites stripes
+abbrev pub is_rewriter : Wish → Bool
+is_rewriter wish.Repair = true
+is_rewriter w = false
+
+-- a cursor is one that a job of this wish comes to
+abbrev pub comes_to : Wish → Cursor → Bool
+comes_to w (at.Opening m) = is_opener w
+comes_to w (at.Calling spot j) = is_caller w
+comes_to w (at.Working spot) = is_worker w
+comes_to w (at.Rewriting spot j) = is_rewriter w
+comes_to w (at.Closing m) = is_closer w
+comes_to w (at.Removing object j) = takes_older w
+comes_to w at.Ending = true
+
+-- a cursor is at a provider, and at a stripe or round that there is
+abbrev pub IsWithin : ℕ → List Bool → Cursor → Type 0
+IsWithin n flagged (at.Calling spot j) = (j < n) × (spot.turn < spot.turns)
+IsWithin n flagged (at.Working spot) = spot.turn < spot.turns
+IsWithin n flagged (at.Rewriting spot j) = (j < n) × (flag_at flagged j ≡ true) × (spot.turn < spot.turns)
+IsWithin n flagged (at.Removing object j) = j < n
+IsWithin n flagged c = Unit {0}
+
+-- the wish of a put has a file that is not too long, and a wish has a name
+abbrev pub IsWishable : Wish → Type 0
+IsWishable (wish.Put name size) = IsTrue (is_name name) × (size ≤ largest_file)
+IsWishable (wish.Drop name) = IsTrue (is_name name)
+IsWishable w = Unit {0}
+
+-- what stays of a job as it is kept while it goes on
+pub record IsSet (n : ℕ) (job : Job) : Type 0 where
+  pub tasks : All (λ (t : Task). 0 < t.turns) job.tasks.items
+  pub idle : is_caller job.wish ≡ false → job.tasks.items ≡ []
+  pub wishable : IsWishable job.wish
+  pub flags : length job.flagged ≡ 16
+  pub counts : job.counts.n ≡ n
+  pub padded : IsPadded job.counts
+
+-- a job may be at a cursor, and then these are the actions that it has not yet made
+pub record IsAt (n : ℕ) (job : Job) (cursor : Cursor) (actions : List Action) : Type 0 where
+  pub comes : comes_to job.wish cursor ≡ true
+  pub within : IsWithin n job.flagged cursor
+  pub rest : rest_at n job cursor ≡ actions
+
+-- a job as it is kept
+pub record IsKept (n : ℕ) (job : Job) : Type 0 where
+  pub stays : IsSet n job
+  pub comes : comes_to job.wish job.cursor ≡ true
+  pub within : IsWithin n job.flagged job.cursor
+  pub left : job.left ≡ most_of n (seen n job)
+
+-- A core as it is kept: its setup is within its limits, the journal has room for all records of its jobs, the table for
+-- their PutStarts, and the jobs have ascending numbers.
+pub record IsCore (a : Inside) : Type 0 where
+  pub set_up : IsTrue (is_setup (setup_kept a))
+  pub kept : All (IsKept a.setup.n) a.jobs.items
+  pub few : length a.jobs.items ≤ 8
+  pub begun : 9 ≤ a.end
+  pub reserves : Reserves (view_of a)
+  pub numbered : AreRising 0 (view_of a).jobs a.next_job

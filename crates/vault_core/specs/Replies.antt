@@ -1,0 +1,44 @@
+-- Replies to the actions of a job, and what came of them in the machine.
+--
+--   EndsWell answer                == a job that ended by its End has this answer
+--   Tells number reply outcome new == a reply tells what came of a step of this job: Done that it goes on or came to its end; the
+--                                     others why it ended; a verdict has the sums of all that the audit heard
+--   IsReplyTo c number reply outcome new  == the same, and a record that the step put in flight is the one that the core gave
+use Rattle.std.specs.Prelude.{◌≡◌, ℕ, Option, None, Some}
+use Rattle.hail_records.specs.Records.{Record}
+use Rattle.hail_machine.specs.Jobs.{Job, job_of}
+use Rattle.hail_machine.specs.Answers.{Answer, Put, Got, Dropped, Audited, Repaired, Lost, ProviderFault, DiskFault, Memory}
+use Rattle.hail_machine.specs.Events.{Outcome, More, Ended}
+use Rattle.hail_machine.specs.States.{State, Append, setup_in}
+use Rattle.hail_machine.specs.Audits.{HasSums}
+use Rattle.record_codec.specs.Entries.{counted}
+use Rattle.vault_core.specs.declared.reply.Reply.{Reply}
+use Rattle.vault_core.specs.declared.reply.Reply.TheVariants as reply
+use Rattle.vault_core.specs.View.{CoreView}
+use Rattle.vault_core.specs.Coming.{entry_in}
+
+-- a job that ended by its End has this answer
+abbrev pub EndsWell : Answer → Type 0
+EndsWell Put = Unit {0}
+EndsWell (Got bytes) = Unit {0}
+EndsWell Dropped = Unit {0}
+EndsWell (Audited number undecided counts) = Unit {0}
+EndsWell (Repaired number) = Unit {0}
+EndsWell answer = ⊥
+
+-- a reply tells what came of a step
+abbrev pub Tells : ℕ → Reply → Outcome → State → Type 0
+Tells number reply.Done More new = Unit {0}
+Tells number reply.Done (Ended answer) new = EndsWell answer
+Tells number reply.Failed (Ended DiskFault) new = Unit {0}
+Tells number reply.Failed (Ended (ProviderFault j)) new = Unit {0}
+Tells number reply.Memory (Ended Memory) new = Unit {0}
+Tells number (reply.Lost row) (Ended (Lost stripe lost)) new = lost ≡ row
+Tells number (reply.Verdict undecided counts) More new =
+    (job : Job) → job_of new.jobs number ≡ Some job → HasSums (setup_in new) job (record { counts = counted counts; undecided = undecided })
+Tells number r outcome new = ⊥
+
+-- a reply tells what came of a step, and a record that the step put in flight is the one that the core gave
+pub record IsReplyTo (c : CoreView) (number : ℕ) (r : Reply) (outcome : Outcome) (new : State) : Type 0 where
+  pub tells : Tells number r outcome new
+  pub entry : (a : Append) → new.append ≡ Some a → a.job ≡ number → entry_in c number ≡ Some a.entry

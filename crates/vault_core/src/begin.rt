@@ -1,0 +1,78 @@
+ghost use Rattle.std.specs.Prelude.{◌≡◌, ◌≢◌, ◌<◌, ◌≤◌, ◌+◌, ◌-◌, ◌^◌, ℕ, length, sum_by, None, Some, OnOk, OnErr, IfErr, IfOk};
+ghost use Rattle.hail_machine.specs.Jobs.{Kind};
+ghost use Rattle.hail_machine.specs.Events.{IsSpelledKind};
+ghost use Rattle.hail_machine.specs.States.{State};
+ghost use Rattle.hail_machine.specs.Begins.{begin_refusal};
+ghost use Rattle.vault_core.specs.declared.wish.BeginFault.TheVariants as fault;
+ghost use Rattle.vault_core.specs.Carried.{CoreIs, IsKindOf, refusal_of, begun};
+ghost use Rattle.hail_records.specs.Records.{largest_journal};
+ghost use Rattle.vault_core.specs.Parts.{seen, IsKept};
+ghost use Rattle.vault_core.specs.Reserves.{reserved_of};
+ghost use Rattle.vault_core.specs.Wished.{IsShort};
+ghost use Rattle.vault_core.specs.Making.{starts_for, admitted};
+
+use crate::job::Job;
+use crate::made::make_job;
+use crate::own::Core;
+use crate::wish::{BeginFault, Wish};
+use stream_model::Memory;
+use vault_table::Table;
+
+impl Core {
+    /// Begins a job, or says why not, and then nothing changes. Conditions: a number is left for the job, and a put has at
+    /// most 2^22 bytes.
+    pub fn begin(&mut self, wish: Wish) -> Result<u32, BeginFault>
+        requires number { self.old.next_job < 2 ^ 32 - 1 }
+        requires size { IsShort wish }
+        ensures begun { (w : State) (kind : Kind) (moment : ℕ) → CoreIs self.old w → IsKindOf wish kind → IsSpelledKind kind →
+            OnOk result (CoreIs self.new (begun w moment kind)) }
+        ensures accepted { (w : State) (kind : Kind) → CoreIs self.old w → IsKindOf wish kind → OnOk result (begin_refusal 8 w kind ≡ None) }
+        ensures number { IfOk result (λ job. job ≡ self.old.next_job) }
+        ensures refused { (w : State) (kind : Kind) → CoreIs self.old w → IsKindOf wish kind →
+            IfErr result (λ why. why ≢ fault.Memory → begin_refusal 8 w kind ≡ Some (refusal_of why)) }
+        ensures unchanged { OnErr result (self.new ≡ self.old) }
+    {
+        if let Some(fault) = self.refusal(&wish) {
+            return Err(fault);
+        }
+        match make_job(self.alloc, &self.table, &self.setup, wish, self.next_job) {
+            Ok(job) => self.admit(job),
+            Err(_) => Err(BeginFault::Memory),
+        }
+    }
+
+    /// Takes a new job in.
+    fn admit(&mut self, job: Job) -> Result<u32, BeginFault>
+        requires number { self.old.next_job < 2 ^ 32 - 1 }
+        requires few { length self.old.jobs < 8 }
+        requires next { job.number ≡ self.old.next_job }
+        requires kept { IsKept self.old.setup.n job }
+        requires room { self.old.end + sum_by (reserved_of self.old.setup.n) self.old.jobs + reserved_of self.old.setup.n (seen self.old.setup.n job) ≤ largest_journal }
+        ensures admitted { OnOk result (self.new ≡ admitted self.old job.wish job) }
+        ensures number { IfOk result (λ number. number ≡ self.old.next_job) }
+        ensures memory { IfErr result (λ why. why ≡ fault.Memory) }
+        ensures unchanged { OnErr result (self.new ≡ self.old) }
+    {
+        if self.jobs.reserve(1).is_err() {
+            return Err(BeginFault::Memory);
+        }
+        if reserve_start(&mut self.table, &job.wish).is_err() {
+            return Err(BeginFault::Memory);
+        }
+        self.jobs.push_reserved(job);
+        let number = self.next_job;
+        self.next_job += 1;
+        Ok(number)
+    }
+}
+
+/// Makes room in a table for the PutStart of a put.
+fn reserve_start(table: &mut Table, wish: &Wish) -> Result<(), Memory>
+    ensures ok { OnOk result (table.new ≡ record table.old { spare = table.old.spare + starts_for wish.now }) }
+    ensures err { OnErr result (table.new ≡ table.old) }
+{
+    match wish {
+        Wish::Put { .. } => table.reserve_start(),
+        _ => Ok(()),
+    }
+}

@@ -1,0 +1,194 @@
+ghost use Rattle.std.specs.Prelude.{◌≡◌, ◌<◌, ◌==◌, ℕ, List, None, Some, true, length, slice_get, position};
+ghost use Rattle.std.specs.List.{list_any};
+ghost use Rattle.vault_core.specs.declared.pinned.Pinned.{Pinned as PinnedFile};
+ghost use Rattle.vault_core.specs.declared.job.Job.{Job as JobValue};
+ghost use Rattle.hail_records.specs.Records.{Record as EntryData};
+ghost use Rattle.hail_records.specs.Acceptance.{refused};
+ghost use Rattle.hail_machine.specs.Actions.{WriteBody, SyncGate};
+ghost use Rattle.hail_machine.specs.Events.{Outcome, Step};
+ghost use Rattle.hail_machine.specs.States.{State};
+ghost use Rattle.hail_machine.specs.Machine.{Happens};
+ghost use Rattle.record_codec.specs.Entries.{counted, IsPadded};
+ghost use Rattle.vault_table.specs.Values.{IsFoldOf};
+ghost use Rattle.vault_core.specs.View.{CoreJob};
+ghost use Rattle.vault_core.specs.Coming.{TakesReply, left_of, written_by};
+ghost use Rattle.vault_core.specs.Parts.{seen};
+ghost use Rattle.vault_core.specs.Fed.{first_at, goes_plainly, stopped, barred_at, moved, with_at, judged, number_drawn, drawn, is_pinned_in, older_of, HasGated};
+ghost use Rattle.vault_core.specs.Carried.{CoreIs};
+ghost use Rattle.vault_core.specs.Replies.{IsReplyTo};
+
+use crate::action::Action;
+use crate::job::Job;
+use crate::own::Core;
+use crate::reply::Reply;
+use crate::wish::Wish;
+use record_codec::Counts;
+
+/// The place of the job of a number.
+fn place_in(jobs: &[Job], job: u32) -> Option<usize>
+    ensures { result ≡ position (λ (j : JobValue). j.number == job) jobs.now }
+{
+    jobs.iter().position(|running| running.number == job)
+}
+
+/// One of these jobs has pinned an object.
+fn pin(jobs: &[Job], object: u64) -> bool
+    ensures { result ≡ list_any (λ (j : JobValue). list_any (λ (file : PinnedFile). file.id == object) j.pinned.items) jobs.now }
+{
+    jobs.iter().any(|job| job.pins(object))
+}
+
+impl Core {
+    /// Goes on by what came of a job's next action. Condition: `next` gave an action, and the reply is one that it has.
+    pub fn feed(&mut self, job: u32, reply: Reply)
+        requires { TakesReply self.old job reply }
+        ensures step { (w new : State) (outcome : Outcome) (moment : ℕ) → CoreIs self.old w → Happens 8 moment w (Step job) outcome new →
+            IsReplyTo self.old job reply outcome new → CoreIs self.new new }
+        ensures falls { left_of self.new job < left_of self.old job }
+        ensures setup { self.new.setup ≡ self.old.setup }
+    {
+        let Some(place) = self.place_of(job) else {
+            return;
+        };
+        let action = self.jobs[place].action_over(&self.table);
+        match reply {
+            Reply::Done => match action {
+                Action::WriteBody => self.begin_append(place),
+                Action::SyncGate => self.end_append(place),
+                Action::End => self.stop(place),
+                _ => self.advance(place),
+            },
+            Reply::Failed => match action {
+                Action::Store { .. } => self.stop(place),
+                _ => self.bar(place),
+            },
+            Reply::Memory => self.stop(place),
+            Reply::Lost { .. } => self.stop(place),
+            Reply::Verdict { undecided, counts } => self.judge(place, undecided, counts),
+        }
+    }
+
+    /// The place of a job among the running ones.
+    pub(crate) fn place_of(&self, job: u32) -> Option<usize>
+        ensures { result ≡ position (λ (j : CoreJob). j.number == job) self.now.jobs }
+    {
+        place_in(&self.jobs, job)
+    }
+
+    /// Ends the job at a place. Its append, if it is in one, is given up.
+    fn stop(&mut self, place: usize)
+        requires { place < length self.old.jobs }
+        ensures { self.new ≡ stopped self.old place }
+    {
+        let job = self.jobs.remove(place);
+        if self.append == Some(job.number) {
+            self.append = None;
+        }
+    }
+
+    /// Ends the job at a place by a disk call that failed: no job goes on.
+    fn bar(&mut self, place: usize)
+        requires { place < length self.old.jobs }
+        ensures { self.new ≡ barred_at self.old place }
+    {
+        let _ = self.jobs.remove(place);
+        self.append = None;
+        self.barred = true;
+    }
+
+    /// The job at a place has made its next action.
+    fn advance(&mut self, place: usize)
+        requires { goes_plainly (first_at self.old place) ≡ true }
+        ensures { (j : CoreJob) → slice_get self.old.jobs place ≡ Some j → self.new ≡ with_at self.old place (moved j) }
+    {
+        let providers = self.setup.n as u32;
+        let job = &mut self.jobs[place];
+        job.advance(providers);
+    }
+
+    /// The audit at a place has made its last ask, with these sums.
+    fn judge(&mut self, place: usize, undecided: u32, counts: Counts)
+        requires plain { goes_plainly (first_at self.old place) ≡ true }
+        requires counts { counts.n ≡ self.old.setup.n }
+        requires padded { IsPadded counts }
+        ensures { (j : CoreJob) → slice_get self.old.jobs place ≡ Some j →
+            self.new ≡ with_at self.old place (judged j (record { counts = counted counts; undecided = undecided })) }
+    {
+        let providers = self.setup.n as u32;
+        let job = &mut self.jobs[place];
+        job.undecided = undecided;
+        job.counts = counts;
+        job.advance(providers);
+    }
+
+    /// The number that a job's append draws, or has drawn.
+    fn number(&self, job: &Job) -> u64
+        ensures { result ≡ number_drawn self.now.table (seen self.now.setup.n job.now) job.now.wish }
+    {
+        match job.wish {
+            Wish::Put { .. } if job.is_opening() => self.table.next_id(),
+            Wish::Audit if job.is_opening() => self.table.next_audit(),
+            _ => job.subject,
+        }
+    }
+
+    /// The append of the job at a place has begun: it draws its number.
+    fn begin_append(&mut self, place: usize)
+        requires { first_at self.old place ≡ Some WriteBody }
+        ensures { (j : CoreJob) → slice_get self.old.jobs place ≡ Some j →
+            self.new ≡ record (with_at self.old place (drawn j (number_drawn self.old.table j j.wish))) { append = Some j.number } }
+    {
+        let number = self.number(&self.jobs[place]);
+        let providers = self.setup.n as u32;
+        let job = &mut self.jobs[place];
+        job.draw(number);
+        job.advance(providers);
+        self.append = Some(job.number);
+    }
+
+    /// A running job has pinned an object.
+    fn is_pinned(&self, object: u64) -> bool
+        ensures { result ≡ is_pinned_in self.now.jobs object }
+    {
+        pin(&self.jobs, object)
+    }
+
+    /// The object that a put or a drop takes out of effect, unless there is none or it is pinned.
+    fn older(&self, wish: &Wish) -> Option<u64>
+        ensures { result ≡ older_of self.now.table self.now.jobs wish.now }
+    {
+        let file = match wish {
+            Wish::Put { name, .. } => self.table.find(name)?,
+            Wish::Drop { name } => self.table.find(name)?,
+            _ => return None,
+        };
+        if self.is_pinned(file.id) {
+            return None;
+        }
+        Some(file.id)
+    }
+
+    /// The append of the job at a place is done: its record is in effect.
+    fn end_append(&mut self, place: usize)
+        requires { first_at self.old place ≡ Some SyncGate }
+        ensures gated { (j : CoreJob) (entry : EntryData) (rs : List EntryData) → slice_get self.old.jobs place ≡ Some j →
+            written_by self.old.table j j.wish ≡ Some entry → IsFoldOf rs self.old.table → refused rs entry ≡ None →
+            HasGated self.old place j entry rs self.new }
+        ensures falls { (j : CoreJob) → slice_get self.old.jobs place ≡ Some j → left_of self.new j.number < left_of self.old j.number }
+        ensures setup { self.new.setup ≡ self.old.setup }
+    {
+        let Some(entry) = self.jobs[place].record(&self.table) else {
+            return;
+        };
+        let older = self.older(&self.jobs[place].wish);
+        if self.table.apply(&entry).is_err() {
+            self.bar(place);
+            return;
+        }
+        self.end += 1 + entry.size() as u64;
+        self.append = None;
+        let providers = self.setup.n as u32;
+        let job = &mut self.jobs[place];
+        job.finish(older, providers);
+    }
+}

@@ -1,0 +1,169 @@
+ghost use Rattle.std.specs.Prelude.{◌≡◌, ◌<◌, ◌≤◌, ◌==◌, ℕ, Some, IfSome, slice_get};
+ghost use Rattle.std.specs.Option.{option_map};
+ghost use Rattle.std.specs.List.{list_any};
+ghost use Rattle.record_codec.specs.Entries.{entry_of, IsInGrammar};
+ghost use Rattle.vault_core.specs.declared.pinned.Pinned.{Pinned as PinnedFile};
+ghost use Rattle.vault_core.specs.Coming.{seen_action, action_next, entry_of_job, written_by, is_last_ask, is_idle};
+ghost use Rattle.vault_core.specs.Rest.{call_of, rest_of};
+ghost use Rattle.vault_core.specs.Parts.{seen, IsKept, is_opening, is_unbegun, is_past};
+
+use crate::action::Action;
+use crate::cursor::{Cursor, Move, Spot};
+use crate::entries::{audit_done, put_done, repair_done};
+use crate::pinned::Pinned;
+use crate::wish::Wish;
+use record_codec::{Counts, Record};
+use vault_table::Table;
+
+/// A file with something to do: its object number, and its stripes or rounds, at least one.
+#[derive(Clone, Copy)]
+pub struct Task {
+    pub object: u64,
+    pub turns: u32,
+}
+
+/// A running job. A put's own file is its one task.
+#[derive(Drop)]
+pub struct Job {
+    pub number: u32,
+    pub wish: Wish,
+    pub pinned: Vec<Pinned>,
+    pub tasks: Vec<Task>,
+    pub flagged: [bool; 16],
+    pub subject: u64,
+    pub cursor: Cursor,
+    pub left: u64,
+    pub undecided: u32,
+    pub counts: Counts,
+}
+
+/// What a job calls a provider for.
+fn call(wish: &Wish, spot: &Spot, provider: u32) -> Action
+    ensures { seen_action result ≡ call_of wish.now spot.now.object spot.now.turn provider }
+{
+    let Spot { object, turn, .. } = *spot;
+    match wish {
+        Wish::Put { .. } => Action::Store {
+            provider,
+            object,
+            stripe: turn,
+        },
+        Wish::Audit => Action::Ask {
+            provider,
+            object,
+            round: turn,
+        },
+        _ => Action::Fetch {
+            provider,
+            object,
+            stripe: turn,
+        },
+    }
+}
+
+impl Job {
+    /// The next of the actions that the job has not yet made.
+    pub fn action(&self) -> Action
+        ensures { (n : ℕ) → IsKept n self.now → slice_get (rest_of n self.now) 0 ≡ Some (seen_action result) }
+    {
+        match self.cursor {
+            Cursor::Opening { at } => at.action(),
+            Cursor::Closing { at } => at.action(),
+            Cursor::Calling { spot, provider } => call(&self.wish, &spot, provider),
+            Cursor::Working { spot } => Action::Work {
+                object: spot.object,
+                stripe: spot.turn,
+            },
+            Cursor::Rewriting { spot, provider } => Action::Store {
+                provider,
+                object: spot.object,
+                stripe: spot.turn,
+            },
+            Cursor::Removing { object, provider } => Action::Remove { provider, object },
+            Cursor::Ending => Action::End,
+        }
+    }
+
+    /// The job has not made the first move of its first append.
+    fn is_unbegun(&self) -> bool
+        ensures { result ≡ is_unbegun self.now.cursor }
+    {
+        matches!(self.cursor, Cursor::Opening { at: Move::Body })
+    }
+
+    /// A drop that has not begun its append and whose name is not in effect: only its end is left.
+    fn is_idle(&self, table: &Table) -> bool
+        ensures { (n : ℕ) → result ≡ is_idle table.now (seen n self.now) }
+    {
+        match &self.wish {
+            Wish::Drop { name } => table.find(name).is_none() && self.is_unbegun(),
+            _ => false,
+        }
+    }
+
+    /// The next action of the job over a table.
+    pub fn action_over(&self, table: &Table) -> Action
+        ensures { (n : ℕ) → IsKept n self.now → action_next table.now (seen n self.now) ≡ Some (seen_action result) }
+    {
+        if self.is_idle(table) {
+            return Action::End;
+        }
+        self.action()
+    }
+
+    /// The job is at a move of its first append.
+    pub fn is_opening(&self) -> bool
+        ensures { result ≡ is_opening self.now.cursor }
+    {
+        matches!(self.cursor, Cursor::Opening { .. })
+    }
+
+    /// The job has no append left.
+    pub fn is_past(&self) -> bool
+        ensures { result ≡ is_past self.now.cursor }
+    {
+        matches!(self.cursor, Cursor::Removing { .. } | Cursor::Ending)
+    }
+
+    /// The record of the job's first append where it is at that, and else that of its last one.
+    pub fn record(&self, table: &Table) -> Option<Record>
+        ensures value { (n : ℕ) → option_map entry_of result ≡ written_by table.now (seen n self.now) self.now.wish }
+        ensures in_grammar { (n : ℕ) → 4 ≤ n → n ≤ 16 → IsKept n self.now → IfSome result (λ entry. IsInGrammar entry) }
+    {
+        let opening = self.is_opening();
+        match self.wish {
+            Wish::Put { name, .. } if opening => Some(Record::PutStart {
+                id: table.next_id(),
+                name,
+            }),
+            Wish::Put { length, .. } => Some(put_done(self.subject, length)),
+            Wish::Get { .. } => None,
+            Wish::Drop { name } => Some(Record::Drop { name }),
+            Wish::Audit if opening => Some(Record::AuditStart {
+                number: table.next_audit(),
+            }),
+            Wish::Audit => Some(audit_done(self.subject, self.undecided, self.counts)),
+            Wish::Repair => Some(repair_done(self.subject)),
+        }
+    }
+
+    /// The record that the job's append writes, if it is in one.
+    pub fn entry_over(&self, table: &Table) -> Option<Record>
+        ensures value { (n : ℕ) → IsKept n self.now → option_map entry_of result ≡ entry_of_job table.now (seen n self.now) }
+        ensures in_grammar { (n : ℕ) → 4 ≤ n → n ≤ 16 → IsKept n self.now → IfSome result (λ entry. IsInGrammar entry) }
+    {
+        match self.action_over(table) {
+            Action::WriteBody | Action::SyncBody | Action::WriteGate | Action::SyncGate => {
+                self.record(table)
+            }
+            _ => None,
+        }
+    }
+
+    /// The job has pinned an object.
+    pub fn pins(&self, object: u64) -> bool
+        ensures { result ≡ list_any (λ (file : PinnedFile). file.id == object) self.now.pinned.items }
+    {
+        self.pinned.iter().any(|file| file.id == object)
+    }
+}

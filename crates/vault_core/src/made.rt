@@ -1,0 +1,362 @@
+//! How a job is made.
+ghost use Rattle.std.specs.Prelude.{◌≡◌, ◌<◌, ◌≤◌, ◌+◌, ◌*◌, ◌++◌, ℕ, List, [], ◌∷◌, true, false, length, sum_by, Option, Some, None, IfOk, IfSome, OnOk};
+ghost use Rattle.std.specs.Option.{option_map};
+ghost use Rattle.std.specs.List.{insert};
+ghost use Rattle.record_codec.specs.Entries.{with_master, IsPadded};
+ghost use Rattle.hail_machine.specs.Setups.{stripes_of};
+ghost use Rattle.hail_machine.specs.Begins.{due_number, due_flags};
+ghost use Rattle.vault_table.specs.Values.{file_of_entry, due_of_pair};
+ghost use Rattle.vault_core.specs.declared.pinned.Pinned.{Pinned as PinnedFile};
+ghost use Rattle.vault_core.specs.declared.job.Task.{Task as TaskData};
+ghost use Rattle.vault_core.specs.View.{flag_at};
+ghost use Rattle.vault_core.specs.Rest.{rewrites_from};
+ghost use Rattle.vault_core.specs.Parts.{IsKept, is_rewriter};
+ghost use Rattle.vault_core.specs.Refusing.{IsNamed};
+ghost use Rattle.vault_core.specs.Wished.{IsShort};
+ghost use Rattle.vault_core.specs.Making.{pin_of_file, put_pin, pins_of, pins_found, pins_for, targets_of, turns_for, tasks_made, size_of_turn, other_actions, cursor_on, cursor_first, IsMade};
+
+use crate::cursor::{Cursor, Move, Spot};
+use crate::job::{Job, Task};
+use crate::pinned::Pinned;
+use crate::wish::Wish;
+use code_points::find_profile;
+use record_codec::{Counts, Setup};
+use std::alloc::Global;
+use stream_model::Memory;
+use vault_table::{Entry, Table};
+
+/// How many stripes a file of so many bytes has.
+fn stripes(setup: &Setup, length: u32) -> u32
+    requires primary { 1 ≤ setup.now.l }
+    requires known { setup.now.profile ≤ 4 }
+    ensures { (key : List ℕ) → result ≡ stripes_of (with_master setup.now key) length }
+{
+    match find_profile(setup.profile) {
+        Some(profile) => {
+            let stripe = 16 * (u64::from(setup.l) * u64::from(profile.keep));
+            ((u64::from(length) + (stripe - 1)) / stripe) as u32
+        }
+        None => unreachable!(),
+    }
+}
+
+/// The first place of a file with a larger object number.
+fn place_of(pinned: &[Pinned], id: u64) -> usize
+    ensures within { result ≤ length pinned.now }
+    ensures place { (file : PinnedFile) → file.id ≡ id → insert pinned.now result file ≡ put_pin file pinned.now }
+{
+    for place in 0..pinned.len() {
+        if id < pinned[place].id {
+            return place;
+        }
+    }
+    pinned.len()
+}
+
+/// Puts a file among others, in ascending order of their object numbers.
+fn pin(pinned: &mut Vec<Pinned>, file: Pinned) -> Result<(), Memory>
+    ensures { OnOk result (pinned.new.items ≡ put_pin file pinned.old.items) }
+{
+    let place = place_of(pinned, file.id);
+    match pinned.insert(place, file) {
+        Ok(()) => Ok(()),
+        Err(_) => Err(Memory),
+    }
+}
+
+fn pinned_entry(file: &Entry) -> Pinned
+    ensures { result ≡ pin_of_file (file_of_entry file.now) }
+{
+    Pinned {
+        id: file.id,
+        length: file.length,
+    }
+}
+
+/// The file in effect under the name of a get.
+fn pin_one(alloc: Global, file: Option<Entry>) -> Result<Vec<Pinned>, Memory>
+    ensures { IfOk result (λ pinned. pinned.items ≡ pins_found (option_map file_of_entry file)) }
+{
+    let mut pinned = Vec::with_capacity(alloc, 1)?;
+    if let Some(file) = file {
+        pinned.push(pinned_entry(&file))?;
+    }
+    Ok(pinned)
+}
+
+/// All files in effect.
+fn pin_all(alloc: Global, table: &Table) -> Result<Vec<Pinned>, Memory>
+    ensures { IfOk result (λ pinned. pinned.items ≡ pins_of table.now.files) }
+{
+    let mut place = table.count();
+    let mut pinned = Vec::with_capacity(alloc, place)?;
+    while place > 0 {
+        place -= 1;
+        match table.at(place) {
+            Some(file) => pin(&mut pinned, pinned_entry(&file))?,
+            None => unreachable!(),
+        }
+    }
+    Ok(pinned)
+}
+
+/// The files that a job works on.
+fn pinned_for(alloc: Global, table: &Table, wish: &Wish) -> Result<Vec<Pinned>, Memory>
+    ensures { IfOk result (λ pinned. pinned.items ≡ pins_for table.now wish.now) }
+{
+    match wish {
+        Wish::Get { name } => pin_one(alloc, table.find(name)),
+        Wish::Audit | Wish::Repair => pin_all(alloc, table),
+        _ => Ok(Vec::new(alloc)),
+    }
+}
+
+/// How often a job of this wish works on a file: at each stripe, or in each round where there is a stripe.
+fn turns(setup: &Setup, wish: &Wish, length: u32) -> u32
+    requires primary { 1 ≤ setup.now.l }
+    requires known { setup.now.profile ≤ 4 }
+    ensures { (key : List ℕ) → result ≡ turns_for (with_master setup.now key) wish.now length }
+{
+    let stripes = stripes(setup, length);
+    match wish {
+        Wish::Audit => if stripes == 0 { 0 } else { setup.rounds as u32 },
+        _ => stripes,
+    }
+}
+
+/// Adds the task of a file, if there is something to do.
+fn add_task(tasks: &mut Vec<Task>, setup: &Setup, wish: &Wish, file: &Pinned) -> Result<(), Memory>
+    requires primary { 1 ≤ setup.now.l }
+    requires known { setup.now.profile ≤ 4 }
+    ensures { (key : List ℕ) → OnOk result (tasks.new.items ≡ tasks.old.items ++ tasks_made (turns_for (with_master setup.now key) wish.now) (file.now ∷ [])) }
+{
+    let turns = turns(setup, wish, file.length);
+    if turns > 0 {
+        tasks.push(Task {
+            object: file.id,
+            turns,
+        })?;
+    }
+    Ok(())
+}
+
+/// The tasks of files.
+fn tasks_for(
+    alloc: Global,
+    setup: &Setup,
+    wish: &Wish,
+    files: &[Pinned],
+) -> Result<Vec<Task>, Memory>
+    requires primary { 1 ≤ setup.now.l }
+    requires known { setup.now.profile ≤ 4 }
+    ensures { (key : List ℕ) → IfOk result (λ tasks. tasks.items ≡ tasks_made (turns_for (with_master setup.now key) wish.now) files.now) }
+{
+    let mut tasks = Vec::with_capacity(alloc, files.len())?;
+    for file in files {
+        add_task(&mut tasks, setup, wish, file)?;
+    }
+    Ok(tasks)
+}
+
+/// The tasks of a new job: of a put its own file, whose object number is not yet drawn.
+fn tasks_of(
+    alloc: Global,
+    setup: &Setup,
+    wish: &Wish,
+    pinned: &[Pinned],
+) -> Result<Vec<Task>, Memory>
+    requires primary { 1 ≤ setup.now.l }
+    requires known { setup.now.profile ≤ 4 }
+    ensures { (key : List ℕ) → IfOk result (λ tasks. tasks.items ≡ tasks_made (turns_for (with_master setup.now key) wish.now) (targets_of wish.now pinned.now)) }
+{
+    match wish {
+        Wish::Put { length, .. } => {
+            let own = [Pinned {
+                id: 0,
+                length: *length,
+            }];
+            tasks_for(alloc, setup, wish, &own)
+        }
+        _ => tasks_for(alloc, setup, wish, pinned),
+    }
+}
+
+/// The providers whose counts are above the tolerance.
+fn flags_of(counts: &Counts, tolerance: u16) -> [bool; 16]
+    requires { IsPadded counts.now }
+    ensures flags { (j : ℕ) → j < 16 → flag_at result j ≡ due_flags tolerance (Some (due_of_pair (record { 0 = 0; 1 = counts.now }))) j }
+    ensures long { length result ≡ 16 }
+{
+    let mut flagged = [false; 16];
+    for j in 0..16 {
+        flagged[j] = counts.by[j] > tolerance as u32;
+    }
+    flagged
+}
+
+/// The providers that a due audit flags.
+fn flags(due: &Option<(u64, Counts)>, tolerance: u16) -> [bool; 16]
+    requires { IfSome due.now (λ x. IsPadded x.1) }
+    ensures flags { (j : ℕ) → j < 16 → flag_at result j ≡ due_flags tolerance (option_map due_of_pair due.now) j }
+    ensures long { length result ≡ 16 }
+{
+    match due {
+        Some((_, counts)) => flags_of(counts, tolerance),
+        None => [false; 16],
+    }
+}
+
+/// How many of so many providers are flagged.
+fn count_flagged(flagged: &[bool; 16], providers: u8) -> u64
+    requires { providers ≤ 16 }
+    ensures count { result ≡ length (rewrites_from 0 providers flagged.now 0 0) }
+    ensures bound { result ≤ providers }
+{
+    let mut count = 0;
+    for j in 0..providers as usize {
+        if flagged[j] {
+            count += 1;
+        }
+    }
+    count
+}
+
+/// How many actions a job has at each stripe or round.
+fn turn_size(wish: &Wish, flagged: &[bool; 16], providers: u8) -> u64
+    requires { providers ≤ 16 }
+    ensures size { result ≡ size_of_turn providers wish.now flagged.now }
+    ensures bound { result ≤ 33 }
+{
+    let calls = providers as u64;
+    match wish {
+        Wish::Get { .. } => calls + 1,
+        Wish::Repair => calls + 1 + count_flagged(flagged, providers),
+        _ => calls,
+    }
+}
+
+/// How many actions a job has on its files; none where a number can't hold it.
+fn count_turns(tasks: &[Task], size: u64) -> Option<u64>
+    requires { size ≤ 33 }
+    ensures { IfSome result (λ count. count ≡ sum_by (λ (t : TaskData). t.turns * size) tasks.now) }
+{
+    let mut count = 0u64;
+    for task in tasks {
+        count = count.checked_add(u64::from(task.turns) * size)?;
+    }
+    Some(count)
+}
+
+/// How many actions a job may have at most besides those on its files.
+fn other_size(wish: &Wish, providers: u8) -> u64
+    ensures { result ≡ other_actions providers wish.now }
+{
+    match wish {
+        Wish::Put { .. } => 9 + providers as u64,
+        Wish::Get { .. } => 1,
+        Wish::Drop { .. } => 5 + providers as u64,
+        Wish::Audit => 9,
+        Wish::Repair => 5,
+    }
+}
+
+/// A sum; none where a number can't hold it.
+fn add_other(on_files: u64, others: u64) -> Option<u64>
+    ensures { IfSome result (λ most. most ≡ on_files + others) }
+{
+    on_files.checked_add(others)
+}
+
+/// How many actions a job may have at most; none where a number can't hold it.
+fn most_actions(wish: &Wish, tasks: &[Task], flagged: &[bool; 16], providers: u8) -> Option<u64>
+    requires { providers ≤ 16 }
+    ensures { IfSome result (λ most. most ≡ sum_by (λ (t : TaskData). t.turns * size_of_turn providers wish.now flagged.now) tasks.now + other_actions providers wish.now) }
+{
+    let size = turn_size(wish, flagged, providers);
+    match count_turns(tasks, size) {
+        Some(on_files) => add_other(on_files, other_size(wish, providers)),
+        None => None,
+    }
+}
+
+/// The number of a new job as a repair; 0 for any other.
+fn subject(wish: &Wish, due: &Option<(u64, Counts)>) -> u64
+    ensures repair { is_rewriter wish.now ≡ true → result ≡ due_number (option_map due_of_pair due.now) }
+    ensures other { is_rewriter wish.now ≡ false → result ≡ 0 }
+{
+    match (wish, due) {
+        (Wish::Repair, Some((number, _))) => *number,
+        _ => 0,
+    }
+}
+
+/// The cursor at the first task, or at what is behind all tasks.
+fn cursor_on(closing: Cursor, tasks: &[Task]) -> Cursor
+    ensures { result ≡ cursor_on closing tasks.now }
+{
+    match tasks.first() {
+        Some(task) => Cursor::Calling {
+            spot: Spot {
+                object: task.object,
+                turn: 0,
+                turns: task.turns,
+                behind: 1,
+            },
+            provider: 0,
+        },
+        None => closing,
+    }
+}
+
+/// The cursor at which a job of this wish begins, with these tasks.
+fn first_cursor(wish: &Wish, tasks: &[Task]) -> Cursor
+    ensures { result ≡ cursor_first wish.now tasks.now }
+{
+    match wish {
+        Wish::Get { .. } => cursor_on(Cursor::Ending, tasks),
+        Wish::Repair => cursor_on(Cursor::Closing { at: Move::Body }, tasks),
+        _ => Cursor::Opening { at: Move::Body },
+    }
+}
+
+/// A job as it begins.
+pub fn make_job(
+    alloc: Global,
+    table: &Table,
+    setup: &Setup,
+    wish: Wish,
+    number: u32,
+) -> Result<Job, Memory>
+    requires primary { 1 ≤ setup.now.l }
+    requires known { setup.now.profile ≤ 4 }
+    requires some { 4 ≤ setup.now.n }
+    requires few { setup.now.n ≤ 16 }
+    requires named { IsNamed wish }
+    requires short { IsShort wish }
+    ensures made { (key : List ℕ) → IfOk result (λ job. IsMade table.now (with_master setup.now key) number wish job) }
+    ensures kept { IfOk result (λ job. IsKept setup.now.n job) }
+{
+    let due = table.due();
+    let flagged = flags(&due, setup.tolerance);
+    let pinned = pinned_for(alloc, table, &wish)?;
+    let tasks = tasks_of(alloc, setup, &wish, &pinned)?;
+    let Some(left) = most_actions(&wish, &tasks, &flagged, setup.n) else {
+        return Err(Memory);
+    };
+    let cursor = first_cursor(&wish, &tasks);
+    Ok(Job {
+        number,
+        wish,
+        pinned,
+        tasks,
+        flagged,
+        subject: subject(&wish, &due),
+        cursor,
+        left,
+        undecided: 0,
+        counts: Counts {
+            n: setup.n,
+            by: [0; 16],
+        },
+    })
+}

@@ -1,0 +1,224 @@
+//! Why a job does not begin.
+ghost use Rattle.std.specs.Prelude.{◌≡◌, ◌≤◌, ◌+◌, ◌||◌, ℕ, Some, None, is_some, if◌then◌else◌, length, sum_by};
+ghost use Rattle.std.specs.Option.{option_map};
+ghost use Rattle.std.specs.List.{list_any, All};
+ghost use Rattle.hail_records.specs.Table.{find_file};
+ghost use Rattle.hail_machine.specs.Jobs.{Kind};
+ghost use Rattle.hail_machine.specs.States.{State};
+ghost use Rattle.hail_machine.specs.Begins.{begin_refusal};
+ghost use Rattle.vault_core.specs.declared.job.Job.{Job as JobData};
+ghost use Rattle.vault_core.specs.Carried.{CoreIs, IsKindOf, refusal_of};
+ghost use Rattle.vault_core.specs.Wished.{IsShort};
+ghost use Rattle.vault_core.specs.Parts.{seen, IsKept};
+ghost use Rattle.vault_core.specs.Reserves.{reserved_of};
+ghost use Rattle.vault_core.specs.Refusing.{wishes_kept, checks, puts_or_checks, puts_name, is_new, names_beside, is_busy_in, is_crowded_in, word_refusal_in, is_full_in, refusal_in, IsNamed};
+
+use crate::job::Job;
+use crate::look::MOST_JOBS;
+use crate::own::Core;
+use crate::room::{reserved, sizes};
+use crate::wish::{BeginFault, Wish};
+use record_codec::Name;
+use vault_table::Table;
+
+/// How many files can be in effect.
+pub const MOST_FILES: usize = 1024;
+
+/// The largest length of a journal, in bytes.
+pub const LARGEST_JOURNAL: u64 = 1 << 24;
+
+/// The largest number that a put or an audit draws.
+pub const LARGEST_NUMBER: u64 = u64::MAX - 31;
+
+/// A job is a put, an audit or a repair.
+fn is_put_or_check(job: &Job) -> bool
+    ensures { result ≡ puts_or_checks job.now.wish }
+{
+    matches!(job.wish, Wish::Put { .. } | Wish::Audit | Wish::Repair)
+}
+
+/// A job is an audit or a repair.
+fn is_check(job: &Job) -> bool
+    ensures { result ≡ checks job.now.wish }
+{
+    matches!(job.wish, Wish::Audit | Wish::Repair)
+}
+
+/// A job is a put of this name.
+fn puts(job: &Job, name: &Name) -> bool
+    ensures { result ≡ puts_name name.now job.now.wish }
+{
+    match &job.wish {
+        Wish::Put { name: own, .. } => own.as_bytes() == name.as_bytes(),
+        _ => false,
+    }
+}
+
+/// One of these jobs is a put, an audit or a repair.
+fn some_put_or_check(jobs: &[Job]) -> bool
+    ensures { result ≡ list_any (λ (j : JobData). puts_or_checks j.wish) jobs.now }
+{
+    jobs.iter().any(is_put_or_check)
+}
+
+/// One of these jobs is an audit or a repair.
+fn some_check(jobs: &[Job]) -> bool
+    ensures { result ≡ list_any (λ (j : JobData). checks j.wish) jobs.now }
+{
+    jobs.iter().any(is_check)
+}
+
+/// One of these jobs is a put of this name.
+fn some_puts(jobs: &[Job], name: &Name) -> bool
+    ensures { result ≡ list_any (λ (j : JobData). puts_name name.now j.wish) jobs.now }
+{
+    jobs.iter().any(|job| puts(job, name))
+}
+
+/// A name is in effect, or one of these jobs puts it.
+fn is_taken(table: &Table, jobs: &[Job], name: &Name) -> bool
+    ensures { result ≡ (list_any (λ (j : JobData). puts_name name.now j.wish) jobs.now || is_some (find_file table.now.files name.now)) }
+{
+    some_puts(jobs, name) || table.find(name).is_some()
+}
+
+/// A job puts a name that is not in effect and that none of these jobs puts.
+fn is_new(table: &Table, jobs: &[Job], job: &Job) -> bool
+    ensures { result ≡ is_new table.now.files (wishes_kept jobs.now) job.now.wish }
+{
+    match &job.wish {
+        Wish::Put { name, .. } => !is_taken(table, jobs, name),
+        _ => false,
+    }
+}
+
+/// How many names jobs put that are not in effect, each once.
+fn names_beside(table: &Table, jobs: &[Job]) -> usize
+    ensures value { result ≡ names_beside table.now.files (wishes_kept jobs.now) }
+    ensures few { result ≤ length jobs.now }
+{
+    let mut count = 0;
+    for place in 0..jobs.len() {
+        if is_new(table, &jobs[place + 1..], &jobs[place]) {
+            count += 1;
+        }
+    }
+    count
+}
+
+/// The room that the records of jobs still need.
+fn reserved_for(jobs: &[Job], providers: u8) -> u64
+    requires few { length jobs.now ≤ 8 }
+    requires kept { All (IsKept providers) jobs.now }
+    ensures value { result ≡ sum_by (λ (j : JobData). reserved_of providers (seen providers j)) jobs.now }
+    ensures bound { result ≤ 8360 }
+{
+    let mut room = 0;
+    for job in jobs {
+        room += reserved(job, providers);
+    }
+    room
+}
+
+/// A refusal, where its cause applies.
+fn when(applies: bool, why: BeginFault) -> Option<BeginFault>
+    ensures { result ≡ (if applies then Some why else None) }
+{
+    if applies { Some(why) } else { None }
+}
+
+/// The name of a wish is a name.
+fn read_name(wish: &Wish)
+    ensures { IsNamed wish.now }
+{
+    if let Wish::Put { name, .. } | Wish::Get { name } | Wish::Drop { name } = wish {
+        let _bytes = name.as_bytes();
+    }
+}
+
+impl Core {
+    /// The running jobs leave no place for one of this wish.
+    fn is_busy(&self, wish: &Wish) -> bool
+        ensures { result ≡ is_busy_in self.now wish.now }
+    {
+        if self.jobs.len() >= MOST_JOBS {
+            return true;
+        }
+        match wish {
+            Wish::Audit => some_put_or_check(&self.jobs),
+            Wish::Repair => some_check(&self.jobs),
+            _ => false,
+        }
+    }
+
+    /// No further name fits in beside those in effect and those of running puts.
+    fn is_crowded(&self, name: &Name) -> bool
+        ensures { result ≡ is_crowded_in self.now name.now }
+    {
+        let beside = names_beside(&self.table, &self.jobs);
+        self.table.count().saturating_add(beside) >= MOST_FILES
+            && !is_taken(&self.table, &self.jobs, name)
+    }
+
+    /// Why the words of a wish, or what is in effect, let no job begin.
+    fn word_refusal(&self, wish: &Wish) -> Option<BeginFault>
+        ensures { result ≡ word_refusal_in self.now wish.now }
+    {
+        match wish {
+            Wish::Put { name, .. } => when(self.is_crowded(name), BeginFault::TooManyFiles),
+            Wish::Get { name } | Wish::Drop { name } => {
+                when(self.table.find(name).is_none(), BeginFault::NoSuchName)
+            }
+            Wish::Audit => when(self.table.due().is_some(), BeginFault::RepairDue),
+            Wish::Repair => when(self.table.due().is_none(), BeginFault::NothingDue),
+        }
+    }
+
+    /// The records of a job find no room, or its number would come too near the last one.
+    fn is_full(&self, wish: &Wish) -> bool
+        ensures { result ≡ is_full_in self.now wish.now }
+    {
+        if let Wish::Get { .. } = wish {
+            return false;
+        }
+        let room = reserved_for(&self.jobs, self.setup.n);
+        if self.end + room + sizes(wish, self.setup.n) > LARGEST_JOURNAL {
+            return true;
+        }
+        match wish {
+            Wish::Put { .. } => self.table.next_id() > LARGEST_NUMBER,
+            Wish::Audit => self.table.next_audit() > LARGEST_NUMBER,
+            _ => false,
+        }
+    }
+
+    /// The first refusal that applies to a wish.
+    fn first_refusal(&self, wish: &Wish) -> Option<BeginFault>
+        ensures { result ≡ refusal_in self.now wish.now }
+    {
+        if self.barred {
+            return Some(BeginFault::MustReopen);
+        }
+        if self.is_busy(wish) {
+            return Some(BeginFault::Busy);
+        }
+        if let Some(fault) = self.word_refusal(wish) {
+            return Some(fault);
+        }
+        if self.is_full(wish) {
+            return Some(BeginFault::JournalFull);
+        }
+        None
+    }
+
+    /// The first refusal that applies to a wish, which is that of the machine.
+    pub(crate) fn refusal(&self, wish: &Wish) -> Option<BeginFault>
+        ensures value { result ≡ refusal_in self.now wish.now }
+        ensures named { IsNamed wish.now }
+        ensures machine { (w : State) (kind : Kind) → CoreIs self.now w → IsKindOf wish.now kind → IsShort wish.now →
+            option_map refusal_of result ≡ begin_refusal 8 w kind }
+    {
+        read_name(wish);
+        self.first_refusal(wish)
+    }
+}

@@ -1,0 +1,37 @@
+use record_codec::Name;
+
+/// What a job is wished for. A put is told the length of its file in bytes; the bytes themselves stay with the caller.
+#[derive(Clone, Copy, Debug, PartialEq, Eq)]
+pub enum Wish {
+    Put { name: Name, length: u32 },
+    Get { name: Name },
+    Drop { name: Name },
+    Audit,
+    Repair,
+}
+
+/// Why a job does not begin; the first that applies, in this order.
+#[derive(Clone, Copy, Debug, PartialEq, Eq)]
+pub enum BeginFault {
+    /// A disk call of these jobs failed: the vault must be opened anew.
+    MustReopen,
+    /// Eight jobs run; or an audit is wished while a put, an audit or a repair runs; or a repair while an audit or a repair
+    /// runs.
+    Busy,
+    /// The bytes are no name.
+    BadName,
+    /// The file has more than 2^22 bytes.
+    TooLong,
+    /// The name is not in effect.
+    NoSuchName,
+    /// The names in effect and those of running puts are 1,024 together, and this one is not among them.
+    TooManyFiles,
+    /// A repair is due, and no audit comes before it.
+    RepairDue,
+    /// No repair is due.
+    NothingDue,
+    /// The records of this job find no room in the journal, or its number would come too near the last one.
+    JournalFull,
+    /// Memory ran out.
+    Memory,
+}
