@@ -21,9 +21,9 @@ use Rattle.hail_machine.proofs.JobLists.{cond_true, cond_false}
 use Rattle.hail_commands.specs.Seen.{Seen, nobody, provider_at}
 use Rattle.hail_commands.specs.Opens as opens
 use Rattle.hail_commands.specs.Opens.{setup_at}
-use Rattle.hail_commands.specs.Ran.{ran_from}
+use Rattle.hail_commands.specs.Ran.{ran_from, ran_alone}
 use Rattle.hail_commands.specs.JobRuns.{IsOpenedOver, RunsJob}
-use Rattle.hail_commands.specs.Jobs.{Leaves, RanAlone, RunsAlone}
+use Rattle.hail_commands.specs.Jobs.{Leaves, LeftAlone, RanAlone, RunsAlone}
 use Rattle.sound_states.proofs.Records.{none-set_up, sound-accepted, start-named}
 use Rattle.lone_laws.specs.Walked.{IsOpened}
 use Rattle.command_laws.proofs.Runs.{job-ends, opened-over}
@@ -33,7 +33,6 @@ use Rattle.command_laws.proofs.Gets.{all-leaves}
 use Rattle.command_laws.proofs.Puts.{put-leaves}
 use Rattle.command_laws.proofs.Drops.{drop-leaves}
 use Rattle.command_laws.proofs.Refused.{drop-has}
-use Rattle.command_laws.specs.Leaving.{ran_alone, LeftAlone}
 
 -- ---- a state that was opened over records that a start read
 

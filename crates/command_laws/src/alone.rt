@@ -11,9 +11,8 @@ ghost use Rattle.hail_machine.specs.Heard.{Entry};
 ghost use Rattle.hail_commands.specs.Seen.{Seen};
 ghost use Rattle.hail_commands.specs.Opens as opens;
 ghost use Rattle.hail_commands.specs.JobRuns.{IsOpenedOver};
-ghost use Rattle.hail_commands.specs.Jobs.{RunsAlone};
+ghost use Rattle.hail_commands.specs.Jobs.{RunsAlone, LeftAlone};
 ghost use Rattle.lone_laws.specs.Walked.{IsOpened};
-ghost use Rattle.command_laws.specs.Leaving.{LeftAlone};
 
 /// A state that was opened over records which a start has read, with enough providers, is one from which the laws of runs speak; and
 /// over all accepted records there is one.

@@ -2,13 +2,15 @@
 --
 --   Leaves x kind answer       == what a job of this kind leaves that ended with this answer
 --   RunsAlone records kind answer old new heard  == a job of this kind ran alone over these records and devices, as a run of the machine
+--   LeftAlone records kind answer old new heard  == the same without its run: the records then in effect, what is left and heard
 --   EndsBy text answer old new end  == how the command ends: the answer is told by its text, or by the status of its fault
 --   AnswersJob kind records old new end  == the job is refused, or ends, over these records
-use Rattle.std.specs.Prelude.{◌≡◌, ℕ, ◌≤◌, List, [], drop, Option, None, Some}
+use Rattle.std.specs.Prelude.{◌≡◌, ◌⊎◌, ℕ, ◌≤◌, List, [], ◌∷◌, drop, Option, None, Some, IsSomeAnd}
 use Rattle.std.specs.Option.{option_map}
 use Rattle.hail_devices.specs.Cells.{Cells, reads}
+use Rattle.hail_devices.specs.Images.{EachImage}
 use Rattle.hail_records.specs.Records.{Record}
-use Rattle.hail_records.specs.Journal.{text_size}
+use Rattle.hail_records.specs.Journal.{text_size, StandsFor, StandsOrIsEmpty}
 use Rattle.hail_machine.specs.Jobs.{Kind, PutJob, GetJob, DropJob, AuditJob, RepairJob}
 use Rattle.hail_machine.specs.Answers.{Answer, Lost, ProviderFault, DiskFault, Memory}
 use Rattle.hail_machine.specs.States.{State}
@@ -20,7 +22,7 @@ use Rattle.hail_commands.specs.Seen.{Seen, Ending, IsRefused, sinking}
 use Rattle.hail_commands.specs.Opens.{setup_at}
 use Rattle.hail_commands.specs.Refusals.{refusal_of, status_of}
 use Rattle.hail_commands.specs.Lines.{text_of}
-use Rattle.hail_commands.specs.Ran.{Ran, setup_at_begin, CountsRise, NoFetches}
+use Rattle.hail_commands.specs.Ran.{Ran, ran_alone, setup_at_begin, CountsRise, NoFetches}
 use Rattle.hail_commands.specs.JobRuns.{AreHanded, IsOpenedOver, RunsJob}
 use Rattle.hail_commands.specs.Puts.{PutLeaves}
 use Rattle.hail_commands.specs.Gets.{GetLeaves}
@@ -68,6 +70,17 @@ pub record RunsAlone (records : List Record) (kind : Kind) (answer : Answer) (ol
   pub before : old.disk_faults ≤ faults
   pub ran : (w : State) → IsOpenedOver w records faults old.providers → RanAlone records kind answer old new heard faults w
 
+-- what a job left that ran alone over these records, without its run: the records then in effect, and the one in doubt, for which the
+-- disk's images stand
+pub record LeftAlone (records : List Record) (kind : Kind) (answer : Answer) (old new : Seen) (heard : List Entry) : Type 0 where
+  pub faults : ℕ
+  pub before : old.disk_faults ≤ faults
+  pub after : List Record
+  pub doubt : Option Record
+  pub leaves : Leaves (ran_alone records old new heard faults after doubt) kind answer
+  pub images : EachImage new.disk (λ image. StandsOrIsEmpty image after ⊎ IsSomeAnd doubt (λ entry. StandsFor image (entry ∷ after)))
+  pub past_text : SamePast answer after old.disk new.disk
+
 -- nothing was written
 pub record IsSilent (status at : ℕ) (old new : Seen) (end : Ending) : Type 0 where
   pub status_is : end.status ≡ status
@@ -92,4 +105,4 @@ pub data AnswersJob (kind : Kind) (records : List Record) (old new : Seen) (end 
   refused : (why : Refusal) → refusal_of records kind ≡ Some why → IsRefused (status_of why) 0 old new end → AnswersJob kind records old new end
   no_memory : IsRefused 70 0 old new end → AnswersJob kind records old new end
   ended : (answer : Answer) → refusal_of records kind ≡ None → RunsAlone records kind answer old new end.heard →
-      EndsBy (text_of (setup_at records).tolerance kind answer) answer old new end → AnswersJob kind records old new end
+      LeftAlone records kind answer old new end.heard → EndsBy (text_of (setup_at records).tolerance kind answer) answer old new end → AnswersJob kind records old new end

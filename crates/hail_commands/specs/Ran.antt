@@ -3,7 +3,7 @@
 --   Ran                == the records in effect at its begin and at its end, the record in doubt, what is seen of each provider and
 --                         counted of the disk before and after, and what the job heard
 --   ran_from w new heard  == the same between two states of the machine
---   ran_between        == the same between two sights of the devices
+--   ran_alone records old new heard faults after doubt  == the same as it is seen of the devices
 --   CountsRise x       == no count of faults fell
 --   providers_of x     == the numbers of the providers of the setup
 --   job_number         == 1, the number of the one job
@@ -20,7 +20,7 @@ use Rattle.hail_devices.specs.Told as told
 use Rattle.hail_records.specs.Records.{Setup, Record}
 use Rattle.hail_machine.specs.States.{State, Doubt}
 use Rattle.hail_machine.specs.Heard.{Entry}
-use Rattle.hail_commands.specs.Seen.{Seen, Ending, provider_at}
+use Rattle.hail_commands.specs.Seen.{Seen, provider_at}
 use Rattle.hail_commands.specs.Opens.{setup_at}
 
 -- what a run of one job began with, and what it left
@@ -47,17 +47,17 @@ ran_from w new heard = record {
   heard = heard;
 }
 
--- a run between two sights of the devices
-abbrev pub ran_between : Seen → Seen → Ending → List Record → List Record → Option Record → Ran
-ran_between old new end records after doubt = record {
+-- what the run of a job began with and left, as it is seen, where the disk's count of faults was this one once the vault was opened
+abbrev pub ran_alone : List Record → Seen → Seen → List Entry → ℕ → List Record → Option Record → Ran
+ran_alone records old new heard faults after doubt = record {
   records = records;
   after = after;
   doubt = doubt;
   old = provider_at old.providers;
   new = provider_at new.providers;
-  disk_before = old.disk_faults;
+  disk_before = faults;
   disk_after = new.disk_faults;
-  heard = end.heard;
+  heard = heard;
 }
 
 -- the setup in effect
