@@ -1,4 +1,1 @@
-pub mod Word
-pub mod Line
-pub mod Sinking
-pub mod Row
+pub mod Endings
