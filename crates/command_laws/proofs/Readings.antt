@@ -1,13 +1,11 @@
 -- What a start reads of a disk that tells its bytes: one list of records, or one reason why there is none.
-use Rattle.std.proofs.Common.{◌≡◌, ◌≢◌, ℕ, ◌+◌, ◌<◌, ◌≤◌, ◌⊎◌, true, ◌&&◌, List, [], ◌∷◌, ◌++◌, length, take, Option, None, Some, refl, ap, sym, subst, ◌∙◌, inl, inr, arith, append_assoc, length-take}
-use Rattle.std.specs.Prelude.{IfSome, IsTrue}
+use Rattle.std.proofs.Common.{◌≡◌, ◌≢◌, ℕ, ◌+◌, ◌<◌, ◌⊎◌, true, List, [], ◌∷◌, ◌++◌, length, take, None, Some, refl, ap, sym, subst, ◌∙◌, inl, inr, arith, append_assoc, length-take}
 use Rattle.std.specs.List.{list_all}
 use Rattle.std.proofs.lemmas.List.{append_cancel_left, append-nil}
-use Rattle.std.proofs.lemmas.List.Folds.{list_all-append}
 use Rattle.hail_devices.specs.Cells.{Cells, reads}
 use Rattle.hail_records.specs.Records.{Record, is_in_grammar, largest_journal}
 use Rattle.hail_records.specs.Spellings.{spelling}
-use Rattle.hail_records.specs.Journal.{magic, before_gate, StandsFor, SpellsNone, EndsAtGate, BreaksAfterGate}
+use Rattle.hail_records.specs.Journal.{magic, before_gate, StandsFor, SpellsNone}
 use Rattle.hail_records.specs.Reading.{IsNotSetUp}
 use Rattle.hail_records.specs.Acceptance.{refused, AreAccepted}
 use Rattle.record_codec.proofs.Takes.{one_front}
@@ -45,14 +43,18 @@ last-of (x ∷ l) = last-more x l (last-of l)
 -- the text of more records goes on behind that of fewer
 text-behind : (n : List Record) (r : Record) (rs : List Record) → (tail : List ℕ) × (before_gate (n ++ r ∷ rs) ≡ before_gate rs ++ (1 ∷ (spelling r ++ tail)))
 text-behind [] r rs = ([], ap (λ (l : List ℕ). before_gate rs ++ (1 ∷ l)) (sym (append-nil (spelling r))))
-text-behind (m ∷ n) r rs = (let t = text-behind n r rs in
-    (t.0 ++ (1 ∷ spelling m), ap (λ (l : List ℕ). l ++ (1 ∷ spelling m)) t.1 ∙ (append_assoc (before_gate rs) (1 ∷ (spelling r ++ t.0)) (1 ∷ spelling m)
-        ∙ ap (λ (l : List ℕ). before_gate rs ++ (1 ∷ l)) (append_assoc (spelling r) t.0 (1 ∷ spelling m)))))
+text-behind (m ∷ n) r rs = (let t = text-behind n r rs in (
+  t.0 ++ (1 ∷ spelling m),
+  ap (λ (l : List ℕ). l ++ (1 ∷ spelling m)) t.1 ∙ (append_assoc (before_gate rs) (1 ∷ (spelling r ++ t.0)) (1 ∷ spelling m)
+      ∙ ap (λ (l : List ℕ). before_gate rs ++ (1 ∷ l)) (append_assoc (spelling r) t.0 (1 ∷ spelling m))),
+))
 
 next-behind : (n : List Record) (r : Record) (rs : List Record) (x y : List ℕ) → before_gate (n ++ r ∷ rs) ++ x ≡ before_gate rs ++ y → (z : List ℕ) × (y ≡ 1 ∷ (spelling r ++ z))
-next-behind n r rs x y e = (let t = text-behind n r rs in
-    (t.0 ++ x, append_cancel_left (before_gate rs) _ _ (sym e ∙ (ap (λ (l : List ℕ). l ++ x) t.1 ∙ (append_assoc (before_gate rs) (1 ∷ (spelling r ++ t.0)) x
-        ∙ ap (λ (l : List ℕ). before_gate rs ++ (1 ∷ l)) (append_assoc (spelling r) t.0 x))))))
+next-behind n r rs x y e = (let t = text-behind n r rs in (
+  t.0 ++ x,
+  append_cancel_left (before_gate rs) _ _ (sym e ∙ (ap (λ (l : List ℕ). l ++ x) t.1 ∙ (append_assoc (before_gate rs) (1 ∷ (spelling r ++ t.0)) x
+      ∙ ap (λ (l : List ℕ). before_gate rs ++ (1 ∷ l)) (append_assoc (spelling r) t.0 x)))),
+))
 
 -- of two such lists one has the other's records behind its own
 abbrev Goes-on : List Record → List Record → Type 0
