@@ -1,10 +1,9 @@
 // The command over the devices that the first word names.
 use disk_model::SureDisk;
 use hail_adapters::{StdSink, StdSource, folder_providers, journal_disk};
-use hail_field::Memory;
 use hail_top::{NO_MEMORY, Report, hail};
 use provider_model::SureProvider;
-use std::alloc::{AllocError, Global};
+use std::alloc::Global;
 
 /// The first word of a command over memory.
 const IN_MEMORY: &str = "-";
@@ -16,23 +15,23 @@ pub struct Told {
     pub at: u64,
 }
 
-/// Sixteen providers in memory.
-fn sure_providers(alloc: Global) -> Result<Vec<SureProvider>, AllocError> {
+/// Sixteen providers in memory. Want of memory is the one refusal.
+fn sure_providers(alloc: Global) -> Option<Vec<SureProvider>> {
     let mut providers = Vec::new(alloc);
     for _ in 0..16u8 {
-        providers.push(SureProvider::new(alloc)).map_err(AllocError::from)?;
+        providers.push(SureProvider::new(alloc)).ok()?;
     }
-    Ok(providers)
+    Some(providers)
 }
 
-/// Answers the words over an empty memory, which is gone afterwards.
-fn run_in_memory(rt: &HostRuntime, words: &[String]) -> Result<Report, Memory> {
+/// Answers the words over an empty memory, which is gone afterwards. Want of memory for the devices is the one refusal.
+fn run_in_memory(rt: &HostRuntime, words: &[String]) -> Option<Report> {
     let alloc = rt.alloc();
-    let mut disk = SureDisk::new(alloc, &[])?;
+    let mut disk = SureDisk::new(alloc, &[]).ok()?;
     let mut providers = sure_providers(alloc)?;
-    let mut source = StdSource::new(rt)?;
-    let mut sink = StdSink::new(rt)?;
-    Ok(hail(
+    let mut source = StdSource::new(rt).ok()?;
+    let mut sink = StdSink::new(rt).ok()?;
+    Some(hail(
         alloc,
         words,
         &mut disk,
@@ -42,14 +41,14 @@ fn run_in_memory(rt: &HostRuntime, words: &[String]) -> Result<Report, Memory> {
     ))
 }
 
-/// Answers the words over the journal and the providers of a home.
-fn run_at_home(rt: &HostRuntime, home: &str, words: &[String]) -> Result<Report, Memory> {
+/// Answers the words over the journal and the providers of a home. Want of memory for the devices is the one refusal.
+fn run_at_home(rt: &HostRuntime, home: &str, words: &[String]) -> Option<Report> {
     let alloc = rt.alloc();
-    let mut disk = journal_disk(rt, alloc, home)?;
-    let mut providers = folder_providers(rt, alloc, home)?;
-    let mut source = StdSource::new(rt)?;
-    let mut sink = StdSink::new(rt)?;
-    Ok(hail(
+    let mut disk = journal_disk(rt, alloc, home).ok()?;
+    let mut providers = folder_providers(rt, alloc, home).ok()?;
+    let mut source = StdSource::new(rt).ok()?;
+    let mut sink = StdSink::new(rt).ok()?;
+    Some(hail(
         alloc,
         words,
         &mut disk,
@@ -67,11 +66,11 @@ pub fn run(rt: &HostRuntime, words: &[String]) -> Told {
         [home, command @ ..] => run_at_home(rt, home.as_str(), command),
     };
     match report {
-        Ok(report) => Told {
+        Some(report) => Told {
             status: report.status,
             at: report.at,
         },
-        Err(Memory) => Told {
+        None => Told {
             status: NO_MEMORY,
             at: 0,
         },
