@@ -65,6 +65,7 @@ symbol-word text (Some s) word = at (bytes_eq text (codes "-")) refl
   where
     no_digit : IsNumeral 10 (codes "-") → ⊥
     no_digit numeral = omega (arith, numeral.1.0)
+
     at : (test : Bool) → bytes_eq text (codes "-") ≡ test → cond test None (Some (digits_value 10 text)) ≡ Some s
     at true is = absurd (no_digit (subst (λ (t : List ℕ). IsNumeral 10 t) ((bytes_eq-Decides text (codes "-")).0 is) word.numeral))
     at false is = ap (λ (n : ℕ). Some n) word.value
