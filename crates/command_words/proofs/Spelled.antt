@@ -1,12 +1,11 @@
 -- The one command that words may spell, read off the words.
-use Rattle.std.proofs.Common.{◌≡◌, ℕ, List, [], ◌∷◌, map, Option, String, Some, None, Bool, true, false, cond, sym, ◌∙◌, ap, refl, subst, arith}
+use Rattle.std.proofs.Common.{◌≡◌, ℕ, List, [], ◌∷◌, Option, Some, None, Bool, true, false, cond, sym, ◌∙◌, ap, refl, subst, arith}
 use Rattle.std.proofs.lemmas.Slice.Eq.{bytes_eq-Decides}
 use Rattle.std.specs.Prelude.{codes, if◌then◌else◌}
 use Rattle.std.specs.Str.{bytes_eq}
 use Rattle.std.specs.Str.Parse.{IsNumeral, digits_value}
 use Rattle.std.specs.String.{string_bytes}
-use Rattle.std.specs.declared.alloc.Global.{Global}
-use Rattle.hail_commands.specs.Words.{IsNumberWord, IsSymbolWord, AreSymbolWords}
+use Rattle.hail_commands.specs.Words.{IsSymbolWord, AreSymbolWords}
 use Rattle.hail_commands.specs.Forms.{Numbers, Command, RowOf, InitWith, PutUnder, GetOf, DropOf, ListAll, AuditAll, RepairDue, IsForm, IsInitForm, AreNumbers, IsNamedForm, IsBareForm}
 use Rattle.hail_commands.specs.Row.{IsRowForm}
 use Rattle.command_words.proofs.RowWords.{Word}
