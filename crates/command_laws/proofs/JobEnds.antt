@@ -48,7 +48,7 @@ unstarted-zero : (old new : Seen) (end : Ending) → Unstarted old new end → e
 unstarted-zero old new end u zero = (let r = unstarted-refused old new end u in r.2 (sym r.3.status_is ∙ zero))
 
 -- a fault that was counted once a vault was opened was counted in the command
-rose-before : (before opened now : ℕ) → before ≤ opened → opened ≤ now → Rose opened now → Rose before now
+pub rose-before : (before opened now : ℕ) → before ≤ opened → opened ≤ now → Rose opened now → Rose before now
 rose-before before opened now a b rose small = elim (cases_lt opened last_count) [
   | inl l ↦ (let h = rose l in omega (arith, a, h))
   | inr l ↦ omega (arith, l, b, small)

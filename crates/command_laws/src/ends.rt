@@ -11,7 +11,7 @@ ghost use Rattle.hail_machine.specs.Jobs.{Kind, PutJob, DropJob, AuditJob, Repai
 ghost use Rattle.hail_machine.specs.Events.{AreBytes};
 ghost use Rattle.hail_machine.specs.Heard.{HoldsForgery};
 ghost use Rattle.hail_machine.specs.Refusals.{Refusal};
-ghost use Rattle.hail_commands.specs.Forms.{Command, PutUnder, GetOf, DropOf, ListAll, AuditAll, RepairDue};
+ghost use Rattle.hail_commands.specs.Forms.{Command, Numbers, InitWith, PutUnder, GetOf, DropOf, ListAll, AuditAll, RepairDue};
 ghost use Rattle.hail_commands.specs.Seen.{Seen, Ending, IsRefused, provider_at};
 ghost use Rattle.hail_commands.specs.Openings.{journal_read, IsRead, IsBadStart};
 ghost use Rattle.hail_commands.specs.Opens.{setup_at};
@@ -20,7 +20,7 @@ ghost use Rattle.hail_commands.specs.Lines.{stored_line, dropped_line, repaired_
 ghost use Rattle.hail_commands.specs.Jobs.{AnswersJob};
 ghost use Rattle.hail_commands.specs.Commands.{AnswersAlone, Answers};
 ghost use Rattle.command_laws.specs.Failing.{bad_seen};
-ghost use Rattle.command_laws.specs.Ends.{IsKnown, EndsWell, SameHolds, opens_store, IsPut, IsDropped, IsAudited, IsRepaired};
+ghost use Rattle.command_laws.specs.Ends.{IsKnown, EndsWell, SameHolds, opens_store, FaultsHaveCauses, AreSafe, FlaggedHold, IsPut, IsDropped, IsAudited, IsRepaired};
 
 /// A get of a file gives it whole, or finds no memory, where at most b providers are wrong for the file or failed, unless the disk or the
 /// sink failed. With at most b + 1 such providers it never gives a wrong byte, and at status 0 it gave the file. However many there are,
@@ -80,17 +80,18 @@ pub fn audits_count_what_they_hear()
         (end.status ≡ 0) ⊎ (end.status ≡ 70) }
 {}
 
-/// A repair of status 0 has written each flagged provider anew, from what the fetches gave. A repair that is not refused ends so, or finds
-/// no memory, where for each file in effect at most b providers are wrong for its bytes or failed, unless a count of faults rose: the
-/// disk's, that of a provider's stores, or the sink's.
+/// A repair of status 0 has written each flagged provider anew, from what the fetches gave; where for each file in effect at most b providers
+/// are wrong for its bytes or failed, these are the very blocks of the files. A repair that is not refused ends so, or finds
+/// no memory, where it is so of each file, unless a count of faults rose: the disk's, that of a provider's stores, or the sink's.
 pub fn repairs_write_anew()
     ensures done { (old new : Seen) (end : Ending) → Answers RepairDue old new end → end.status ≡ 0 → IsRepaired old new end }
     ensures ends_well { (records : List Record) (old new : Seen) (end : Ending) (bytes : ℕ → List ℕ) → Answers RepairDue old new end →
         IsKnown old records → refusal_of records RepairJob ≡ None → (Rose old.disk_faults new.disk_faults → ⊥) →
         ((j : ℕ) → j < (setup_at records).n → Rose (provider_at old.providers j).store_faults (provider_at new.providers j).store_faults → ⊥) →
         (Rose old.sink_faults new.sink_faults → ⊥) →
-        ((name : List ℕ) (file : File) → file_of records name ≡ Some file → (length (bytes file.id) ≡ file.size) ×
-        (bad_seen records old new file.id (bytes file.id) ≤ (setup_at records).b)) → (end.status ≡ 0) ⊎ (end.status ≡ 70) }
+        AreSafe records old new bytes → (end.status ≡ 0) ⊎ (end.status ≡ 70) }
+    ensures right { (records : List Record) (old new : Seen) (end : Ending) (due : Due) (bytes : ℕ → List ℕ) → Answers RepairDue old new end →
+        IsKnown old records → end.status ≡ 0 → due_of records ≡ Some due → AreSafe records old new bytes → FlaggedHold records new due bytes }
 {}
 
 /// A job has the status of a refusal only where that is the first of its refusals to apply; and where one applies, the command ends with its
@@ -135,4 +136,12 @@ pub fn unopened_stores_are_told()
     ensures too_few { (command : Command) (cells : Cells) (old new : Seen) (end : Ending) (records : List Record) → Answers command old new end →
         opens_store command ≡ true → old.disk ≡ Some cells → IsRead old.disk records → length old.providers < (setup_at records).n →
         (Rose old.disk_faults new.disk_faults → ⊥) → (end.status ≡ 22) ⊎ (end.status ≡ 70) }
+{}
+
+/// A command ends with the status of a fault only where the count of that device rose: of the disk (12), of the stores of the provider that is
+/// told (13), of the source (14) or of the sink (15).
+pub fn faults_have_causes()
+    ensures store { (command : Command) (old new : Seen) (end : Ending) → Answers command old new end → opens_store command ≡ true →
+        FaultsHaveCauses old new end }
+    ensures init { (numbers : Numbers) (old new : Seen) (end : Ending) → Answers (InitWith numbers) old new end → FaultsHaveCauses old new end }
 {}
