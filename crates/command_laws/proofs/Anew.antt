@@ -17,11 +17,10 @@ use Rattle.hail_records.specs.Records.{Record}
 use Rattle.hail_records.specs.Table.{File, Due, file_of, files_of, find_file, due_of, is_same_name}
 use Rattle.hail_records.proofs.FilesLaws.{find-files_of}
 use Rattle.hail_machine.specs.Setups.{object_of, stripes_of}
-use Rattle.hail_machine.specs.Heard.{Entry}
 use Rattle.hail_machine.specs.Jobs.{RepairJob}
 use Rattle.hail_machine.proofs.JobLists.{cond_true, cond_false, same_value}
 use Rattle.hail_machine.proofs.RecordFacts.{In}
-use Rattle.hail_commands.specs.Seen.{Seen, Ending, provider_at}
+use Rattle.hail_commands.specs.Seen.{Seen, Ending}
 use Rattle.hail_commands.specs.Opens.{setup_at}
 use Rattle.hail_commands.specs.Audits.{with_number, files_by_number}
 use Rattle.hail_commands.specs.Ran.{Ran, setup_at_begin}

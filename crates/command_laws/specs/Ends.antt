@@ -7,6 +7,8 @@
 --   opens_store command        == the command looks at the records of a store
 --   after_put records name size, after_drop, after_audit, after_repair  == the records that such a job that is done leaves
 --   ran_to after records old new heard  == what a job left that was done, as it is seen
+--   IsJobOf command old new kind  == the command runs a job of this kind: a put of what it read
+--   EndsInOrder command old new end  == status 0, or 70, or the command is refused, with its cause
 --   FaultsHaveCauses old new end  == a status of a fault comes only where the count of that device rose
 --   AreSafe records old new bytes == for each file in effect at most b providers are wrong for its bytes, or failed
 --   FlaggedHold records new due bytes  == each provider that an audit flagged holds the columns of these bytes of the files in effect
@@ -21,11 +23,14 @@ use Rattle.hail_records.specs.Records.{Record, PutStart, PutDone, Drop, AuditSta
 use Rattle.hail_records.specs.Journal.{StandsFor}
 use Rattle.hail_records.specs.Table.{File, Due, next_id, next_audit, file_of, due_of}
 use Rattle.hail_machine.specs.Setups.{object_of, stripes_of}
+use Rattle.hail_machine.specs.Jobs.{Kind, PutJob, GetJob, DropJob, AuditJob, RepairJob}
+use Rattle.hail_machine.specs.Refusals.{Refusal}
 use Rattle.hail_machine.specs.Heard.{Entry}
-use Rattle.hail_commands.specs.Seen.{Seen, Ending, ReadsUpTo, provider_at}
-use Rattle.hail_commands.specs.Opens.{IsOpened, setup_at}
+use Rattle.hail_commands.specs.Seen.{Seen, Ending, ReadsUpTo, IsRefused, provider_at}
+use Rattle.hail_commands.specs.Opens.{IsOpened, Unstarted, setup_at}
+use Rattle.hail_commands.specs.Refusals.{refusal_of, status_of}
 use Rattle.hail_commands.specs.Ran.{Ran, ran_alone, EachHeldGoes}
-use Rattle.hail_commands.specs.Forms.{Command, RowOf, InitWith}
+use Rattle.hail_commands.specs.Forms.{Command, RowOf, InitWith, PutUnder, GetOf, DropOf, AuditAll, RepairDue}
 use Rattle.hail_commands.specs.Lines.{stored_line, dropped_line, audit_lines, repaired_line}
 use Rattle.hail_commands.specs.Blocks.{DroppedFrom}
 use Rattle.hail_commands.specs.Puts.{StoresFile}
@@ -55,6 +60,23 @@ abbrev pub opens_store : Command → Bool
 opens_store (RowOf n l b seen) = false
 opens_store (InitWith numbers) = false
 opens_store command = true
+
+-- the kind of the job that a command runs
+abbrev pub IsJobOf : Command → Seen → Seen → Kind → Type 0
+IsJobOf (PutUnder name) old new kind = (bytes : List ℕ) × ReadsUpTo (largest_file + 1) old.source new.source bytes × (kind ≡ PutJob name bytes)
+IsJobOf (GetOf name) old new kind = kind ≡ GetJob name
+IsJobOf (DropOf name) old new kind = kind ≡ DropJob name
+IsJobOf AuditAll old new kind = kind ≡ AuditJob
+IsJobOf RepairDue old new kind = kind ≡ RepairJob
+IsJobOf command old new kind = ⊥
+
+-- a command is done, or found no memory, or is refused: before its begin, or for the first cause that applies over records that a start accepts
+pub data EndsInOrder (command : Command) (old new : Seen) (end : Ending) : Type 0 where
+  done : end.status ≡ 0 → EndsInOrder command old new end
+  no_memory : end.status ≡ 70 → EndsInOrder command old new end
+  unstarted : Unstarted old new end → EndsInOrder command old new end
+  refused : (records : List Record) (kind : Kind) (why : Refusal) → IsOpened old records → IsJobOf command old new kind → refusal_of records kind ≡ Some why →
+      IsRefused (status_of why) 0 old new end → EndsInOrder command old new end
 
 -- a status of a fault comes only where the count of that device rose; that of a provider is told by its place
 pub record FaultsHaveCauses (old new : Seen) (end : Ending) : Type 0 where
