@@ -6,6 +6,7 @@ ghost use Rattle.hail_records.specs.Records.{Record};
 ghost use Rattle.command_jobs.specs.declared.open.Unopened.TheVariants as unopened;
 ghost use Rattle.command_jobs.specs.Opened.{IsFresh, IsReadFor, IsUnopened, unopened_of};
 
+use command_laws::alone::opened_states;
 use disk_model::Disk;
 use std::alloc::Global;
 use vault::{StartFault, Vault};
@@ -49,6 +50,7 @@ pub fn open_vault<D: Disk>(alloc: Global, disk: &mut D, handed: usize) -> Result
     ensures reads { option_map reads (D.holds disk.new) ≡ option_map reads (D.holds disk.old) }
     ensures cause { HasCause (D.faults disk.old) (D.faults disk.new) (IsErrOf result unopened.DiskFault) }
 {
+    opened_states();
     let vault = Vault::start(alloc, disk, FIRST_JOB)?;
     if handed < usize::from(vault.setup().n) {
         return Err(Unopened::TooFewProviders);
