@@ -34,5 +34,8 @@ returns-clause-opened g c =
     (let e = f.providers in let l = c.if-handed-from.false in let m = c.from.ensures in let n = ap (λ (s : Setup). s.n) c.setup.ensures in omega (arith, e, l, m, n)) in
     (o.0, record { read = read-seen (g.D.Disk.holds c.args.disk.now) o.0 o.1; enough = enough }, f)
 
+pub returns-clause-ready : goal.returns-clause-ready
+returns-clause-ready g c = let o = returns-clause-opened g c in record { records = o.0; fresh = o.2; enough = o.1.enough }
+
 pub returns-clause-reads : goal.returns-clause-reads
 returns-clause-reads g c = reads-resynced (g.D.Disk.holds c.args.disk.now) (g.D.Disk.holds c.start.new.disk) c.start.ensures.disk
