@@ -18,6 +18,7 @@ use Rattle.hail_machine.specs.Heard.{Entry}
 use Rattle.hail_machine.specs.Refusals.{Refusal}
 use Rattle.hail_machine.proofs.JobLists.{cond_true}
 use Rattle.hail_machine.proofs.RecordFacts.{same_name-refl}
+use Rattle.hail_commands.specs.Forms.{Command, PutUnder, DropOf, AuditAll}
 use Rattle.hail_commands.specs.Seen.{Seen, Ending, IsRefused, ReadsUpTo, provider_at}
 use Rattle.hail_commands.specs.Opens.{IsOpened, Unstarted, setup_at}
 use Rattle.hail_commands.specs.Refusals.{refusal_of, status_of}
@@ -29,7 +30,7 @@ use Rattle.hail_commands.specs.Repairs.{RepairGives}
 use Rattle.hail_commands.specs.Jobs.{AnswersJob, EndsBy, LeftAlone}
 use Rattle.hail_commands.specs.Commands.{AnswersPut, AnswersAlone, AnswersList}
 use Rattle.command_laws.specs.Failing.{bad_seen}
-use Rattle.command_laws.specs.Ends.{IsKnown, EndsWell, SameHolds, after_put, IsPut, IsDropped, IsAudited, IsRepaired}
+use Rattle.command_laws.specs.Ends.{IsKnown, EndsWell, EndsInOrder, SameHolds, after_put, IsPut, IsDropped, IsAudited, IsRepaired}
 use Rattle.command_laws.proofs.Complete.{put-end, drop-end, audit-end}
 use Rattle.command_laws.proofs.Mended.{repair-end}
 use Rattle.command_laws.proofs.Known.{none-written, written-well, written-zero, known-once, unstarted-known, alone-known, refused-zero, refused-only, refused-always, own-status}
@@ -48,7 +49,7 @@ unstarted-zero : (old new : Seen) (end : Ending) → Unstarted old new end → e
 unstarted-zero old new end u zero = (let r = unstarted-refused old new end u in r.2 (sym r.3.status_is ∙ zero))
 
 -- a fault that was counted once a vault was opened was counted in the command
-rose-before : (before opened now : ℕ) → before ≤ opened → opened ≤ now → Rose opened now → Rose before now
+pub rose-before : (before opened now : ℕ) → before ≤ opened → opened ≤ now → Rose opened now → Rose before now
 rose-before before opened now a b rose small = elim (cases_lt opened last_count) [
   | inl l ↦ (let h = rose l in omega (arith, a, h))
   | inr l ↦ omega (arith, l, b, small)
@@ -290,6 +291,10 @@ zero-or-memory : (text : List ℕ) (old new : Seen) (end : Ending) → EndsWell 
 zero-or-memory text old new end (inl w) = inl w.0
 zero-or-memory text old new end (inr w) = inr w.0
 
+in-order : (command : Command) (old new : Seen) (end : Ending) → (end.status ≡ 0) ⊎ (end.status ≡ 70) → EndsInOrder command old new end
+in-order command old new end (inl is) = EndsInOrder.done is
+in-order command old new end (inr is) = EndsInOrder.no_memory is
+
 audit-job-well : (records : List Record) (old new : Seen) (end : Ending) → refusal_of records AuditJob ≡ None → (Rose old.disk_faults new.disk_faults → ⊥) → (Rose old.sink_faults new.sink_faults → ⊥) →
     AnswersJob AuditJob records old new end → (end.status ≡ 0) ⊎ (end.status ≡ 70)
 audit-job-well records old new end begins disk sink (AnswersJob.refused why is r) = absurd (let e : None ≡ Some why = sym begins ∙ is in cc)
@@ -358,6 +363,35 @@ repair-well records old new end bytes A K begins disk stores sink safe = elim (a
   | inl (inr r) ↦ inr r.status_is
   | inr job ↦ repair-job-well records old new end bytes K.opened begins disk stores sink safe job
 ]
+
+-- ---- puts, drops and audits over any disk
+
+pub put-order : (name : List ℕ) (old new : Seen) (end : Ending) → AnswersPut name old new end → (Rose old.disk_faults new.disk_faults → ⊥) →
+    ((j : ℕ) → Rose (provider_at old.providers j).store_faults (provider_at new.providers j).store_faults → ⊥) →
+    (Rose old.source_faults new.source_faults → ⊥) → (Rose old.sink_faults new.sink_faults → ⊥) → EndsInOrder (PutUnder name) old new end
+put-order name old new end (AnswersPut.unstarted u same) disk stores source sink = EndsInOrder.unstarted u
+put-order name old new end (AnswersPut.source_fault other opened rose r) disk stores source sink = absurd (source rose)
+put-order name old new end (AnswersPut.no_memory r) disk stores source sink = EndsInOrder.no_memory r.status_is
+put-order name old new end (AnswersPut.begun records bytes opened read (AnswersJob.refused why is r)) disk stores source sink =
+    EndsInOrder.refused records (PutJob name bytes) why opened (bytes, read, refl) is r
+put-order name old new end (AnswersPut.begun records bytes opened read (AnswersJob.no_memory r)) disk stores source sink = EndsInOrder.no_memory r.status_is
+put-order name old new end (AnswersPut.begun records bytes opened read (AnswersJob.ended how none runs left by)) disk stores source sink =
+    in-order (PutUnder name) old new end (zero-or-memory _ old new end (put-job-well name bytes records old new end none disk (λ j l. stores j) sink (AnswersJob.ended how none runs left by)))
+
+pub drop-order : (name : List ℕ) (old new : Seen) (end : Ending) → AnswersAlone (DropJob name) old new end → (Rose old.disk_faults new.disk_faults → ⊥) → (Rose old.sink_faults new.sink_faults → ⊥) →
+    EndsInOrder (DropOf name) old new end
+drop-order name old new end (AnswersAlone.unstarted u) disk sink = EndsInOrder.unstarted u
+drop-order name old new end (AnswersAlone.begun records opened (AnswersJob.refused why is r)) disk sink = EndsInOrder.refused records (DropJob name) why opened refl is r
+drop-order name old new end (AnswersAlone.begun records opened (AnswersJob.no_memory r)) disk sink = EndsInOrder.no_memory r.status_is
+drop-order name old new end (AnswersAlone.begun records opened (AnswersJob.ended how none runs left by)) disk sink =
+    in-order (DropOf name) old new end (zero-or-memory _ old new end (drop-job-well name records old new end none disk sink (AnswersJob.ended how none runs left by)))
+
+pub audit-order : (old new : Seen) (end : Ending) → AnswersAlone AuditJob old new end → (Rose old.disk_faults new.disk_faults → ⊥) → (Rose old.sink_faults new.sink_faults → ⊥) → EndsInOrder AuditAll old new end
+audit-order old new end (AnswersAlone.unstarted u) disk sink = EndsInOrder.unstarted u
+audit-order old new end (AnswersAlone.begun records opened (AnswersJob.refused why is r)) disk sink = EndsInOrder.refused records AuditJob why opened refl is r
+audit-order old new end (AnswersAlone.begun records opened (AnswersJob.no_memory r)) disk sink = EndsInOrder.no_memory r.status_is
+audit-order old new end (AnswersAlone.begun records opened (AnswersJob.ended how none runs left by)) disk sink =
+    in-order AuditAll old new end (audit-job-well records old new end none disk sink (AnswersJob.ended how none runs left by))
 
 -- ---- what providers hold
 

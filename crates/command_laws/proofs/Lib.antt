@@ -26,3 +26,5 @@ pub mod Known
 pub mod GetEnds
 pub mod JobEnds
 pub mod Unopened
+pub mod Causes
+pub mod Anew

@@ -7,24 +7,36 @@
 --   opens_store command        == the command looks at the records of a store
 --   after_put records name size, after_drop, after_audit, after_repair  == the records that such a job that is done leaves
 --   ran_to after records old new heard  == what a job left that was done, as it is seen
+--   IsJobOf command old new kind  == the command runs a job of this kind: a put of what it read
+--   EndsInOrder command old new end  == status 0, or 70, or the command is refused, with its cause
+--   FaultsHaveCauses old new end  == a status of a fault comes only where the count of that device rose
+--   AreSafe records old new bytes == for each file in effect at most b providers are wrong for its bytes, or failed
+--   FlaggedHold records new due bytes  == each provider that an audit flagged holds the columns of these bytes of the files in effect
 --   IsPut name old new end, IsDropped, IsAudited, IsRepaired  == what a command of status 0 has done
-use Rattle.std.specs.Prelude.{◌≡◌, ◌⊎◌, ℕ, ◌+◌, Bool, true, false, List, [], ◌∷◌, length, None, Some, IfSome, is_some}
+use Rattle.std.specs.Prelude.{◌≡◌, ◌⊎◌, ℕ, ◌+◌, ◌≤◌, ◌<◌, Bool, true, false, List, [], ◌∷◌, length, None, Some, IfSome, is_some}
+use Rattle.hail_columns.specs.Columns.{columns}
+use Rattle.hail_columns.specs.Verdicts.{is_flagged}
 use Rattle.hail_devices.specs.Faults.{Rose}
 use Rattle.hail_devices.specs.Images.{EachImage}
 use Rattle.hail_devices.specs.Told.{told_then, TakesFront}
 use Rattle.hail_records.specs.Records.{Record, PutStart, PutDone, Drop, AuditStart, AuditDone, RepairDone, largest_file}
 use Rattle.hail_records.specs.Journal.{StandsFor}
 use Rattle.hail_records.specs.Table.{File, Due, next_id, next_audit, file_of, due_of}
+use Rattle.hail_machine.specs.Setups.{object_of, stripes_of}
+use Rattle.hail_machine.specs.Jobs.{Kind, PutJob, GetJob, DropJob, AuditJob, RepairJob}
+use Rattle.hail_machine.specs.Refusals.{Refusal}
 use Rattle.hail_machine.specs.Heard.{Entry}
-use Rattle.hail_commands.specs.Seen.{Seen, Ending, ReadsUpTo, provider_at}
-use Rattle.hail_commands.specs.Opens.{IsOpened, setup_at}
+use Rattle.hail_commands.specs.Seen.{Seen, Ending, ReadsUpTo, IsRefused, provider_at}
+use Rattle.hail_commands.specs.Opens.{IsOpened, Unstarted, setup_at}
+use Rattle.hail_commands.specs.Refusals.{refusal_of, status_of}
 use Rattle.hail_commands.specs.Ran.{Ran, ran_alone, EachHeldGoes}
-use Rattle.hail_commands.specs.Forms.{Command, RowOf, InitWith}
+use Rattle.hail_commands.specs.Forms.{Command, RowOf, InitWith, PutUnder, GetOf, DropOf, AuditAll, RepairDue}
 use Rattle.hail_commands.specs.Lines.{stored_line, dropped_line, audit_lines, repaired_line}
 use Rattle.hail_commands.specs.Blocks.{DroppedFrom}
 use Rattle.hail_commands.specs.Puts.{StoresFile}
 use Rattle.hail_commands.specs.Audits.{HearsRounds, CountsHeard}
 use Rattle.hail_commands.specs.Repairs.{RewritesAll}
+use Rattle.command_laws.specs.Failing.{bad_seen}
 
 -- the disk tells that it reads these records, and enough providers are handed in
 pub record IsKnown (old : Seen) (records : List Record) : Type 0 where
@@ -48,6 +60,45 @@ abbrev pub opens_store : Command → Bool
 opens_store (RowOf n l b seen) = false
 opens_store (InitWith numbers) = false
 opens_store command = true
+
+-- the kind of the job that a command runs
+abbrev pub IsJobOf : Command → Seen → Seen → Kind → Type 0
+IsJobOf (PutUnder name) old new kind = (bytes : List ℕ) × ReadsUpTo (largest_file + 1) old.source new.source bytes × (kind ≡ PutJob name bytes)
+IsJobOf (GetOf name) old new kind = kind ≡ GetJob name
+IsJobOf (DropOf name) old new kind = kind ≡ DropJob name
+IsJobOf AuditAll old new kind = kind ≡ AuditJob
+IsJobOf RepairDue old new kind = kind ≡ RepairJob
+IsJobOf command old new kind = ⊥
+
+-- a command is done, or found no memory, or is refused: before its begin, or for the first cause that applies over records that a start accepts
+pub data EndsInOrder (command : Command) (old new : Seen) (end : Ending) : Type 0 where
+  done : end.status ≡ 0 → EndsInOrder command old new end
+  no_memory : end.status ≡ 70 → EndsInOrder command old new end
+  unstarted : Unstarted old new end → EndsInOrder command old new end
+  refused : (records : List Record) (kind : Kind) (why : Refusal) → IsOpened old records → IsJobOf command old new kind → refusal_of records kind ≡ Some why →
+      IsRefused (status_of why) 0 old new end → EndsInOrder command old new end
+
+-- a status of a fault comes only where the count of that device rose; that of a provider is told by its place
+pub record FaultsHaveCauses (old new : Seen) (end : Ending) : Type 0 where
+  pub disk : end.status ≡ 12 → Rose old.disk_faults new.disk_faults
+  pub provider : end.status ≡ 13 → Rose (provider_at old.providers end.at).store_faults (provider_at new.providers end.at).store_faults
+  pub source : end.status ≡ 14 → Rose old.source_faults new.source_faults
+  pub sink : end.status ≡ 15 → Rose old.sink_faults new.sink_faults
+
+-- for each file in effect at most b providers are wrong for its bytes, given by its number, or failed
+abbrev pub AreSafe : List Record → Seen → Seen → (ℕ → List ℕ) → Type 0
+AreSafe records old new bytes = (name : List ℕ) (file : File) → file_of records name ≡ Some file →
+    (length (bytes file.id) ≡ file.size) × (bad_seen records old new file.id (bytes file.id) ≤ (setup_at records).b)
+
+-- what is told of provider j has each block of a file of these bytes
+abbrev pub HoldsFile : List Record → Seen → List ℕ → File → ℕ → Type 0
+HoldsFile records new bytes file j = (stripe : ℕ) → stripe < stripes_of (setup_at records) file.size →
+    IfSome (provider_at new.providers j).held (λ held. held file.id stripe ≡ Some (columns (object_of (setup_at records) file.id) bytes j stripe))
+
+-- each provider that an audit flagged, and that tells, holds the columns of these bytes of each file in effect
+abbrev pub FlaggedHold : List Record → Seen → Due → (ℕ → List ℕ) → Type 0
+FlaggedHold records new due bytes = (name : List ℕ) (file : File) (j : ℕ) → file_of records name ≡ Some file → j < (setup_at records).n →
+    is_flagged (setup_at records).tolerance due.counts j ≡ true → HoldsFile records new (bytes file.id) file j
 
 -- the records after a put
 abbrev pub after_put : List Record → List ℕ → ℕ → List Record
