@@ -84,6 +84,10 @@ impl<R: Runtime> KeptFile<R> {
     /// Brings what was written to the medium, and at the first time the file's name in its folder too: another program may have made
     /// the file and ended before it synced.
     pub fn sync(&mut self) -> io::Result<()> {
+        if let Some(file) = &self.writing {
+            file.sync_all()?;
+            return self.sync_name();
+        }
         self.open_to_read()?;
         match &self.reading {
             Some(file) => {
