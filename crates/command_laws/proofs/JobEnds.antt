@@ -106,6 +106,7 @@ put-by name bytes records old new end opened read begins answer.Put left L by ze
   records = records;
   bytes = bytes;
   opened = opened;
+  are_bytes = read.are_bytes;
   read = read;
   whole = read.end (let small = not-long records name bytes begins in omega (arith, small));
   told = (zero, written-zero (stored_line name (length bytes)) old new end by.written zero);
