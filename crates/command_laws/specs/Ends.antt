@@ -1,6 +1,7 @@
 -- What a command says by its status, where no run of its job and no state stands in the statement.
 --
 --   IsKnown old records        == the disk tells what it holds and reads these records, and enough providers are handed in
+--   IsDone end                 == status 0, or 15: it is done, and the sink took its text, or failed at it
 --   Gives text old new end     == status 0, with the text behind what the sink held
 --   EndsWell text old new end  == the same, or status 70, with a front of the text at most
 --   SameHolds old new          == each provider that was handed in holds what it held, where it tells it
@@ -11,11 +12,10 @@
 --   EndsInOrder command old new end  == status 0, or 70, or the command is refused, with its cause
 --   FaultsHaveCauses old new end  == a status of a fault comes only where the count of that device rose
 --   AreSafe records old new bytes == for each file in effect at most b providers are wrong for its bytes, or failed
---   FlaggedHold records new due bytes  == each provider that an audit flagged holds the columns of these bytes of the files in effect
---   IsPut name old new end, IsDropped, IsAudited, IsRepaired  == what a command of status 0 has done
+--   HoldsFile records new bytes file j == what is told of provider j has each block of a file of these bytes
+--   IsPut name old new end, IsDropped, IsAudited, IsRepaired  == what a command has done that is done; its text is told, or cut off
 use Rattle.std.specs.Prelude.{◌≡◌, ◌⊎◌, ℕ, ◌+◌, ◌≤◌, ◌<◌, Bool, true, false, List, [], ◌∷◌, length, None, Some, IfSome, is_some}
 use Rattle.hail_columns.specs.Columns.{columns}
-use Rattle.hail_columns.specs.Verdicts.{is_flagged}
 use Rattle.hail_devices.specs.Faults.{Rose}
 use Rattle.hail_devices.specs.Images.{EachImage}
 use Rattle.hail_devices.specs.Told.{told_then, TakesFront}
@@ -24,6 +24,7 @@ use Rattle.hail_records.specs.Journal.{StandsFor}
 use Rattle.hail_records.specs.Table.{File, Due, next_id, next_audit, file_of, due_of}
 use Rattle.hail_machine.specs.Setups.{object_of, stripes_of}
 use Rattle.hail_machine.specs.Jobs.{Kind, PutJob, GetJob, DropJob, AuditJob, RepairJob}
+use Rattle.hail_machine.specs.Events.{AreBytes}
 use Rattle.hail_machine.specs.Refusals.{Refusal}
 use Rattle.hail_machine.specs.Heard.{Entry}
 use Rattle.hail_commands.specs.Seen.{Seen, Ending, ReadsUpTo, IsRefused, provider_at}
@@ -36,12 +37,17 @@ use Rattle.hail_commands.specs.Blocks.{DroppedFrom}
 use Rattle.hail_commands.specs.Puts.{StoresFile}
 use Rattle.hail_commands.specs.Audits.{HearsRounds, CountsHeard}
 use Rattle.hail_commands.specs.Repairs.{RewritesAll}
+use Rattle.hail_commands.specs.Jobs.{IsTold}
 use Rattle.command_laws.specs.Failing.{bad_seen}
 
 -- the disk tells that it reads these records, and enough providers are handed in
 pub record IsKnown (old : Seen) (records : List Record) : Type 0 where
   pub tells : is_some old.disk ≡ true
   pub opened : IsOpened old records
+
+-- the command is done, and its text was written, or cut off by a fault of the sink
+abbrev pub IsDone : Ending → Type 0
+IsDone end = (end.status ≡ 0) ⊎ (end.status ≡ 15)
 
 -- the text was written, at status 0
 abbrev pub Gives : List ℕ → Seen → Seen → Ending → Type 0
@@ -95,11 +101,6 @@ abbrev pub HoldsFile : List Record → Seen → List ℕ → File → ℕ → Ty
 HoldsFile records new bytes file j = (stripe : ℕ) → stripe < stripes_of (setup_at records) file.size →
     IfSome (provider_at new.providers j).held (λ held. held file.id stripe ≡ Some (columns (object_of (setup_at records) file.id) bytes j stripe))
 
--- each provider that an audit flagged, and that tells, holds the columns of these bytes of each file in effect
-abbrev pub FlaggedHold : List Record → Seen → Due → (ℕ → List ℕ) → Type 0
-FlaggedHold records new due bytes = (name : List ℕ) (file : File) (j : ℕ) → file_of records name ≡ Some file → j < (setup_at records).n →
-    is_flagged (setup_at records).tolerance due.counts j ≡ true → HoldsFile records new (bytes file.id) file j
-
 -- the records after a put
 abbrev pub after_put : List Record → List ℕ → ℕ → List Record
 after_put records name size = PutDone (next_id records) size ∷ PutStart (next_id records) name ∷ records
@@ -129,9 +130,10 @@ pub record IsPut (name : List ℕ) (old new : Seen) (end : Ending) : Type 0 wher
   pub records : List Record
   pub bytes : List ℕ
   pub opened : IsOpened old records
+  pub are_bytes : AreBytes bytes
   pub read : ReadsUpTo (largest_file + 1) old.source new.source bytes
   pub whole : IfSome new.source (λ left. left ≡ [])
-  pub told : Gives (stored_line name (length bytes)) old new end
+  pub told : IsTold (stored_line name (length bytes)) old new end
   pub disk : DiskHas (after_put records name (length bytes)) new
   pub in_effect : file_of (after_put records name (length bytes)) name ≡ Some (record { name = name; id = next_id records; size = length bytes })
   pub stored : StoresFile (ran_to (after_put records name (length bytes)) records old new end.heard) name bytes
@@ -142,7 +144,7 @@ pub record IsDropped (name : List ℕ) (old new : Seen) (end : Ending) : Type 0 
   pub file : File
   pub opened : IsOpened old records
   pub was_in_effect : file_of records name ≡ Some file
-  pub told : Gives (dropped_line name) old new end
+  pub told : IsTold (dropped_line name) old new end
   pub disk : DiskHas (after_drop records name) new
   pub out_of_effect : file_of (after_drop records name) name ≡ None
   pub gone : EachHeldGoes (ran_to (after_drop records name) records old new end.heard)
@@ -154,7 +156,7 @@ pub record IsAudited (old new : Seen) (end : Ending) : Type 0 where
   pub undecided : ℕ
   pub counts : List ℕ
   pub opened : IsOpened old records
-  pub told : Gives (audit_lines (setup_at records).tolerance (next_audit records) undecided counts) old new end
+  pub told : IsTold (audit_lines (setup_at records).tolerance (next_audit records) undecided counts) old new end
   pub disk : DiskHas (after_audit records undecided counts) new
   pub heard : HearsRounds (ran_to (after_audit records undecided counts) records old new end.heard) (next_audit records)
   pub counted : CountsHeard (ran_to (after_audit records undecided counts) records old new end.heard) (next_audit records) undecided counts
@@ -165,6 +167,6 @@ pub record IsRepaired (old new : Seen) (end : Ending) : Type 0 where
   pub due : Due
   pub opened : IsOpened old records
   pub is_due : due_of records ≡ Some due
-  pub told : Gives (repaired_line due.number) old new end
+  pub told : IsTold (repaired_line due.number) old new end
   pub disk : DiskHas (after_repair records due) new
   pub rewritten : RewritesAll (ran_to (after_repair records due) records old new end.heard) due
