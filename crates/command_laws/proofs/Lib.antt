@@ -29,3 +29,4 @@ pub mod Unopened
 pub mod Causes
 pub mod Anew
 pub mod Unforged
+pub mod Images

@@ -4,4 +4,5 @@
 pub mod alone;
 pub mod ends;
 pub mod files;
+pub mod kept;
 pub mod laws;
