@@ -30,3 +30,4 @@ pub mod Causes
 pub mod Anew
 pub mod Unforged
 pub mod Images
+pub mod InitEnds
