@@ -1,5 +1,5 @@
 -- What the images of the disk stand for after a command.
-use Rattle.std.proofs.Common.{◌≡◌, ◌≢◌, ℕ, suc, ◌+◌, ◌<◌, ◌≤◌, ◌⊎◌, Bool, true, false, List, [], ◌∷◌, ◌++◌, length, take, drop, reverse, Option, None, Some, refl, ap, sym, subst, ◌∙◌, inl, inr, arith, append_assoc, length-append}
+use Rattle.std.proofs.Common.{◌≡◌, ◌≢◌, ℕ, suc, ◌+◌, ◌<◌, ◌≤◌, ◌⊎◌, true, false, List, [], ◌∷◌, ◌++◌, length, take, drop, reverse, Option, None, Some, refl, ap, sym, subst, ◌∙◌, inl, inr, arith, append_assoc, length-append}
 use Rattle.std.specs.Prelude.{IfSome, IsSomeAnd, is_some}
 use Rattle.std.specs.Option.{option_map}
 use Rattle.std.proofs.Math.Seq.{take-append_seam, take-append-add, take-length}
@@ -18,13 +18,13 @@ use Rattle.hail_machine.specs.Answers as answer
 use Rattle.hail_machine.specs.Answers.{Answer}
 use Rattle.hail_commands.specs.Forms.{Command, Numbers, RowOf, InitWith, PutUnder, GetOf, DropOf, ListAll, AuditAll, RepairDue}
 use Rattle.hail_commands.specs.Seen.{Seen, Ending, IsRefused, IsResynced}
-use Rattle.hail_commands.specs.Openings.{journal_read, IsFree, IsSetUpOn, MayBeLeft}
+use Rattle.hail_commands.specs.Openings.{IsFree, IsSetUpOn, MayBeLeft}
 use Rattle.hail_commands.specs.Opens.{IsOpened, Unstarted}
 use Rattle.hail_commands.specs.Ran.{Ran, IsWhole, IsCut, IsCutInDoubt}
 use Rattle.hail_commands.specs.Puts.{put_records}
 use Rattle.hail_commands.specs.Audits.{audit_records}
 use Rattle.hail_commands.specs.Jobs.{AnswersJob, LeavesBy}
-use Rattle.hail_commands.specs.Inits.{setup_with, AnswersInit, InitsDisk, FailsToInit}
+use Rattle.hail_commands.specs.Inits.{setup_with, AnswersInit, InitsDisk}
 use Rattle.hail_commands.specs.Commands.{AnswersPut, AnswersAlone, AnswersList, Answers}
 use Rattle.command_laws.specs.Ends.{IsKnown, IsJobOf, opens_store}
 use Rattle.command_laws.specs.Kept.{KeepsImages, AreAppended, IsAfter, LeavesImages, InitImages}
@@ -66,6 +66,10 @@ keeps-resynced (Some old) (Some new) g = image-resynced old new g
 keeps-synced : (old new : Option Cells) → new ≡ option_map synced old → Keeps old new
 keeps-synced None new is = tt
 keeps-synced (Some old) new is = subst (λ (d : Option Cells). EachImage d (IsImage old)) (sym is) (image-synced old)
+
+pub keeps-same : (old new : Option Cells) → new ≡ old → Keeps old new
+keeps-same None new is = tt
+keeps-same (Some old) new is = subst (λ (d : Option Cells). EachImage d (IsImage old)) (sym is) (λ image of. of)
 
 pub refused-keeps : (status at : ℕ) (old new : Seen) (end : Ending) → IsRefused status at old new end → KeepsImages old new
 refused-keeps status at old new end r = keeps-resynced old.disk new.disk r.disk
@@ -147,11 +151,11 @@ image-after x kind some W image (inl (inr empty)) = absurd (some (none-behind (r
 image-after x kind some W image (inr entry) = elim W.2.doubt [
   | inl sure ↦ absurd (subst (λ d. IsSomeAnd d (λ e. StandsFor image (e ∷ x.after))) sure entry)
   | inr (next, is, more) ↦ record {
-      own = W.0;
-      are_own = W.1;
-      count = suc W.2.count;
-      stands = subst (StandsFor image) more (subst (λ d. IsSomeAnd d (λ e. StandsFor image (e ∷ x.after))) is entry);
-    }
+    own = W.0;
+    are_own = W.1;
+    count = suc W.2.count;
+    stands = subst (StandsFor image) more (subst (λ d. IsSomeAnd d (λ e. StandsFor image (e ∷ x.after))) is entry);
+  }
 ]
 
 images-after : (x : Ran) (kind : Kind) → x.records ≢ [] → Wrote x kind → (told : Option Cells) →

@@ -1,5 +1,5 @@
 -- How `init` and `list` end, and what they have done where they are done.
-use Rattle.std.proofs.Common.{◌≡◌, ◌≢◌, ℕ, ◌+◌, ◌<◌, ◌≤◌, ◌⊎◌, true, false, List, [], ◌∷◌, ◌++◌, length, take, Option, None, Some, refl, ap, sym, subst, ◌∙◌, inl, inr, arith, length-append, length-take}
+use Rattle.std.proofs.Common.{◌≡◌, ◌≢◌, ℕ, ◌<◌, ◌≤◌, ◌⊎◌, true, false, List, [], ◌∷◌, ◌++◌, length, take, Option, None, Some, ap, sym, subst, ◌∙◌, inl, inr, arith, length-append, length-take}
 use Rattle.std.specs.Prelude.{IfSome, Ok}
 use Rattle.std.proofs.Math.Seq.{take-append_seam}
 use Rattle.std.proofs.lemmas.Bool.{false≢true}
@@ -8,7 +8,6 @@ use Rattle.hail_devices.specs.Cells.{Cells, reads}
 use Rattle.hail_devices.specs.Faults.{Rose}
 use Rattle.hail_devices.specs.Told.{Goes}
 use Rattle.hail_records.specs.Records.{Record, Setup, SetUp, PutStart, PutDone, Drop, AuditStart, AuditDone, RepairDone, is_setup, largest_journal}
-use Rattle.hail_records.specs.Journal.{StandsFor}
 use Rattle.hail_records.specs.Table.{files_of}
 use Rattle.journal_core.proofs.Meanings.{one_meaning, bad_is_none, one_place}
 use Rattle.hex.specs.Hex.{decode_of}

@@ -31,3 +31,5 @@ pub mod Anew
 pub mod Unforged
 pub mod Images
 pub mod InitEnds
+pub mod RowCauses
+pub mod Failed
