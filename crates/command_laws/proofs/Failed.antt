@@ -15,22 +15,24 @@ use Rattle.hail_machine.specs.Answers as answer
 use Rattle.hail_machine.specs.Answers.{Answer}
 use Rattle.hail_machine.specs.Heard.{Entry}
 use Rattle.hail_machine.specs.Refusals.{Refusal}
-use Rattle.hail_commands.specs.Forms.{Numbers}
+use Rattle.hail_commands.specs.Forms.{Command, Numbers, RowOf, InitWith, PutUnder, GetOf, DropOf, ListAll, AuditAll, RepairDue}
 use Rattle.hail_commands.specs.Sinking.{Writes}
 use Rattle.hail_commands.specs.Seen.{Seen, Ending, IsRefused, ReadsUpTo, provider_at, sinking}
 use Rattle.hail_commands.specs.Opens.{IsOpened, Unstarted, setup_at}
 use Rattle.hail_commands.specs.Refusals.{status_of}
+use Rattle.hail_commands.specs.Ran.{Ran}
 use Rattle.hail_commands.specs.Lines.{text_of}
 use Rattle.hail_commands.specs.Puts.{PutLeaves}
 use Rattle.hail_commands.specs.Gets.{GetLeaves, LosesStripe}
 use Rattle.hail_commands.specs.Repairs.{RepairGives, LosesPlace}
-use Rattle.hail_commands.specs.Jobs.{AnswersJob, EndsBy, LeftAlone}
+use Rattle.hail_commands.specs.Jobs.{AnswersJob, EndsBy, LeavesBy, LeftAlone}
 use Rattle.hail_commands.specs.Inits.{AnswersInit, InitsDisk}
-use Rattle.hail_commands.specs.Commands.{AnswersPut, AnswersAlone, AnswersList}
+use Rattle.hail_commands.specs.Commands.{AnswersPut, AnswersAlone, AnswersList, Answers}
 use Rattle.command_laws.specs.Ends.{ran_to}
-use Rattle.command_laws.specs.Kept.{SameFetches, FailsToPut, FailsToRepair, LosesFile, LosesRepair}
+use Rattle.command_laws.specs.Kept.{SameFetches, stores_blocks, opens_rows, FailsToPut, FailsToRepair, LosesFile, LosesRepair}
 use Rattle.command_laws.proofs.Known.{refused-not}
 use Rattle.command_laws.proofs.GetEnds.{ran_left}
+use Rattle.command_laws.proofs.RowCauses.{none-at}
 use Rattle.command_laws.proofs.JobEnds.{unstarted-refused, images-have}
 
 -- ---- nothing is fetched
@@ -260,3 +262,119 @@ repair-loses old new end (AnswersAlone.begun records opened (AnswersJob.refused 
 repair-loses old new end (AnswersAlone.begun records opened (AnswersJob.no_memory after r)) is = absurd (memory-own 4 end.status r.status_is is (inr refl))
 repair-loses old new end (AnswersAlone.begun records opened (AnswersJob.ended how none runs left by)) is =
     (let L = left.leaves.by_kind.0 in lost-by records old new end opened how left L.due L.is_due L.gives by is)
+
+-- ---- no other command ends so
+
+-- a job that ended so ended in a store that failed, or a lost row
+data OwnEnd (how : Answer) : Type 0 where
+  store : (j : ℕ) → how ≡ answer.ProviderFault j → OwnEnd how
+  lost : (stripe row : ℕ) → how ≡ answer.Lost stripe row → OwnEnd how
+
+own-end : (m : ℕ) (text : List ℕ) (how : Answer) (old new : Seen) (end : Ending) → EndsBy text how old new end → end.status ≡ m → IsOwn m → OwnEnd how
+own-end m text (answer.Lost stripe row) old new end by is own = OwnEnd.lost stripe row refl
+own-end m text (answer.ProviderFault j) old new end by is own = OwnEnd.store j refl
+own-end m text answer.DiskFault old new end by is (inl k) = absurd (differ end.status 12 m by.status_is is (λ e. omega (arith, k, e)))
+own-end m text answer.DiskFault old new end by is (inr k) = absurd (differ end.status 12 m by.status_is is (λ e. omega (arith, k, e)))
+own-end m text answer.Memory old new end by is own = absurd (memory-own m end.status by.status_is is own)
+own-end m text answer.Put old new end by is own = absurd (written-own m text old new end by.written is own)
+own-end m text (answer.Got bytes) old new end by is own = absurd (written-own m text old new end by.written is own)
+own-end m text answer.Dropped old new end by is own = absurd (written-own m text old new end by.written is own)
+own-end m text (answer.Audited number undecided counts) old new end by is own = absurd (written-own m text old new end by.written is own)
+own-end m text (answer.Repaired number) old new end by is own = absurd (written-own m text old new end by.written is own)
+
+-- which kinds of job end so
+abbrev Ends13 : Kind → Type 0
+Ends13 (PutJob name bytes) = Unit {0}
+Ends13 RepairJob = Unit {0}
+Ends13 kind = ⊥
+
+abbrev Ends4 : Kind → Type 0
+Ends4 (GetJob name) = Unit {0}
+Ends4 RepairJob = Unit {0}
+Ends4 kind = ⊥
+
+store-kind : (x : Ran) (kind : Kind) (j : ℕ) → LeavesBy x kind (answer.ProviderFault j) → Ends13 kind
+store-kind x (PutJob name bytes) j L = tt
+store-kind x (GetJob name) j L = L.gives
+store-kind x (DropJob name) j L = L.0
+store-kind x AuditJob j L = L.gives
+store-kind x RepairJob j L = tt
+
+lost-kind : (x : Ran) (kind : Kind) (stripe row : ℕ) → LeavesBy x kind (answer.Lost stripe row) → Ends4 kind
+lost-kind x (PutJob name bytes) stripe row L = L.0
+lost-kind x (GetJob name) stripe row L = tt
+lost-kind x (DropJob name) stripe row L = L.0
+lost-kind x AuditJob stripe row L = L.gives
+lost-kind x RepairJob stripe row L = tt
+
+ended-13 : (kind : Kind) (text : List ℕ) (how : Answer) (x : Ran) (old new : Seen) (end : Ending) → LeavesBy x kind how → EndsBy text how old new end → end.status ≡ 13 → Ends13 kind
+ended-13 kind text how x old new end L by is = go (own-end 13 text how old new end by is (inl refl))
+  where
+    go : OwnEnd how → Ends13 kind
+    go (OwnEnd.store j same) = store-kind x kind j (subst (LeavesBy x kind) same L)
+    go (OwnEnd.lost stripe row same) = absurd (let told = subst (λ h. EndsBy text h old new end) same by in differ end.status 4 13 told.status_is is (λ e. omega (arith, e)))
+
+ended-4 : (kind : Kind) (text : List ℕ) (how : Answer) (x : Ran) (old new : Seen) (end : Ending) → LeavesBy x kind how → EndsBy text how old new end → end.status ≡ 4 → Ends4 kind
+ended-4 kind text how x old new end L by is = go (own-end 4 text how old new end by is (inr refl))
+  where
+    go : OwnEnd how → Ends4 kind
+    go (OwnEnd.lost stripe row same) = lost-kind x kind stripe row (subst (LeavesBy x kind) same L)
+    go (OwnEnd.store j same) = absurd (let told = subst (λ h. EndsBy text h old new end) same by in differ end.status 13 4 told.status_is is (λ e. omega (arith, e)))
+
+alone-13 : (kind : Kind) (old new : Seen) (end : Ending) → AnswersAlone kind old new end → end.status ≡ 13 → Ends13 kind
+alone-13 kind old new end (AnswersAlone.unstarted u) is = absurd (unstarted-own 13 old new end u is (inl refl))
+alone-13 kind old new end (AnswersAlone.begun records opened (AnswersJob.refused why applies after r)) is = absurd (refused-own 13 why end.status r.status_is is (inl refl))
+alone-13 kind old new end (AnswersAlone.begun records opened (AnswersJob.no_memory after r)) is = absurd (memory-own 13 end.status r.status_is is (inl refl))
+alone-13 kind old new end (AnswersAlone.begun records opened (AnswersJob.ended how none runs left by)) is = ended-13 kind _ how (ran_left records kind how old new end.heard left) old new end left.leaves.by_kind by is
+
+job-4 : (kind : Kind) (records : List Record) (old new : Seen) (end : Ending) → AnswersJob kind records old new end → end.status ≡ 4 → Ends4 kind
+job-4 kind records old new end (AnswersJob.refused why applies after r) is = absurd (refused-own 4 why end.status r.status_is is (inr refl))
+job-4 kind records old new end (AnswersJob.no_memory after r) is = absurd (memory-own 4 end.status r.status_is is (inr refl))
+job-4 kind records old new end (AnswersJob.ended how none runs left by) is = ended-4 kind _ how (ran_left records kind how old new end.heard left) old new end left.leaves.by_kind by is
+
+alone-4 : (kind : Kind) (old new : Seen) (end : Ending) → AnswersAlone kind old new end → end.status ≡ 4 → Ends4 kind
+alone-4 kind old new end (AnswersAlone.unstarted u) is = absurd (unstarted-own 4 old new end u is (inr refl))
+alone-4 kind old new end (AnswersAlone.begun records opened A) is = job-4 kind records old new end A is
+
+put-4 : (name : List ℕ) (old new : Seen) (end : Ending) → AnswersPut name old new end → end.status ≡ 4 → ⊥
+put-4 name old new end (AnswersPut.unstarted u same) is = unstarted-own 4 old new end u is (inr refl)
+put-4 name old new end (AnswersPut.source_fault records opened rose after r) is = differ end.status 14 4 r.status_is is (λ e. omega (arith, e))
+put-4 name old new end (AnswersPut.no_memory r) is = memory-own 4 end.status r.status_is is (inr refl)
+put-4 name old new end (AnswersPut.begun records bytes opened read A) is = job-4 (PutJob name bytes) records old new end A is
+
+list-own : (m : ℕ) (old new : Seen) (end : Ending) → AnswersList old new end → end.status ≡ m → IsOwn m → ⊥
+list-own m old new end (AnswersList.unstarted u) is own = unstarted-own m old new end u is own
+list-own m old new end (AnswersList.no_memory r) is own = memory-own m end.status r.status_is is own
+list-own m old new end (AnswersList.listed records opened L) is own = written-own m _ old new end L.written is own
+
+init-own : (m : ℕ) (numbers : Numbers) (old new : Seen) (end : Ending) → AnswersInit numbers old new end → end.status ≡ m → IsOwn m → ⊥
+init-own m numbers old new end (AnswersInit.no_memory r) is own = memory-own m end.status r.status_is is own
+init-own m numbers old new end (AnswersInit.keyed seen key good enough read form (InitsDisk.no_memory F)) is own = memory-own m end.status F.status_is is own
+init-own m numbers old new end (AnswersInit.keyed seen key good enough read form (InitsDisk.ready R)) is own = written-own m _ old new end R.written is own
+init-own m numbers old new end (AnswersInit.bad_setup bad same r) is own = differ end.status 20 m r.status_is is (λ e. elim own [ inl k ↦ omega (arith, k, e) | inr k ↦ omega (arith, k, e) ])
+init-own m numbers old new end (AnswersInit.too_few_providers good few same r) is own = differ end.status 22 m r.status_is is (λ e. elim own [ inl k ↦ omega (arith, k, e) | inr k ↦ omega (arith, k, e) ])
+init-own m numbers old new end (AnswersInit.source_fault good enough rose r) is own = differ end.status 14 m r.status_is is (λ e. elim own [ inl k ↦ omega (arith, k, e) | inr k ↦ omega (arith, k, e) ])
+init-own m numbers old new end (AnswersInit.bad_key seen good enough read none r) is own = differ end.status 18 m r.status_is is (λ e. elim own [ inl k ↦ omega (arith, k, e) | inr k ↦ omega (arith, k, e) ])
+init-own m numbers old new end (AnswersInit.keyed seen key good enough read form (InitsDisk.disk_fault rose F)) is own = differ end.status 12 m F.status_is is (λ e. elim own [ inl k ↦ omega (arith, k, e) | inr k ↦ omega (arith, k, e) ])
+init-own m numbers old new end (AnswersInit.keyed seen key good enough read form (InitsDisk.bad_journal at cause r)) is own = differ end.status 8 m r.status_is is (λ e. elim own [ inl k ↦ omega (arith, k, e) | inr k ↦ omega (arith, k, e) ])
+init-own m numbers old new end (AnswersInit.keyed seen key good enough read form (InitsDisk.already cause r)) is own = differ end.status 10 m r.status_is is (λ e. elim own [ inl k ↦ omega (arith, k, e) | inr k ↦ omega (arith, k, e) ])
+
+pub stores-only : (command : Command) (old new : Seen) (end : Ending) → Answers command old new end → end.status ≡ 13 → stores_blocks command ≡ true
+stores-only (RowOf n l b seen) old new end A is = absurd (none-at n l b seen old new end A.0 13 is (λ e. omega (arith, e)) (λ e. omega (arith, e)) (λ e. omega (arith, e)) (λ e. omega (arith, e)) (λ e. omega (arith, e)))
+stores-only (InitWith numbers) old new end A is = absurd (init-own 13 numbers old new end A is (inl refl))
+stores-only (PutUnder name) old new end A is = refl
+stores-only (GetOf name) old new end A is = absurd (alone-13 (GetJob name) old new end A.0 is)
+stores-only (DropOf name) old new end A is = absurd (alone-13 (DropJob name) old new end A.0 is)
+stores-only ListAll old new end A is = absurd (list-own 13 old new end A.0 is (inl refl))
+stores-only AuditAll old new end A is = absurd (alone-13 AuditJob old new end A.0 is)
+stores-only RepairDue old new end A is = refl
+
+pub rows-only : (command : Command) (old new : Seen) (end : Ending) → Answers command old new end → end.status ≡ 4 → opens_rows command ≡ true
+rows-only (RowOf n l b seen) old new end A is = refl
+rows-only (InitWith numbers) old new end A is = absurd (init-own 4 numbers old new end A is (inr refl))
+rows-only (PutUnder name) old new end A is = absurd (put-4 name old new end A is)
+rows-only (GetOf name) old new end A is = refl
+rows-only (DropOf name) old new end A is = absurd (alone-4 (DropJob name) old new end A.0 is)
+rows-only ListAll old new end A is = absurd (list-own 4 old new end A.0 is (inr refl))
+rows-only AuditAll old new end A is = absurd (alone-4 AuditJob old new end A.0 is)
+rows-only RepairDue old new end A is = refl

@@ -26,7 +26,7 @@ module _ (n l b : ℕ) (seen : List (Option ℕ)) (old new : Seen) (end : Ending
       no-shape : IsShape n l b → ⊥
       no-shape shape = told _ (A.lost shape (λ p accepted. written _ (A.held shape p accepted)))
 
-  none-at : (m : ℕ) → end.status ≡ m → m ≢ 0 → m ≢ 4 → m ≢ 20 → m ≢ 70 → m ≢ 15 → ⊥
+  pub none-at : (m : ℕ) → end.status ≡ m → m ≢ 0 → m ≢ 4 → m ≢ 20 → m ≢ 70 → m ≢ 15 → ⊥
   none-at m is zero four twenty memory other = none-else m is zero four twenty memory (λ e rose. other e)
 
   sink-rose : end.status ≡ 15 → Rose old.sink_faults new.sink_faults

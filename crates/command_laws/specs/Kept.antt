@@ -7,9 +7,10 @@
 --                                 stands for these with some that it wrote
 --   InitImages numbers old new == a store was set up with these numbers, or each image is one that a failed init may leave
 --   SameFetches old new        == no provider was fetched from
+--   stores_blocks command, opens_rows command  == a put and a repair; a get, a repair and a row
 --   FailsToPut name old new end, FailsToRepair  == what a put and a repair leave of which a store failed
 --   LosesFile name old new end, LosesRepair     == what a get and a repair leave that found a row lost
-use Rattle.std.specs.Prelude.{◌≡◌, ◌⊎◌, ℕ, ◌+◌, ◌<◌, true, List, [], ◌∷◌, ◌++◌, length, reverse, take, Some, IfSome}
+use Rattle.std.specs.Prelude.{◌≡◌, ◌⊎◌, ℕ, ◌+◌, ◌<◌, Bool, true, false, List, [], ◌∷◌, ◌++◌, length, reverse, take, Some, IfSome}
 use Rattle.hail_columns.specs.Verdicts.{is_flagged}
 use Rattle.hail_devices.specs.Faults.{Rose}
 use Rattle.hail_devices.specs.Images.{IsImage, EachImage}
@@ -19,7 +20,7 @@ use Rattle.hail_records.specs.Journal.{StandsFor}
 use Rattle.hail_records.specs.Table.{File, Due, next_id, file_of, due_of}
 use Rattle.hail_machine.specs.Events.{AreBytes}
 use Rattle.hail_machine.specs.Jobs.{Kind, PutJob, GetJob, DropJob, AuditJob, RepairJob}
-use Rattle.hail_commands.specs.Forms.{Command, Numbers}
+use Rattle.hail_commands.specs.Forms.{Command, Numbers, RowOf, PutUnder, GetOf, RepairDue}
 use Rattle.hail_commands.specs.Seen.{Seen, Ending, ReadsUpTo, provider_at}
 use Rattle.hail_commands.specs.Openings.{IsSetUpOn, MayBeLeft}
 use Rattle.hail_commands.specs.Opens.{IsOpened, setup_at}
@@ -63,6 +64,19 @@ InitImages numbers old new = (key : List ℕ) × (Goes (IsSetUpOn (setup_with nu
 -- no provider was fetched from
 abbrev pub SameFetches : Seen → Seen → Type 0
 SameFetches old new = (j : ℕ) → (provider_at new.providers j).fetches ≡ (provider_at old.providers j).fetches
+
+-- a command that stores blocks
+abbrev pub stores_blocks : Command → Bool
+stores_blocks (PutUnder name) = true
+stores_blocks RepairDue = true
+stores_blocks command = false
+
+-- a command that opens rows
+abbrev pub opens_rows : Command → Bool
+opens_rows (RowOf n l b seen) = true
+opens_rows (GetOf name) = true
+opens_rows RepairDue = true
+opens_rows command = false
 
 -- the records after the first append of a put
 abbrev pub after_start : List Record → List ℕ → List Record

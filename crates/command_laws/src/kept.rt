@@ -8,7 +8,7 @@ ghost use Rattle.hail_commands.specs.Forms.{Command, Numbers, RowOf, InitWith, P
 ghost use Rattle.hail_commands.specs.Seen.{Seen, Ending, IsRefused};
 ghost use Rattle.hail_commands.specs.Commands.{Answers};
 ghost use Rattle.command_laws.specs.Ends.{IsKnown, IsJobOf, opens_store};
-ghost use Rattle.command_laws.specs.Kept.{KeepsImages, IsAfter, LeavesImages, InitImages, SameFetches, FailsToPut, FailsToRepair, LosesFile, LosesRepair};
+ghost use Rattle.command_laws.specs.Kept.{KeepsImages, IsAfter, LeavesImages, InitImages, SameFetches, stores_blocks, opens_rows, FailsToPut, FailsToRepair, LosesFile, LosesRepair};
 
 /// What a stop may leave of the disk after a command: what it could have left before, or, where a job was run, the records that were read
 /// with the first few of those that the job wrote. An init leaves a store that is set up as it is.
@@ -35,16 +35,21 @@ pub fn others_fetch_nothing()
 {}
 
 /// A put of status 13 has used its number, and no file came into effect or went out of it. A repair of status 13 stays due.
+/// No other command ends so.
 pub fn failed_stores_leave()
     ensures put { (name : List ℕ) (old new : Seen) (end : Ending) → Answers (PutUnder name) old new end → end.status ≡ 13 →
         FailsToPut name old new end }
     ensures repair { (old new : Seen) (end : Ending) → Answers RepairDue old new end → end.status ≡ 13 → FailsToRepair old new end }
+    ensures only { (command : Command) (old new : Seen) (end : Ending) → Answers command old new end → end.status ≡ 13 →
+        stores_blocks command ≡ true }
 {}
 
 /// A get or a repair of status 4 tells a row that was not accepted, the lowest of the first stripe that has one, from what the fetches
-/// gave. A repair stays due.
+/// gave. A repair stays due. But for a row, no other command ends so.
 pub fn lost_rows_are_told()
     ensures get { (name : List ℕ) (old new : Seen) (end : Ending) → Answers (GetOf name) old new end → end.status ≡ 4 →
         LosesFile name old new end }
     ensures repair { (old new : Seen) (end : Ending) → Answers RepairDue old new end → end.status ≡ 4 → LosesRepair old new end }
+    ensures only { (command : Command) (old new : Seen) (end : Ending) → Answers command old new end → end.status ≡ 4 →
+        opens_rows command ≡ true }
 {}
