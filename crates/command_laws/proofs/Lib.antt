@@ -29,3 +29,7 @@ pub mod Unopened
 pub mod Causes
 pub mod Anew
 pub mod Unforged
+pub mod Images
+pub mod InitEnds
+pub mod RowCauses
+pub mod Failed

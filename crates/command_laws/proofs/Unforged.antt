@@ -1,15 +1,15 @@
 -- With few providers that are wrong or failed what a get heard holds no forgery, however it ended.
-use Rattle.std.proofs.Common.{◌≡◌, ℕ, zero, suc, ◌+◌, ◌<◌, ◌≤◌, ◌==◌, ◌&&◌, ◌⊎◌, Bool, true, false, cond, List, [], ◌∷◌, ◌++◌, length, map, Option, None, Some, refl, ap, sym, subst, ◌∙◌, inl, inr, arith}
+use Rattle.std.proofs.Common.{◌≡◌, ℕ, zero, suc, ◌+◌, ◌<◌, ◌≤◌, ◌==◌, ◌&&◌, Bool, true, false, List, [], ◌∷◌, ◌++◌, map, None, Some, refl, ap, sym, subst, ◌∙◌, inl, inr, arith}
 use Rattle.std.specs.List.{range_with_len, flat_map}
 use Rattle.std.proofs.lemmas.Bool.{cases_Bool, cases_lt, ne_eqb, and_parts, false≢true}
 use Rattle.hail_field.specs.Shape.{IsShape}
 use Rattle.poly_laws.specs.Poly.{is_seen as is_seen_over}
 use Rattle.hail_codes.specs.Polynomials.{value, is_seen}
 use Rattle.hail_codes.specs.Points.{upto}
-use Rattle.hail_columns.specs.Objects.{Object, stripes, point}
+use Rattle.hail_columns.specs.Objects.{Object, point}
 use Rattle.hail_columns.specs.Columns.{is_wrong_block, is_wrong}
-use Rattle.hail_columns.specs.Opened.{SeenBlock, AllOpen, OpensTo, symbol_in, block_at}
-use Rattle.hail_columns.specs.Forgeries.{count_of, is_agreeing, IsForgery}
+use Rattle.hail_columns.specs.Opened.{SeenBlock, OpensTo, symbol_in, block_at}
+use Rattle.hail_columns.specs.Forgeries.{is_agreeing, IsForgery}
 use Rattle.column_laws.proofs.Counts.{count_of-within, opens-at}
 use Rattle.column_laws.proofs.OtherRows.{forgery-of_other}
 use Rattle.hail_records.specs.Records.{Record}
@@ -21,8 +21,8 @@ use Rattle.hail_machine.specs.Answers as answer
 use Rattle.hail_machine.specs.Answers.{Answer}
 use Rattle.hail_machine.specs.Heard.{Entry, given_to, HoldsForgery}
 use Rattle.hail_machine.proofs.JobLists.{cond_true, cond_false, same_value}
-use Rattle.hail_machine.proofs.ActionLists.{Each, each_append, each_map, each_flat}
-use Rattle.hail_commands.specs.Seen.{Seen, Ending, IsRefused}
+use Rattle.hail_machine.proofs.ActionLists.{Each, each_append, each_map}
+use Rattle.hail_commands.specs.Seen.{Seen, Ending}
 use Rattle.hail_commands.specs.Opens.{setup_at}
 use Rattle.hail_commands.specs.Ran.{Ran, ran_alone, setup_at_begin, job_number}
 use Rattle.hail_commands.specs.Gets.{block_heard, HearsStripes, GetGives, GetLeaves}

@@ -1,5 +1,5 @@
 //! What a user may believe of a command, from its status and the counts of its devices: no run of its job and no state stands in it.
-ghost use Rattle.std.specs.Prelude.{◌≡◌, ◌≢◌, ◌⊎◌, ℕ, ◌+◌, ◌<◌, ◌≤◌, true, List, length, Some, None};
+ghost use Rattle.std.specs.Prelude.{◌≡◌, ◌≢◌, ◌⊎◌, ℕ, ◌+◌, ◌<◌, ◌≤◌, true, List, length, Option, Some, None};
 ghost use Rattle.hail_columns.specs.Verdicts.{is_flagged};
 ghost use Rattle.hail_devices.specs.Cells.{Cells};
 ghost use Rattle.hail_devices.specs.Faults.{Rose};
@@ -12,7 +12,7 @@ ghost use Rattle.hail_machine.specs.Jobs.{Kind, PutJob, DropJob, AuditJob, Repai
 ghost use Rattle.hail_machine.specs.Events.{AreBytes};
 ghost use Rattle.hail_machine.specs.Heard.{HoldsForgery};
 ghost use Rattle.hail_machine.specs.Refusals.{Refusal};
-ghost use Rattle.hail_commands.specs.Forms.{Command, Numbers, InitWith, PutUnder, GetOf, DropOf, ListAll, AuditAll, RepairDue};
+ghost use Rattle.hail_commands.specs.Forms.{Command, Numbers, RowOf, InitWith, PutUnder, GetOf, DropOf, ListAll, AuditAll, RepairDue};
 ghost use Rattle.hail_commands.specs.Seen.{Seen, Ending, IsRefused, provider_at};
 ghost use Rattle.hail_commands.specs.Openings.{journal_read, IsRead, IsBadStart};
 ghost use Rattle.hail_commands.specs.Opens.{setup_at};
@@ -158,4 +158,6 @@ pub fn faults_have_causes()
     ensures store { (command : Command) (old new : Seen) (end : Ending) → Answers command old new end → opens_store command ≡ true →
         FaultsHaveCauses old new end }
     ensures init { (numbers : Numbers) (old new : Seen) (end : Ending) → Answers (InitWith numbers) old new end → FaultsHaveCauses old new end }
+    ensures row { (n l b : ℕ) (seen : List (Option ℕ)) (old new : Seen) (end : Ending) → Answers (RowOf n l b seen) old new end →
+        FaultsHaveCauses old new end }
 {}

@@ -4,4 +4,6 @@
 pub mod alone;
 pub mod ends;
 pub mod files;
+pub mod inits;
+pub mod kept;
 pub mod laws;
