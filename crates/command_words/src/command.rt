@@ -9,7 +9,7 @@ use hail_field::Memory;
 use std::alloc::Global;
 
 /// A command that words spell. A name is the bytes of its word, whatever they are: they may be no name of a file.
-#[derive(Drop)]
+#[derive(Debug, PartialEq, Eq, Drop)]
 pub enum Command<'a> {
     Row(Row),
     Init(Numbers),
@@ -57,11 +57,15 @@ pub fn read_command<'a>(alloc: Global, words: &'a [String]) -> Result<Option<Com
         (λ command. IsForm words.now (command_of command))) }
 {
     match words {
-        [word] => Ok(read_bare(word)),
-        [word, name] => Ok(read_named(word, name)),
-        _ => match read_init(words) {
-            Some(numbers) => Ok(Some(Command::Init(numbers))),
-            None => Ok(read_row(alloc, words)?.map(Command::Row)),
-        },
+        [word] => return Ok(read_bare(word)),
+        [word, name] => return Ok(read_named(word, name)),
+        _ => {}
+    }
+    if let Some(numbers) = read_init(words) {
+        return Ok(Some(Command::Init(numbers)));
+    }
+    match read_row(alloc, words)? {
+        Some(row) => Ok(Some(Command::Row(row))),
+        None => Ok(None),
     }
 }
