@@ -1,6 +1,11 @@
 mod RowWords
 mod PointSteps
-mod LineSteps
 mod RowAnswers
-mod WordLaws
 mod AnswerLaws
+mod Sunk
+mod Refused
+mod SetUpEnds
+mod SetUpReads
+mod JobEnds
+mod Counts
+mod Told

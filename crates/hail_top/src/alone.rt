@@ -36,7 +36,7 @@ pub fn answer_job<D: Disk, P: Provider, K: Sink>(
         → IsFresh vault records (D.holds disk.old) (D.faults disk.old) → IsOpened old records
         → IsSeenBefore old (devices (D.holds disk.old) (D.faults disk.old) (map (as_seen P.held P.store_faults P.other_faults P.fetches) providers.old))
         → old.sink ≡ K.written sink.old → old.sink_faults ≡ K.faults sink.old
-        → AnswersOver (kind_of job) records old
+        → AnswersOver (kind_of job.entry) records old
         (seen (D.holds disk.new) (D.faults disk.new) (map (as_seen P.held P.store_faults P.other_faults P.fetches) providers.new) left read_faults
         (K.written sink.new) (K.faults sink.new)) (ending_of result) }
     ensures count { K.faults sink.old ≤ K.faults sink.new }
@@ -56,7 +56,7 @@ pub fn alone<D: Disk, P: Provider, K: Sink>(
     providers: &mut [P],
     sink: &mut K,
 ) -> Report
-    ensures answers { (left : Option (List ℕ)) (read_faults : ℕ) → AnswersAlone (kind_of job)
+    ensures answers { (left : Option (List ℕ)) (read_faults : ℕ) → AnswersAlone (kind_of job.entry)
         (seen (D.holds disk.old) (D.faults disk.old) (map (as_seen P.held P.store_faults P.other_faults P.fetches) providers.old) left read_faults
         (K.written sink.old) (K.faults sink.old))
         (seen (D.holds disk.new) (D.faults disk.new) (map (as_seen P.held P.store_faults P.other_faults P.fetches) providers.new) left read_faults

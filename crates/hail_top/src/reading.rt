@@ -44,11 +44,12 @@ pub fn read_up_to<S: Source>(alloc: Global, most: usize, source: &mut S) -> Resu
     let mut bytes = Vec::new(alloc);
     while bytes.len() < most {
         let room = piece.len().min(most - bytes.len());
-        let count = source.read(&mut piece[..room])?;
+        let out = &mut piece[..room];
+        let count = source.read(out)?;
         if count == 0 {
-            break;
+            return Ok(Bytes::from_vec(bytes));
         }
-        bytes.extend_from_slice(&piece[..count])?;
+        bytes.extend_from_slice(&out[..count])?;
     }
     Ok(Bytes::from_vec(bytes))
 }

@@ -32,7 +32,7 @@ fn answer<D: Disk, P: Tamper, S: Source, K: Sink>(
     sink: &mut K,
 ) -> Report
     requires { HasItsSymbols (command_of command) }
-    ensures answers { Answers (command_of command)
+    ensures answers { Answers (command_of command.entry)
         (seen (D.holds disk.old) (D.faults disk.old) (map (as_seen P.held P.store_faults P.other_faults P.fetches) providers.old) (S.left source.old)
         (S.faults source.old) (K.written sink.old) (K.faults sink.old))
         (seen (D.holds disk.new) (D.faults disk.new) (map (as_seen P.held P.store_faults P.other_faults P.fetches) providers.new) (S.left source.new)

@@ -1,10 +1,10 @@
 use Rattle.std.proofs.Common.{List, ℕ, Option, subst, sym, ◌∙◌}
 use Rattle.std.proofs.lemmas.List.FromFn.{length-range_with_len}
 use Rattle.hail_codes.specs.Points.{upto}
-use Rattle.hail_top.specs.Row.{Opens}
+use Rattle.hail_commands.specs.Row.{Opens}
 use Rattle.hail_top.proofs.PointSteps.{Apart-upto}
 use Rattle.hail_top.proofs.RowAnswers.{answers_held, AnswersRow-same}
-use Rattle.hail_top.proofs.row_command.answer_row.Goals as goal
+use Rattle.hail_top.proofs.row.answer_row.Goals as goal
 
 -- the values that were found are the only ones
 pub returns-in-Ok-Some-clause-answers : goal.returns-in-Ok-Some-clause-answers

@@ -1,6 +1,6 @@
 use Rattle.std.proofs.Common.{List, ◌++◌, ◌∷◌, ℕ, [], ap, ◌∙◌, sym}
 use Rattle.hail_top.proofs.PointSteps.{upto-more}
-use Rattle.hail_top.proofs.row_command.points.Goals as goal
+use Rattle.hail_top.proofs.row.points.Goals as goal
 
 pub loop-place-preserved : goal.loop-place-preserved
 loop-place-preserved c =

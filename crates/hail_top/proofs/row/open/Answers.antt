@@ -2,7 +2,7 @@ use Rattle.std.proofs.Common.{List, ℕ, length, ap, ◌∙◌, sym, subst}
 use Rattle.std.proofs.lemmas.List.FromFn.{length-range_with_len}
 use Rattle.field_laws.specs.Field.{Apart}
 use Rattle.hail_top.proofs.PointSteps.{Apart-upto}
-use Rattle.hail_top.proofs.row_command.open.Goals as goal
+use Rattle.hail_top.proofs.row.open.Goals as goal
 
 pub open_row-requires-clause-apart : goal.open_row-requires-clause-apart
 open_row-requires-clause-apart c =
