@@ -32,10 +32,10 @@ pub fn run_job<D: Disk, P: Provider>(
         → IsFresh vault records (D.holds disk.old) (D.faults disk.old) → opens.IsOpened old records
         → IsSeenBefore old (devices (D.holds disk.old) (D.faults disk.old) (map (as_seen P.held P.store_faults P.other_faults P.fetches) providers.old))
         → IsSeenAfter new (devices (D.holds disk.new) (D.faults disk.new) (map (as_seen P.held P.store_faults P.other_faults P.fetches) providers.new))
-        → EndsOver records (kind_of job) ended old new) }
+        → EndsOver records (kind_of job.entry) ended old new) }
     ensures padded { IfOk result (λ ended. HasPaddedCounts ended.answer) }
     ensures refused { IfErr result (λ why. (records : List Record)
-        → IsFresh vault records (D.holds disk.old) (D.faults disk.old) → IsRefusedOver records (kind_of job) why) }
+        → IsFresh vault records (D.holds disk.old) (D.faults disk.old) → IsRefusedOver records (kind_of job.entry) why) }
     ensures untouched { OnErr result ((disk.new ≡ disk.old) × (providers.new ≡ providers.old)) }
 {
     opened_states();
@@ -48,7 +48,7 @@ pub fn run_job<D: Disk, P: Provider>(
 fn begin(vault: &mut Vault, job: Job) -> Result<u32, BeginFault>
     requires { next_job_of vault.old < 2 ^ 32 - 1 }
     ensures { (w : State) (d : Devices) (moment : ℕ) → Stands vault.old d w
-        → MakesBegin w moment (kind_of job) result vault.new d }
+        → MakesBegin w moment (kind_of job.entry) result vault.new d }
 {
     match job {
         Job::Put { name, bytes } => vault.begin_put(name, bytes),
