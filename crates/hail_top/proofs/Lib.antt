@@ -2,10 +2,13 @@ mod RowWords
 mod PointSteps
 mod RowAnswers
 mod AnswerLaws
-mod Sunk
 mod Refused
 mod SetUpEnds
 mod SetUpReads
+mod AnswerTexts
 mod JobEnds
-mod Counts
+mod Unopened
+mod Opened
+mod PutEnds
+mod ListEnds
 mod Told
