@@ -1,16 +1,15 @@
 -- What a job's answer tells, by its kind.
-use Rattle.std.proofs.Common.{◌≡◌, ℕ, zero, List, [], take, Option, None, Some, refl, ap, sym, ◌∙◌, ◌⊎◌, inl, inr, subst, arith, append-nil}
-use Rattle.std.specs.Option.{option_map}
+use Rattle.std.proofs.Common.{◌≡◌, ℕ, List, take, Option, None, Some, refl, ap, sym, ◌∙◌, inl, inr, subst, arith, append-nil}
 use Rattle.hail_devices.specs.Told.{told_then, TakesFront}
 use Rattle.hail_machine.specs.Jobs.{Kind, PutJob, GetJob, DropJob, AuditJob, RepairJob}
 use Rattle.hail_machine.specs.Answers.{Answer, Put, Got, Dropped, Audited, Repaired, Lost, ProviderFault, DiskFault, Memory}
-use Rattle.hail_commands.specs.Sinking.{Sinking, Writes}
+use Rattle.hail_commands.specs.Sinking.{Writes}
 use Rattle.hail_commands.specs.Seen.{Seen, Ending, sinking}
 use Rattle.hail_commands.specs.Lines.{text_of, stored_line, dropped_line, audit_lines}
 use Rattle.hail_commands.specs.Ran.{Ran}
-use Rattle.hail_commands.specs.Jobs.{LeavesBy, EndsBy, IsSilent, IsTold}
+use Rattle.hail_commands.specs.Jobs.{LeavesBy, EndsBy}
 use Rattle.hail_top.specs.declared.tell.Subject.{Subject}
-use Rattle.hail_top.specs.Telling.{IsSubject, IsTextOf, IsFaultOf, WritesAnswer, TellsFault, TellsAnswer}
+use Rattle.hail_top.specs.Telling.{IsSubject, IsTextOf, IsFaultOf, TellsAnswer}
 
 -- the text that was told is that of the kind of job, since its answer is one of this kind
 text-by_kind : (x : Ran) (s : Subject) (tolerance : ℕ) (answer : Answer) (kind : Kind) (text : List ℕ) → LeavesBy x kind answer → IsSubject s tolerance kind
@@ -47,7 +46,7 @@ text-by_kind x s tolerance DiskFault kind text leaves subject is = absurd is
 text-by_kind x s tolerance Memory kind text leaves subject is = absurd is
 
 -- nothing was written
-front-none : (old new : Option (List ℕ)) (text : List ℕ) → new ≡ old → TakesFront old new text
+pub front-none : (old new : Option (List ℕ)) (text : List ℕ) → new ≡ old → TakesFront old new text
 front-none old new text same = (0, omega arith, same ∙ nothing old)
   where
     nothing : (told : Option (List ℕ)) → told ≡ told_then told (take 0 text)

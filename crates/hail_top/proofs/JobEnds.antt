@@ -1,5 +1,5 @@
 -- How a command ends that runs a job over a vault just opened.
-use Rattle.std.proofs.Common.{◌≡◌, ℕ, ◌≤◌, List, length, Option, Some, refl, ap, sym, ◌∙◌, ◌⊎◌, inl, inr, subst, arith}
+use Rattle.std.proofs.Common.{◌≡◌, ℕ, List, length, Option, ap, sym, ◌∙◌, inl, inr, subst, arith}
 use Rattle.std.specs.Option.{option_map}
 use Rattle.hail_devices.specs.Cells.{Cells, reads}
 use Rattle.hail_devices.specs.Providers.{Provider}
@@ -9,7 +9,6 @@ use Rattle.hail_machine.specs.Heard.{Entry}
 use Rattle.hail_commands.specs.Seen.{Seen, Ending, SameReads, provider_at, sinking}
 use Rattle.hail_commands.specs.Opens.{setup_at}
 use Rattle.hail_commands.specs.Refusals.{status_of}
-use Rattle.hail_commands.specs.Refusals as commands
 use Rattle.hail_commands.specs.Ran.{ran_alone}
 use Rattle.hail_commands.specs.Jobs as jobs
 use Rattle.hail_commands.specs.Jobs.{RunsAlone, LeftAlone, AnswersJob}

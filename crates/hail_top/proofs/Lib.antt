@@ -11,4 +11,5 @@ mod Unopened
 mod Opened
 mod PutEnds
 mod ListEnds
+mod Answered
 mod Told

@@ -1,5 +1,5 @@
 -- A vault was opened for a command.
-use Rattle.std.proofs.Common.{◌≡◌, ℕ, ◌≤◌, List, length, sym, subst, arith}
+use Rattle.std.proofs.Common.{◌≡◌, ℕ, ◌≤◌, List, length, subst, arith}
 use Rattle.hail_records.specs.Records.{Record}
 use Rattle.hail_commands.specs.Seen.{Seen, NoCountFalls}
 use Rattle.hail_commands.specs.Opens.{setup_at, IsOpened}

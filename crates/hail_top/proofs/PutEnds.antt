@@ -12,7 +12,6 @@ use Rattle.vault.specs.Devices.{Devices}
 use Rattle.command_jobs.specs.Ends.{IsSeenBefore}
 use Rattle.hail_top.specs.declared.reading.ReadFault.{ReadFault}
 use Rattle.hail_top.specs.declared.reading.ReadFault.TheVariants as read_fault
-use Rattle.hail_top.specs.Endings.{ends}
 use Rattle.hail_top.specs.Telling.{unread_ending}
 use Rattle.hail_top.specs.Jobs.{AnswersOver, PutsOver}
 use Rattle.hail_top.proofs.Refused.{refused-told}

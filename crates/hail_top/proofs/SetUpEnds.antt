@@ -1,7 +1,6 @@
 -- How an `init` ends that has come to the disk.
-use Rattle.std.proofs.Common.{◌≡◌, ℕ, List, [], ◌∷◌, Option, None, Some, Result, Ok, Err, refl, ap, sym, ◌∙◌, ◌⊎◌, inl, inr, subst}
+use Rattle.std.proofs.Common.{◌≡◌, ℕ, List, [], ◌∷◌, refl, sym, inl, inr, subst}
 use Rattle.std.specs.Prelude.{IfSome}
-use Rattle.hail_devices.specs.Cells.{Cells}
 use Rattle.hail_devices.specs.Faults.{Rose}
 use Rattle.hail_devices.specs.Images.{EachImage}
 use Rattle.hail_devices.specs.Told.{Goes}
@@ -11,7 +10,7 @@ use Rattle.hail_commands.specs.Sinking.{Writes}
 use Rattle.hail_commands.specs.Lines.{ready_line}
 use Rattle.hail_commands.specs.Inits.{InitsDisk, FailsToInit}
 use Rattle.hail_commands.specs.Inits as inits
-use Rattle.hail_commands.specs.Openings.{IsSetUpOn, IsBadInit, IsSetUpAlready, BeginsWithSetup, BeginsOtherwise, MayBeLeft, journal_read}
+use Rattle.hail_commands.specs.Openings.{IsSetUpOn, IsBadInit, BeginsWithSetup, BeginsOtherwise, MayBeLeft, journal_read}
 use Rattle.vault.specs.Openings as vault
 use Rattle.vault.specs.declared.fault.InitFault.{InitFault}
 use Rattle.vault.specs.declared.fault.InitFault.TheVariants as init_fault

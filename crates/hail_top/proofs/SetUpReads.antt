@@ -1,5 +1,5 @@
 -- How an `init` ends before it comes to the disk, or with the disk's end.
-use Rattle.std.proofs.Common.{◌≡◌, ℕ, ◌<◌, ◌≤◌, true, List, [], length, refl, sym, subst}
+use Rattle.std.proofs.Common.{◌≡◌, ℕ, ◌<◌, true, List, [], length, refl, subst}
 use Rattle.hail_devices.specs.Faults.{Rose}
 use Rattle.hail_records.specs.Records.{is_setup}
 use Rattle.hail_records.specs.Records.{Setup as SetupData}

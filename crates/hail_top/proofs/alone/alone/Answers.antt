@@ -1,4 +1,4 @@
-use Rattle.std.proofs.Common.{◌≡◌, ℕ, Err, length, map, refl, ap, sym, ◌∙◌}
+use Rattle.std.proofs.Common.{Err, length, map, refl, ap, sym}
 use Rattle.std.proofs.lemmas.List.{length-map}
 use Rattle.hail_commands.specs.Seen.{Seen}
 use Rattle.hail_commands.specs.Commands.{begun, unstarted}

@@ -13,7 +13,7 @@ pub returns-in-Ok-clause-answers : goal.returns-in-Ok-clause-answers
 returns-in-Ok-clause-answers g c =
     let see = as_seen g.P.Provider.held g.P.Provider.store_faults g.P.Provider.other_faults g.P.Provider.fetches in
     let old : Seen = seen (g.D.Disk.holds c.args.disk.now) (g.D.Disk.faults c.args.disk.now) (map see c.args.providers.now) (g.S.Source.left c.args.source.now)
-        (g.S.Source.faults c.args.source.now) (g.K.Sink.written c.args.sink.now) (g.K.Sink.faults c.args.sink.now) in
+    (g.S.Source.faults c.args.source.now) (g.K.Sink.written c.args.sink.now) (g.K.Sink.faults c.args.sink.now) in
     let found = c.in-Ok.ensures.opened in
     let opened = opened-read old found.0 (length c.args.providers.now) (sym (length-map c.args.providers.now see)) found.1 in
     (c.put_read.ensures.over found.0 old found.2 opened
@@ -23,7 +23,7 @@ pub returns-in-Ok-clause-counts : goal.returns-in-Ok-clause-counts
 returns-in-Ok-clause-counts g c =
     let see = as_seen g.P.Provider.held g.P.Provider.store_faults g.P.Provider.other_faults g.P.Provider.fetches in
     let old : Seen = seen (g.D.Disk.holds c.args.disk.now) (g.D.Disk.faults c.args.disk.now) (map see c.args.providers.now) (g.S.Source.left c.args.source.now)
-        (g.S.Source.faults c.args.source.now) (g.K.Sink.written c.args.sink.now) (g.K.Sink.faults c.args.sink.now) in
+    (g.S.Source.faults c.args.source.now) (g.K.Sink.written c.args.sink.now) (g.K.Sink.faults c.args.sink.now) in
     let found = c.in-Ok.ensures.opened in
     let opened = opened-read old found.0 (length c.args.providers.now) (sym (length-map c.args.providers.now see)) found.1 in
     no_count_falls old _ (c.put_read.ensures.over found.0 old found.2 opened

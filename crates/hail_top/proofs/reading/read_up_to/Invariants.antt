@@ -1,4 +1,4 @@
-use Rattle.std.proofs.Common.{◌≡◌, ℕ, ◌-◌, ◌≤◌, length, min, vec_len}
+use Rattle.std.proofs.Common.{◌≡◌, ◌-◌, ◌≤◌, min, vec_len}
 use Rattle.hail_devices.specs.Told.{then_told}
 use Rattle.hail_top.proofs.reading.read_up_to.Given as goal
 

@@ -1,4 +1,4 @@
-use Rattle.std.proofs.Common.{◌≡◌, ℕ, [], refl, ap, arith}
+use Rattle.std.proofs.Common.{◌≡◌, [], refl, ap, arith}
 use Rattle.hail_records.specs.Records.{Setup}
 use Rattle.hail_top.proofs.SetUpReads.{too_few-told}
 use Rattle.hail_top.proofs.set_up.set_up.Goals as goal

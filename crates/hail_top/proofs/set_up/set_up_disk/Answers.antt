@@ -1,4 +1,4 @@
-use Rattle.std.proofs.Common.{◌≡◌, Err, refl, ap}
+use Rattle.std.proofs.Common.{Err, refl, ap}
 use Rattle.record_codec.specs.Entries.{with_master}
 use Rattle.vault.specs.declared.fault.InitFault.{InitFault}
 use Rattle.hail_top.proofs.SetUpEnds.{ready-told, not_set_up-told}
