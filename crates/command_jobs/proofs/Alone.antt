@@ -1,6 +1,5 @@
 -- From the begin and the steps of a job to what its command tells of it.
-use Rattle.std.proofs.Common.{◌≡◌, ℕ, ◌≤◌, ◌⊎◌, List, [], length, replicate, drop, Option, Some, None, Ok, Err, refl, ap, sym, subst, ◌∙◌, inl, inr, arith}
-use Rattle.std.specs.Prelude.{slice_get}
+use Rattle.std.proofs.Common.{◌≡◌, ℕ, ◌≤◌, List, length, replicate, drop, Option, Some, None, Ok, Err, refl, ap, sym, subst, ◌∙◌, inl, inr, arith}
 use Rattle.std.specs.Option.{option_map}
 use Rattle.std.proofs.lemmas.List.{length-replicate}
 use Rattle.hail_devices.specs.Cells.{Cells, reads}
@@ -11,7 +10,7 @@ use Rattle.hail_machine.specs.Jobs.{Kind}
 use Rattle.hail_machine.specs.Answers as answer
 use Rattle.hail_machine.specs.Answers.{Answer}
 use Rattle.hail_machine.specs.Events.{IsSpelledKind}
-use Rattle.hail_machine.specs.Begins.{begin_refusal, new_job}
+use Rattle.hail_machine.specs.Begins.{new_job}
 use Rattle.hail_machine.specs.Heard.{Entry}
 use Rattle.hail_machine.specs.Refusals as refusal
 use Rattle.hail_machine.specs.Refusals.{Refusal}
@@ -31,12 +30,12 @@ use Rattle.vault_core.specs.declared.wish.BeginFault.TheVariants as begin_fault
 use Rattle.vault_core.specs.Carried.{refusal_of}
 use Rattle.vault.specs.declared.turn.Ended.{Ended}
 use Rattle.vault.specs.declared.vault.Vault.{Vault}
-use Rattle.vault.specs.Devices.{Devices, devices, AreHanded}
+use Rattle.vault.specs.Devices.{Devices, devices}
 use Rattle.vault.specs.Outcomes.{answer_of}
 use Rattle.vault.specs.Stands.{Stands, MakesBegin}
-use Rattle.command_jobs.specs.Opened.{IsFresh, IsReady}
+use Rattle.command_jobs.specs.Opened.{IsFresh}
 use Rattle.command_jobs.specs.Going.{IsOnly, IsUnderWay, GoesToEnd}
-use Rattle.command_jobs.specs.Ends.{IsSeenBefore, IsSeenAfter, IsRefusedOver, NoFaultUndone, EndsOver}
+use Rattle.command_jobs.specs.Ends.{IsSeenBefore, IsSeenAfter, IsRefusedOver, EndsOver}
 use Rattle.command_jobs.proofs.Begins.{refusal-of, spelled-begun}
 use Rattle.command_jobs.proofs.Fresh.{OpensAll, ThereIsOne, over-opened, just-opened}
 

@@ -1,8 +1,8 @@
 -- The begin of a job that is the only one: its refusals, and its words.
-use Rattle.std.proofs.Common.{◌≡◌, ℕ, ◌+◌, ◌==◌, ◌||◌, Bool, false, List, [], ◌∷◌, ◌++◌, Option, Some, None, refl, ap, sym, subst, ◌∙◌, not, length, add-zero, sum}
+use Rattle.std.proofs.Common.{◌≡◌, ℕ, ◌+◌, ◌==◌, ◌||◌, Bool, false, List, [], ◌∷◌, ◌++◌, Some, None, refl, ap, sym, subst, ◌∙◌, not, length, add-zero, sum}
 use Rattle.std.specs.Prelude.{is_some, nat_lt}
 use Rattle.std.proofs.lemmas.Bool.{eq-eqb}
-use Rattle.hail_records.specs.Records.{Record, is_name, largest_file, largest_journal}
+use Rattle.hail_records.specs.Records.{is_name, largest_file, largest_journal}
 use Rattle.hail_records.specs.Journal.{text_size}
 use Rattle.hail_records.specs.Table.{file_of, due_of}
 use Rattle.hail_machine.specs.Jobs.{Kind, PutJob, GetJob, DropJob, AuditJob, RepairJob, Job, job_of}
@@ -10,7 +10,7 @@ use Rattle.hail_machine.specs.Refusals as refusal
 use Rattle.hail_machine.specs.Refusals.{Refusal, Cause, first_refusal}
 use Rattle.hail_machine.specs.Events.{Begun, IsSpelledKind}
 use Rattle.hail_machine.specs.States.{State, setup_in}
-use Rattle.hail_machine.specs.Space.{append_sizes, is_full}
+use Rattle.hail_machine.specs.Space.{append_sizes}
 use Rattle.hail_machine.specs.Begins.{Begins, begin_refusal, new_job}
 use Rattle.hail_machine.proofs.JobLists.{cond_true}
 use Rattle.hail_commands.specs.Opens.{setup_at}

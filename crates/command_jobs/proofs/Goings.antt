@@ -9,13 +9,13 @@ use Rattle.hail_records.specs.Journal.{text_size}
 use Rattle.hail_machine.specs.Jobs.{Kind}
 use Rattle.hail_machine.specs.Answers as answer
 use Rattle.hail_machine.specs.Answers.{Answer}
-use Rattle.hail_machine.specs.Events.{Step, More, Ended, Outcome}
+use Rattle.hail_machine.specs.Events.{Step, More, Ended}
 use Rattle.hail_machine.specs.States.{State, Append}
 use Rattle.hail_machine.specs.Machine.{Happens}
 use Rattle.hail_machine.specs.Runs.{Moment, now}
 use Rattle.hail_machine.specs.Heard.{heard_by}
 use Rattle.hail_machine.specs.Jobs.{job_of}
-use Rattle.hail_commands.specs.JobRuns.{AreSteps, GoesOnTo}
+use Rattle.hail_commands.specs.JobRuns.{AreSteps}
 use Rattle.hail_commands.specs.Jobs.{past, SamePast}
 use Rattle.journal_core.specs.Moves.{SameFrom}
 use Rattle.lone_laws.proofs.Walk.{walk-step}

@@ -6,7 +6,6 @@ use Rattle.std.specs.Option.{option_map}
 use Rattle.hail_devices.specs.Cells.{Cells, reads}
 use Rattle.hail_devices.specs.Told.{Goes}
 use Rattle.hail_records.specs.Records.{Record}
-use Rattle.hail_records.specs.Acceptance.{AreAccepted}
 use Rattle.hail_commands.specs.Openings as commands
 use Rattle.journal_core.proofs.CellLemmas.{reads-firm}
 use Rattle.vault.specs.declared.fault.StartFault.{StartFault}

@@ -2,5 +2,6 @@
 #![tactic(auto)]
 
 pub mod alone;
+pub mod ends;
 pub mod files;
 pub mod laws;

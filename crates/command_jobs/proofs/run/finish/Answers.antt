@@ -1,10 +1,9 @@
-use Rattle.std.proofs.Common.{ℕ, ◌+◌, length, arith}
+use Rattle.std.proofs.Common.{◌+◌, length, arith}
 use Rattle.std.proofs.lemmas.List.{length-map}
-use Rattle.hail_devices.specs.Providers.{Provider}
 use Rattle.hail_machine.specs.Runs.{now}
 use Rattle.vault.specs.Devices.{as_seen}
 use Rattle.command_jobs.proofs.Fresh.{stands-enough}
-use Rattle.command_jobs.proofs.Goings.{no-steps, steps-turn, one-more, at-end, never-stops}
+use Rattle.command_jobs.proofs.Goings.{steps-turn, one-more, at-end, never-stops}
 use Rattle.command_jobs.proofs.run.finish.Goals as goal
 
 pub step-requires : goal.step-requires

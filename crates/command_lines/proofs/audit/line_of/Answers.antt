@@ -1,4 +1,4 @@
-use Rattle.std.proofs.Common.{◌≡◌, ◌<◌, ◌≤◌, arith}
+use Rattle.std.proofs.Common.{◌<◌, arith}
 use Rattle.command_lines.proofs.CountSteps.{flagged_line}
 use Rattle.command_lines.proofs.audit.line_of.Goals as goal
 
