@@ -1,8 +1,11 @@
-ghost use Rattle.std.specs.Prelude.{◌≡◌, List, IfOk, IfErr, IsErrOf};
+ghost use Rattle.std.specs.Prelude.{◌≡◌, List, IfOk, IfErr, OnOk, IsErrOf};
 ghost use Rattle.std.specs.Option.{option_map};
 ghost use Rattle.hail_devices.specs.Cells.{reads};
+ghost use Rattle.hail_devices.specs.Disks.{synced};
 ghost use Rattle.hail_devices.specs.Faults.{HasCause};
+ghost use Rattle.hail_devices.specs.Told.{Goes};
 ghost use Rattle.hail_records.specs.Records.{Record};
+ghost use Rattle.hail_commands.specs.Seen.{IsResynced};
 ghost use Rattle.command_jobs.specs.declared.open.Unopened.TheVariants as unopened;
 ghost use Rattle.command_jobs.specs.Opened.{IsFresh, IsReadFor, IsReady, IsUnopened, unopened_of};
 
@@ -49,6 +52,9 @@ pub fn open_vault<D: Disk>(alloc: Global, disk: &mut D, handed: usize) -> Result
     ensures ready { IfOk result (λ vault. IsReady vault (D.holds disk.new) (D.faults disk.new) handed) }
     ensures refused { IfErr result (IsUnopened (D.holds disk.old) handed) }
     ensures reads { option_map reads (D.holds disk.new) ≡ option_map reads (D.holds disk.old) }
+    ensures disk { Goes IsResynced (D.holds disk.old) (D.holds disk.new) }
+    ensures synced { OnOk result (D.holds disk.new ≡ option_map synced (D.holds disk.old)) }
+    ensures few { IsErrOf result unopened.TooFewProviders → D.holds disk.new ≡ option_map synced (D.holds disk.old) }
     ensures cause { HasCause (D.faults disk.old) (D.faults disk.new) (IsErrOf result unopened.DiskFault) }
 {
     opened_states();

@@ -8,6 +8,7 @@
 --   IsBadInit bytes at        == bytes are no journal, or the first record is no setup
 --   IsInitFault bytes setup fault == the causes for which a store is not set up
 --   IsNoWrite fault            == an answer of init for which nothing is written
+--   IsFree cells              == they read no records
 --   IsSetUpOn setup old new    == a store is set up on a disk that read no records
 --   MayBeLeft setup old image == an image that a failed init may leave
 --   IsResynced old new        == a disk that was synced, or was left as it was
@@ -95,14 +96,18 @@ IsNoWrite init_fault.Already = Unit {0}
 IsNoWrite init_fault.DiskFault = ⊥
 IsNoWrite init_fault.Memory = ⊥
 
+-- a disk that reads no records
+abbrev pub IsFree : Cells → Type 0
+IsFree cells = (length (reads cells) ≤ 9) ⊎ StandsFor (journal_read cells) []
+
 -- a store is set up on a disk that read no records: it reads the text of the one setup, then what it read past that end, and no byte is loose
 pub record IsSetUpOn (s : Setup) (old new : Cells) : Type 0 where
-  pub free : (length (reads old) ≤ 9) ⊎ StandsFor (journal_read old) []
+  pub free : IsFree old
   pub reads_are : new ≡ firm (text (SetUp s ∷ []) ++ drop (length (text (SetUp s ∷ []))) (reads old))
 
--- an image that a failed init may leave
+-- an image that a failed init may leave: one of the disk as it was, and where that read no records also one that reads none, or this setup
 abbrev pub MayBeLeft : Setup → Cells → List ℕ → Type 0
-MayBeLeft s old image = IsImage old image ⊎ ((length image ≤ 9) ⊎ (StandsFor image [] ⊎ StandsFor image (SetUp s ∷ [])))
+MayBeLeft s old image = IsImage old image ⊎ (IsFree old × ((length image ≤ 9) ⊎ (StandsFor image [] ⊎ StandsFor image (SetUp s ∷ []))))
 
 -- a disk that was synced, or was left as it was
 abbrev pub IsResynced : Cells → Cells → Type 0
