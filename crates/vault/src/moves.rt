@@ -1,4 +1,4 @@
-ghost use Rattle.std.specs.Prelude.{ℕ, List, ◌≡◌, ◌<◌, Some, IfSome};
+ghost use Rattle.std.specs.Prelude.{ℕ, List, ◌≡◌, ◌<◌, Some, IfSome, is_some};
 ghost use Rattle.hail_devices.specs.Providers.{Provider};
 ghost use Rattle.hail_machine.specs.Actions.{WriteBody, SyncBody, WriteGate, SyncGate};
 ghost use Rattle.hail_machine.specs.States.{State};
@@ -20,6 +20,7 @@ impl Vault {
         requires { Comes self.old.core job WriteBody }
         ensures machine { (w : State) (moment : ℕ) (providers : List Provider) → Stands self.old (devices (D.holds disk.old) (D.faults disk.old) providers) w
             → MakesTurn w moment job result self.new (devices (D.holds disk.old) (D.faults disk.old) providers) (devices (D.holds disk.new) (D.faults disk.new) providers) }
+        ensures tells { is_some (D.holds disk.new) ≡ is_some (D.holds disk.old) }
         ensures left { result ≡ Some turn.More → left_of self.new job < left_of self.old job }
         ensures padded { IfSome result (λ turn. IfEnded turn (λ ended. HasPaddedCounts ended.answer)) }
     {
@@ -42,6 +43,7 @@ impl Vault {
         requires { Comes self.old.core job SyncBody }
         ensures machine { (w : State) (moment : ℕ) (providers : List Provider) → Stands self.old (devices (D.holds disk.old) (D.faults disk.old) providers) w
             → MakesTurn w moment job result self.new (devices (D.holds disk.old) (D.faults disk.old) providers) (devices (D.holds disk.new) (D.faults disk.new) providers) }
+        ensures tells { is_some (D.holds disk.new) ≡ is_some (D.holds disk.old) }
         ensures left { result ≡ Some turn.More → left_of self.new job < left_of self.old job }
         ensures padded { IfSome result (λ turn. IfEnded turn (λ ended. HasPaddedCounts ended.answer)) }
     {
@@ -61,6 +63,7 @@ impl Vault {
         requires { Comes self.old.core job WriteGate }
         ensures machine { (w : State) (moment : ℕ) (providers : List Provider) → Stands self.old (devices (D.holds disk.old) (D.faults disk.old) providers) w
             → MakesTurn w moment job result self.new (devices (D.holds disk.old) (D.faults disk.old) providers) (devices (D.holds disk.new) (D.faults disk.new) providers) }
+        ensures tells { is_some (D.holds disk.new) ≡ is_some (D.holds disk.old) }
         ensures left { result ≡ Some turn.More → left_of self.new job < left_of self.old job }
         ensures padded { IfSome result (λ turn. IfEnded turn (λ ended. HasPaddedCounts ended.answer)) }
     {
@@ -81,6 +84,7 @@ impl Vault {
         requires { Comes self.old.core job SyncGate }
         ensures machine { (w : State) (moment : ℕ) (providers : List Provider) → Stands self.old (devices (D.holds disk.old) (D.faults disk.old) providers) w
             → MakesTurn w moment job result self.new (devices (D.holds disk.old) (D.faults disk.old) providers) (devices (D.holds disk.new) (D.faults disk.new) providers) }
+        ensures tells { is_some (D.holds disk.new) ≡ is_some (D.holds disk.old) }
         ensures left { result ≡ Some turn.More → left_of self.new job < left_of self.old job }
         ensures padded { IfSome result (λ turn. IfEnded turn (λ ended. HasPaddedCounts ended.answer)) }
     {
