@@ -27,8 +27,8 @@ use Rattle.hail_commands.specs.Ran.{Ran, setup_at_begin}
 use Rattle.hail_commands.specs.Repairs.{Place, places_of, blocks_at, held_at, flags, IfFlagged, GivesPlace, RewrittenOn, RewritesAll}
 use Rattle.hail_commands.specs.Truthful.{missing, IsTruthful}
 use Rattle.hail_commands.specs.Commands.{AnswersAlone}
-use Rattle.command_laws.specs.Failing.{has_risen, is_bad_with, is_bad, bad_count}
-use Rattle.command_laws.specs.Ends.{IsKnown, AreSafe, FlaggedHold, IsRepaired, ran_to, after_repair}
+use Rattle.command_laws.specs.Failing.{has_risen, is_bad_with, is_bad, bad_count, bad_seen}
+use Rattle.command_laws.specs.Ends.{IsKnown, HoldsFile, IsRepaired, ran_to, after_repair}
 use Rattle.command_laws.proofs.Complete.{block_at-map, wrong-sized, not-wrong-each, not-risen, or-left}
 use Rattle.command_laws.proofs.Known.{known-once}
 use Rattle.command_laws.proofs.GetEnds.{shape-at}
@@ -166,16 +166,18 @@ module _ (x : Ran) (shape : IsShape (setup_at_begin x).n (setup_at_begin x).l (s
 
 -- ---- the repair of a command
 
-pub repair-right : (records : List Record) (old new : Seen) (end : Ending) (due : Due) (bytes : ℕ → List ℕ) → AnswersAlone RepairJob old new end → IsKnown old records → end.status ≡ 0 → due_of records ≡ Some due →
-    AreSafe records old new bytes → FlaggedHold records new due bytes
-repair-right records old new end due bytes A K done is_due =
+pub repair-right : (name bytes : List ℕ) (records : List Record) (file : File) (due : Due) (j : ℕ) (old new : Seen) (end : Ending) → AnswersAlone RepairJob old new end → IsKnown old records → end.status ≡ 0 →
+    due_of records ≡ Some due → file_of records name ≡ Some file → length bytes ≡ file.size → bad_seen records old new file.id bytes ≤ (setup_at records).b → j < (setup_at records).n →
+    is_flagged (setup_at records).tolerance due.counts j ≡ true → HoldsFile records new bytes file j
+repair-right name bytes records file due j old new end A K done is_due in_effect size few below flagged =
     (let R = repair-done old new end A done in
     let same : R.records ≡ records = known-once old records R.records K R.opened.read in
-    subst (λ rs. due_of rs ≡ Some due → AreSafe rs old new bytes → FlaggedHold rs new due bytes) same (by-records R) is_due)
+    subst (λ rs. due_of rs ≡ Some due → file_of rs name ≡ Some file → bad_seen rs old new file.id bytes ≤ (setup_at rs).b → j < (setup_at rs).n →
+    is_flagged (setup_at rs).tolerance due.counts j ≡ true → HoldsFile rs new bytes file j) same (by-records R) is_due in_effect few below flagged)
   where
-    by-records : (R : IsRepaired old new end) → due_of R.records ≡ Some due → AreSafe R.records old new bytes → FlaggedHold R.records new due bytes
-    by-records R is safe name file j in_effect below flagged stripe within =
+    by-records : (R : IsRepaired old new end) → due_of R.records ≡ Some due → file_of R.records name ≡ Some file → bad_seen R.records old new file.id bytes ≤ (setup_at R.records).b → j < (setup_at R.records).n →
+        is_flagged (setup_at R.records).tolerance due.counts j ≡ true → HoldsFile R.records new bytes file j
+    by-records R is in_effect few below flagged stripe within =
         (let due_is : R.due ≡ due = same_value (due_of R.records) R.due due R.is_due is in
-        let fits = safe name file in_effect in
-        holds-right (ran_to (after_repair R.records R.due) R.records old new end.heard) (shape-at old R.records R.opened) R.due R.rewritten name file (bytes file.id) in_effect fits.0 fits.1 stripe within j below
+        holds-right (ran_to (after_repair R.records R.due) R.records old new end.heard) (shape-at old R.records R.opened) R.due R.rewritten name file bytes in_effect size few stripe within j below
         (subst (λ (d : Due). is_flagged (setup_at R.records).tolerance d.counts j ≡ true) (sym due_is) flagged))

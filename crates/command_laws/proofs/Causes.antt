@@ -82,7 +82,7 @@ module _ (old new : Seen) (end : Ending) where
   unstarted-causes (Unstarted.disk_fault rose r) = disk-rose r.status_is rose
   unstarted-causes (Unstarted.not_set_up is r) = none-rose 9 refl r.status_is
   unstarted-causes (Unstarted.bad_journal at is r) = none-rose 8 refl r.status_is
-  unstarted-causes (Unstarted.too_few_providers records read few r) = none-rose 22 refl r.status_is
+  unstarted-causes (Unstarted.too_few_providers records read few synced r) = none-rose 22 refl r.status_is
   unstarted-causes (Unstarted.no_memory r) = none-rose 70 refl r.status_is
 
   refused-none : (why : Refusal) → is_fault (status_of why) ≡ false
@@ -134,13 +134,13 @@ module _ (old new : Seen) (end : Ending) where
   ended-causes kind records text (answer.Repaired number) left by = written-causes text by.written
 
   job-causes : (kind : Kind) (records : List Record) → AnswersJob kind records old new end → FaultsHaveCauses old new end
-  job-causes kind records (AnswersJob.refused why is r) = none-rose (status_of why) (refused-none why) r.status_is
-  job-causes kind records (AnswersJob.no_memory r) = none-rose 70 refl r.status_is
+  job-causes kind records (AnswersJob.refused why is synced r) = none-rose (status_of why) (refused-none why) r.status_is
+  job-causes kind records (AnswersJob.no_memory synced r) = none-rose 70 refl r.status_is
   job-causes kind records (AnswersJob.ended how none runs left by) = ended-causes kind records _ how left by
 
   put-causes : (name : List ℕ) → AnswersPut name old new end → FaultsHaveCauses old new end
   put-causes name (AnswersPut.unstarted u same) = unstarted-causes u
-  put-causes name (AnswersPut.source_fault records opened rose r) = source-rose r.status_is rose
+  put-causes name (AnswersPut.source_fault records opened rose synced r) = source-rose r.status_is rose
   put-causes name (AnswersPut.no_memory r) = none-rose 70 refl r.status_is
   put-causes name (AnswersPut.begun records bytes opened read A) = job-causes _ records A
 

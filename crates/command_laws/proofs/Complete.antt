@@ -146,7 +146,7 @@ module _ (x : Ran) (file : File) (bytes : List ℕ) where
           ap (is_wrong_block o bytes j t) (block_at-map (block_heard x file.id t) (setup_at_begin x).n j below ∙ same) ∙ (wrong-sized o bytes j t (held file.id t) ∙ not-wrong-each o bytes j (held file.id) p.0 t k))
 
   -- a provider that gave a wrong block is bad
-  bad-block : (m t : ℕ) → HearsStripes x file m → t < m → t < stripes o (length bytes) → (j : ℕ) → j < 0 + (setup_at_begin x).n → is_wrong_block o bytes j t (block_at (blocks_heard x file.id t) j) ≡ true → is_bad x file.id bytes j ≡ true
+  pub bad-block : (m t : ℕ) → HearsStripes x file m → t < m → t < stripes o (length bytes) → (j : ℕ) → j < 0 + (setup_at_begin x).n → is_wrong_block o bytes j t (block_at (blocks_heard x file.id t) j) ≡ true → is_bad x file.id bytes j ≡ true
   bad-block m t H l k j below wrong = elim (cases_Bool (is_bad x file.id bytes j)) [
     | inl y ↦ y
     | inr n ↦ absurd (false≢true (sym (good-block m j H (omega (arith, below)) n t l k) ∙ wrong))

@@ -55,8 +55,8 @@ module _ (name bytes : List ℕ) (records : List Record) (file : File) (old new 
   EndsWith how = EndsBy (text_of (setup_at records).tolerance (GetJob name) how) how old new end
 
   job-complete : AnswersJob (GetJob name) records old new end → bad_seen records old new file.id bytes ≤ (setup_at records).b → Writes bytes end.status (sinking old new)
-  job-complete (AnswersJob.refused why is r) few = absurd (no-refusal why is)
-  job-complete (AnswersJob.no_memory r) few = inr (inr (r.status_is, none-written bytes old.sink new.sink r.sink))
+  job-complete (AnswersJob.refused why is synced r) few = absurd (no-refusal why is)
+  job-complete (AnswersJob.no_memory synced r) few = inr (inr (r.status_is, none-written bytes old.sink new.sink r.sink))
   job-complete (AnswersJob.ended how none runs left by) few =
       (let same : how ≡ answer.Got bytes = get-complete (ran_left records (GetJob name) how old new end.heard left) name bytes file shape in_effect fits size how left.leaves.by_kind few in
       let told : EndsWith (answer.Got bytes) = subst (λ h. EndsWith h) same by in told.written)
@@ -71,8 +71,8 @@ module _ (name bytes : List ℕ) (records : List Record) (file : File) (old new 
   refused-right status at r other = (none-written bytes old.sink new.sink r.sink, λ zero. absurd (other (sym r.status_is ∙ zero)))
 
   job-right : AnswersJob (GetJob name) records old new end → bad_seen records old new file.id bytes ≤ (setup_at records).b + 1 → TakesFront old.sink new.sink bytes × (end.status ≡ 0 → new.sink ≡ told_then old.sink bytes)
-  job-right (AnswersJob.refused why is r) few = absurd (no-refusal why is)
-  job-right (AnswersJob.no_memory r) few = refused-right 70 0 r (λ e. omega (arith, e))
+  job-right (AnswersJob.refused why is synced r) few = absurd (no-refusal why is)
+  job-right (AnswersJob.no_memory synced r) few = refused-right 70 0 r (λ e. omega (arith, e))
   job-right (AnswersJob.ended how none runs left by) few =
       right-by (ran_left records (GetJob name) how old new end.heard left) how
       (λ got is. get-right (ran_left records (GetJob name) how old new end.heard left) name bytes file shape in_effect fits size got (subst (λ h. GetLeaves (ran_left records (GetJob name) how old new end.heard left) name h) is left.leaves.by_kind) few)
@@ -92,8 +92,8 @@ module _ (name bytes : List ℕ) (records : List Record) (file : File) (old new 
   forged-by x how right L by = absurd L.gives
 
   job-forged : AnswersJob (GetJob name) records old new end → (TakesFront old.sink new.sink bytes × (end.status ≡ 0 → new.sink ≡ told_then old.sink bytes)) ⊎ Forged
-  job-forged (AnswersJob.refused why is r) = absurd (no-refusal why is)
-  job-forged (AnswersJob.no_memory r) = inl (refused-right 70 0 r (λ e. omega (arith, e)))
+  job-forged (AnswersJob.refused why is synced r) = absurd (no-refusal why is)
+  job-forged (AnswersJob.no_memory synced r) = inl (refused-right 70 0 r (λ e. omega (arith, e)))
   job-forged (AnswersJob.ended how none runs left by) =
       forged-by (ran_left records (GetJob name) how old new end.heard left) how
       (λ got is. get-forged (ran_left records (GetJob name) how old new end.heard left) name bytes file shape in_effect fits size got (subst (λ h. GetLeaves (ran_left records (GetJob name) how old new end.heard left) name h) is left.leaves.by_kind))

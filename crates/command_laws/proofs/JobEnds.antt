@@ -42,7 +42,7 @@ unstarted-refused : (old new : Seen) (end : Ending) → Unstarted old new end �
 unstarted-refused old new end (Unstarted.disk_fault rose r) = (12, 0, (λ e. omega (arith, e)), r)
 unstarted-refused old new end (Unstarted.not_set_up is r) = (9, 0, (λ e. omega (arith, e)), r)
 unstarted-refused old new end (Unstarted.bad_journal at is r) = (8, at, (λ e. omega (arith, e)), r)
-unstarted-refused old new end (Unstarted.too_few_providers records read few r) = (22, 0, (λ e. omega (arith, e)), r)
+unstarted-refused old new end (Unstarted.too_few_providers records read few synced r) = (22, 0, (λ e. omega (arith, e)), r)
 unstarted-refused old new end (Unstarted.no_memory r) = (70, 0, (λ e. omega (arith, e)), r)
 
 unstarted-zero : (old new : Seen) (end : Ending) → Unstarted old new end → end.status ≡ 0 → ⊥
@@ -106,6 +106,7 @@ put-by name bytes records old new end opened read begins answer.Put left L by ze
   records = records;
   bytes = bytes;
   opened = opened;
+  are_bytes = read.are_bytes;
   read = read;
   whole = read.end (let small = not-long records name bytes begins in omega (arith, small));
   told = (zero, written-zero (stored_line name (length bytes)) old new end by.written zero);
@@ -120,10 +121,10 @@ put-by name bytes records old new end opened read begins how left L by zero = ab
 
 pub put-done : (name : List ℕ) (old new : Seen) (end : Ending) → AnswersPut name old new end → end.status ≡ 0 → IsPut name old new end
 put-done name old new end (AnswersPut.unstarted u same) zero = absurd (unstarted-zero old new end u zero)
-put-done name old new end (AnswersPut.source_fault records opened rose r) zero = absurd (not-zero end.status 14 r.status_is (λ e. omega (arith, e)) zero)
+put-done name old new end (AnswersPut.source_fault records opened rose synced r) zero = absurd (not-zero end.status 14 r.status_is (λ e. omega (arith, e)) zero)
 put-done name old new end (AnswersPut.no_memory r) zero = absurd (not-zero end.status 70 r.status_is (λ e. omega (arith, e)) zero)
-put-done name old new end (AnswersPut.begun records bytes opened read (AnswersJob.refused why is r)) zero = absurd (refused-zero why (sym r.status_is ∙ zero))
-put-done name old new end (AnswersPut.begun records bytes opened read (AnswersJob.no_memory r)) zero = absurd (not-zero end.status 70 r.status_is (λ e. omega (arith, e)) zero)
+put-done name old new end (AnswersPut.begun records bytes opened read (AnswersJob.refused why is synced r)) zero = absurd (refused-zero why (sym r.status_is ∙ zero))
+put-done name old new end (AnswersPut.begun records bytes opened read (AnswersJob.no_memory synced r)) zero = absurd (not-zero end.status 70 r.status_is (λ e. omega (arith, e)) zero)
 put-done name old new end (AnswersPut.begun records bytes opened read (AnswersJob.ended how none runs left by)) zero =
     put-by name bytes records old new end opened read none how left left.leaves.by_kind.0 by zero
 
@@ -140,8 +141,8 @@ read-all old (Some left) bytes seen is small R =
 put-job-well : (name bytes : List ℕ) (records : List Record) (old new : Seen) (end : Ending) → refusal_of records (PutJob name bytes) ≡ None → (Rose old.disk_faults new.disk_faults → ⊥) →
     ((j : ℕ) → j < (setup_at records).n → Rose (provider_at old.providers j).store_faults (provider_at new.providers j).store_faults → ⊥) → (Rose old.sink_faults new.sink_faults → ⊥) →
     AnswersJob (PutJob name bytes) records old new end → EndsWell (stored_line name (length bytes)) old new end
-put-job-well name bytes records old new end begins disk stores sink (AnswersJob.refused why is r) = absurd (let e : None ≡ Some why = sym begins ∙ is in cc)
-put-job-well name bytes records old new end begins disk stores sink (AnswersJob.no_memory r) = memory-well (stored_line name (length bytes)) old new end r
+put-job-well name bytes records old new end begins disk stores sink (AnswersJob.refused why is synced r) = absurd (let e : None ≡ Some why = sym begins ∙ is in cc)
+put-job-well name bytes records old new end begins disk stores sink (AnswersJob.no_memory synced r) = memory-well (stored_line name (length bytes)) old new end r
 put-job-well name bytes records old new end begins disk stores sink (AnswersJob.ended how none runs left by) =
     elim (put-end (ran_left records (PutJob name bytes) how old new end.heard left) name bytes how left.leaves.by_kind.0 (calm-disk records (PutJob name bytes) how old new end.heard left disk) stores) [
       | inl same ↦ (let told : EndsWith records (PutJob name bytes) answer.Put old new end = subst (λ h. EndsWith records (PutJob name bytes) h old new end) same by in
@@ -158,7 +159,7 @@ put-well name bytes records old new end (AnswersPut.unstarted u same) K is begin
   | inl (rose, r) ↦ absurd (disk rose)
   | inr r ↦ memory-well (stored_line name (length bytes)) old new end r
 ]
-put-well name bytes records old new end (AnswersPut.source_fault other opened rose r) K is begins disk stores source sink = absurd (source rose)
+put-well name bytes records old new end (AnswersPut.source_fault other opened rose synced r) K is begins disk stores source sink = absurd (source rose)
 put-well name bytes records old new end (AnswersPut.no_memory r) K is begins disk stores source sink = memory-well (stored_line name (length bytes)) old new end r
 put-well name bytes records old new end (AnswersPut.begun other seen opened read A) K is begins disk stores source sink =
     (let same = known-once old records other K opened.read in
@@ -198,7 +199,7 @@ put-only name bytes records old new end why (AnswersPut.unstarted u same) K is o
   | inl (rose, r) ↦ absurd (own-status end why 12 refl r.status_is own e)
   | inr r ↦ absurd (own-status end why 70 refl r.status_is own e)
 ]
-put-only name bytes records old new end why (AnswersPut.source_fault other opened rose r) K is own e = absurd (own-status end why 14 refl r.status_is own e)
+put-only name bytes records old new end why (AnswersPut.source_fault other opened rose synced r) K is own e = absurd (own-status end why 14 refl r.status_is own e)
 put-only name bytes records old new end why (AnswersPut.no_memory r) K is own e = absurd (own-status end why 70 refl r.status_is own e)
 put-only name bytes records old new end why (AnswersPut.begun other seen opened read A) K is own e =
     sym (read-same records name old.source new.source bytes seen is read)
@@ -211,7 +212,7 @@ put-always name bytes records old new end why (AnswersPut.unstarted u same) K is
   | inl (rose, r) ↦ absurd (disk rose)
   | inr r ↦ inr r
 ]
-put-always name bytes records old new end why (AnswersPut.source_fault other opened rose r) K is disk source applies = absurd (source rose)
+put-always name bytes records old new end why (AnswersPut.source_fault other opened rose synced r) K is disk source applies = absurd (source rose)
 put-always name bytes records old new end why (AnswersPut.no_memory r) K is disk source applies = inr r
 put-always name bytes records old new end why (AnswersPut.begun other seen opened read A) K is disk source applies =
     refused-always (PutJob name seen) records old new end why (subst (λ rs. AnswersJob (PutJob name seen) rs old new end) (known-once old records other K opened.read) A)
@@ -237,14 +238,14 @@ drop-by name records old new end opened how left L by zero = absurd L
 
 pub drop-done : (name : List ℕ) (old new : Seen) (end : Ending) → AnswersAlone (DropJob name) old new end → end.status ≡ 0 → IsDropped name old new end
 drop-done name old new end (AnswersAlone.unstarted u) zero = absurd (unstarted-zero old new end u zero)
-drop-done name old new end (AnswersAlone.begun records opened (AnswersJob.refused why is r)) zero = absurd (refused-zero why (sym r.status_is ∙ zero))
-drop-done name old new end (AnswersAlone.begun records opened (AnswersJob.no_memory r)) zero = absurd (not-zero end.status 70 r.status_is (λ e. omega (arith, e)) zero)
+drop-done name old new end (AnswersAlone.begun records opened (AnswersJob.refused why is synced r)) zero = absurd (refused-zero why (sym r.status_is ∙ zero))
+drop-done name old new end (AnswersAlone.begun records opened (AnswersJob.no_memory synced r)) zero = absurd (not-zero end.status 70 r.status_is (λ e. omega (arith, e)) zero)
 drop-done name old new end (AnswersAlone.begun records opened (AnswersJob.ended how none runs left by)) zero = drop-by name records old new end opened how left left.leaves.by_kind.0 by zero
 
 drop-job-well : (name : List ℕ) (records : List Record) (old new : Seen) (end : Ending) → refusal_of records (DropJob name) ≡ None → (Rose old.disk_faults new.disk_faults → ⊥) → (Rose old.sink_faults new.sink_faults → ⊥) →
     AnswersJob (DropJob name) records old new end → EndsWell (dropped_line name) old new end
-drop-job-well name records old new end begins disk sink (AnswersJob.refused why is r) = absurd (let e : None ≡ Some why = sym begins ∙ is in cc)
-drop-job-well name records old new end begins disk sink (AnswersJob.no_memory r) = memory-well (dropped_line name) old new end r
+drop-job-well name records old new end begins disk sink (AnswersJob.refused why is synced r) = absurd (let e : None ≡ Some why = sym begins ∙ is in cc)
+drop-job-well name records old new end begins disk sink (AnswersJob.no_memory synced r) = memory-well (dropped_line name) old new end r
 drop-job-well name records old new end begins disk sink (AnswersJob.ended how none runs left by) =
     elim (drop-end (ran_left records (DropJob name) how old new end.heard left) name how left.leaves.by_kind.0 (calm-disk records (DropJob name) how old new end.heard left disk)) [
       | inl same ↦ (let told : EndsWith records (DropJob name) answer.Dropped old new end = subst (λ h. EndsWith records (DropJob name) h old new end) same by in
@@ -282,8 +283,8 @@ audit-by records old new end opened how left L by zero = absurd L
 
 pub audit-done : (old new : Seen) (end : Ending) → AnswersAlone AuditJob old new end → end.status ≡ 0 → IsAudited old new end
 audit-done old new end (AnswersAlone.unstarted u) zero = absurd (unstarted-zero old new end u zero)
-audit-done old new end (AnswersAlone.begun records opened (AnswersJob.refused why is r)) zero = absurd (refused-zero why (sym r.status_is ∙ zero))
-audit-done old new end (AnswersAlone.begun records opened (AnswersJob.no_memory r)) zero = absurd (not-zero end.status 70 r.status_is (λ e. omega (arith, e)) zero)
+audit-done old new end (AnswersAlone.begun records opened (AnswersJob.refused why is synced r)) zero = absurd (refused-zero why (sym r.status_is ∙ zero))
+audit-done old new end (AnswersAlone.begun records opened (AnswersJob.no_memory synced r)) zero = absurd (not-zero end.status 70 r.status_is (λ e. omega (arith, e)) zero)
 audit-done old new end (AnswersAlone.begun records opened (AnswersJob.ended how none runs left by)) zero = audit-by records old new end opened how left left.leaves.by_kind.gives by zero
 
 -- a text that was written whole, or cut for want of memory
@@ -297,8 +298,8 @@ in-order command old new end (inr is) = EndsInOrder.no_memory is
 
 audit-job-well : (records : List Record) (old new : Seen) (end : Ending) → refusal_of records AuditJob ≡ None → (Rose old.disk_faults new.disk_faults → ⊥) → (Rose old.sink_faults new.sink_faults → ⊥) →
     AnswersJob AuditJob records old new end → (end.status ≡ 0) ⊎ (end.status ≡ 70)
-audit-job-well records old new end begins disk sink (AnswersJob.refused why is r) = absurd (let e : None ≡ Some why = sym begins ∙ is in cc)
-audit-job-well records old new end begins disk sink (AnswersJob.no_memory r) = inr r.status_is
+audit-job-well records old new end begins disk sink (AnswersJob.refused why is synced r) = absurd (let e : None ≡ Some why = sym begins ∙ is in cc)
+audit-job-well records old new end begins disk sink (AnswersJob.no_memory synced r) = inr r.status_is
 audit-job-well records old new end begins disk sink (AnswersJob.ended how none runs left by) =
     elim (audit-end (ran_left records AuditJob how old new end.heard left) how left.leaves.by_kind.gives (calm-disk records AuditJob how old new end.heard left disk)) [
       | inl (number, undecided, counts, same) ↦ (let told : EndsWith records AuditJob (answer.Audited number undecided counts) old new end = subst (λ h. EndsWith records AuditJob h old new end) same by in
@@ -335,8 +336,8 @@ repair-by records old new end opened how left due is_due L by zero = absurd L
 
 pub repair-done : (old new : Seen) (end : Ending) → AnswersAlone RepairJob old new end → end.status ≡ 0 → IsRepaired old new end
 repair-done old new end (AnswersAlone.unstarted u) zero = absurd (unstarted-zero old new end u zero)
-repair-done old new end (AnswersAlone.begun records opened (AnswersJob.refused why is r)) zero = absurd (refused-zero why (sym r.status_is ∙ zero))
-repair-done old new end (AnswersAlone.begun records opened (AnswersJob.no_memory r)) zero = absurd (not-zero end.status 70 r.status_is (λ e. omega (arith, e)) zero)
+repair-done old new end (AnswersAlone.begun records opened (AnswersJob.refused why is synced r)) zero = absurd (refused-zero why (sym r.status_is ∙ zero))
+repair-done old new end (AnswersAlone.begun records opened (AnswersJob.no_memory synced r)) zero = absurd (not-zero end.status 70 r.status_is (λ e. omega (arith, e)) zero)
 repair-done old new end (AnswersAlone.begun records opened (AnswersJob.ended how none runs left by)) zero =
     (let L = left.leaves.by_kind.0 in repair-by records old new end opened how left L.due L.is_due L.gives by zero)
 
@@ -344,8 +345,8 @@ repair-job-well : (records : List Record) (old new : Seen) (end : Ending) (bytes
     ((j : ℕ) → j < (setup_at records).n → Rose (provider_at old.providers j).store_faults (provider_at new.providers j).store_faults → ⊥) → (Rose old.sink_faults new.sink_faults → ⊥) →
     ((name : List ℕ) (file : File) → file_of records name ≡ Some file → (length (bytes file.id) ≡ file.size) × (bad_seen records old new file.id (bytes file.id) ≤ (setup_at records).b)) →
     AnswersJob RepairJob records old new end → (end.status ≡ 0) ⊎ (end.status ≡ 70)
-repair-job-well records old new end bytes opened begins disk stores sink safe (AnswersJob.refused why is r) = absurd (let e : None ≡ Some why = sym begins ∙ is in cc)
-repair-job-well records old new end bytes opened begins disk stores sink safe (AnswersJob.no_memory r) = inr r.status_is
+repair-job-well records old new end bytes opened begins disk stores sink safe (AnswersJob.refused why is synced r) = absurd (let e : None ≡ Some why = sym begins ∙ is in cc)
+repair-job-well records old new end bytes opened begins disk stores sink safe (AnswersJob.no_memory synced r) = inr r.status_is
 repair-job-well records old new end bytes opened begins disk stores sink safe (AnswersJob.ended how none runs left by) =
     elim (repair-end (ran_left records RepairJob how old new end.heard left) (shape-at old records opened) bytes how left.leaves.by_kind.0 (calm-disk records RepairJob how old new end.heard left disk) stores safe) [
       | inl (number, same) ↦ (let told : EndsWith records RepairJob (answer.Repaired number) old new end = subst (λ h. EndsWith records RepairJob h old new end) same by in
@@ -370,26 +371,26 @@ pub put-order : (name : List ℕ) (old new : Seen) (end : Ending) → AnswersPut
     ((j : ℕ) → Rose (provider_at old.providers j).store_faults (provider_at new.providers j).store_faults → ⊥) →
     (Rose old.source_faults new.source_faults → ⊥) → (Rose old.sink_faults new.sink_faults → ⊥) → EndsInOrder (PutUnder name) old new end
 put-order name old new end (AnswersPut.unstarted u same) disk stores source sink = EndsInOrder.unstarted u
-put-order name old new end (AnswersPut.source_fault other opened rose r) disk stores source sink = absurd (source rose)
+put-order name old new end (AnswersPut.source_fault other opened rose synced r) disk stores source sink = absurd (source rose)
 put-order name old new end (AnswersPut.no_memory r) disk stores source sink = EndsInOrder.no_memory r.status_is
-put-order name old new end (AnswersPut.begun records bytes opened read (AnswersJob.refused why is r)) disk stores source sink =
+put-order name old new end (AnswersPut.begun records bytes opened read (AnswersJob.refused why is synced r)) disk stores source sink =
     EndsInOrder.refused records (PutJob name bytes) why opened (bytes, read, refl) is r
-put-order name old new end (AnswersPut.begun records bytes opened read (AnswersJob.no_memory r)) disk stores source sink = EndsInOrder.no_memory r.status_is
+put-order name old new end (AnswersPut.begun records bytes opened read (AnswersJob.no_memory synced r)) disk stores source sink = EndsInOrder.no_memory r.status_is
 put-order name old new end (AnswersPut.begun records bytes opened read (AnswersJob.ended how none runs left by)) disk stores source sink =
     in-order (PutUnder name) old new end (zero-or-memory _ old new end (put-job-well name bytes records old new end none disk (λ j l. stores j) sink (AnswersJob.ended how none runs left by)))
 
 pub drop-order : (name : List ℕ) (old new : Seen) (end : Ending) → AnswersAlone (DropJob name) old new end → (Rose old.disk_faults new.disk_faults → ⊥) → (Rose old.sink_faults new.sink_faults → ⊥) →
     EndsInOrder (DropOf name) old new end
 drop-order name old new end (AnswersAlone.unstarted u) disk sink = EndsInOrder.unstarted u
-drop-order name old new end (AnswersAlone.begun records opened (AnswersJob.refused why is r)) disk sink = EndsInOrder.refused records (DropJob name) why opened refl is r
-drop-order name old new end (AnswersAlone.begun records opened (AnswersJob.no_memory r)) disk sink = EndsInOrder.no_memory r.status_is
+drop-order name old new end (AnswersAlone.begun records opened (AnswersJob.refused why is synced r)) disk sink = EndsInOrder.refused records (DropJob name) why opened refl is r
+drop-order name old new end (AnswersAlone.begun records opened (AnswersJob.no_memory synced r)) disk sink = EndsInOrder.no_memory r.status_is
 drop-order name old new end (AnswersAlone.begun records opened (AnswersJob.ended how none runs left by)) disk sink =
     in-order (DropOf name) old new end (zero-or-memory _ old new end (drop-job-well name records old new end none disk sink (AnswersJob.ended how none runs left by)))
 
 pub audit-order : (old new : Seen) (end : Ending) → AnswersAlone AuditJob old new end → (Rose old.disk_faults new.disk_faults → ⊥) → (Rose old.sink_faults new.sink_faults → ⊥) → EndsInOrder AuditAll old new end
 audit-order old new end (AnswersAlone.unstarted u) disk sink = EndsInOrder.unstarted u
-audit-order old new end (AnswersAlone.begun records opened (AnswersJob.refused why is r)) disk sink = EndsInOrder.refused records AuditJob why opened refl is r
-audit-order old new end (AnswersAlone.begun records opened (AnswersJob.no_memory r)) disk sink = EndsInOrder.no_memory r.status_is
+audit-order old new end (AnswersAlone.begun records opened (AnswersJob.refused why is synced r)) disk sink = EndsInOrder.refused records AuditJob why opened refl is r
+audit-order old new end (AnswersAlone.begun records opened (AnswersJob.no_memory synced r)) disk sink = EndsInOrder.no_memory r.status_is
 audit-order old new end (AnswersAlone.begun records opened (AnswersJob.ended how none runs left by)) disk sink =
     in-order AuditAll old new end (audit-job-well records old new end none disk sink (AnswersJob.ended how none runs left by))
 
@@ -410,15 +411,15 @@ left-holds records kind how old new heard left same j = elim (cases_lt j (setup_
 
 pub get-holds : (name : List ℕ) (old new : Seen) (end : Ending) → AnswersAlone (GetJob name) old new end → SameHolds old new
 get-holds name old new end (AnswersAlone.unstarted u) = unstarted-holds old new end u
-get-holds name old new end (AnswersAlone.begun records opened (AnswersJob.refused why is r)) = refused-holds _ 0 old new end r
-get-holds name old new end (AnswersAlone.begun records opened (AnswersJob.no_memory r)) = refused-holds 70 0 old new end r
+get-holds name old new end (AnswersAlone.begun records opened (AnswersJob.refused why is synced r)) = refused-holds _ 0 old new end r
+get-holds name old new end (AnswersAlone.begun records opened (AnswersJob.no_memory synced r)) = refused-holds 70 0 old new end r
 get-holds name old new end (AnswersAlone.begun records opened (AnswersJob.ended how none runs left by)) =
     left-holds records (GetJob name) how old new end.heard left left.leaves.by_kind.held
 
 pub audit-holds : (old new : Seen) (end : Ending) → AnswersAlone AuditJob old new end → SameHolds old new
 audit-holds old new end (AnswersAlone.unstarted u) = unstarted-holds old new end u
-audit-holds old new end (AnswersAlone.begun records opened (AnswersJob.refused why is r)) = refused-holds _ 0 old new end r
-audit-holds old new end (AnswersAlone.begun records opened (AnswersJob.no_memory r)) = refused-holds 70 0 old new end r
+audit-holds old new end (AnswersAlone.begun records opened (AnswersJob.refused why is synced r)) = refused-holds _ 0 old new end r
+audit-holds old new end (AnswersAlone.begun records opened (AnswersJob.no_memory synced r)) = refused-holds 70 0 old new end r
 audit-holds old new end (AnswersAlone.begun records opened (AnswersJob.ended how none runs left by)) =
     left-holds records AuditJob how old new end.heard left left.leaves.by_kind.held
 

@@ -65,7 +65,7 @@ unstarted-known old new end records K (Unstarted.not_set_up is r) = absurd (let 
 unstarted-known old new end records K (Unstarted.bad_journal at is r) = absurd (let c = is_some-at old.disk K.tells in
     let bad : (9 < length (journal_read c.0)) × IsBadStart (journal_read c.0) at = subst (λ d. IfSome d (λ cells. (9 < length (journal_read cells)) × IsBadStart (journal_read cells) at)) c.1 is in
     read-good c.0 at records (subst (λ d. IsRead d records) c.1 K.opened.read) bad.1)
-unstarted-known old new end records K (Unstarted.too_few_providers other read few r) = absurd (let e = known-once old records other K read in
+unstarted-known old new end records K (Unstarted.too_few_providers other read few synced r) = absurd (let e = known-once old records other K read in
     let enough = subst (λ rs. (setup_at rs).n ≤ length old.providers) (sym e) K.opened.enough in omega (arith, few, enough))
 unstarted-known old new end records K (Unstarted.no_memory r) = inr r
 
@@ -175,19 +175,19 @@ none-some n why none some = (let e : None ≡ Some why = sym none ∙ some in cc
 
 pub refused-only : (kind : Kind) (records : List Record) (old new : Seen) (end : Ending) (why : Refusal) → AnswersJob kind records old new end →
     status_of why ≢ 70 → end.status ≡ status_of why → refusal_of records kind ≡ Some why
-refused-only kind records old new end why (AnswersJob.refused other is r) own e = elim (refused-at other) [
+refused-only kind records old new end why (AnswersJob.refused other is synced r) own e = elim (refused-at other) [
   | inl lost ↦ absurd (none-some end.status why (ap refusal_at (r.status_is ∙ lost)) (at-some why end own e))
   | inr at ↦ (let both : Some other ≡ Some why = sym (ap refusal_at r.status_is ∙ at) ∙ at-some why end own e in is ∙ both)
 ]
-refused-only kind records old new end why (AnswersJob.no_memory r) own e = absurd (none-some end.status why (ap refusal_at r.status_is) (at-some why end own e))
+refused-only kind records old new end why (AnswersJob.no_memory synced r) own e = absurd (none-some end.status why (ap refusal_at r.status_is) (at-some why end own e))
 refused-only kind records old new end why (AnswersJob.ended how none runs left by) own e =
     absurd (none-some end.status why (ended-none end.status (status-ended _ how old new end by)) (at-some why end own e))
 
 pub refused-always : (kind : Kind) (records : List Record) (old new : Seen) (end : Ending) (why : Refusal) → AnswersJob kind records old new end →
     refusal_of records kind ≡ Some why → IsRefused (status_of why) 0 old new end ⊎ IsRefused 70 0 old new end
-refused-always kind records old new end why (AnswersJob.refused other is r) applies =
+refused-always kind records old new end why (AnswersJob.refused other is synced r) applies =
     inl (subst (λ w. IsRefused (status_of w) 0 old new end) (same_value (refusal_of records kind) other why is applies) r)
-refused-always kind records old new end why (AnswersJob.no_memory r) applies = inr r
+refused-always kind records old new end why (AnswersJob.no_memory synced r) applies = inr r
 refused-always kind records old new end why (AnswersJob.ended how none runs left by) applies = absurd (let e : None ≡ Some why = sym none ∙ applies in cc)
 
 -- ---- and so are the statuses before the begin
@@ -224,8 +224,8 @@ refused-opened refusal.TooFewProviders = refl
 refused-opened refusal.NoSuchJob = refl
 
 pub job-opened : (kind : Kind) (records : List Record) (old new : Seen) (end : Ending) → AnswersJob kind records old new end → is_unopened end.status ≡ false
-job-opened kind records old new end (AnswersJob.refused why is r) = ap is_unopened r.status_is ∙ refused-opened why
-job-opened kind records old new end (AnswersJob.no_memory r) = ap is_unopened r.status_is
+job-opened kind records old new end (AnswersJob.refused why is synced r) = ap is_unopened r.status_is ∙ refused-opened why
+job-opened kind records old new end (AnswersJob.no_memory synced r) = ap is_unopened r.status_is
 job-opened kind records old new end (AnswersJob.ended how none runs left by) = ended-opened end.status (status-ended _ how old new end by)
 
 -- ---- and they are exact of a command over a disk that tells

@@ -28,3 +28,4 @@ pub mod JobEnds
 pub mod Unopened
 pub mod Causes
 pub mod Anew
+pub mod Unforged

@@ -25,7 +25,7 @@ data Opening (old new : Seen) (end : Ending) : Type 0 where
 
 put-opening : (name : List ℕ) (old new : Seen) (end : Ending) → AnswersPut name old new end → Opening old new end
 put-opening name old new end (AnswersPut.unstarted u same) = Opening.before u
-put-opening name old new end (AnswersPut.source_fault records opened rose r) = Opening.over records opened (ap is_unopened r.status_is)
+put-opening name old new end (AnswersPut.source_fault records opened rose synced r) = Opening.over records opened (ap is_unopened r.status_is)
 put-opening name old new end (AnswersPut.no_memory r) = Opening.no_room r.status_is
 put-opening name old new end (AnswersPut.begun records bytes opened read A) = Opening.over records opened (job-opened _ records old new end A)
 
@@ -62,7 +62,7 @@ unset-only : (cells : Cells) (old new : Seen) (end : Ending) → old.disk ≡ So
 unset-only cells old new end tells (Opening.before (Unstarted.not_set_up is r)) nine = subst (λ d. IfSome d (λ c. IsNotSetUp (journal_read c))) tells is
 unset-only cells old new end tells (Opening.before (Unstarted.disk_fault rose r)) nine = absurd (status-not end.status 12 9 r.status_is nine (λ e. omega (arith, e)))
 unset-only cells old new end tells (Opening.before (Unstarted.bad_journal at is r)) nine = absurd (status-not end.status 8 9 r.status_is nine (λ e. omega (arith, e)))
-unset-only cells old new end tells (Opening.before (Unstarted.too_few_providers records read few r)) nine = absurd (status-not end.status 22 9 r.status_is nine (λ e. omega (arith, e)))
+unset-only cells old new end tells (Opening.before (Unstarted.too_few_providers records read few synced r)) nine = absurd (status-not end.status 22 9 r.status_is nine (λ e. omega (arith, e)))
 unset-only cells old new end tells (Opening.before (Unstarted.no_memory r)) nine = absurd (status-not end.status 70 9 r.status_is nine (λ e. omega (arith, e)))
 unset-only cells old new end tells (Opening.no_room is) nine = absurd (status-not end.status 70 9 is nine (λ e. omega (arith, e)))
 unset-only cells old new end tells (Opening.over records opened other) nine = absurd (false≢true (sym other ∙ ap is_unopened nine))
@@ -72,13 +72,13 @@ bad-only cells old new end tells (Opening.before (Unstarted.bad_journal at is r)
     subst (λ k. (9 < length (journal_read cells)) × IsBadStart (journal_read cells) k) (sym r.place) (subst (λ d. IfSome d (λ c. (9 < length (journal_read c)) × IsBadStart (journal_read c) at)) tells is)
 bad-only cells old new end tells (Opening.before (Unstarted.disk_fault rose r)) eight = absurd (status-not end.status 12 8 r.status_is eight (λ e. omega (arith, e)))
 bad-only cells old new end tells (Opening.before (Unstarted.not_set_up is r)) eight = absurd (status-not end.status 9 8 r.status_is eight (λ e. omega (arith, e)))
-bad-only cells old new end tells (Opening.before (Unstarted.too_few_providers records read few r)) eight = absurd (status-not end.status 22 8 r.status_is eight (λ e. omega (arith, e)))
+bad-only cells old new end tells (Opening.before (Unstarted.too_few_providers records read few synced r)) eight = absurd (status-not end.status 22 8 r.status_is eight (λ e. omega (arith, e)))
 bad-only cells old new end tells (Opening.before (Unstarted.no_memory r)) eight = absurd (status-not end.status 70 8 r.status_is eight (λ e. omega (arith, e)))
 bad-only cells old new end tells (Opening.no_room is) eight = absurd (status-not end.status 70 8 is eight (λ e. omega (arith, e)))
 bad-only cells old new end tells (Opening.over records opened other) eight = absurd (false≢true (sym other ∙ ap is_unopened eight))
 
 few-only : (old new : Seen) (end : Ending) → Opening old new end → end.status ≡ 22 → (records : List Record) × IsRead old.disk records × (length old.providers < (setup_at records).n)
-few-only old new end (Opening.before (Unstarted.too_few_providers records read few r)) is = (records, read, few)
+few-only old new end (Opening.before (Unstarted.too_few_providers records read few synced r)) is = (records, read, few)
 few-only old new end (Opening.before (Unstarted.disk_fault rose r)) is = absurd (status-not end.status 12 22 r.status_is is (λ e. omega (arith, e)))
 few-only old new end (Opening.before (Unstarted.not_set_up fresh r)) is = absurd (status-not end.status 9 22 r.status_is is (λ e. omega (arith, e)))
 few-only old new end (Opening.before (Unstarted.bad_journal at bad r)) is = absurd (status-not end.status 8 22 r.status_is is (λ e. omega (arith, e)))
@@ -98,7 +98,7 @@ module _ (cells : Cells) (old new : Seen) (end : Ending) (tells : old.disk ≡ S
   unset-always fresh (Opening.before (Unstarted.bad_journal at is r)) =
       absurd (let bad : (9 < length (journal_read cells)) × IsBadStart (journal_read cells) at = subst (λ d. IfSome d (λ c. (9 < length (journal_read c)) × IsBadStart (journal_read c) at)) tells is in
       fresh-good (journal_read cells) at bad.0 fresh bad.1)
-  unset-always fresh (Opening.before (Unstarted.too_few_providers records read few r)) = absurd (read-set_up cells records (told-read records read) fresh)
+  unset-always fresh (Opening.before (Unstarted.too_few_providers records read few synced r)) = absurd (read-set_up cells records (told-read records read) fresh)
   unset-always fresh (Opening.before (Unstarted.no_memory r)) = inr r.status_is
   unset-always fresh (Opening.no_room is) = inr is
   unset-always fresh (Opening.over records opened other) = absurd (read-set_up cells records (told-read records opened.read) fresh)
@@ -109,7 +109,7 @@ module _ (cells : Cells) (old new : Seen) (end : Ending) (tells : old.disk ≡ S
   bad-always at long bad (Opening.before (Unstarted.bad_journal other is r)) =
       (let also : (9 < length (journal_read cells)) × IsBadStart (journal_read cells) other = subst (λ d. IfSome d (λ c. (9 < length (journal_read c)) × IsBadStart (journal_read c) other)) tells is in
       inl (r.status_is, r.place ∙ bad-once (journal_read cells) other at also.1 bad))
-  bad-always at long bad (Opening.before (Unstarted.too_few_providers records read few r)) = absurd (read-good cells at records (told-read records read) bad)
+  bad-always at long bad (Opening.before (Unstarted.too_few_providers records read few synced r)) = absurd (read-good cells at records (told-read records read) bad)
   bad-always at long bad (Opening.before (Unstarted.no_memory r)) = inr r.status_is
   bad-always at long bad (Opening.no_room is) = inr is
   bad-always at long bad (Opening.over records opened other) = absurd (read-good cells at records (told-read records opened.read) bad)
@@ -120,7 +120,7 @@ module _ (cells : Cells) (old new : Seen) (end : Ending) (tells : old.disk ≡ S
   few-always records read few (Opening.before (Unstarted.bad_journal at is r)) =
       absurd (let bad : (9 < length (journal_read cells)) × IsBadStart (journal_read cells) at = subst (λ d. IfSome d (λ c. (9 < length (journal_read c)) × IsBadStart (journal_read c) at)) tells is in
       read-good cells at records (told-read records read) bad.1)
-  few-always records read few (Opening.before (Unstarted.too_few_providers other also less r)) = inl r.status_is
+  few-always records read few (Opening.before (Unstarted.too_few_providers other also less synced r)) = inl r.status_is
   few-always records read few (Opening.before (Unstarted.no_memory r)) = inr r.status_is
   few-always records read few (Opening.no_room is) = inr is
   few-always records read few (Opening.over other opened own) =

@@ -11,11 +11,10 @@
 --   EndsInOrder command old new end  == status 0, or 70, or the command is refused, with its cause
 --   FaultsHaveCauses old new end  == a status of a fault comes only where the count of that device rose
 --   AreSafe records old new bytes == for each file in effect at most b providers are wrong for its bytes, or failed
---   FlaggedHold records new due bytes  == each provider that an audit flagged holds the columns of these bytes of the files in effect
+--   HoldsFile records new bytes file j == what is told of provider j has each block of a file of these bytes
 --   IsPut name old new end, IsDropped, IsAudited, IsRepaired  == what a command of status 0 has done
 use Rattle.std.specs.Prelude.{◌≡◌, ◌⊎◌, ℕ, ◌+◌, ◌≤◌, ◌<◌, Bool, true, false, List, [], ◌∷◌, length, None, Some, IfSome, is_some}
 use Rattle.hail_columns.specs.Columns.{columns}
-use Rattle.hail_columns.specs.Verdicts.{is_flagged}
 use Rattle.hail_devices.specs.Faults.{Rose}
 use Rattle.hail_devices.specs.Images.{EachImage}
 use Rattle.hail_devices.specs.Told.{told_then, TakesFront}
@@ -24,6 +23,7 @@ use Rattle.hail_records.specs.Journal.{StandsFor}
 use Rattle.hail_records.specs.Table.{File, Due, next_id, next_audit, file_of, due_of}
 use Rattle.hail_machine.specs.Setups.{object_of, stripes_of}
 use Rattle.hail_machine.specs.Jobs.{Kind, PutJob, GetJob, DropJob, AuditJob, RepairJob}
+use Rattle.hail_machine.specs.Events.{AreBytes}
 use Rattle.hail_machine.specs.Refusals.{Refusal}
 use Rattle.hail_machine.specs.Heard.{Entry}
 use Rattle.hail_commands.specs.Seen.{Seen, Ending, ReadsUpTo, IsRefused, provider_at}
@@ -95,11 +95,6 @@ abbrev pub HoldsFile : List Record → Seen → List ℕ → File → ℕ → Ty
 HoldsFile records new bytes file j = (stripe : ℕ) → stripe < stripes_of (setup_at records) file.size →
     IfSome (provider_at new.providers j).held (λ held. held file.id stripe ≡ Some (columns (object_of (setup_at records) file.id) bytes j stripe))
 
--- each provider that an audit flagged, and that tells, holds the columns of these bytes of each file in effect
-abbrev pub FlaggedHold : List Record → Seen → Due → (ℕ → List ℕ) → Type 0
-FlaggedHold records new due bytes = (name : List ℕ) (file : File) (j : ℕ) → file_of records name ≡ Some file → j < (setup_at records).n →
-    is_flagged (setup_at records).tolerance due.counts j ≡ true → HoldsFile records new (bytes file.id) file j
-
 -- the records after a put
 abbrev pub after_put : List Record → List ℕ → ℕ → List Record
 after_put records name size = PutDone (next_id records) size ∷ PutStart (next_id records) name ∷ records
@@ -129,6 +124,7 @@ pub record IsPut (name : List ℕ) (old new : Seen) (end : Ending) : Type 0 wher
   pub records : List Record
   pub bytes : List ℕ
   pub opened : IsOpened old records
+  pub are_bytes : AreBytes bytes
   pub read : ReadsUpTo (largest_file + 1) old.source new.source bytes
   pub whole : IfSome new.source (λ left. left ≡ [])
   pub told : Gives (stored_line name (length bytes)) old new end

@@ -1,5 +1,6 @@
 //! What a user may believe of a command, from its status and the counts of its devices: no run of its job and no state stands in it.
 ghost use Rattle.std.specs.Prelude.{◌≡◌, ◌≢◌, ◌⊎◌, ℕ, ◌+◌, ◌<◌, ◌≤◌, true, List, length, Some, None};
+ghost use Rattle.hail_columns.specs.Verdicts.{is_flagged};
 ghost use Rattle.hail_devices.specs.Cells.{Cells};
 ghost use Rattle.hail_devices.specs.Faults.{Rose};
 ghost use Rattle.hail_devices.specs.Told.{told_then, TakesFront};
@@ -20,11 +21,11 @@ ghost use Rattle.hail_commands.specs.Lines.{stored_line, dropped_line, repaired_
 ghost use Rattle.hail_commands.specs.Jobs.{AnswersJob};
 ghost use Rattle.hail_commands.specs.Commands.{AnswersAlone, Answers};
 ghost use Rattle.command_laws.specs.Failing.{bad_seen};
-ghost use Rattle.command_laws.specs.Ends.{IsKnown, EndsWell, EndsInOrder, SameHolds, opens_store, FaultsHaveCauses, AreSafe, FlaggedHold, IsPut, IsDropped, IsAudited, IsRepaired};
+ghost use Rattle.command_laws.specs.Ends.{IsKnown, EndsWell, EndsInOrder, SameHolds, opens_store, FaultsHaveCauses, AreSafe, HoldsFile, IsPut, IsDropped, IsAudited, IsRepaired};
 
 /// A get of a file gives it whole, or finds no memory, where at most b providers are wrong for the file or failed, unless the disk or the
-/// sink failed. With at most b + 1 such providers it never gives a wrong byte, and at status 0 it gave the file. However many there are,
-/// a wrong byte means that what it heard holds a forgery.
+/// sink failed. With at most b + 1 such providers what it heard holds no forgery, it never gives a wrong byte, and at status 0 it gave
+/// the file. However many there are, a wrong byte means that what it heard holds a forgery.
 pub fn gets_give_the_file()
     ensures complete { (name bytes : List ℕ) (records : List Record) (file : File) (old new : Seen) (end : Ending) → Answers (GetOf name) old new end →
         IsKnown old records → file_of records name ≡ Some file → AreBytes bytes → length bytes ≡ file.size →
@@ -36,6 +37,9 @@ pub fn gets_give_the_file()
     ensures right_front { (name bytes : List ℕ) (records : List Record) (file : File) (old new : Seen) (end : Ending) → Answers (GetOf name) old new end →
         IsKnown old records → file_of records name ≡ Some file → AreBytes bytes → length bytes ≡ file.size →
         bad_seen records old new file.id bytes ≤ (setup_at records).b + 1 → TakesFront old.sink new.sink bytes }
+    ensures unforged { (name bytes : List ℕ) (records : List Record) (file : File) (old new : Seen) (end : Ending) → Answers (GetOf name) old new end →
+        IsKnown old records → file_of records name ≡ Some file → bad_seen records old new file.id bytes ≤ (setup_at records).b + 1 →
+        HoldsForgery (object_of (setup_at records) file.id) bytes 1 end.heard → ⊥ }
     ensures forged { (name bytes : List ℕ) (records : List Record) (file : File) (old new : Seen) (end : Ending) → Answers (GetOf name) old new end →
         IsKnown old records → file_of records name ≡ Some file → AreBytes bytes → length bytes ≡ file.size → end.status ≡ 0 →
         (new.sink ≡ told_then old.sink bytes) ⊎ HoldsForgery (object_of (setup_at records) file.id) bytes 1 end.heard }
@@ -88,8 +92,8 @@ pub fn audits_count_what_they_hear()
         (Rose old.sink_faults new.sink_faults → ⊥) → EndsInOrder AuditAll old new end }
 {}
 
-/// A repair of status 0 has written each flagged provider anew, from what the fetches gave; where for each file in effect at most b providers
-/// are wrong for its bytes or failed, these are the very blocks of the files. A repair that is not refused ends so, or finds
+/// A repair of status 0 has written each flagged provider anew, from what the fetches gave; of each file for which at most b providers are
+/// wrong or failed, whatever is of the others, these are the very blocks. A repair that is not refused ends so, or finds
 /// no memory, where it is so of each file, unless a count of faults rose: the disk's, that of a provider's stores, or the sink's.
 pub fn repairs_write_anew()
     ensures done { (old new : Seen) (end : Ending) → Answers RepairDue old new end → end.status ≡ 0 → IsRepaired old new end }
@@ -98,8 +102,10 @@ pub fn repairs_write_anew()
         ((j : ℕ) → j < (setup_at records).n → Rose (provider_at old.providers j).store_faults (provider_at new.providers j).store_faults → ⊥) →
         (Rose old.sink_faults new.sink_faults → ⊥) →
         AreSafe records old new bytes → (end.status ≡ 0) ⊎ (end.status ≡ 70) }
-    ensures right { (records : List Record) (old new : Seen) (end : Ending) (due : Due) (bytes : ℕ → List ℕ) → Answers RepairDue old new end →
-        IsKnown old records → end.status ≡ 0 → due_of records ≡ Some due → AreSafe records old new bytes → FlaggedHold records new due bytes }
+    ensures right { (name bytes : List ℕ) (records : List Record) (file : File) (due : Due) (j : ℕ) (old new : Seen) (end : Ending) →
+        Answers RepairDue old new end → IsKnown old records → end.status ≡ 0 → due_of records ≡ Some due → file_of records name ≡ Some file →
+        length bytes ≡ file.size → bad_seen records old new file.id bytes ≤ (setup_at records).b → j < (setup_at records).n →
+        is_flagged (setup_at records).tolerance due.counts j ≡ true → HoldsFile records new bytes file j }
 {}
 
 /// A job has the status of a refusal only where that is the first of its refusals to apply; and where one applies, the command ends with its

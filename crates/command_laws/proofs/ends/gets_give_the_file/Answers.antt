@@ -1,5 +1,6 @@
 use Rattle.std.proofs.Common.{inl, inr}
 use Rattle.command_laws.proofs.GetEnds.{seen-complete, seen-right, seen-forged}
+use Rattle.command_laws.proofs.Unforged.{seen-unforged}
 use Rattle.command_laws.proofs.ends.gets_give_the_file.Goals as goal
 
 pub returns-clause-complete : goal.returns-clause-complete
@@ -21,3 +22,6 @@ returns-clause-forged c name bytes records file old new end A K in_effect fits s
 pub returns-clause-forged_front : goal.returns-clause-forged_front
 returns-clause-forged_front c name bytes records file old new end A K in_effect fits size =
     elim (seen-forged name bytes records file old new end K in_effect fits size A.0) [ inl right ↦ inl right.0 | inr forged ↦ inr forged ]
+
+pub returns-clause-unforged : goal.returns-clause-unforged
+returns-clause-unforged c name bytes records file old new end A K in_effect few F = seen-unforged name bytes records file old new end K in_effect few A.0 F

@@ -10,4 +10,5 @@ returns-clause-ends_well c records old new end bytes A K begins disk stores sink
     repair-well records old new end bytes A.0 K begins disk stores sink safe
 
 pub returns-clause-right : goal.returns-clause-right
-returns-clause-right c records old new end due bytes A K done is_due safe = repair-right records old new end due bytes A.0 K done is_due safe
+returns-clause-right c name bytes records file due j old new end A K done is_due in_effect size few below flagged =
+    repair-right name bytes records file due j old new end A.0 K done is_due in_effect size few below flagged
