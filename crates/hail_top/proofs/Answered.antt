@@ -15,6 +15,7 @@ use Rattle.command_words.specs.declared.command.Command.{Command}
 use Rattle.command_words.specs.Commands.{command_of}
 use Rattle.hail_top.specs.Endings.{ends}
 use Rattle.hail_top.proofs.Refused.{refused-told}
+use Rattle.hail_top.proofs.Told.{left}
 use Rattle.hail_top.proofs.AnswerTexts.{front-none}
 
 -- it is this command
@@ -26,7 +27,7 @@ pub no_memory-told : (command : Spelled) (same : Seen) (end : Ending) → end �
 no_memory-told command same end is = subst (λ (e : Ending). Answers command same same e) (sym is) (by_command command)
   where
     refused : IsRefused 70 0 same same (ends 70 0)
-    refused = refused-told 70 0 same same (ends 70 0) refl refl refl refl
+    refused = refused-told 70 0 same same (ends 70 0) refl (left same.disk) refl refl
 
     none : (text : List ℕ) → TakesFront same.sink same.sink text
     none text = front-none same.sink same.sink text refl

@@ -1,12 +1,13 @@
 -- How a command ends that runs a job over a vault just opened.
 use Rattle.std.proofs.Common.{◌≡◌, ℕ, List, length, Option, ap, sym, ◌∙◌, inl, inr, subst, arith}
 use Rattle.std.specs.Option.{option_map}
-use Rattle.hail_devices.specs.Cells.{Cells, reads}
+use Rattle.hail_devices.specs.Cells.{Cells}
+use Rattle.hail_devices.specs.Disks.{synced}
 use Rattle.hail_devices.specs.Providers.{Provider}
 use Rattle.hail_records.specs.Records.{Record}
 use Rattle.hail_machine.specs.Jobs.{Kind}
 use Rattle.hail_machine.specs.Heard.{Entry}
-use Rattle.hail_commands.specs.Seen.{Seen, Ending, SameReads, provider_at, sinking}
+use Rattle.hail_commands.specs.Seen.{Seen, Ending, KeepsDisk, IsSynced, provider_at, sinking}
 use Rattle.hail_commands.specs.Opens.{setup_at}
 use Rattle.hail_commands.specs.Refusals.{status_of}
 use Rattle.hail_commands.specs.Ran.{ran_alone}
@@ -23,6 +24,7 @@ use Rattle.hail_top.specs.Endings.{ends}
 use Rattle.hail_top.specs.Telling.{IsSubject, TellsAnswer}
 use Rattle.hail_top.specs.Jobs.{AnswersOver}
 use Rattle.hail_top.proofs.Refused.{refused-told}
+use Rattle.hail_top.proofs.Told.{resynced}
 use Rattle.hail_top.proofs.AnswerTexts.{answer-ends}
 
 -- the job ran to its end, and that was told
@@ -58,19 +60,22 @@ untouched old new d before faults providers =
 
 -- the job was refused, and that was told
 pub refused-over : (kind : Kind) (records : List Record) (old new : Seen) (d : Devices) (end : Ending) (why : BeginFault)
-    → IsSeenBefore old d → IsRefusedOver records kind why → end ≡ ends (status_of (refusal_of why)) 0
+    → IsSeenBefore old d → d.holds ≡ option_map synced old.disk → IsRefusedOver records kind why → end ≡ ends (status_of (refusal_of why)) 0
     → new.disk ≡ d.holds → new.disk_faults ≡ d.faults → new.providers ≡ d.providers → new.sink ≡ old.sink → AnswersOver kind records old new end
-refused-over kind records old new d end why before over is disk faults providers silent = record {
+refused-over kind records old new d end why before was_synced over is disk faults providers silent = record {
   answers = by_cause over;
   counts = untouched old new d before faults providers;
 }
   where
-    same_reads : SameReads old new
-    same_reads = ap (λ (told : Option Cells). option_map reads told) disk ∙ before.reads
+    synced_here : IsSynced old new
+    synced_here = disk ∙ was_synced
+
+    kept : KeepsDisk old new
+    kept = resynced old.disk new.disk synced_here
 
     same_providers : new.providers ≡ old.providers
     same_providers = providers ∙ sym before.providers
 
     by_cause : IsRefusedOver records kind why → AnswersJob kind records old new end
-    by_cause (inl memory) = jobs.no_memory (refused-told 70 0 old new end (is ∙ ap (λ (w : BeginFault). ends (status_of (refusal_of w)) 0) memory) same_reads same_providers silent)
-    by_cause (inr some) = jobs.refused (refusal_of why) some (refused-told (status_of (refusal_of why)) 0 old new end is same_reads same_providers silent)
+    by_cause (inl memory) = jobs.no_memory synced_here (refused-told 70 0 old new end (is ∙ ap (λ (w : BeginFault). ends (status_of (refusal_of w)) 0) memory) kept same_providers silent)
+    by_cause (inr some) = jobs.refused (refusal_of why) some synced_here (refused-told (status_of (refusal_of why)) 0 old new end is kept same_providers silent)

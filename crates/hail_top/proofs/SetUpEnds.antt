@@ -16,7 +16,7 @@ use Rattle.vault.specs.declared.fault.InitFault.{InitFault}
 use Rattle.vault.specs.declared.fault.InitFault.TheVariants as init_fault
 use Rattle.hail_top.specs.Endings.{ends}
 use Rattle.hail_top.specs.SetUps.{init_ending}
-use Rattle.hail_top.proofs.Told.{IfSome-map, Goes-map, same_reads}
+use Rattle.hail_top.proofs.Told.{IfSome-map, Goes-map}
 
 -- the oldest record is a setup, in the words of the commands
 BeginsWithSetup-from : (rs : List Record) → vault.BeginsWithSetup rs → BeginsWithSetup rs
@@ -85,7 +85,7 @@ not_set_up-told s old new end why is cause looked left rose same silent =
     failed status = record { status_is = refl; place = refl; heard = refl; images = left; providers = same; sink = silent }
 
     refused : (status at : ℕ) → Goes vault.IsResynced old.disk new.disk → IsRefused status at old new (ends status at)
-    refused status at goes = record { status_is = refl; place = refl; heard = refl; disk = same_reads old.disk new.disk goes; providers = same; sink = silent }
+    refused status at goes = record { status_is = refl; place = refl; heard = refl; disk = goes; providers = same; sink = silent }
 
     by_fault : (why : InitFault) → IfSome old.disk (λ cells. vault.IsInitFault (journal_read cells) s why) → (vault.IsNoWrite why → Goes vault.IsResynced old.disk new.disk)
         → (why ≡ init_fault.DiskFault → Rose old.disk_faults new.disk_faults) → InitsDisk s old new (init_ending why)

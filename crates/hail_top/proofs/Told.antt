@@ -1,11 +1,11 @@
 -- What is told passes from one word for it to another.
-use Rattle.std.proofs.Common.{◌≡◌, ℕ, List, Option, None, Some, refl, ap, ◌∙◌, inl, inr}
+use Rattle.std.proofs.Common.{◌≡◌, Option, None, Some, refl, sym, subst, inl, inr}
 use Rattle.std.specs.Prelude.{IfSome}
 use Rattle.std.specs.Option.{option_map}
-use Rattle.hail_devices.specs.Cells.{Cells, reads}
+use Rattle.hail_devices.specs.Cells.{Cells}
+use Rattle.hail_devices.specs.Disks.{synced}
 use Rattle.hail_devices.specs.Told.{Goes}
-use Rattle.vault.specs.Openings.{IsResynced}
-use Rattle.vault.proofs.Readings.{reads-synced}
+use Rattle.hail_commands.specs.Seen.{IsResynced}
 
 -- a fact of what is told follows from another
 pub IfSome-map : {A : Type 0} (told : Option A) (P Q : A → Type 0) → ((x : A) → P x → Q x) → IfSome told P → IfSome told Q
@@ -19,10 +19,16 @@ Goes-map None (Some y) P Q implies goes = absurd goes
 Goes-map (Some x) None P Q implies goes = absurd goes
 Goes-map (Some x) (Some y) P Q implies goes = implies x y goes
 
--- a disk that was synced, or left as it was, reads as before
-pub same_reads : (old new : Option Cells) → Goes IsResynced old new → option_map reads new ≡ option_map reads old
-same_reads None None goes = refl
-same_reads None (Some new) goes = absurd goes
-same_reads (Some old) None goes = absurd goes
-same_reads (Some old) (Some new) (inl same) = ap (λ (cells : Cells). Some (reads cells)) same
-same_reads (Some old) (Some new) (inr resynced) = ap (λ (cells : Cells). Some (reads cells)) resynced ∙ ap (λ (bytes : List ℕ). Some bytes) (reads-synced old)
+-- a disk that was left as it was
+pub left : (told : Option Cells) → Goes IsResynced told told
+left None = tt
+left (Some cells) = inl refl
+
+-- the same of two of the same content
+pub untouched : (old new : Option Cells) → new ≡ old → Goes IsResynced old new
+untouched old new is = subst (λ (told : Option Cells). Goes IsResynced old told) (sym is) (left old)
+
+-- a disk that was synced
+pub resynced : (old new : Option Cells) → new ≡ option_map synced old → Goes IsResynced old new
+resynced None new is = subst (λ (told : Option Cells). Goes IsResynced None told) (sym is) tt
+resynced (Some cells) new is = subst (λ (told : Option Cells). Goes IsResynced (Some cells) told) (sym is) (inr refl)

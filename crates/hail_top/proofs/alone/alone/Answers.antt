@@ -16,7 +16,7 @@ returns-in-Ok-clause-answers g c left count =
     let found = c.in-Ok.ensures.opened in
     let opened = opened-read old found.0 (length c.args.providers.now) (sym (length-map c.args.providers.now see)) found.1 in
     begun found.0 opened (c.answer_job.ensures.over found.0 old left count found.2 opened
-    (record { reads = c.in-Ok.ensures.reads; faults = c.in-Ok.ensures.cause.never_falls; providers = refl }) refl refl).answers
+    (record { reads = c.in-Ok.ensures.reads; faults = c.in-Ok.ensures.cause.never_falls; providers = refl }) c.in-Ok.ensures.synced refl refl).answers
 
 pub returns-in-Ok-clause-counts : goal.returns-in-Ok-clause-counts
 returns-in-Ok-clause-counts g c left count =
@@ -25,10 +25,10 @@ returns-in-Ok-clause-counts g c left count =
     let found = c.in-Ok.ensures.opened in
     let opened = opened-read old found.0 (length c.args.providers.now) (sym (length-map c.args.providers.now see)) found.1 in
     no_count_falls old _ (c.answer_job.ensures.over found.0 old left count found.2 opened
-    (record { reads = c.in-Ok.ensures.reads; faults = c.in-Ok.ensures.cause.never_falls; providers = refl }) refl refl).counts (still count) c.answer_job.ensures.count
+    (record { reads = c.in-Ok.ensures.reads; faults = c.in-Ok.ensures.cause.never_falls; providers = refl }) c.in-Ok.ensures.synced refl refl).counts (still count) c.answer_job.ensures.count
 
 pub returns-in-Err-clause-answers : goal.returns-in-Err-clause-answers
 returns-in-Err-clause-answers g c left count =
     let see = as_seen g.P.Provider.held g.P.Provider.store_faults g.P.Provider.other_faults g.P.Provider.fetches in
-    unstarted (unopened-told _ _ _ c.in-Err.why (length c.args.providers.now) c.unopened.ensures (sym (length-map c.args.providers.now see)) c.in-Err.ensures.refused c.in-Err.ensures.reads
-    (λ same. c.in-Err.ensures.cause.rose (ap (λ (w : Unopened). Err w) same)) refl refl)
+    unstarted (unopened-told _ _ _ c.in-Err.why (length c.args.providers.now) c.unopened.ensures (sym (length-map c.args.providers.now see)) c.in-Err.ensures.refused c.in-Err.ensures.disk
+    (λ few. c.in-Err.ensures.few (ap (λ (w : Unopened). Err w) few)) (λ same. c.in-Err.ensures.cause.rose (ap (λ (w : Unopened). Err w) same)) refl refl)
