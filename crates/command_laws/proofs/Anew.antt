@@ -28,7 +28,7 @@ use Rattle.hail_commands.specs.Repairs.{Place, places_of, blocks_at, held_at, fl
 use Rattle.hail_commands.specs.Truthful.{missing, IsTruthful}
 use Rattle.hail_commands.specs.Commands.{AnswersAlone}
 use Rattle.command_laws.specs.Failing.{has_risen, is_bad_with, is_bad, bad_count, bad_seen}
-use Rattle.command_laws.specs.Ends.{IsKnown, HoldsFile, IsRepaired, ran_to, after_repair}
+use Rattle.command_laws.specs.Ends.{IsDone, IsKnown, HoldsFile, IsRepaired, ran_to, after_repair}
 use Rattle.command_laws.proofs.Complete.{block_at-map, wrong-sized, not-wrong-each, not-risen, or-left}
 use Rattle.command_laws.proofs.Known.{known-once}
 use Rattle.command_laws.proofs.GetEnds.{shape-at}
@@ -166,7 +166,7 @@ module _ (x : Ran) (shape : IsShape (setup_at_begin x).n (setup_at_begin x).l (s
 
 -- ---- the repair of a command
 
-pub repair-right : (name bytes : List ℕ) (records : List Record) (file : File) (due : Due) (j : ℕ) (old new : Seen) (end : Ending) → AnswersAlone RepairJob old new end → IsKnown old records → end.status ≡ 0 →
+pub repair-right : (name bytes : List ℕ) (records : List Record) (file : File) (due : Due) (j : ℕ) (old new : Seen) (end : Ending) → AnswersAlone RepairJob old new end → IsKnown old records → IsDone end →
     due_of records ≡ Some due → file_of records name ≡ Some file → length bytes ≡ file.size → bad_seen records old new file.id bytes ≤ (setup_at records).b → j < (setup_at records).n →
     is_flagged (setup_at records).tolerance due.counts j ≡ true → HoldsFile records new bytes file j
 repair-right name bytes records file due j old new end A K done is_due in_effect size few below flagged =

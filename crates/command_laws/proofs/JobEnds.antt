@@ -1,4 +1,4 @@
--- How puts, drops, audits and repairs end, and what they have done at status 0.
+-- How puts, drops, audits and repairs end, and what they have done where they are done.
 use Rattle.std.proofs.Common.{◌≡◌, ◌≢◌, ℕ, ◌+◌, ◌<◌, ◌≤◌, ◌==◌, ◌⊎◌, Bool, true, false, cond, List, [], ◌∷◌, ◌++◌, length, Option, None, Some, refl, ap, sym, subst, ◌∙◌, inl, inr, arith, length-append}
 use Rattle.std.specs.Prelude.{IsSomeAnd, nat_lt}
 use Rattle.std.proofs.lemmas.Bool.{cases_lt, eq-eqb, lt-ltb}
@@ -7,7 +7,6 @@ use Rattle.hail_devices.specs.Cells.{Cells}
 use Rattle.hail_devices.specs.Faults.{Rose, last_count}
 use Rattle.hail_devices.specs.Images.{EachImage}
 use Rattle.hail_devices.specs.Providers.{Provider}
-use Rattle.hail_devices.specs.Told.{told_then}
 use Rattle.hail_records.specs.Records.{Record, PutStart, largest_file}
 use Rattle.hail_records.specs.Journal.{StandsFor, StandsOrIsEmpty}
 use Rattle.hail_records.specs.Table.{File, Due, next_id, file_of, due_of, started_as, is_start_of, is_same_name}
@@ -27,26 +26,26 @@ use Rattle.hail_commands.specs.Puts.{PutLeaves}
 use Rattle.hail_commands.specs.Drops.{DropLeaves}
 use Rattle.hail_commands.specs.Audits.{AuditGives, HearsRounds, CountsHeard}
 use Rattle.hail_commands.specs.Repairs.{RepairGives}
-use Rattle.hail_commands.specs.Jobs.{AnswersJob, EndsBy, LeftAlone}
+use Rattle.hail_commands.specs.Jobs.{AnswersJob, EndsBy, LeftAlone, IsTold}
 use Rattle.hail_commands.specs.Commands.{AnswersPut, AnswersAlone, AnswersList}
 use Rattle.command_laws.specs.Failing.{bad_seen}
-use Rattle.command_laws.specs.Ends.{IsKnown, EndsWell, EndsInOrder, SameHolds, after_put, IsPut, IsDropped, IsAudited, IsRepaired}
+use Rattle.command_laws.specs.Ends.{IsDone, IsKnown, EndsWell, EndsInOrder, SameHolds, after_put, IsPut, IsDropped, IsAudited, IsRepaired}
 use Rattle.command_laws.proofs.Complete.{put-end, drop-end, audit-end}
 use Rattle.command_laws.proofs.Mended.{repair-end}
-use Rattle.command_laws.proofs.Known.{none-written, written-well, written-zero, known-once, unstarted-known, alone-known, refused-zero, refused-only, refused-always, own-status}
+use Rattle.command_laws.proofs.Known.{none-written, written-well, known-once, unstarted-known, alone-known, refused-not, refused-only, refused-always, own-status}
 use Rattle.command_laws.proofs.GetEnds.{shape-at, ran_left}
 
 -- ---- what is common
 
-unstarted-refused : (old new : Seen) (end : Ending) → Unstarted old new end → (status : ℕ) × (at : ℕ) × (status ≢ 0) × IsRefused status at old new end
-unstarted-refused old new end (Unstarted.disk_fault rose r) = (12, 0, (λ e. omega (arith, e)), r)
-unstarted-refused old new end (Unstarted.not_set_up is r) = (9, 0, (λ e. omega (arith, e)), r)
-unstarted-refused old new end (Unstarted.bad_journal at is r) = (8, at, (λ e. omega (arith, e)), r)
-unstarted-refused old new end (Unstarted.too_few_providers records read few synced r) = (22, 0, (λ e. omega (arith, e)), r)
-unstarted-refused old new end (Unstarted.no_memory r) = (70, 0, (λ e. omega (arith, e)), r)
+pub unstarted-refused : (old new : Seen) (end : Ending) → Unstarted old new end → (status : ℕ) × (at : ℕ) × ((status ≢ 0) × (status ≢ 15)) × IsRefused status at old new end
+unstarted-refused old new end (Unstarted.disk_fault rose r) = (12, 0, ((λ e. omega (arith, e)), (λ e. omega (arith, e))), r)
+unstarted-refused old new end (Unstarted.not_set_up is r) = (9, 0, ((λ e. omega (arith, e)), (λ e. omega (arith, e))), r)
+unstarted-refused old new end (Unstarted.bad_journal at is r) = (8, at, ((λ e. omega (arith, e)), (λ e. omega (arith, e))), r)
+unstarted-refused old new end (Unstarted.too_few_providers records read few synced r) = (22, 0, ((λ e. omega (arith, e)), (λ e. omega (arith, e))), r)
+unstarted-refused old new end (Unstarted.no_memory r) = (70, 0, ((λ e. omega (arith, e)), (λ e. omega (arith, e))), r)
 
-unstarted-zero : (old new : Seen) (end : Ending) → Unstarted old new end → end.status ≡ 0 → ⊥
-unstarted-zero old new end u zero = (let r = unstarted-refused old new end u in r.2 (sym r.3.status_is ∙ zero))
+pub unstarted-done : (old new : Seen) (end : Ending) → Unstarted old new end → IsDone end → ⊥
+unstarted-done old new end u done = (let r = unstarted-refused old new end u in elim done [ inl zero ↦ r.2.0 (sym r.3.status_is ∙ zero) | inr sink ↦ r.2.1 (sym r.3.status_is ∙ sink) ])
 
 -- a fault that was counted once a vault was opened was counted in the command
 pub rose-before : (before opened now : ℕ) → before ≤ opened → opened ≤ now → Rose opened now → Rose before now
@@ -56,13 +55,13 @@ rose-before before opened now a b rose small = elim (cases_lt opened last_count)
 ]
 
 -- images of a disk with nothing in doubt stand for the records
-image-has : (image : List ℕ) (after : List Record) (doubt : Option Record) (first : Record) (rest : List Record) → after ≡ first ∷ rest → doubt ≡ None →
+pub image-has : (image : List ℕ) (after : List Record) (doubt : Option Record) (first : Record) (rest : List Record) → after ≡ first ∷ rest → doubt ≡ None →
     StandsOrIsEmpty image after ⊎ IsSomeAnd doubt (λ entry. StandsFor image (entry ∷ after)) → StandsFor image (first ∷ rest)
 image-has image after doubt first rest is sure (inl (inl stands)) = subst (StandsFor image) is stands
 image-has image after doubt first rest is sure (inl (inr none)) = absurd (let e : first ∷ rest ≡ [] = sym is ∙ none.0 in cc)
 image-has image after doubt first rest is sure (inr entry) = absurd (subst (λ d. IsSomeAnd d (λ entry. StandsFor image (entry ∷ after))) sure entry)
 
-images-have : (told : Option Cells) (after : List Record) (doubt : Option Record) (first : Record) (rest : List Record) → after ≡ first ∷ rest → doubt ≡ None →
+pub images-have : (told : Option Cells) (after : List Record) (doubt : Option Record) (first : Record) (rest : List Record) → after ≡ first ∷ rest → doubt ≡ None →
     EachImage told (λ image. StandsOrIsEmpty image after ⊎ IsSomeAnd doubt (λ entry. StandsFor image (entry ∷ after))) → EachImage told (λ image. StandsFor image (first ∷ rest))
 images-have None after doubt first rest is sure h = tt
 images-have (Some cells) after doubt first rest is sure h = λ image of. image-has image after doubt first rest is sure (h image of)
@@ -72,11 +71,17 @@ abbrev EndsWith : List Record → Kind → Answer → Seen → Seen → Ending �
 EndsWith records kind how old new end = EndsBy (text_of (setup_at records).tolerance kind how) how old new end
 
 -- a job that found no memory, or wrote its text
-memory-well : (text : List ℕ) (old new : Seen) (end : Ending) → IsRefused 70 0 old new end → EndsWell text old new end
+pub memory-well : (text : List ℕ) (old new : Seen) (end : Ending) → IsRefused 70 0 old new end → EndsWell text old new end
 memory-well text old new end r = inr (r.status_is, none-written text old.sink new.sink r.sink)
 
-not-zero : (status n : ℕ) → status ≡ n → n ≢ 0 → status ≡ 0 → ⊥
-not-zero status n is other zero = other (sym is ∙ zero)
+pub not-done : (status n : ℕ) → status ≡ n → n ≢ 0 → n ≢ 15 → (status ≡ 0) ⊎ (status ≡ 15) → ⊥
+not-done status n is zero sink (inl done) = zero (sym is ∙ done)
+not-done status n is zero sink (inr done) = sink (sym is ∙ done)
+
+-- no refusal ends a command so
+pub refused-done : (why : Refusal) (status : ℕ) → status ≡ status_of why → (status ≡ 0) ⊎ (status ≡ 15) → ⊥
+refused-done why status is (inl done) = refused-not why 0 refl (λ e. omega (arith, e)) (sym is ∙ done)
+refused-done why status is (inr done) = refused-not why 15 refl (λ e. omega (arith, e)) (sym is ∙ done)
 
 -- a calm disk was calm once it was opened
 calm-disk : (records : List Record) (kind : Kind) (how : Answer) (old new : Seen) (heard : List Entry) (left : LeftAlone records kind how old new heard) → (Rose old.disk_faults new.disk_faults → ⊥) → Rose left.faults new.disk_faults → ⊥
@@ -101,35 +106,35 @@ put-in_effect records name size = cond_true (is_start_of name (started_as (PutSt
 
 put-by : (name bytes : List ℕ) (records : List Record) (old new : Seen) (end : Ending) → IsOpened old records → ReadsUpTo (largest_file + 1) old.source new.source bytes →
     refusal_of records (PutJob name bytes) ≡ None → (how : Answer) (left : LeftAlone records (PutJob name bytes) how old new end.heard) →
-    PutLeaves (ran_left records (PutJob name bytes) how old new end.heard left) name bytes how → EndsWith records (PutJob name bytes) how old new end → end.status ≡ 0 → IsPut name old new end
-put-by name bytes records old new end opened read begins answer.Put left L by zero = record {
+    PutLeaves (ran_left records (PutJob name bytes) how old new end.heard left) name bytes how → EndsWith records (PutJob name bytes) how old new end → IsDone end → IsPut name old new end
+put-by name bytes records old new end opened read begins answer.Put left L by done = record {
   records = records;
   bytes = bytes;
   opened = opened;
   are_bytes = read.are_bytes;
   read = read;
   whole = read.end (let small = not-long records name bytes begins in omega (arith, small));
-  told = (zero, written-zero (stored_line name (length bytes)) old new end by.written zero);
+  told = by;
   disk = images-have new.disk left.after left.doubt _ _ L.0.after L.0.sure left.images;
   in_effect = put-in_effect records name (length bytes);
   stored = L.1;
 }
-put-by name bytes records old new end opened read begins (answer.ProviderFault j) left L by zero = absurd (not-zero end.status 13 by.status_is (λ e. omega (arith, e)) zero)
-put-by name bytes records old new end opened read begins answer.DiskFault left L by zero = absurd (not-zero end.status 12 by.status_is (λ e. omega (arith, e)) zero)
-put-by name bytes records old new end opened read begins answer.Memory left L by zero = absurd (not-zero end.status 70 by.status_is (λ e. omega (arith, e)) zero)
-put-by name bytes records old new end opened read begins how left L by zero = absurd L
+put-by name bytes records old new end opened read begins (answer.ProviderFault j) left L by done = absurd (not-done end.status 13 by.status_is (λ e. omega (arith, e)) (λ e. omega (arith, e)) done)
+put-by name bytes records old new end opened read begins answer.DiskFault left L by done = absurd (not-done end.status 12 by.status_is (λ e. omega (arith, e)) (λ e. omega (arith, e)) done)
+put-by name bytes records old new end opened read begins answer.Memory left L by done = absurd (not-done end.status 70 by.status_is (λ e. omega (arith, e)) (λ e. omega (arith, e)) done)
+put-by name bytes records old new end opened read begins how left L by done = absurd L
 
-pub put-done : (name : List ℕ) (old new : Seen) (end : Ending) → AnswersPut name old new end → end.status ≡ 0 → IsPut name old new end
-put-done name old new end (AnswersPut.unstarted u same) zero = absurd (unstarted-zero old new end u zero)
-put-done name old new end (AnswersPut.source_fault records opened rose synced r) zero = absurd (not-zero end.status 14 r.status_is (λ e. omega (arith, e)) zero)
-put-done name old new end (AnswersPut.no_memory r) zero = absurd (not-zero end.status 70 r.status_is (λ e. omega (arith, e)) zero)
-put-done name old new end (AnswersPut.begun records bytes opened read (AnswersJob.refused why is synced r)) zero = absurd (refused-zero why (sym r.status_is ∙ zero))
-put-done name old new end (AnswersPut.begun records bytes opened read (AnswersJob.no_memory synced r)) zero = absurd (not-zero end.status 70 r.status_is (λ e. omega (arith, e)) zero)
-put-done name old new end (AnswersPut.begun records bytes opened read (AnswersJob.ended how none runs left by)) zero =
-    put-by name bytes records old new end opened read none how left left.leaves.by_kind.0 by zero
+pub put-done : (name : List ℕ) (old new : Seen) (end : Ending) → AnswersPut name old new end → IsDone end → IsPut name old new end
+put-done name old new end (AnswersPut.unstarted u same) done = absurd (unstarted-done old new end u done)
+put-done name old new end (AnswersPut.source_fault records opened rose synced r) done = absurd (not-done end.status 14 r.status_is (λ e. omega (arith, e)) (λ e. omega (arith, e)) done)
+put-done name old new end (AnswersPut.no_memory r) done = absurd (not-done end.status 70 r.status_is (λ e. omega (arith, e)) (λ e. omega (arith, e)) done)
+put-done name old new end (AnswersPut.begun records bytes opened read (AnswersJob.refused why is synced r)) done = absurd (refused-done why end.status r.status_is done)
+put-done name old new end (AnswersPut.begun records bytes opened read (AnswersJob.no_memory synced r)) done = absurd (not-done end.status 70 r.status_is (λ e. omega (arith, e)) (λ e. omega (arith, e)) done)
+put-done name old new end (AnswersPut.begun records bytes opened read (AnswersJob.ended how none runs left by)) done =
+    put-by name bytes records old new end opened read none how left left.leaves.by_kind.0 by done
 
 -- what is read of a source that is no longer than a file may be is all of it
-read-all : (old new : Option (List ℕ)) (bytes seen : List ℕ) → old ≡ Some bytes → length bytes ≤ largest_file → ReadsUpTo (largest_file + 1) old new seen → seen ≡ bytes
+pub read-all : (old new : Option (List ℕ)) (bytes seen : List ℕ) → old ≡ Some bytes → length bytes ≤ largest_file → ReadsUpTo (largest_file + 1) old new seen → seen ≡ bytes
 read-all old None bytes seen is small R = absurd (let e : Some bytes ≡ None = sym is ∙ R.front in cc)
 read-all old (Some left) bytes seen is small R =
     (let e : Some bytes ≡ Some (seen ++ left) = sym is ∙ R.front in
@@ -221,26 +226,26 @@ put-always name bytes records old new end why (AnswersPut.begun other seen opene
 -- ---- drops
 
 drop-by : (name : List ℕ) (records : List Record) (old new : Seen) (end : Ending) → IsOpened old records → (how : Answer) (left : LeftAlone records (DropJob name) how old new end.heard) →
-    DropLeaves (ran_left records (DropJob name) how old new end.heard left) name how → EndsWith records (DropJob name) how old new end → end.status ≡ 0 → IsDropped name old new end
-drop-by name records old new end opened answer.Dropped left L by zero = record {
+    DropLeaves (ran_left records (DropJob name) how old new end.heard left) name how → EndsWith records (DropJob name) how old new end → IsDone end → IsDropped name old new end
+drop-by name records old new end opened answer.Dropped left L by done = record {
   records = records;
   file = L.1.file;
   opened = opened;
   was_in_effect = L.1.in_effect;
-  told = (zero, written-zero (dropped_line name) old new end by.written zero);
+  told = by;
   disk = images-have new.disk left.after left.doubt _ _ L.0.after L.0.sure left.images;
   out_of_effect = cond_true (is_same_name name name) None (file_of records name) (same_name-refl name);
   gone = L.1.held;
 }
-drop-by name records old new end opened answer.DiskFault left L by zero = absurd (not-zero end.status 12 by.status_is (λ e. omega (arith, e)) zero)
-drop-by name records old new end opened answer.Memory left L by zero = absurd (not-zero end.status 70 by.status_is (λ e. omega (arith, e)) zero)
-drop-by name records old new end opened how left L by zero = absurd L
+drop-by name records old new end opened answer.DiskFault left L by done = absurd (not-done end.status 12 by.status_is (λ e. omega (arith, e)) (λ e. omega (arith, e)) done)
+drop-by name records old new end opened answer.Memory left L by done = absurd (not-done end.status 70 by.status_is (λ e. omega (arith, e)) (λ e. omega (arith, e)) done)
+drop-by name records old new end opened how left L by done = absurd L
 
-pub drop-done : (name : List ℕ) (old new : Seen) (end : Ending) → AnswersAlone (DropJob name) old new end → end.status ≡ 0 → IsDropped name old new end
-drop-done name old new end (AnswersAlone.unstarted u) zero = absurd (unstarted-zero old new end u zero)
-drop-done name old new end (AnswersAlone.begun records opened (AnswersJob.refused why is synced r)) zero = absurd (refused-zero why (sym r.status_is ∙ zero))
-drop-done name old new end (AnswersAlone.begun records opened (AnswersJob.no_memory synced r)) zero = absurd (not-zero end.status 70 r.status_is (λ e. omega (arith, e)) zero)
-drop-done name old new end (AnswersAlone.begun records opened (AnswersJob.ended how none runs left by)) zero = drop-by name records old new end opened how left left.leaves.by_kind.0 by zero
+pub drop-done : (name : List ℕ) (old new : Seen) (end : Ending) → AnswersAlone (DropJob name) old new end → IsDone end → IsDropped name old new end
+drop-done name old new end (AnswersAlone.unstarted u) done = absurd (unstarted-done old new end u done)
+drop-done name old new end (AnswersAlone.begun records opened (AnswersJob.refused why is synced r)) done = absurd (refused-done why end.status r.status_is done)
+drop-done name old new end (AnswersAlone.begun records opened (AnswersJob.no_memory synced r)) done = absurd (not-done end.status 70 r.status_is (λ e. omega (arith, e)) (λ e. omega (arith, e)) done)
+drop-done name old new end (AnswersAlone.begun records opened (AnswersJob.ended how none runs left by)) done = drop-by name records old new end opened how left left.leaves.by_kind.0 by done
 
 drop-job-well : (name : List ℕ) (records : List Record) (old new : Seen) (end : Ending) → refusal_of records (DropJob name) ≡ None → (Rose old.disk_faults new.disk_faults → ⊥) → (Rose old.sink_faults new.sink_faults → ⊥) →
     AnswersJob (DropJob name) records old new end → EndsWell (dropped_line name) old new end
@@ -265,27 +270,27 @@ drop-well name records old new end A K begins disk sink = elim (alone-known (Dro
 -- ---- audits
 
 audit-by : (records : List Record) (old new : Seen) (end : Ending) → IsOpened old records → (how : Answer) (left : LeftAlone records AuditJob how old new end.heard) →
-    AuditGives (ran_left records AuditJob how old new end.heard left) how → EndsWith records AuditJob how old new end → end.status ≡ 0 → IsAudited old new end
-audit-by records old new end opened (answer.Audited number undecided counts) left L by zero =
+    AuditGives (ran_left records AuditJob how old new end.heard left) how → EndsWith records AuditJob how old new end → IsDone end → IsAudited old new end
+audit-by records old new end opened (answer.Audited number undecided counts) left L by done =
     (let heard = subst (λ n. HearsRounds (ran_left records AuditJob (answer.Audited number undecided counts) old new end.heard left) n) L.0 L.2 in record {
       records = records;
       undecided = undecided;
       counts = counts;
       opened = opened;
-      told = (zero, subst (λ n. new.sink ≡ told_then old.sink (audit_lines (setup_at records).tolerance n undecided counts)) L.0 (written-zero _ old new end by.written zero));
+      told = subst (λ n. IsTold (audit_lines (setup_at records).tolerance n undecided counts) old new end) L.0 by;
       disk = images-have new.disk left.after left.doubt _ _ L.1.after L.1.sure left.images;
       heard = record { heard = heard.heard; truthful = heard.truthful };
       counted = subst (λ n. CountsHeard (ran_left records AuditJob (answer.Audited number undecided counts) old new end.heard left) n undecided counts) L.0 L.3;
     })
-audit-by records old new end opened answer.DiskFault left L by zero = absurd (not-zero end.status 12 by.status_is (λ e. omega (arith, e)) zero)
-audit-by records old new end opened answer.Memory left L by zero = absurd (not-zero end.status 70 by.status_is (λ e. omega (arith, e)) zero)
-audit-by records old new end opened how left L by zero = absurd L
+audit-by records old new end opened answer.DiskFault left L by done = absurd (not-done end.status 12 by.status_is (λ e. omega (arith, e)) (λ e. omega (arith, e)) done)
+audit-by records old new end opened answer.Memory left L by done = absurd (not-done end.status 70 by.status_is (λ e. omega (arith, e)) (λ e. omega (arith, e)) done)
+audit-by records old new end opened how left L by done = absurd L
 
-pub audit-done : (old new : Seen) (end : Ending) → AnswersAlone AuditJob old new end → end.status ≡ 0 → IsAudited old new end
-audit-done old new end (AnswersAlone.unstarted u) zero = absurd (unstarted-zero old new end u zero)
-audit-done old new end (AnswersAlone.begun records opened (AnswersJob.refused why is synced r)) zero = absurd (refused-zero why (sym r.status_is ∙ zero))
-audit-done old new end (AnswersAlone.begun records opened (AnswersJob.no_memory synced r)) zero = absurd (not-zero end.status 70 r.status_is (λ e. omega (arith, e)) zero)
-audit-done old new end (AnswersAlone.begun records opened (AnswersJob.ended how none runs left by)) zero = audit-by records old new end opened how left left.leaves.by_kind.gives by zero
+pub audit-done : (old new : Seen) (end : Ending) → AnswersAlone AuditJob old new end → IsDone end → IsAudited old new end
+audit-done old new end (AnswersAlone.unstarted u) done = absurd (unstarted-done old new end u done)
+audit-done old new end (AnswersAlone.begun records opened (AnswersJob.refused why is synced r)) done = absurd (refused-done why end.status r.status_is done)
+audit-done old new end (AnswersAlone.begun records opened (AnswersJob.no_memory synced r)) done = absurd (not-done end.status 70 r.status_is (λ e. omega (arith, e)) (λ e. omega (arith, e)) done)
+audit-done old new end (AnswersAlone.begun records opened (AnswersJob.ended how none runs left by)) done = audit-by records old new end opened how left left.leaves.by_kind.gives by done
 
 -- a text that was written whole, or cut for want of memory
 zero-or-memory : (text : List ℕ) (old new : Seen) (end : Ending) → EndsWell text old new end → (end.status ≡ 0) ⊎ (end.status ≡ 70)
@@ -318,28 +323,28 @@ audit-well records old new end A K begins disk sink = elim (alone-known AuditJob
 -- ---- repairs
 
 repair-by : (records : List Record) (old new : Seen) (end : Ending) → IsOpened old records → (how : Answer) (left : LeftAlone records RepairJob how old new end.heard) (due : Due) → due_of records ≡ Some due →
-    RepairGives (ran_left records RepairJob how old new end.heard left) due how → EndsWith records RepairJob how old new end → end.status ≡ 0 → IsRepaired old new end
-repair-by records old new end opened (answer.Repaired number) left due is_due L by zero = record {
+    RepairGives (ran_left records RepairJob how old new end.heard left) due how → EndsWith records RepairJob how old new end → IsDone end → IsRepaired old new end
+repair-by records old new end opened (answer.Repaired number) left due is_due L by done = record {
   records = records;
   due = due;
   opened = opened;
   is_due = is_due;
-  told = (zero, subst (λ n. new.sink ≡ told_then old.sink (repaired_line n)) L.0 (written-zero _ old new end by.written zero));
+  told = subst (λ n. IsTold (repaired_line n) old new end) L.0 by;
   disk = images-have new.disk left.after left.doubt _ _ L.1.after L.1.sure left.images;
   rewritten = record { gave = L.2.gave; symbols = L.2.symbols; truth = L.2.truth; gives = L.2.gives; held = L.2.held };
 }
-repair-by records old new end opened (answer.Lost stripe row) left due is_due L by zero = absurd (not-zero end.status 4 by.status_is (λ e. omega (arith, e)) zero)
-repair-by records old new end opened (answer.ProviderFault j) left due is_due L by zero = absurd (not-zero end.status 13 by.status_is (λ e. omega (arith, e)) zero)
-repair-by records old new end opened answer.DiskFault left due is_due L by zero = absurd (not-zero end.status 12 by.status_is (λ e. omega (arith, e)) zero)
-repair-by records old new end opened answer.Memory left due is_due L by zero = absurd (not-zero end.status 70 by.status_is (λ e. omega (arith, e)) zero)
-repair-by records old new end opened how left due is_due L by zero = absurd L
+repair-by records old new end opened (answer.Lost stripe row) left due is_due L by done = absurd (not-done end.status 4 by.status_is (λ e. omega (arith, e)) (λ e. omega (arith, e)) done)
+repair-by records old new end opened (answer.ProviderFault j) left due is_due L by done = absurd (not-done end.status 13 by.status_is (λ e. omega (arith, e)) (λ e. omega (arith, e)) done)
+repair-by records old new end opened answer.DiskFault left due is_due L by done = absurd (not-done end.status 12 by.status_is (λ e. omega (arith, e)) (λ e. omega (arith, e)) done)
+repair-by records old new end opened answer.Memory left due is_due L by done = absurd (not-done end.status 70 by.status_is (λ e. omega (arith, e)) (λ e. omega (arith, e)) done)
+repair-by records old new end opened how left due is_due L by done = absurd L
 
-pub repair-done : (old new : Seen) (end : Ending) → AnswersAlone RepairJob old new end → end.status ≡ 0 → IsRepaired old new end
-repair-done old new end (AnswersAlone.unstarted u) zero = absurd (unstarted-zero old new end u zero)
-repair-done old new end (AnswersAlone.begun records opened (AnswersJob.refused why is synced r)) zero = absurd (refused-zero why (sym r.status_is ∙ zero))
-repair-done old new end (AnswersAlone.begun records opened (AnswersJob.no_memory synced r)) zero = absurd (not-zero end.status 70 r.status_is (λ e. omega (arith, e)) zero)
-repair-done old new end (AnswersAlone.begun records opened (AnswersJob.ended how none runs left by)) zero =
-    (let L = left.leaves.by_kind.0 in repair-by records old new end opened how left L.due L.is_due L.gives by zero)
+pub repair-done : (old new : Seen) (end : Ending) → AnswersAlone RepairJob old new end → IsDone end → IsRepaired old new end
+repair-done old new end (AnswersAlone.unstarted u) done = absurd (unstarted-done old new end u done)
+repair-done old new end (AnswersAlone.begun records opened (AnswersJob.refused why is synced r)) done = absurd (refused-done why end.status r.status_is done)
+repair-done old new end (AnswersAlone.begun records opened (AnswersJob.no_memory synced r)) done = absurd (not-done end.status 70 r.status_is (λ e. omega (arith, e)) (λ e. omega (arith, e)) done)
+repair-done old new end (AnswersAlone.begun records opened (AnswersJob.ended how none runs left by)) done =
+    (let L = left.leaves.by_kind.0 in repair-by records old new end opened how left L.due L.is_due L.gives by done)
 
 repair-job-well : (records : List Record) (old new : Seen) (end : Ending) (bytes : ℕ → List ℕ) → IsOpened old records → refusal_of records RepairJob ≡ None → (Rose old.disk_faults new.disk_faults → ⊥) →
     ((j : ℕ) → j < (setup_at records).n → Rose (provider_at old.providers j).store_faults (provider_at new.providers j).store_faults → ⊥) → (Rose old.sink_faults new.sink_faults → ⊥) →

@@ -123,11 +123,11 @@ refused-at refusal.NotSetUp = inl refl
 refused-at refusal.TooFewProviders = inl refl
 refused-at refusal.NoSuchJob = inl refl
 
--- no refusal ends a command at status 0, and none is one that ends it before its begin
-pub refused-zero : (why : Refusal) → status_of why ≡ 0 → ⊥
-refused-zero why e = elim (refused-at why) [
-  | inl lost ↦ (let k : 70 ≡ 0 = sym lost ∙ e in omega (arith, k))
-  | inr is ↦ (let k : None ≡ Some why = ap refusal_at (sym e) ∙ is in cc)
+-- no refusal ends a command at a status that tells of none
+pub refused-not : (why : Refusal) (n : ℕ) → refusal_at n ≡ None → n ≢ 70 → status_of why ≡ n → ⊥
+refused-not why n none other e = elim (refused-at why) [
+  | inl lost ↦ other (sym e ∙ lost)
+  | inr is ↦ (let k : None ≡ Some why = sym none ∙ (ap refusal_at (sym e) ∙ is) in cc)
 ]
 
 -- ---- a job that began

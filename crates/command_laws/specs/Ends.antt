@@ -1,6 +1,7 @@
 -- What a command says by its status, where no run of its job and no state stands in the statement.
 --
 --   IsKnown old records        == the disk tells what it holds and reads these records, and enough providers are handed in
+--   IsDone end                 == status 0, or 15: it is done, and the sink took its text, or failed at it
 --   Gives text old new end     == status 0, with the text behind what the sink held
 --   EndsWell text old new end  == the same, or status 70, with a front of the text at most
 --   SameHolds old new          == each provider that was handed in holds what it held, where it tells it
@@ -12,7 +13,7 @@
 --   FaultsHaveCauses old new end  == a status of a fault comes only where the count of that device rose
 --   AreSafe records old new bytes == for each file in effect at most b providers are wrong for its bytes, or failed
 --   HoldsFile records new bytes file j == what is told of provider j has each block of a file of these bytes
---   IsPut name old new end, IsDropped, IsAudited, IsRepaired  == what a command of status 0 has done
+--   IsPut name old new end, IsDropped, IsAudited, IsRepaired  == what a command has done that is done; its text is told, or cut off
 use Rattle.std.specs.Prelude.{◌≡◌, ◌⊎◌, ℕ, ◌+◌, ◌≤◌, ◌<◌, Bool, true, false, List, [], ◌∷◌, length, None, Some, IfSome, is_some}
 use Rattle.hail_columns.specs.Columns.{columns}
 use Rattle.hail_devices.specs.Faults.{Rose}
@@ -36,12 +37,17 @@ use Rattle.hail_commands.specs.Blocks.{DroppedFrom}
 use Rattle.hail_commands.specs.Puts.{StoresFile}
 use Rattle.hail_commands.specs.Audits.{HearsRounds, CountsHeard}
 use Rattle.hail_commands.specs.Repairs.{RewritesAll}
+use Rattle.hail_commands.specs.Jobs.{IsTold}
 use Rattle.command_laws.specs.Failing.{bad_seen}
 
 -- the disk tells that it reads these records, and enough providers are handed in
 pub record IsKnown (old : Seen) (records : List Record) : Type 0 where
   pub tells : is_some old.disk ≡ true
   pub opened : IsOpened old records
+
+-- the command is done, and its text was written, or cut off by a fault of the sink
+abbrev pub IsDone : Ending → Type 0
+IsDone end = (end.status ≡ 0) ⊎ (end.status ≡ 15)
 
 -- the text was written, at status 0
 abbrev pub Gives : List ℕ → Seen → Seen → Ending → Type 0
@@ -127,7 +133,7 @@ pub record IsPut (name : List ℕ) (old new : Seen) (end : Ending) : Type 0 wher
   pub are_bytes : AreBytes bytes
   pub read : ReadsUpTo (largest_file + 1) old.source new.source bytes
   pub whole : IfSome new.source (λ left. left ≡ [])
-  pub told : Gives (stored_line name (length bytes)) old new end
+  pub told : IsTold (stored_line name (length bytes)) old new end
   pub disk : DiskHas (after_put records name (length bytes)) new
   pub in_effect : file_of (after_put records name (length bytes)) name ≡ Some (record { name = name; id = next_id records; size = length bytes })
   pub stored : StoresFile (ran_to (after_put records name (length bytes)) records old new end.heard) name bytes
@@ -138,7 +144,7 @@ pub record IsDropped (name : List ℕ) (old new : Seen) (end : Ending) : Type 0 
   pub file : File
   pub opened : IsOpened old records
   pub was_in_effect : file_of records name ≡ Some file
-  pub told : Gives (dropped_line name) old new end
+  pub told : IsTold (dropped_line name) old new end
   pub disk : DiskHas (after_drop records name) new
   pub out_of_effect : file_of (after_drop records name) name ≡ None
   pub gone : EachHeldGoes (ran_to (after_drop records name) records old new end.heard)
@@ -150,7 +156,7 @@ pub record IsAudited (old new : Seen) (end : Ending) : Type 0 where
   pub undecided : ℕ
   pub counts : List ℕ
   pub opened : IsOpened old records
-  pub told : Gives (audit_lines (setup_at records).tolerance (next_audit records) undecided counts) old new end
+  pub told : IsTold (audit_lines (setup_at records).tolerance (next_audit records) undecided counts) old new end
   pub disk : DiskHas (after_audit records undecided counts) new
   pub heard : HearsRounds (ran_to (after_audit records undecided counts) records old new end.heard) (next_audit records)
   pub counted : CountsHeard (ran_to (after_audit records undecided counts) records old new end.heard) (next_audit records) undecided counts
@@ -161,6 +167,6 @@ pub record IsRepaired (old new : Seen) (end : Ending) : Type 0 where
   pub due : Due
   pub opened : IsOpened old records
   pub is_due : due_of records ≡ Some due
-  pub told : Gives (repaired_line due.number) old new end
+  pub told : IsTold (repaired_line due.number) old new end
   pub disk : DiskHas (after_repair records due) new
   pub rewritten : RewritesAll (ran_to (after_repair records due) records old new end.heard) due

@@ -21,7 +21,7 @@ ghost use Rattle.hail_commands.specs.Lines.{stored_line, dropped_line, repaired_
 ghost use Rattle.hail_commands.specs.Jobs.{AnswersJob};
 ghost use Rattle.hail_commands.specs.Commands.{AnswersAlone, Answers};
 ghost use Rattle.command_laws.specs.Failing.{bad_seen};
-ghost use Rattle.command_laws.specs.Ends.{IsKnown, EndsWell, EndsInOrder, SameHolds, opens_store, FaultsHaveCauses, AreSafe, HoldsFile, IsPut, IsDropped, IsAudited, IsRepaired};
+ghost use Rattle.command_laws.specs.Ends.{IsDone, IsKnown, EndsWell, EndsInOrder, SameHolds, opens_store, FaultsHaveCauses, AreSafe, HoldsFile, IsPut, IsDropped, IsAudited, IsRepaired};
 
 /// A get of a file gives it whole, or finds no memory, where at most b providers are wrong for the file or failed, unless the disk or the
 /// sink failed. With at most b + 1 such providers what it heard holds no forgery, it never gives a wrong byte, and at status 0 it gave
@@ -55,11 +55,11 @@ pub fn reads_leave_what_is_held()
     ensures audit { (old new : Seen) (end : Ending) → Answers AuditAll old new end → SameHolds old new }
 {}
 
-/// A put of status 0 has stored its whole source on every provider, and brought it into effect. A put ends so, or finds no memory,
+/// A put of status 0 or 15 has stored its whole source on every provider, and brought it into effect. A put ends so, or finds no memory,
 /// or is refused with its cause, unless a count of faults rose: the disk's, that of a provider's stores, the source's or the sink's. Over a
 /// disk and a source that tell, one that is not refused ends so.
 pub fn puts_store_the_source()
-    ensures done { (name : List ℕ) (old new : Seen) (end : Ending) → Answers (PutUnder name) old new end → end.status ≡ 0 → IsPut name old new end }
+    ensures done { (name : List ℕ) (old new : Seen) (end : Ending) → Answers (PutUnder name) old new end → IsDone end → IsPut name old new end }
     ensures ends_well { (name bytes : List ℕ) (records : List Record) (old new : Seen) (end : Ending) → Answers (PutUnder name) old new end →
         IsKnown old records → old.source ≡ Some bytes → refusal_of records (PutJob name bytes) ≡ None → (Rose old.disk_faults new.disk_faults → ⊥) →
         ((j : ℕ) → j < (setup_at records).n → Rose (provider_at old.providers j).store_faults (provider_at new.providers j).store_faults → ⊥) →
@@ -70,10 +70,10 @@ pub fn puts_store_the_source()
         (Rose old.source_faults new.source_faults → ⊥) → (Rose old.sink_faults new.sink_faults → ⊥) → EndsInOrder (PutUnder name) old new end }
 {}
 
-/// A drop of status 0 has taken the file out of effect and away from each provider, but for blocks that stay where a count rose. A drop
+/// A drop of status 0 or 15 has taken the file out of effect and away from each provider, but for blocks that stay where a count rose. A drop
 /// ends so, or finds no memory, or is refused with its cause, unless the disk or the sink failed.
 pub fn drops_take_the_file_away()
-    ensures done { (name : List ℕ) (old new : Seen) (end : Ending) → Answers (DropOf name) old new end → end.status ≡ 0 → IsDropped name old new end }
+    ensures done { (name : List ℕ) (old new : Seen) (end : Ending) → Answers (DropOf name) old new end → IsDone end → IsDropped name old new end }
     ensures ends_well { (name : List ℕ) (records : List Record) (old new : Seen) (end : Ending) → Answers (DropOf name) old new end →
         IsKnown old records → refusal_of records (DropJob name) ≡ None → (Rose old.disk_faults new.disk_faults → ⊥) →
         (Rose old.sink_faults new.sink_faults → ⊥) → EndsWell (dropped_line name) old new end }
@@ -81,10 +81,10 @@ pub fn drops_take_the_file_away()
         (Rose old.sink_faults new.sink_faults → ⊥) → EndsInOrder (DropOf name) old new end }
 {}
 
-/// An audit of status 0 has counted the verdicts on what it heard. An audit ends so, or finds no memory, or is refused with its
+/// An audit of status 0 or 15 has counted the verdicts on what it heard. An audit ends so, or finds no memory, or is refused with its
 /// cause, unless the disk or the sink failed, whatever providers do.
 pub fn audits_count_what_they_hear()
-    ensures done { (old new : Seen) (end : Ending) → Answers AuditAll old new end → end.status ≡ 0 → IsAudited old new end }
+    ensures done { (old new : Seen) (end : Ending) → Answers AuditAll old new end → IsDone end → IsAudited old new end }
     ensures ends_well { (records : List Record) (old new : Seen) (end : Ending) → Answers AuditAll old new end → IsKnown old records →
         refusal_of records AuditJob ≡ None → (Rose old.disk_faults new.disk_faults → ⊥) → (Rose old.sink_faults new.sink_faults → ⊥) →
         (end.status ≡ 0) ⊎ (end.status ≡ 70) }
@@ -92,18 +92,18 @@ pub fn audits_count_what_they_hear()
         (Rose old.sink_faults new.sink_faults → ⊥) → EndsInOrder AuditAll old new end }
 {}
 
-/// A repair of status 0 has written each flagged provider anew, from what the fetches gave; of each file for which at most b providers are
+/// A repair of status 0 or 15 has written each flagged provider anew, from what the fetches gave; of each file for which at most b providers are
 /// wrong or failed, whatever is of the others, these are the very blocks. A repair that is not refused ends so, or finds
 /// no memory, where it is so of each file, unless a count of faults rose: the disk's, that of a provider's stores, or the sink's.
 pub fn repairs_write_anew()
-    ensures done { (old new : Seen) (end : Ending) → Answers RepairDue old new end → end.status ≡ 0 → IsRepaired old new end }
+    ensures done { (old new : Seen) (end : Ending) → Answers RepairDue old new end → IsDone end → IsRepaired old new end }
     ensures ends_well { (records : List Record) (old new : Seen) (end : Ending) (bytes : ℕ → List ℕ) → Answers RepairDue old new end →
         IsKnown old records → refusal_of records RepairJob ≡ None → (Rose old.disk_faults new.disk_faults → ⊥) →
         ((j : ℕ) → j < (setup_at records).n → Rose (provider_at old.providers j).store_faults (provider_at new.providers j).store_faults → ⊥) →
         (Rose old.sink_faults new.sink_faults → ⊥) →
         AreSafe records old new bytes → (end.status ≡ 0) ⊎ (end.status ≡ 70) }
     ensures right { (name bytes : List ℕ) (records : List Record) (file : File) (due : Due) (j : ℕ) (old new : Seen) (end : Ending) →
-        Answers RepairDue old new end → IsKnown old records → end.status ≡ 0 → due_of records ≡ Some due → file_of records name ≡ Some file →
+        Answers RepairDue old new end → IsKnown old records → IsDone end → due_of records ≡ Some due → file_of records name ≡ Some file →
         length bytes ≡ file.size → bad_seen records old new file.id bytes ≤ (setup_at records).b → j < (setup_at records).n →
         is_flagged (setup_at records).tolerance due.counts j ≡ true → HoldsFile records new bytes file j }
 {}

@@ -4,6 +4,7 @@
 --   StopsBehind bytes rs at   == behind these records the bytes end at a gate, or no record stands, or one that may not follow
 --   IsBadStart bytes at       == the first place at which bytes are no journal, or a record may not follow those before it
 --   IsStartFault bytes fault  == the causes for which no vault is opened
+--   LiesInJournal fault       == a cause that lies in what the disk reads
 --   IsRead told rs            == the disk, where it tells, reads these records
 --   IsBadInit bytes at        == bytes are no journal, or the first record is no setup
 --   IsInitFault bytes setup fault == the causes for which a store is not set up
@@ -53,6 +54,13 @@ IsStartFault bytes start_fault.NotSetUp = (length bytes ≤ 9) ⊎ StandsFor byt
 IsStartFault bytes (start_fault.BadJournal at) = (9 < length bytes) × IsBadStart bytes at
 IsStartFault bytes start_fault.DiskFault = Unit {0}
 IsStartFault bytes start_fault.Memory = Unit {0}
+
+-- a cause that lies in what the disk reads
+abbrev pub LiesInJournal : StartFault → Type 0
+LiesInJournal start_fault.NotSetUp = Unit {0}
+LiesInJournal (start_fault.BadJournal at) = Unit {0}
+LiesInJournal start_fault.DiskFault = ⊥
+LiesInJournal start_fault.Memory = ⊥
 
 -- the disk, where it tells, reads these records, of which there is one
 pub record IsRead (told : Option Cells) (rs : List Record) : Type 0 where
