@@ -1,8 +1,9 @@
 -- The devices of a command as they are seen, and how it ended.
 --
---   seen holds faults providers left read_faults written write_faults  == what is seen of the devices, by the members of their traits
---   ending_of report       == how a command ended
-use Rattle.std.specs.Prelude.{ℕ, List, Option}
+--   seen holds faults providers left read_faults written write_faults == what is seen of the devices, by the members of their traits
+--   ending_of report        == how a command ended
+--   ends status at          == it ended with this status, which speaks of this place, and nothing was heard
+use Rattle.std.specs.Prelude.{ℕ, List, [], Option}
 use Rattle.hail_devices.specs.Cells.{Cells}
 use Rattle.hail_devices.specs.Providers.{Provider}
 use Rattle.hail_commands.specs.Seen.{Seen, Ending}
@@ -23,3 +24,7 @@ seen holds faults providers left read_faults written write_faults = record {
 -- how a command ended
 abbrev pub ending_of : Report → Ending
 ending_of report = record { status = report.status; at = report.at; heard = report.heard }
+
+-- a command ended so, and heard nothing
+abbrev pub ends : ℕ → ℕ → Ending
+ends status at = record { status = status; at = at; heard = [] }

@@ -1,1 +1,5 @@
 pub mod Endings
+pub mod Telling
+pub mod Jobs
+pub mod SetUps
+pub mod Rows

@@ -6,6 +6,7 @@ pub mod laws;
 mod list;
 mod put;
 mod reading;
+mod refusals;
 mod report;
 mod row;
 mod set_up;

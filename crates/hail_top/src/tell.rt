@@ -1,111 +1,114 @@
-// How what came of a command is told: its status, and its text.
-use crate::reading::ReadFault;
-use crate::report::{
-    BAD_JOURNAL, BAD_NAME, DISK_FAULT, JOURNAL_FULL, LOST_ROW, NO_MEMORY, NO_SUCH_NAME, NOT_SET_UP,
-    NOTHING_DUE, PROVIDER_FAULT, REPAIR_DUE, Report, SOURCE_FAULT, TOO_FEW_PROVIDERS, TOO_LONG,
-    TOO_MANY_FILES,
-};
-use command_jobs::{Job, Unopened};
+// How the answer of a job is told: its text, or the status of its fault.
+ghost use Rattle.std.specs.Prelude.{◌≡◌, ◌≤◌, IfOk, IfErr};
+ghost use Rattle.hail_commands.specs.Sinking.{Sinking};
+ghost use Rattle.vault.specs.Outcomes.{answer_of};
+ghost use Rattle.command_jobs.specs.Kinds.{kind_of};
+ghost use Rattle.hail_top.specs.Telling.{IsSubject, IsTextOf, IsFaultOf, TellsAnswer, no_memory};
+
+use crate::report::{DISK_FAULT, LOST_ROW, NO_MEMORY, PROVIDER_FAULT, Report};
+use command_jobs::Job;
 use command_lines::{audit_lines, dropped_line, repaired_line, stored_line, write_text};
 use std::alloc::Global;
 use stream_model::{Bytes, Memory, Sink};
-use vault::{Answer, BeginFault, Ended};
+use vault::{Answer, Ended, HeardList};
 
-/// Tells that a source was not read.
-pub fn unread(fault: ReadFault) -> Report {
-    match fault {
-        ReadFault::Failed => Report::of(SOURCE_FAULT),
-        ReadFault::Memory => Report::of(NO_MEMORY),
-    }
-}
-
-/// Tells that no vault was opened.
-pub fn unopened(why: Unopened) -> Report {
-    match why {
-        Unopened::DiskFault => Report::of(DISK_FAULT),
-        Unopened::NotSetUp => Report::of(NOT_SET_UP),
-        Unopened::BadJournal { at } => Report::at(BAD_JOURNAL, at),
-        Unopened::TooFewProviders => Report::of(TOO_FEW_PROVIDERS),
-        Unopened::Memory => Report::of(NO_MEMORY),
-    }
-}
-
-/// Tells that a job was refused. The causes that are not named do not come where one job runs alone.
-pub fn refused(why: BeginFault) -> Report {
-    Report::of(match why {
-        BeginFault::NoSuchName => NO_SUCH_NAME,
-        BeginFault::RepairDue => REPAIR_DUE,
-        BeginFault::NothingDue => NOTHING_DUE,
-        BeginFault::JournalFull => JOURNAL_FULL,
-        BeginFault::TooLong => TOO_LONG,
-        BeginFault::BadName => BAD_NAME,
-        BeginFault::TooManyFiles => TOO_MANY_FILES,
-        BeginFault::Busy | BeginFault::MustReopen | BeginFault::Memory => NO_MEMORY,
-    })
-}
-
-/// What the text of a job's answer needs beside the answer.
+/// What the lines of answers speak of beside the answer: the name and the length of a job's file, and how many wrong rounds an
+/// audit tolerates.
 #[derive(Clone, Copy)]
-pub enum Told<'a> {
-    Put { name: &'a [u8], length: usize },
-    Get,
-    Drop { name: &'a [u8] },
-    Audit { tolerance: u16 },
-    Repair,
+pub struct Subject<'a> {
+    pub name: &'a [u8],
+    pub length: usize,
+    pub tolerance: u16,
 }
 
-impl<'a> Told<'a> {
-    /// What the text of this job needs, in a store whose audits tolerate so many wrong rounds.
-    pub fn of(job: &Job<'a>, tolerance: u16) -> Told<'a> {
-        match job {
-            Job::Put { name, bytes } => Told::Put {
-                name: *name,
-                length: bytes.as_slice().len(),
-            },
-            Job::Get { .. } => Told::Get,
-            Job::Drop { name } => Told::Drop { name: *name },
-            Job::Audit => Told::Audit { tolerance },
-            Job::Repair => Told::Repair,
+impl<'a> Subject<'a> {
+    /// What the line of this job's answer speaks of, in a store that tolerates so many wrong rounds.
+    pub fn new(job: &Job<'a>, tolerance: u16) -> Subject<'a>
+        ensures { IsSubject result tolerance (kind_of job.now) }
+    {
+        let (name, length): (&'a [u8], usize) = match job {
+            Job::Put { name, bytes } => (*name, bytes.as_slice().len()),
+            Job::Get { name } | Job::Drop { name } => (*name, 0),
+            Job::Audit | Job::Repair => (&[], 0),
+        };
+        Subject {
+            name,
+            length,
+            tolerance,
         }
     }
 }
 
-/// The text of a job's answer; none where the answer is not one of this kind of job.
-fn text(alloc: Global, told: Told, answer: Answer) -> Result<Bytes, Memory> {
-    match (told, answer) {
-        (Told::Put { name, length }, Answer::Put) => stored_line(alloc, name, length),
-        (Told::Get, Answer::Got { bytes }) => Ok(bytes),
-        (Told::Drop { name }, Answer::Dropped) => dropped_line(alloc, name),
-        (
-            Told::Audit { tolerance },
-            Answer::Audited {
-                number,
-                undecided,
-                counts,
-            },
-        ) => { audit_lines(alloc, tolerance, number, undecided, &counts) }
-        (Told::Repair, Answer::Repaired { number }) => repaired_line(alloc, number),
-        _ => Ok(Bytes::from_vec(Vec::new(alloc))),
+/// Why an answer has no text: the status that says it, and the place that the status speaks of.
+#[derive(Clone, Copy, Debug, PartialEq, Eq)]
+pub struct Fault {
+    pub status: u8,
+    pub at: u64,
+}
+
+impl From<Memory> for Fault {
+    ghost from_gives = { λ _ e. e ≡ no_memory };
+
+    fn from(_: Memory) -> Self {
+        Fault {
+            status: NO_MEMORY,
+            at: 0,
+        }
     }
 }
 
-/// Writes the text of a job's answer.
-fn write_answer<K: Sink>(alloc: Global, told: Told, answer: Answer, sink: &mut K) -> u8 {
-    match text(alloc, told, answer) {
-        Ok(text) => write_text(text.as_slice(), sink),
-        Err(Memory) => NO_MEMORY,
+/// The text of an answer, or its fault.
+fn text(alloc: Global, subject: &Subject, answer: Answer) -> Result<Bytes, Fault>
+    ensures text { IfOk result (IsTextOf subject.now (answer_of answer)) }
+    ensures fault { IfErr result (λ fault. IsFaultOf (answer_of answer) fault.status fault.at) }
+{
+    match answer {
+        Answer::Put => Ok(stored_line(alloc, subject.name, subject.length)?),
+        Answer::Got { bytes } => Ok(bytes),
+        Answer::Dropped => Ok(dropped_line(alloc, subject.name)?),
+        Answer::Audited {
+            number,
+            undecided,
+            counts,
+        } => Ok(audit_lines(alloc, subject.tolerance, number, undecided, &counts)?),
+        Answer::Repaired { number } => Ok(repaired_line(alloc, number)?),
+        Answer::Lost { row, .. } => Err(Fault {
+            status: LOST_ROW,
+            at: row,
+        }),
+        Answer::ProviderFault { provider } => Err(Fault {
+            status: PROVIDER_FAULT,
+            at: u64::from(provider),
+        }),
+        Answer::DiskFault => Err(Fault {
+            status: DISK_FAULT,
+            at: 0,
+        }),
+        Answer::Memory => Err(Fault {
+            status: NO_MEMORY,
+            at: 0,
+        }),
     }
 }
 
-/// Tells how a job ended.
-pub fn ended<K: Sink>(alloc: Global, told: Told, ended: Ended, sink: &mut K) -> Report {
+/// Tells how a job ended: the text of its answer is written, or its fault is the status.
+pub fn ended<K: Sink>(alloc: Global, subject: &Subject, ended: Ended, sink: &mut K) -> Report
+    ensures told { TellsAnswer subject.now (answer_of ended.answer) result.status result.at
+        (record { old = K.written sink.old; new = K.written sink.new; before = K.faults sink.old; now = K.faults sink.new }) }
+    ensures heard { result.heard ≡ ended.heard }
+    ensures count { K.faults sink.old ≤ K.faults sink.new }
+{
     let heard = ended.heard;
-    let (status, at) = match ended.answer {
-        Answer::Lost { row, .. } => (LOST_ROW, row),
-        Answer::ProviderFault { provider } => (PROVIDER_FAULT, u64::from(provider)),
-        Answer::DiskFault => (DISK_FAULT, 0),
-        Answer::Memory => (NO_MEMORY, 0),
-        answer => (write_answer(alloc, told, answer, sink), 0),
-    };
-    Report { status, at, heard }
+    match text(alloc, subject, ended.answer) {
+        Ok(text) => Report {
+            status: write_text(text.as_slice(), sink),
+            at: 0,
+            heard,
+        },
+        Err(fault) => Report {
+            status: fault.status,
+            at: fault.at,
+            heard,
+        },
+    }
 }

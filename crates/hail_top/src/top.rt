@@ -1,3 +1,12 @@
+ghost use Rattle.std.specs.Prelude.{◌≡◌, map, is_some};
+ghost use Rattle.hail_commands.specs.Forms.{Command as Spelled, RowOf, IsForm};
+ghost use Rattle.hail_commands.specs.Seen.{NoCountFalls};
+ghost use Rattle.hail_commands.specs.Commands.{Answers, IsUsage};
+ghost use Rattle.vault.specs.Devices.{as_seen};
+ghost use Rattle.command_words.specs.Commands.{command_of};
+ghost use Rattle.hail_top.specs.Endings.{seen, ending_of};
+ghost use Rattle.hail_top.specs.Rows.{HasItsSymbols};
+
 use crate::alone::alone;
 use crate::list::list;
 use crate::put::put;
@@ -5,6 +14,7 @@ use crate::report::{NO_MEMORY, Report, USAGE};
 use crate::row::answer_row;
 use crate::set_up::set_up;
 use command_jobs::Job;
+use command_words::laws::words_spell_one_command;
 use command_words::{Command, read_command};
 use disk_model::Disk;
 use hail_field::Memory;
@@ -12,7 +22,7 @@ use provider_model::Tamper;
 use std::alloc::Global;
 use stream_model::{Sink, Source};
 
-/// Does what a command asks for.
+/// Does what a command asks for. Condition: a row has as many symbols as it says.
 fn answer<D: Disk, P: Tamper, S: Source, K: Sink>(
     alloc: Global,
     command: Command,
@@ -20,7 +30,20 @@ fn answer<D: Disk, P: Tamper, S: Source, K: Sink>(
     providers: &mut [P],
     source: &mut S,
     sink: &mut K,
-) -> Report {
+) -> Report
+    requires { HasItsSymbols (command_of command) }
+    ensures answers { Answers (command_of command.entry)
+        (seen (D.holds disk.old) (D.faults disk.old) (map (as_seen P.held P.store_faults P.other_faults P.fetches) providers.old) (S.left source.old)
+        (S.faults source.old) (K.written sink.old) (K.faults sink.old))
+        (seen (D.holds disk.new) (D.faults disk.new) (map (as_seen P.held P.store_faults P.other_faults P.fetches) providers.new) (S.left source.new)
+        (S.faults source.new) (K.written sink.new) (K.faults sink.new)) (ending_of result) }
+    ensures counts { NoCountFalls
+        (seen (D.holds disk.old) (D.faults disk.old) (map (as_seen P.held P.store_faults P.other_faults P.fetches) providers.old) (S.left source.old)
+        (S.faults source.old) (K.written sink.old) (K.faults sink.old))
+        (seen (D.holds disk.new) (D.faults disk.new) (map (as_seen P.held P.store_faults P.other_faults P.fetches) providers.new) (S.left source.new)
+        (S.faults source.new) (K.written sink.new) (K.faults sink.new)) }
+    ensures tells { is_some (D.holds disk.new) ≡ is_some (D.holds disk.old) }
+{
     match command {
         Command::Row(row) => Report::of(answer_row(alloc, &row, sink)),
         Command::Init(numbers) => set_up(alloc, &numbers, providers.len(), disk, source, sink),
@@ -41,7 +64,25 @@ pub fn hail<D: Disk, P: Tamper, S: Source, K: Sink>(
     providers: &mut Vec<P>,
     source: &mut S,
     sink: &mut K,
-) -> Report {
+) -> Report
+    ensures usage { ((command : Spelled) → IsForm words.now command → ⊥) → IsUsage
+        (seen (D.holds disk.old) (D.faults disk.old) (map (as_seen P.held P.store_faults P.other_faults P.fetches) providers.old.items) (S.left source.old)
+        (S.faults source.old) (K.written sink.old) (K.faults sink.old))
+        (seen (D.holds disk.new) (D.faults disk.new) (map (as_seen P.held P.store_faults P.other_faults P.fetches) providers.new.items) (S.left source.new)
+        (S.faults source.new) (K.written sink.new) (K.faults sink.new)) (ending_of result) }
+    ensures answers { (command : Spelled) → IsForm words.now command → Answers command
+        (seen (D.holds disk.old) (D.faults disk.old) (map (as_seen P.held P.store_faults P.other_faults P.fetches) providers.old.items) (S.left source.old)
+        (S.faults source.old) (K.written sink.old) (K.faults sink.old))
+        (seen (D.holds disk.new) (D.faults disk.new) (map (as_seen P.held P.store_faults P.other_faults P.fetches) providers.new.items) (S.left source.new)
+        (S.faults source.new) (K.written sink.new) (K.faults sink.new)) (ending_of result) }
+    ensures counts { NoCountFalls
+        (seen (D.holds disk.old) (D.faults disk.old) (map (as_seen P.held P.store_faults P.other_faults P.fetches) providers.old.items) (S.left source.old)
+        (S.faults source.old) (K.written sink.old) (K.faults sink.old))
+        (seen (D.holds disk.new) (D.faults disk.new) (map (as_seen P.held P.store_faults P.other_faults P.fetches) providers.new.items) (S.left source.new)
+        (S.faults source.new) (K.written sink.new) (K.faults sink.new)) }
+    ensures tells { is_some (D.holds disk.new) ≡ is_some (D.holds disk.old) }
+{
+    words_spell_one_command();
     match read_command(alloc, words) {
         Ok(Some(command)) => answer(alloc, command, disk, providers, source, sink),
         Ok(None) => Report::of(USAGE),
