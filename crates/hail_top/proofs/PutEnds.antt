@@ -1,5 +1,5 @@
 -- How a put ends whose vault was opened.
-use Rattle.std.proofs.Common.{◌≡◌, ℕ, ◌+◌, List, Option, refl, ap, sym, ◌∙◌, subst}
+use Rattle.std.proofs.Common.{◌≡◌, ℕ, ◌+◌, List, Option, refl, sym, ◌∙◌, subst}
 use Rattle.std.specs.Option.{option_map}
 use Rattle.hail_devices.specs.Disks.{synced}
 use Rattle.hail_devices.specs.Faults.{Rose}

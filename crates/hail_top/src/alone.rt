@@ -3,9 +3,8 @@ ghost use Rattle.std.specs.Prelude.{◌≡◌, ◌≤◌, ℕ, List, Option, len
 ghost use Rattle.std.specs.Option.{option_map};
 ghost use Rattle.hail_devices.specs.Disks.{synced};
 ghost use Rattle.hail_records.specs.Records.{Record};
-ghost use Rattle.hail_commands.specs.Seen.{Seen, sinking, NoCountFalls};
+ghost use Rattle.hail_commands.specs.Seen.{Seen, NoCountFalls};
 ghost use Rattle.hail_commands.specs.Opens.{IsOpened};
-ghost use Rattle.hail_commands.specs.Sinking.{Sinking};
 ghost use Rattle.hail_commands.specs.Commands.{AnswersAlone};
 ghost use Rattle.vault.specs.Devices.{as_seen, devices};
 ghost use Rattle.command_jobs.specs.Kinds.{kind_of};

@@ -1,5 +1,5 @@
 // The command `put`.
-ghost use Rattle.std.specs.Prelude.{◌≡◌, ◌≤◌, ◌⊎◌, ℕ, List, length, map, is_some};
+ghost use Rattle.std.specs.Prelude.{◌≡◌, ◌≤◌, List, length, map, is_some};
 ghost use Rattle.std.specs.Option.{option_map};
 ghost use Rattle.hail_devices.specs.Disks.{synced};
 ghost use Rattle.hail_records.specs.Records.{Record};
@@ -8,7 +8,7 @@ ghost use Rattle.hail_commands.specs.Opens.{IsOpened};
 ghost use Rattle.hail_commands.specs.Commands.{AnswersPut};
 ghost use Rattle.vault.specs.Devices.{as_seen, devices};
 ghost use Rattle.command_jobs.specs.Opened.{IsFresh, IsReady};
-ghost use Rattle.command_jobs.specs.Ends.{IsSeenBefore, NoFaultUndone};
+ghost use Rattle.command_jobs.specs.Ends.{IsSeenBefore};
 ghost use Rattle.hail_top.specs.Endings.{seen, ending_of};
 ghost use Rattle.hail_top.specs.Jobs.{PutsOver};
 

@@ -1,5 +1,5 @@
 ghost use Rattle.std.specs.Prelude.{◌≡◌, map, is_some};
-ghost use Rattle.hail_commands.specs.Forms.{Command as Spelled, RowOf, IsForm};
+ghost use Rattle.hail_commands.specs.Forms.{Command as Spelled, IsForm};
 ghost use Rattle.hail_commands.specs.Seen.{NoCountFalls};
 ghost use Rattle.hail_commands.specs.Commands.{Answers, IsUsage};
 ghost use Rattle.vault.specs.Devices.{as_seen};
