@@ -1,9 +1,10 @@
 // The command over the devices that the first word names.
-use disk_model::SureDisk;
+use disk_model::{Disk, SureDisk};
 use hail_adapters::{StdSink, StdSource, folder_providers, journal_disk};
-use hail_top::{NO_MEMORY, Report, hail};
-use provider_model::SureProvider;
+use hail_top::{NO_MEMORY, hail};
+use provider_model::{SureProvider, Tamper};
 use std::alloc::Global;
+use stream_model::{Sink, Source};
 
 /// The first word of a command over memory.
 const IN_MEMORY: &str = "-";
@@ -24,14 +25,30 @@ fn sure_providers(alloc: Global) -> Option<Vec<SureProvider>> {
     Some(providers)
 }
 
+/// Answers the words over some devices.
+fn answer<D: Disk, P: Tamper, S: Source, K: Sink>(
+    alloc: Global,
+    words: &[String],
+    disk: &mut D,
+    providers: &mut Vec<P>,
+    source: &mut S,
+    sink: &mut K,
+) -> Told {
+    let report = hail(alloc, words, disk, providers, source, sink);
+    Told {
+        status: report.status,
+        at: report.at,
+    }
+}
+
 /// Answers the words over an empty memory, which is gone afterwards. Want of memory for the devices is the one refusal.
-fn run_in_memory(rt: &HostRuntime, words: &[String]) -> Option<Report> {
+fn run_in_memory(rt: &HostRuntime, words: &[String]) -> Option<Told> {
     let alloc = rt.alloc();
     let mut disk = SureDisk::new(alloc, &[]).ok()?;
     let mut providers = sure_providers(alloc)?;
     let mut source = StdSource::new(rt).ok()?;
     let mut sink = StdSink::new(rt).ok()?;
-    Some(hail(
+    Some(answer(
         alloc,
         words,
         &mut disk,
@@ -42,13 +59,13 @@ fn run_in_memory(rt: &HostRuntime, words: &[String]) -> Option<Report> {
 }
 
 /// Answers the words over the journal and the providers of a home. Want of memory for the devices is the one refusal.
-fn run_at_home(rt: &HostRuntime, home: &str, words: &[String]) -> Option<Report> {
+fn run_at_home(rt: &HostRuntime, home: &str, words: &[String]) -> Option<Told> {
     let alloc = rt.alloc();
     let mut disk = journal_disk(rt, alloc, home).ok()?;
     let mut providers = folder_providers(rt, alloc, home).ok()?;
     let mut source = StdSource::new(rt).ok()?;
     let mut sink = StdSink::new(rt).ok()?;
-    Some(hail(
+    Some(answer(
         alloc,
         words,
         &mut disk,
@@ -60,19 +77,13 @@ fn run_at_home(rt: &HostRuntime, home: &str, words: &[String]) -> Option<Report>
 
 /// Answers the words of a command line: the first is `-` for memory, or else a home. No words are answered as no command.
 pub fn run(rt: &HostRuntime, words: &[String]) -> Told {
-    let report = match words {
+    let told = match words {
         [] => run_in_memory(rt, words),
         [place, command @ ..] if place.as_str() == IN_MEMORY => run_in_memory(rt, command),
         [home, command @ ..] => run_at_home(rt, home.as_str(), command),
     };
-    match report {
-        Some(report) => Told {
-            status: report.status,
-            at: report.at,
-        },
-        None => Told {
-            status: NO_MEMORY,
-            at: 0,
-        },
-    }
+    told.unwrap_or(Told {
+        status: NO_MEMORY,
+        at: 0,
+    })
 }
