@@ -1,4 +1,5 @@
-pub mod Word
-pub mod Line
-pub mod Sinking
-pub mod Row
+pub mod Endings
+pub mod Telling
+pub mod Jobs
+pub mod SetUps
+pub mod Rows

@@ -1,28 +1,14 @@
-//! What follows from the definitions of words and answers.
-ghost use Rattle.std.specs.Prelude.{◌≡◌, ◌⊎◌, ◌≤◌, ◌<◌, ℕ, List, Option, length, String};
-ghost use Rattle.std.specs.declared.alloc.Global.{Global};
+//! What follows from the definition of an answer to `row`.
+ghost use Rattle.std.specs.Prelude.{◌≡◌, ◌⊎◌, ◌<◌, ℕ, List, Option, length};
 ghost use Rattle.hail_field.specs.Shape.{IsShape};
 ghost use Rattle.hail_devices.specs.Faults.{last_count};
 ghost use Rattle.hail_codes.specs.Points.{upto, values_at};
 ghost use Rattle.hail_codes.specs.DispersalCode.{Accepts};
-ghost use Rattle.hail_top.specs.Word.{IsNumberWord};
-ghost use Rattle.hail_top.specs.Line.{values_line};
-ghost use Rattle.hail_top.specs.Sinking.{Sinking};
-ghost use Rattle.hail_top.specs.Row.{IsRowForm, AnswersRow};
+ghost use Rattle.hail_commands.specs.Line.{values_line};
+ghost use Rattle.hail_commands.specs.Sinking.{Sinking};
+ghost use Rattle.hail_commands.specs.Row.{AnswersRow};
 
 use dispersal_code::laws::accepted_polynomial_is_unique;
-
-/// A number word has at most 39 digits.
-pub fn number_word_is_short()
-    ensures { (text : List ℕ) (number : ℕ) → IsNumberWord text number → length text ≤ 39 }
-{}
-
-/// Words spell at most one row.
-pub fn row_words_spell_one_row()
-    ensures { (words : List (String Global)) (n l b n' l' b' : ℕ) (seen seen' : List (Option ℕ))
-        → IsRowForm words n l b seen → IsRowForm words n' l' b' seen'
-        → (n ≡ n') × (l ≡ l') × (b ≡ b') × (seen ≡ seen') }
-{}
 
 /// At most one line is right for a row: whichever accepted polynomial it is written from.
 pub fn row_has_one_line()

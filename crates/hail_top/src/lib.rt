@@ -1,16 +1,21 @@
 //! The top call: everything that the program does.
 #![tactic(auto)]
 
+mod alone;
 pub mod laws;
-mod line;
+mod list;
+mod put;
+mod reading;
+mod refusals;
 mod report;
 mod row;
-mod row_command;
+mod set_up;
+mod tell;
 mod top;
-mod word;
 
-pub use report::{BAD_SETUP, LOST_ROW, NO_MEMORY, Report, SINK_FAULT, USAGE};
+pub use report::{
+    ALREADY_SET_UP, BAD_JOURNAL, BAD_KEY, BAD_NAME, BAD_SETUP, DISK_FAULT, JOURNAL_FULL, LOST_ROW,
+    NO_MEMORY, NO_SUCH_NAME, NOT_SET_UP, NOTHING_DUE, PROVIDER_FAULT, REPAIR_DUE, Report,
+    SINK_FAULT, SOURCE_FAULT, TOO_FEW_PROVIDERS, TOO_LONG, TOO_MANY_FILES, USAGE,
+};
 pub use top::hail;
-
-#[cfg(test)]
-mod tests;

@@ -1,22 +1,95 @@
-/// The words are no command.
+ghost use Rattle.std.specs.Prelude.{◌≡◌, []};
+ghost use Rattle.hail_commands.specs.Seen.{Ending};
+ghost use Rattle.hail_top.specs.Endings.{ending_of};
+
+use vault::HeardList;
+
+/// The words are no form of a command.
 pub const USAGE: u8 = 2;
 
-/// No polynomial is accepted for the row.
+/// No file in effect has the name.
+pub const NO_SUCH_NAME: u8 = 3;
+
+/// No polynomial is accepted for a row.
 pub const LOST_ROW: u8 = 4;
+
+/// A repair comes before the next audit.
+pub const REPAIR_DUE: u8 = 6;
+
+/// No repair is due.
+pub const NOTHING_DUE: u8 = 7;
+
+/// The disk reads no journal.
+pub const BAD_JOURNAL: u8 = 8;
+
+/// No store was set up.
+pub const NOT_SET_UP: u8 = 9;
+
+/// A store was set up before.
+pub const ALREADY_SET_UP: u8 = 10;
+
+/// The records of the job find no room in the journal.
+pub const JOURNAL_FULL: u8 = 11;
+
+/// A call of the disk failed.
+pub const DISK_FAULT: u8 = 12;
+
+/// A store of a provider failed.
+pub const PROVIDER_FAULT: u8 = 13;
+
+/// A read of the source failed.
+pub const SOURCE_FAULT: u8 = 14;
 
 /// A write to the sink failed.
 pub const SINK_FAULT: u8 = 15;
 
-/// No shape has the numbers of the command.
+/// The file is too long.
+pub const TOO_LONG: u8 = 16;
+
+/// The bytes are no name.
+pub const BAD_NAME: u8 = 17;
+
+/// The source gave no master key.
+pub const BAD_KEY: u8 = 18;
+
+/// The numbers are no setup, or no shape has them.
 pub const BAD_SETUP: u8 = 20;
+
+/// No further name fits in beside those in effect.
+pub const TOO_MANY_FILES: u8 = 21;
+
+/// Fewer providers were handed in than the setup has.
+pub const TOO_FEW_PROVIDERS: u8 = 22;
 
 /// There was no memory.
 pub const NO_MEMORY: u8 = 70;
 
-/// How a command ended: its status, which the program ends with, and the place that the status speaks of. At status 4 of `row`
-/// the place is the row's number, which is 0; it is 0 at every other status too.
-#[derive(Clone, Copy, Debug, PartialEq, Eq)]
+/// How a command ended: its status, which the program ends with; the place that the status speaks of; and what its job heard.
+/// The place is the offset of the first bad byte at status 8, the row at status 4, and the provider at status 13; it is 0 at
+/// every other status.
+#[derive(Drop)]
 pub struct Report {
     pub status: u8,
     pub at: u64,
+    pub heard: HeardList,
+}
+
+impl Report {
+    /// Nothing was heard, and the status speaks of this place.
+    pub(crate) fn at(status: u8, at: u64) -> Report
+        ensures { ending_of result ≡ record { status = status; at = at; heard = [] } }
+    {
+        Report {
+            status,
+            at,
+            heard: HeardList::new(),
+        }
+    }
+
+    /// Nothing was heard, and the status speaks of no place.
+    pub(crate) fn of(status: u8) -> Report
+        ensures { ending_of result ≡ record { status = status; at = 0; heard = [] } }
+    {
+        Report::at(status, 0)
+    }
 }

@@ -1,63 +1,106 @@
-// Reads the words of the command `row`.
-ghost use Rattle.std.specs.Prelude.{ℕ, MatchOption, IfOk};
-ghost use Rattle.hail_top.specs.Word.{AreSymbolWords};
-ghost use Rattle.hail_top.specs.Row.{IsRowForm};
+// The command `row`.
+ghost use Rattle.std.specs.Prelude.{◌≡◌, ◌≤◌, ◌↔◌, ℕ, length, IsSome, IfSome, IfOk, MatchOption};
+ghost use Rattle.hail_field.specs.Shape.{IsShape};
+ghost use Rattle.hail_codes.specs.Points.{upto, values_at};
+ghost use Rattle.hail_codes.specs.DispersalCode.{AcceptsNone};
+ghost use Rattle.hail_commands.specs.Row.{AnswersRow, Opens};
+ghost use Rattle.hail_commands.specs.Line.{values_line};
+ghost use Rattle.hail_commands.specs.Sinking.{Sinking, Writes};
 
-use crate::word::{read_number, read_symbol};
-use hail_field::Symbol;
+use crate::report::{BAD_SETUP, NO_MEMORY};
+use command_lines::{tell_no_row, values_line, write_text};
+use command_words::Row;
+use dispersal_code::laws::accepted_polynomial_is_unique;
+use dispersal_code::open_row;
+use hail_field::{Memory, Shape, Symbol};
+use hail_poly::Work;
 use std::alloc::{AllocError, Global};
+use stream_model::Sink;
 
-/// The numbers and the symbols of the command `row`.
-#[derive(Drop)]
-pub struct Row {
-    pub n: u128,
-    pub l: u128,
-    pub b: u128,
-    pub seen: Vec<Option<Symbol>>,
+/// The most providers of a shape.
+const MOST: usize = 16;
+
+/// The shape with these numbers, where there is one.
+fn row_shape(n: u128, l: u128, b: u128) -> Option<Shape>
+    ensures fits { IsSome result ↔ IsShape n l b }
+    ensures value { IfSome result (λ shape. (shape.n ≡ n) × (shape.l ≡ l) × (shape.b ≡ b)) }
+{
+    let Ok(small_n) = u8::try_from(n) else {
+        return None;
+    };
+    let Ok(small_l) = u8::try_from(l) else {
+        return None;
+    };
+    let Ok(small_b) = u8::try_from(b) else {
+        return None;
+    };
+    Shape::new(small_n, small_l, small_b)
 }
 
-/// The symbols that the words spell, or `None` where one of them spells none.
-fn read_symbols(alloc: Global, words: &[String]) -> Result<Option<Vec<Option<Symbol>>>, AllocError>
-    ensures { IfOk result (λ found. MatchOption found
-        ((symbols : _) → AreSymbolWords words.now symbols → ⊥)
-        (λ symbols. AreSymbolWords words.now symbols.items)) }
+/// The points 0 to count - 1.
+fn points(alloc: Global, count: u8) -> Result<Vec<Symbol>, AllocError>
+    ensures { IfOk result (λ points. points.items ≡ upto count) }
 {
-    let mut symbols = Vec::new(alloc);
-    for word in words {
-        let Some(symbol) = read_symbol(word.as_str()) else {
-            return Ok(None);
-        };
-        symbols.push(symbol)?;
+    let mut points = Vec::new(alloc);
+    for place in 0..count {
+        points.push(Symbol(u128::from(place)))?;
     }
-    Ok(Some(symbols))
+    Ok(points)
 }
 
-/// The row that the words spell, or `None` where they are no form of the command.
-pub fn read_row(alloc: Global, words: &[String]) -> Result<Option<Row>, AllocError>
-    ensures { IfOk result (λ found. MatchOption found
-        ((n l b : ℕ) (seen : _) → IsRowForm words.now n l b seen → ⊥)
-        (λ row. IsRowForm words.now row.n row.l row.b row.seen.items)) }
+/// The values of the rest at the points.
+fn values(alloc: Global, points: &[Symbol], work: &Work) -> Result<Vec<Symbol>, AllocError>
+    ensures { IfOk result (λ values. values.items ≡ values_at points.now work.now.rest) }
 {
-    let [command, first, second, third, symbols @ ..] = words else {
-        return Ok(None);
-    };
-    if command.as_str() != "row" {
+    let mut values = Vec::new(alloc);
+    for point in points {
+        values.push(work.value(*point))?;
+    }
+    Ok(values)
+}
+
+/// The values at the first `l` points of the polynomial that is accepted at the points 0 to n - 1.
+fn open(alloc: Global, seen: &[Option<Symbol>], shape: Shape) -> Result<Option<Vec<Symbol>>, Memory>
+    requires { length seen.now ≡ shape.n }
+    ensures { IfOk result (λ opened. MatchOption opened
+        (AcceptsNone (upto shape.n) seen.now shape.l shape.b)
+        (λ values. Opens shape.n shape.l shape.b seen.now values.items)) }
+{
+    let all = points(alloc, shape.n)?;
+    let mut work = Work::new(alloc, MOST)?;
+    if open_row(&all, seen, shape, &mut work).is_none() {
         return Ok(None);
     }
-    let Some(n) = read_number(first.as_str()) else {
-        return Ok(None);
-    };
-    let Some(l) = read_number(second.as_str()) else {
-        return Ok(None);
-    };
-    let Some(b) = read_number(third.as_str()) else {
-        return Ok(None);
-    };
-    if symbols.len() as u128 != n {
-        return Ok(None);
+    let first = points(alloc, shape.l)?;
+    Ok(Some(values(alloc, &first, &work)?))
+}
+
+/// Writes the line of some values.
+fn write_values<K: Sink>(alloc: Global, values: &[Symbol], sink: &mut K) -> u8
+    ensures writes { Writes (values_line values.now) result
+        (record { old = K.written sink.old; new = K.written sink.new; before = K.faults sink.old; now = K.faults sink.new }) }
+    ensures count { K.faults sink.old ≤ K.faults sink.new }
+{
+    match values_line(alloc, values) {
+        Ok(line) => write_text(line.as_slice(), sink),
+        Err(_) => NO_MEMORY,
     }
-    let Some(seen) = read_symbols(alloc, symbols)? else {
-        return Ok(None);
+}
+
+/// Writes the values of the row, or that it is lost.
+pub fn answer_row<K: Sink>(alloc: Global, row: &Row, sink: &mut K) -> u8
+    requires { length row.now.seen.items ≡ row.now.n }
+    ensures answers { AnswersRow row.now.n row.now.l row.now.b row.now.seen.items result
+        (record { old = K.written sink.old; new = K.written sink.new; before = K.faults sink.old; now = K.faults sink.new }) }
+    ensures count { K.faults sink.old ≤ K.faults sink.new }
+{
+    accepted_polynomial_is_unique();
+    let Some(shape) = row_shape(row.n, row.l, row.b) else {
+        return BAD_SETUP;
     };
-    Ok(Some(Row { n, l, b, seen }))
+    match open(alloc, &row.seen, shape) {
+        Ok(Some(values)) => write_values(alloc, &values, sink),
+        Ok(None) => tell_no_row(sink),
+        Err(Memory) => NO_MEMORY,
+    }
 }

@@ -1,26 +1,89 @@
-ghost use Rattle.std.specs.Prelude.{◌≡◌, ◌≤◌, ℕ};
-ghost use Rattle.hail_top.specs.Row.{IsRowForm, AnswersRow};
-ghost use Rattle.hail_top.specs.Sinking.{Sinking, Refuses};
+ghost use Rattle.std.specs.Prelude.{◌≡◌, length, map};
+ghost use Rattle.hail_commands.specs.Forms.{Command as Spelled, RowOf, IsForm};
+ghost use Rattle.hail_commands.specs.Seen.{NoCountFalls};
+ghost use Rattle.hail_commands.specs.Commands.{Answers, IsUsage};
+ghost use Rattle.vault.specs.Devices.{as_seen};
+ghost use Rattle.command_words.specs.Commands.{command_of};
+ghost use Rattle.hail_top.specs.Endings.{seen, ending_of};
+ghost use Rattle.hail_top.specs.Rows.{HasItsSymbols};
 
+use crate::alone::alone;
+use crate::list::list;
+use crate::put::put;
 use crate::report::{NO_MEMORY, Report, USAGE};
-use crate::row::read_row;
-use crate::row_command::answer_row;
+use crate::row::answer_row;
+use crate::set_up::set_up;
+use command_jobs::Job;
+use command_words::laws::words_spell_one_command;
+use command_words::{Command, read_command};
+use disk_model::Disk;
+use hail_field::Memory;
+use provider_model::Tamper;
 use std::alloc::Global;
-use stream_model::Sink;
+use stream_model::{Sink, Source};
+
+/// Does what a command asks for. Condition: a row has as many symbols as it says.
+fn answer<D: Disk, P: Tamper, S: Source, K: Sink>(
+    alloc: Global,
+    command: Command,
+    disk: &mut D,
+    providers: &mut [P],
+    source: &mut S,
+    sink: &mut K,
+) -> Report
+    requires { HasItsSymbols (command_of command) }
+    ensures answers { Answers (command_of command)
+        (seen (D.holds disk.old) (D.faults disk.old) (map (as_seen P.held P.store_faults P.other_faults P.fetches) providers.old) (S.left source.old)
+        (S.faults source.old) (K.written sink.old) (K.faults sink.old))
+        (seen (D.holds disk.new) (D.faults disk.new) (map (as_seen P.held P.store_faults P.other_faults P.fetches) providers.new) (S.left source.new)
+        (S.faults source.new) (K.written sink.new) (K.faults sink.new)) (ending_of result) }
+    ensures counts { NoCountFalls
+        (seen (D.holds disk.old) (D.faults disk.old) (map (as_seen P.held P.store_faults P.other_faults P.fetches) providers.old) (S.left source.old)
+        (S.faults source.old) (K.written sink.old) (K.faults sink.old))
+        (seen (D.holds disk.new) (D.faults disk.new) (map (as_seen P.held P.store_faults P.other_faults P.fetches) providers.new) (S.left source.new)
+        (S.faults source.new) (K.written sink.new) (K.faults sink.new)) }
+{
+    match command {
+        Command::Row(row) => Report::of(answer_row(alloc, &row, sink)),
+        Command::Init(numbers) => set_up(alloc, &numbers, providers.len(), disk, source, sink),
+        Command::Put { name } => put(alloc, name, disk, providers, source, sink),
+        Command::Get { name } => alone(alloc, Job::Get { name }, disk, providers, sink),
+        Command::Drop { name } => alone(alloc, Job::Drop { name }, disk, providers, sink),
+        Command::List => list(alloc, providers.len(), disk, sink),
+        Command::Audit => alone(alloc, Job::Audit, disk, providers, sink),
+        Command::Repair => alone(alloc, Job::Repair, disk, providers, sink),
+    }
+}
 
 /// Does what the words of the command line ask for. Want of memory, status 70, may come at any of them.
-pub fn hail<K: Sink>(alloc: Global, words: &[String], sink: &mut K) -> Report
-    ensures usage { ((n l b : ℕ) (seen : _) → IsRowForm words.now n l b seen → ⊥) → Refuses 2 result.status
-        (record { old = K.written sink.old; new = K.written sink.new; before = K.faults sink.old; now = K.faults sink.new }) }
-    ensures row { (n l b : ℕ) (seen : _) → IsRowForm words.now n l b seen → AnswersRow n l b seen result.status
-        (record { old = K.written sink.old; new = K.written sink.new; before = K.faults sink.old; now = K.faults sink.new }) }
-    ensures count { K.faults sink.old ≤ K.faults sink.new }
-    ensures at { result.at ≡ 0 }
+pub fn hail<D: Disk, P: Tamper, S: Source, K: Sink>(
+    alloc: Global,
+    words: &[String],
+    disk: &mut D,
+    providers: &mut Vec<P>,
+    source: &mut S,
+    sink: &mut K,
+) -> Report
+    ensures usage { ((command : Spelled) → IsForm words.now command → ⊥) → IsUsage
+        (seen (D.holds disk.old) (D.faults disk.old) (map (as_seen P.held P.store_faults P.other_faults P.fetches) providers.old.items) (S.left source.old)
+        (S.faults source.old) (K.written sink.old) (K.faults sink.old))
+        (seen (D.holds disk.new) (D.faults disk.new) (map (as_seen P.held P.store_faults P.other_faults P.fetches) providers.new.items) (S.left source.new)
+        (S.faults source.new) (K.written sink.new) (K.faults sink.new)) (ending_of result) }
+    ensures answers { (command : Spelled) → IsForm words.now command → Answers command
+        (seen (D.holds disk.old) (D.faults disk.old) (map (as_seen P.held P.store_faults P.other_faults P.fetches) providers.old.items) (S.left source.old)
+        (S.faults source.old) (K.written sink.old) (K.faults sink.old))
+        (seen (D.holds disk.new) (D.faults disk.new) (map (as_seen P.held P.store_faults P.other_faults P.fetches) providers.new.items) (S.left source.new)
+        (S.faults source.new) (K.written sink.new) (K.faults sink.new)) (ending_of result) }
+    ensures counts { NoCountFalls
+        (seen (D.holds disk.old) (D.faults disk.old) (map (as_seen P.held P.store_faults P.other_faults P.fetches) providers.old.items) (S.left source.old)
+        (S.faults source.old) (K.written sink.old) (K.faults sink.old))
+        (seen (D.holds disk.new) (D.faults disk.new) (map (as_seen P.held P.store_faults P.other_faults P.fetches) providers.new.items) (S.left source.new)
+        (S.faults source.new) (K.written sink.new) (K.faults sink.new)) }
 {
-    let status = match read_row(alloc, words) {
-        Err(_) => NO_MEMORY,
-        Ok(None) => USAGE,
-        Ok(Some(row)) => answer_row(alloc, &row, sink),
-    };
-    Report { status, at: 0 }
+    words_spell_one_command();
+    match read_command(alloc, words) {
+        Ok(Some(command)) => answer(alloc, command, disk, providers, source, sink),
+        Ok(None) => Report::of(USAGE),
+        Err(Memory) => Report::of(NO_MEMORY),
+    }
 }

@@ -1,0 +1,38 @@
+-- The only job of a vault on its way to the end.
+--
+--   IsOnly start kind w            == the only job of a state is of this kind, and has gone on since it began in `start`
+--   IsUnderWay v d                 == vault and devices stand for such a state
+--   GoesToEnd w moment ended v old new  == the job goes on from a state, after so many events, to this end, and vault and devices stand
+--                                     for the last state; past the text the disk reads as before
+use Rattle.std.specs.Prelude.{ℕ}
+use Rattle.hail_machine.specs.Jobs.{Kind, Job}
+use Rattle.hail_machine.specs.States.{State}
+use Rattle.hail_commands.specs.JobRuns.{GoesOnTo}
+use Rattle.hail_commands.specs.Jobs.{SamePast}
+use Rattle.lone_laws.specs.Walked.{IsOpened, Walked}
+use Rattle.vault.specs.declared.turn.Ended.{Ended}
+use Rattle.vault.specs.declared.vault.Vault.{Vault}
+use Rattle.vault.specs.Devices.{Devices}
+use Rattle.vault.specs.Outcomes.{answer_of}
+use Rattle.vault.specs.Stands.{Stands}
+
+-- the only job of a state, since it began in another one
+pub record IsOnly (start : State) (kind : Kind) (w : State) : Type 0 where
+  pub opened : IsOpened start
+  pub job : Job
+  pub walked : Walked start kind w job
+
+-- vault and devices stand for a state with one job
+pub record IsUnderWay (v : Vault) (d : Devices) : Type 0 where
+  pub start : State
+  pub kind : Kind
+  pub state : State
+  pub only : IsOnly start kind state
+  pub stands : Stands v d state
+
+-- the job goes on to this end
+pub record GoesToEnd (w : State) (moment : ℕ) (ended : Ended) (v : Vault) (old new : Devices) : Type 0 where
+  pub last : State
+  pub goes : GoesOnTo w moment 1 (answer_of ended.answer) ended.heard last
+  pub stands : Stands v new last
+  pub past_text : SamePast (answer_of ended.answer) last.records old.holds new.holds

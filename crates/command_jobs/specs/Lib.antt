@@ -1,0 +1,4 @@
+pub mod Kinds
+pub mod Opened
+pub mod Going
+pub mod Ends

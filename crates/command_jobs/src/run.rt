@@ -1,0 +1,85 @@
+ghost use Rattle.std.specs.Prelude.{◌≡◌, ◌<◌, ◌≤◌, ◌-◌, ◌^◌, ℕ, List, IfOk, IfErr, OnErr, length, map};
+ghost use Rattle.hail_machine.specs.Jobs.{Kind};
+ghost use Rattle.hail_machine.specs.States.{State};
+ghost use Rattle.hail_records.specs.Records.{Record};
+ghost use Rattle.hail_commands.specs.Seen.{Seen};
+ghost use Rattle.hail_commands.specs.Opens as opens;
+ghost use Rattle.vault.specs.Devices.{Devices, as_seen, devices};
+ghost use Rattle.vault.specs.Outcomes.{HasPaddedCounts};
+ghost use Rattle.vault.specs.Seen.{next_job_of};
+ghost use Rattle.vault.specs.Stands.{Stands, MakesBegin};
+ghost use Rattle.command_jobs.specs.Opened.{IsFresh, IsReady};
+ghost use Rattle.command_jobs.specs.Kinds.{kind_of};
+ghost use Rattle.command_jobs.specs.Going.{IsOnly, IsUnderWay, GoesToEnd};
+ghost use Rattle.command_jobs.specs.Ends.{IsSeenBefore, IsSeenAfter, IsRefusedOver, EndsOver};
+
+use crate::job::Job;
+use command_laws::alone::{opened_states, told_jobs_leave};
+use disk_model::Disk;
+use provider_model::Provider;
+use vault::{BeginFault, Ended, Turn, Vault};
+
+/// Runs the one job of a vault to its end. Condition: the vault was just opened over this disk, and as many providers are handed
+/// in as the store was set up with, or more, of which only these are used.
+pub fn run_job<D: Disk, P: Provider>(
+    mut vault: Vault,
+    job: Job,
+    disk: &mut D,
+    providers: &mut [P],
+) -> Result<Ended, BeginFault>
+    requires ready { IsReady vault (D.holds disk.old) (D.faults disk.old) (length providers.old) }
+    ensures ended { IfOk result (λ ended. (records : List Record) (old new : Seen)
+        → IsFresh vault records (D.holds disk.old) (D.faults disk.old) → opens.IsOpened old records
+        → IsSeenBefore old (devices (D.holds disk.old) (D.faults disk.old) (map (as_seen P.held P.store_faults P.other_faults P.fetches) providers.old))
+        → IsSeenAfter new (devices (D.holds disk.new) (D.faults disk.new) (map (as_seen P.held P.store_faults P.other_faults P.fetches) providers.new))
+        → EndsOver records (kind_of job) ended old new) }
+    ensures padded { IfOk result (λ ended. HasPaddedCounts ended.answer) }
+    ensures refused { IfErr result (λ why. (records : List Record)
+        → IsFresh vault records (D.holds disk.old) (D.faults disk.old) → IsRefusedOver records (kind_of job) why) }
+    ensures untouched { OnErr result ((disk.new ≡ disk.old) × (providers.new ≡ providers.old)) }
+{
+    opened_states();
+    told_jobs_leave();
+    let number = begin(&mut vault, job)?;
+    Ok(finish(&mut vault, number, disk, providers))
+}
+
+/// Begins a job of a vault.
+fn begin(vault: &mut Vault, job: Job) -> Result<u32, BeginFault>
+    requires { next_job_of vault.old < 2 ^ 32 - 1 }
+    ensures { (w : State) (d : Devices) (moment : ℕ) → Stands vault.old d w
+        → MakesBegin w moment (kind_of job) result vault.new d }
+{
+    match job {
+        Job::Put { name, bytes } => vault.begin_put(name, bytes),
+        Job::Get { name } => vault.begin_get(name),
+        Job::Drop { name } => vault.begin_drop(name),
+        Job::Audit => vault.begin_audit(),
+        Job::Repair => vault.begin_repair(),
+    }
+}
+
+/// Steps the only job of a vault up to its end.
+fn finish<D: Disk, P: Provider>(
+    vault: &mut Vault,
+    number: u32,
+    disk: &mut D,
+    providers: &mut [P],
+) -> Ended
+    requires first { number ≡ 1 }
+    requires under_way { IsUnderWay vault.old (devices (D.holds disk.old) (D.faults disk.old) (map (as_seen P.held P.store_faults P.other_faults P.fetches) providers.old)) }
+    ensures ended { (start w : State) (kind : Kind) (moment : ℕ) → IsOnly start kind w
+        → Stands vault.old (devices (D.holds disk.old) (D.faults disk.old) (map (as_seen P.held P.store_faults P.other_faults P.fetches) providers.old)) w
+        → GoesToEnd w moment result vault.new
+        (devices (D.holds disk.old) (D.faults disk.old) (map (as_seen P.held P.store_faults P.other_faults P.fetches) providers.old))
+        (devices (D.holds disk.new) (D.faults disk.new) (map (as_seen P.held P.store_faults P.other_faults P.fetches) providers.new)) }
+    ensures padded { HasPaddedCounts result.answer }
+{
+    loop {
+        match vault.step(number, disk, providers) {
+            Turn::More => {}
+            Turn::Done(ended) => return ended,
+            Turn::Waiting { .. } | Turn::NoSuchJob | Turn::MustReopen => unreachable!(),
+        }
+    }
+}

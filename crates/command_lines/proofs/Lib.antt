@@ -1,0 +1,3 @@
+mod ValueSteps
+mod ListSteps
+mod CountSteps

@@ -1,0 +1,20 @@
+//! The texts that the commands write, and writing them to a sink.
+#![tactic(auto)]
+
+mod audit;
+mod list;
+mod notes;
+mod pieces;
+mod status;
+mod values;
+mod write;
+
+pub use audit::audit_lines;
+pub use list::list_lines;
+pub use notes::{dropped_line, ready_line, repaired_line, stored_line};
+pub use status::{LOST_ROW, NO_MEMORY, SINK_FAULT, WRITTEN};
+pub use values::values_line;
+pub use write::{tell_no_row, write_text};
+
+#[cfg(test)]
+mod tests;

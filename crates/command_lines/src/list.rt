@@ -1,0 +1,33 @@
+// The lines of the files in effect.
+ghost use Rattle.std.specs.Prelude.{◌≡◌, IfOk};
+ghost use Rattle.hail_records.specs.Table.{files_of};
+ghost use Rattle.hail_commands.specs.Lines.{list_lines};
+ghost use Rattle.vault_table.specs.Values.{IsFoldOf};
+
+use crate::pieces::push_named;
+use std::alloc::{AllocError, Global};
+use stream_model::{Bytes, Memory};
+use vault_table::Table;
+
+/// The same as a vector.
+fn lines_of(alloc: Global, table: &Table) -> Result<Vec<u8>, AllocError>
+    ensures { IfOk result (λ text. text.items ≡ list_lines table.now.files) }
+{
+    let mut text = Vec::new(alloc);
+    for place in 0..table.count() {
+        if let Some(file) = table.at(place) {
+            push_named(alloc, &mut text, file.name.as_bytes(), u64::from(file.length))?;
+        }
+    }
+    Ok(text)
+}
+
+/// A line for each file in effect, in byte order of the names: its name and its length in bytes. Want of memory is its one
+/// refusal.
+pub fn list_lines(alloc: Global, table: &Table) -> Result<Bytes, Memory>
+    ensures table { IfOk result (λ lines. lines ≡ list_lines table.now.files) }
+    ensures records { IfOk result (λ lines. (rs : _) → IsFoldOf rs table.now → lines ≡ list_lines (files_of rs)) }
+{
+    let text = lines_of(alloc, table)?;
+    Ok(Bytes::from_vec(text))
+}

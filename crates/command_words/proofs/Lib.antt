@@ -1,0 +1,5 @@
+mod RowWords
+mod WordLaws
+mod Spelled
+mod InitWords
+mod Keys

@@ -1,0 +1,140 @@
+-- The one command that words may spell, read off the words.
+use Rattle.std.proofs.Common.{◌≡◌, ℕ, List, [], ◌∷◌, map, Option, String, Some, None, Bool, true, false, cond, sym, ◌∙◌, ap, refl, subst, arith}
+use Rattle.std.proofs.lemmas.Slice.Eq.{bytes_eq-Decides}
+use Rattle.std.specs.Prelude.{codes, if◌then◌else◌}
+use Rattle.std.specs.Str.{bytes_eq}
+use Rattle.std.specs.Str.Parse.{IsNumeral, digits_value}
+use Rattle.std.specs.String.{string_bytes}
+use Rattle.std.specs.declared.alloc.Global.{Global}
+use Rattle.hail_commands.specs.Words.{IsNumberWord, IsSymbolWord, AreSymbolWords}
+use Rattle.hail_commands.specs.Forms.{Numbers, Command, RowOf, InitWith, PutUnder, GetOf, DropOf, ListAll, AuditAll, RepairDue, IsForm, IsInitForm, AreNumbers, IsNamedForm, IsBareForm}
+use Rattle.hail_commands.specs.Row.{IsRowForm}
+use Rattle.command_words.proofs.RowWords.{Word}
+
+abbrev number : Word → ℕ
+number word = digits_value 10 (string_bytes word)
+
+-- the symbol of a text
+abbrev symbol : List ℕ → Option ℕ
+symbol text = if bytes_eq text (codes "-") then None else Some (digits_value 10 text)
+
+abbrev symbols : List Word → List (Option ℕ)
+symbols [] = []
+symbols (word ∷ words) = symbol (string_bytes word) ∷ symbols words
+
+abbrev row : List Word → Option Command
+row (n ∷ l ∷ b ∷ words) = Some (RowOf (number n) (number l) (number b) (symbols words))
+row words = None
+
+abbrev init : List Word → Option Command
+init (n ∷ l ∷ b ∷ profile ∷ rounds ∷ picks ∷ tolerance ∷ []) = Some (InitWith (record {
+  n = number n;
+  l = number l;
+  b = number b;
+  profile = number profile;
+  rounds = number rounds;
+  picks = number picks;
+  tolerance = number tolerance;
+}))
+init words = None
+
+abbrev named : (List ℕ → Command) → List Word → Option Command
+named made (name ∷ []) = Some (made (string_bytes name))
+named made words = None
+
+-- the command of a first word and the words behind it
+abbrev by_word : List ℕ → List Word → Option Command
+by_word first words =
+    if bytes_eq first (codes "row") then row words
+    else if bytes_eq first (codes "init") then init words
+    else if bytes_eq first (codes "put") then named (λ name. PutUnder name) words
+    else if bytes_eq first (codes "get") then named (λ name. GetOf name) words
+    else if bytes_eq first (codes "drop") then named (λ name. DropOf name) words
+    else if bytes_eq first (codes "list") then Some ListAll
+    else if bytes_eq first (codes "audit") then Some AuditAll
+    else if bytes_eq first (codes "repair") then Some RepairDue
+    else None
+
+abbrev spelled : List Word → Option Command
+spelled [] = None
+spelled (word ∷ words) = by_word (string_bytes word) words
+
+symbol-word : (text : List ℕ) (s : Option ℕ) → IsSymbolWord text s → symbol text ≡ s
+symbol-word text None word = ap (λ (t : List ℕ). symbol t) word
+symbol-word text (Some s) word = at (bytes_eq text (codes "-")) refl
+  where
+    no_digit : IsNumeral 10 (codes "-") → ⊥
+    no_digit numeral = omega (arith, numeral.1.0)
+
+    at : (test : Bool) → bytes_eq text (codes "-") ≡ test → cond test None (Some (digits_value 10 text)) ≡ Some s
+    at true is = absurd (no_digit (subst (λ (t : List ℕ). IsNumeral 10 t) ((bytes_eq-Decides text (codes "-")).0 is) word.numeral))
+    at false is = ap (λ (n : ℕ). Some n) word.value
+
+symbols-words : (words : List Word) (seen : List (Option ℕ)) → AreSymbolWords words seen → symbols words ≡ seen
+symbols-words [] [] all = refl
+symbols-words [] (s ∷ seen) all = absurd all
+symbols-words (w ∷ words) [] all = absurd all
+symbols-words (w ∷ words) (s ∷ seen) all = ap (λ (x : Option ℕ). x ∷ symbols words) (symbol-word (string_bytes w) s all.0) ∙ ap (λ (xs : List (Option ℕ)). s ∷ xs) (symbols-words words seen all.1)
+
+spelled-row : (words : List Word) (n l b : ℕ) (seen : List (Option ℕ)) → IsRowForm words n l b seen → spelled words ≡ Some (RowOf n l b seen)
+spelled-row (c ∷ f ∷ s ∷ t ∷ words) n l b seen form =
+    ap (λ (text : List ℕ). by_word text (f ∷ s ∷ t ∷ words)) form.0
+    ∙ cc (form.1.value, form.2.value, form.3.value, symbols-words words seen form.5)
+spelled-row [] n l b seen form = absurd form
+spelled-row (c ∷ []) n l b seen form = absurd form
+spelled-row (c ∷ f ∷ []) n l b seen form = absurd form
+spelled-row (c ∷ f ∷ s ∷ []) n l b seen form = absurd form
+
+init-words : (words : List Word) (numbers : Numbers) → AreNumbers words numbers → init words ≡ Some (InitWith numbers)
+init-words (n ∷ l ∷ b ∷ profile ∷ rounds ∷ picks ∷ tolerance ∷ []) numbers all =
+    ap (λ (x : Numbers). Some (InitWith x)) (λ i. record {
+      n = all.0.value i;
+      l = all.1.value i;
+      b = all.2.value i;
+      profile = all.3.value i;
+      rounds = all.4.value i;
+      picks = all.5.value i;
+      tolerance = all.6.value i;
+    })
+init-words [] numbers all = absurd all
+init-words (n ∷ []) numbers all = absurd all
+init-words (n ∷ l ∷ []) numbers all = absurd all
+init-words (n ∷ l ∷ b ∷ []) numbers all = absurd all
+init-words (n ∷ l ∷ b ∷ profile ∷ []) numbers all = absurd all
+init-words (n ∷ l ∷ b ∷ profile ∷ rounds ∷ []) numbers all = absurd all
+init-words (n ∷ l ∷ b ∷ profile ∷ rounds ∷ picks ∷ []) numbers all = absurd all
+init-words (n ∷ l ∷ b ∷ profile ∷ rounds ∷ picks ∷ tolerance ∷ more ∷ words) numbers all = absurd all
+
+spelled-init : (words : List Word) (numbers : Numbers) → IsInitForm words numbers → spelled words ≡ Some (InitWith numbers)
+spelled-init [] numbers form = absurd form
+spelled-init (c ∷ words) numbers form = ap (λ (text : List ℕ). by_word text words) form.0 ∙ init-words words numbers form.1
+
+-- a command word and a name
+spelled-named : (words : List Word) (word name : List ℕ) (made : List ℕ → Command) → IsNamedForm word words name
+    → ((rest : List Word) → by_word word rest ≡ named made rest) → spelled words ≡ Some (made name)
+spelled-named (c ∷ n ∷ []) word name made form by =
+    ap (λ (text : List ℕ). by_word text (n ∷ [])) form.0 ∙ by (n ∷ []) ∙ ap (λ (text : List ℕ). Some (made text)) form.1
+spelled-named [] word name made form by = absurd form
+spelled-named (c ∷ []) word name made form by = absurd form
+spelled-named (c ∷ n ∷ more ∷ words) word name made form by = absurd form
+
+-- a command word alone
+spelled-bare : (words : List Word) (word : List ℕ) (command : Command) → IsBareForm word words → by_word word [] ≡ Some command → spelled words ≡ Some command
+spelled-bare (c ∷ []) word command form by = ap (λ (text : List ℕ). by_word text []) form ∙ by
+spelled-bare [] word command form by = absurd form
+spelled-bare (c ∷ more ∷ words) word command form by = absurd form
+
+-- the words of a command are read off as this command
+spelled-IsForm : (words : List Word) (command : Command) → IsForm words command → spelled words ≡ Some command
+spelled-IsForm words (RowOf n l b seen) form = spelled-row words n l b seen form
+spelled-IsForm words (InitWith numbers) form = spelled-init words numbers form
+spelled-IsForm words (PutUnder name) form = spelled-named words (codes "put") name (λ n. PutUnder n) form (λ rest. refl)
+spelled-IsForm words (GetOf name) form = spelled-named words (codes "get") name (λ n. GetOf n) form (λ rest. refl)
+spelled-IsForm words (DropOf name) form = spelled-named words (codes "drop") name (λ n. DropOf n) form (λ rest. refl)
+spelled-IsForm words ListAll form = spelled-bare words (codes "list") ListAll form refl
+spelled-IsForm words AuditAll form = spelled-bare words (codes "audit") AuditAll form refl
+spelled-IsForm words RepairDue form = spelled-bare words (codes "repair") RepairDue form refl
+
+-- words spell one command at most
+pub IsForm-once : (words : List Word) (command other : Command) → IsForm words command → IsForm words other → command ≡ other
+IsForm-once words command other first second = cc (sym (spelled-IsForm words command first) ∙ spelled-IsForm words other second)

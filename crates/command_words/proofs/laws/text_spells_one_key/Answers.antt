@@ -1,0 +1,5 @@
+use Rattle.command_words.proofs.Keys.{IsKeyForm-once}
+use Rattle.command_words.proofs.laws.text_spells_one_key.Goals as goal
+
+pub returns : goal.returns
+returns c = IsKeyForm-once

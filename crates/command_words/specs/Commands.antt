@@ -1,0 +1,32 @@
+-- The plain data of a command that was read.
+--
+--   numbers_of numbers   the seven numbers of the definitions
+--   command_of command   the command of the definitions
+use Rattle.hail_commands.specs.Forms.{RowOf, InitWith, PutUnder, GetOf, DropOf, ListAll, AuditAll, RepairDue}
+use Rattle.hail_commands.specs.Forms.{Numbers as SevenNumbers, Command as Spelled}
+use Rattle.command_words.specs.declared.init.Numbers.{Numbers}
+use Rattle.command_words.specs.declared.command.Command.{Command}
+use Rattle.command_words.specs.declared.command.Command.TheVariants as kind
+
+-- the seven numbers of `init`
+abbrev pub numbers_of : Numbers → SevenNumbers
+numbers_of numbers = record {
+  n = numbers.n;
+  l = numbers.l;
+  b = numbers.b;
+  profile = numbers.profile;
+  rounds = numbers.rounds;
+  picks = numbers.picks;
+  tolerance = numbers.tolerance;
+}
+
+-- the command as plain data
+abbrev pub command_of : Command → Spelled
+command_of (kind.Row row) = RowOf row.n row.l row.b row.seen.items
+command_of (kind.Init numbers) = InitWith (numbers_of numbers)
+command_of (kind.Put name) = PutUnder name.now
+command_of (kind.Get name) = GetOf name.now
+command_of (kind.Drop name) = DropOf name.now
+command_of kind.List = ListAll
+command_of kind.Audit = AuditAll
+command_of kind.Repair = RepairDue

@@ -1,0 +1,71 @@
+// Reads the words of a command line.
+ghost use Rattle.std.specs.Prelude.{[], ◌∷◌, IfOk, MatchOption};
+ghost use Rattle.hail_commands.specs.Forms.{IsForm};
+ghost use Rattle.command_words.specs.Commands.{command_of};
+
+use crate::init::{Numbers, read_init};
+use crate::row::{Row, read_row};
+use hail_field::Memory;
+use std::alloc::Global;
+
+/// A command that words spell. A name is the bytes of its word, whatever they are: they may be no name of a file.
+#[derive(Debug, PartialEq, Eq, Drop)]
+pub enum Command<'a> {
+    Row(Row),
+    Init(Numbers),
+    Put { name: &'a [u8] },
+    Get { name: &'a [u8] },
+    Drop { name: &'a [u8] },
+    List,
+    Audit,
+    Repair,
+}
+
+/// The command that one word spells, or `None` where it spells none.
+fn read_bare<'a>(word: &'a String) -> Option<Command<'a>>
+    ensures { MatchOption result
+        ((command : _) → IsForm (word.now ∷ []) command → ⊥)
+        (λ command. IsForm (word.now ∷ []) (command_of command)) }
+{
+    match word.as_str() {
+        "list" => Some(Command::List),
+        "audit" => Some(Command::Audit),
+        "repair" => Some(Command::Repair),
+        _ => None,
+    }
+}
+
+/// The command that a word and a name spell, or `None` where they spell none.
+fn read_named<'a>(word: &'a String, name: &'a String) -> Option<Command<'a>>
+    ensures { MatchOption result
+        ((command : _) → IsForm (word.now ∷ name.now ∷ []) command → ⊥)
+        (λ command. IsForm (word.now ∷ name.now ∷ []) (command_of command)) }
+{
+    let name = name.as_bytes();
+    match word.as_str() {
+        "put" => Some(Command::Put { name }),
+        "get" => Some(Command::Get { name }),
+        "drop" => Some(Command::Drop { name }),
+        _ => None,
+    }
+}
+
+/// The command that the words spell, or `None` where they are no form of a command. Only the words of `row` take memory.
+pub fn read_command<'a>(alloc: Global, words: &'a [String]) -> Result<Option<Command<'a>>, Memory>
+    ensures { IfOk result (λ found. MatchOption found
+        ((command : _) → IsForm words.now command → ⊥)
+        (λ command. IsForm words.now (command_of command))) }
+{
+    match words {
+        [word] => return Ok(read_bare(word)),
+        [word, name] => return Ok(read_named(word, name)),
+        _ => {}
+    }
+    if let Some(numbers) = read_init(words) {
+        return Ok(Some(Command::Init(numbers)));
+    }
+    match read_row(alloc, words)? {
+        Some(row) => Ok(Some(Command::Row(row))),
+        None => Ok(None),
+    }
+}

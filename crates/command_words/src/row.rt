@@ -1,0 +1,63 @@
+// Reads the words of the command `row`.
+ghost use Rattle.std.specs.Prelude.{ℕ, MatchOption, IfOk};
+ghost use Rattle.hail_commands.specs.Words.{AreSymbolWords};
+ghost use Rattle.hail_commands.specs.Row.{IsRowForm};
+
+use crate::word::{read_number, read_symbol};
+use hail_field::Symbol;
+use std::alloc::{AllocError, Global};
+
+/// The numbers and the symbols of the command `row`.
+#[derive(Debug, PartialEq, Eq, Drop)]
+pub struct Row {
+    pub n: u128,
+    pub l: u128,
+    pub b: u128,
+    pub seen: Vec<Option<Symbol>>,
+}
+
+/// The symbols that the words spell, or `None` where one of them spells none.
+fn read_symbols(alloc: Global, words: &[String]) -> Result<Option<Vec<Option<Symbol>>>, AllocError>
+    ensures { IfOk result (λ found. MatchOption found
+        ((symbols : _) → AreSymbolWords words.now symbols → ⊥)
+        (λ symbols. AreSymbolWords words.now symbols.items)) }
+{
+    let mut symbols = Vec::new(alloc);
+    for word in words {
+        let Some(symbol) = read_symbol(word.as_str()) else {
+            return Ok(None);
+        };
+        symbols.push(symbol)?;
+    }
+    Ok(Some(symbols))
+}
+
+/// The row that the words spell, or `None` where they are no form of the command.
+pub fn read_row(alloc: Global, words: &[String]) -> Result<Option<Row>, AllocError>
+    ensures { IfOk result (λ found. MatchOption found
+        ((n l b : ℕ) (seen : _) → IsRowForm words.now n l b seen → ⊥)
+        (λ row. IsRowForm words.now row.n row.l row.b row.seen.items)) }
+{
+    let [command, first, second, third, symbols @ ..] = words else {
+        return Ok(None);
+    };
+    if command.as_str() != "row" {
+        return Ok(None);
+    }
+    let Some(n) = read_number(first.as_str()) else {
+        return Ok(None);
+    };
+    let Some(l) = read_number(second.as_str()) else {
+        return Ok(None);
+    };
+    let Some(b) = read_number(third.as_str()) else {
+        return Ok(None);
+    };
+    if symbols.len() as u128 != n {
+        return Ok(None);
+    }
+    let Some(seen) = read_symbols(alloc, symbols)? else {
+        return Ok(None);
+    };
+    Ok(Some(Row { n, l, b, seen }))
+}

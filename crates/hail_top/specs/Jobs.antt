@@ -1,0 +1,21 @@
+-- What came of a command over a vault that was just opened, with what is seen of all devices.
+--
+--   AnswersOver kind records old new end == the command ends as one does whose begin comes over these records, and no count of faults fell
+--   PutsOver name old new end == the same of a put, which reads its source first
+use Rattle.std.specs.Prelude.{ℕ, List}
+use Rattle.hail_records.specs.Records.{Record}
+use Rattle.hail_machine.specs.Jobs.{Kind}
+use Rattle.hail_commands.specs.Seen.{Seen, Ending}
+use Rattle.hail_commands.specs.Jobs.{AnswersJob}
+use Rattle.hail_commands.specs.Commands.{AnswersPut}
+use Rattle.command_jobs.specs.Ends.{NoFaultUndone}
+
+-- a job was refused over these records, or ended, and no count of faults fell
+pub record AnswersOver (kind : Kind) (records : List Record) (old new : Seen) (end : Ending) : Type 0 where
+  pub answers : AnswersJob kind records old new end
+  pub counts : NoFaultUndone old new
+
+-- a put ended, and no count of faults fell
+pub record PutsOver (name : List ℕ) (old new : Seen) (end : Ending) : Type 0 where
+  pub answers : AnswersPut name old new end
+  pub counts : NoFaultUndone old new

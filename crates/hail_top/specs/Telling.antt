@@ -1,0 +1,79 @@
+-- How what came of a command is told.
+--
+--   unread_ending fault      == how a command ends whose source was not read
+--   unopened_ending why      == how a command ends for which no vault was opened
+--   IsSubject s tolerance kind == what the lines of answers speak of, for a job of this kind
+--   no_memory                == there was no memory for a text
+--   IsTextOf s answer text   == the text of an answer; a fault has none
+--   IsFaultOf answer status at == the status of a fault and the place that it speaks of; any other answer has want of memory
+--   TellsAnswer s answer status at sink == the text of the answer is written or cut off, or its fault is told
+use Rattle.std.specs.Prelude.{◌≡◌, ◌⊎◌, ℕ, List, length}
+use Rattle.hail_machine.specs.Jobs.{Kind, PutJob, GetJob, DropJob, AuditJob, RepairJob}
+use Rattle.hail_machine.specs.Answers.{Answer, Put, Got, Dropped, Audited, Repaired, Lost, ProviderFault, DiskFault, Memory}
+use Rattle.hail_commands.specs.Lines.{stored_line, dropped_line, audit_lines, repaired_line}
+use Rattle.hail_commands.specs.Seen.{Ending}
+use Rattle.hail_commands.specs.Sinking.{Sinking, Writes}
+use Rattle.command_jobs.specs.declared.open.Unopened.{Unopened}
+use Rattle.command_jobs.specs.declared.open.Unopened.TheVariants as unopened
+use Rattle.hail_top.specs.declared.reading.ReadFault.{ReadFault}
+use Rattle.hail_top.specs.declared.reading.ReadFault.TheVariants as read_fault
+use Rattle.hail_top.specs.declared.tell.Subject.{Subject}
+use Rattle.hail_top.specs.declared.tell.Fault.{Fault}
+use Rattle.hail_top.specs.Endings.{ends}
+
+-- how a command ends whose source was not read
+abbrev pub unread_ending : ReadFault → Ending
+unread_ending read_fault.Failed = ends 14 0
+unread_ending read_fault.Memory = ends 70 0
+
+-- how a command ends for which no vault was opened
+abbrev pub unopened_ending : Unopened → Ending
+unopened_ending unopened.DiskFault = ends 12 0
+unopened_ending unopened.NotSetUp = ends 9 0
+unopened_ending (unopened.BadJournal at) = ends 8 at
+unopened_ending unopened.TooFewProviders = ends 22 0
+unopened_ending unopened.Memory = ends 70 0
+
+-- what the lines of answers to a job of this kind speak of beside the answer
+abbrev pub IsSubject : Subject → ℕ → Kind → Type 0
+IsSubject s tolerance (PutJob name bytes) = (s.name.now ≡ name) × (s.length ≡ length bytes)
+IsSubject s tolerance (GetJob name) = Unit {0}
+IsSubject s tolerance (DropJob name) = s.name.now ≡ name
+IsSubject s tolerance AuditJob = s.tolerance ≡ tolerance
+IsSubject s tolerance RepairJob = Unit {0}
+
+-- there was no memory for a text
+abbrev pub no_memory : Fault
+no_memory = record { status = 70; at = 0 }
+
+-- the text of an answer
+abbrev pub IsTextOf : Subject → Answer → List ℕ → Type 0
+IsTextOf s Put text = text ≡ stored_line s.name.now s.length
+IsTextOf s (Got bytes) text = text ≡ bytes
+IsTextOf s Dropped text = text ≡ dropped_line s.name.now
+IsTextOf s (Audited number undecided counts) text = text ≡ audit_lines s.tolerance number undecided counts
+IsTextOf s (Repaired number) text = text ≡ repaired_line number
+IsTextOf s answer text = ⊥
+
+-- the status of a fault, and the place that it speaks of; for any other answer, want of memory for its text
+abbrev pub IsFaultOf : Answer → ℕ → ℕ → Type 0
+IsFaultOf (Lost stripe row) status at = (status ≡ 4) × (at ≡ row)
+IsFaultOf (ProviderFault provider) status at = (status ≡ 13) × (at ≡ provider)
+IsFaultOf DiskFault status at = (status ≡ 12) × (at ≡ 0)
+IsFaultOf answer status at = (status ≡ 70) × (at ≡ 0)
+
+-- an answer's text was written
+pub record WritesAnswer (s : Subject) (answer : Answer) (status at : ℕ) (sink : Sinking) : Type 0 where
+  pub text : List ℕ
+  pub text_is : IsTextOf s answer text
+  pub written : Writes text status sink
+  pub place : at ≡ 0
+
+-- an answer was told by its status alone
+pub record TellsFault (answer : Answer) (status at : ℕ) (sink : Sinking) : Type 0 where
+  pub fault : IsFaultOf answer status at
+  pub silent : sink.new ≡ sink.old
+
+-- an answer was told
+abbrev pub TellsAnswer : Subject → Answer → ℕ → ℕ → Sinking → Type 0
+TellsAnswer s answer status at sink = WritesAnswer s answer status at sink ⊎ TellsFault answer status at sink

@@ -1,0 +1,74 @@
+// Commands that run one job.
+ghost use Rattle.std.specs.Prelude.{◌≡◌, ◌≤◌, ℕ, List, Option, length, map};
+ghost use Rattle.hail_records.specs.Records.{Record};
+ghost use Rattle.hail_commands.specs.Seen.{Seen, sinking, NoCountFalls};
+ghost use Rattle.hail_commands.specs.Opens.{IsOpened};
+ghost use Rattle.hail_commands.specs.Sinking.{Sinking};
+ghost use Rattle.hail_commands.specs.Commands.{AnswersAlone};
+ghost use Rattle.vault.specs.Devices.{as_seen, devices};
+ghost use Rattle.command_jobs.specs.Kinds.{kind_of};
+ghost use Rattle.command_jobs.specs.Opened.{IsFresh, IsReady};
+ghost use Rattle.command_jobs.specs.Ends.{IsSeenBefore};
+ghost use Rattle.hail_top.specs.Endings.{seen, ending_of};
+ghost use Rattle.hail_top.specs.Jobs.{AnswersOver};
+
+use crate::refusals::{refused, unopened};
+use crate::report::Report;
+use crate::tell::{Subject, ended};
+use command_jobs::{Job, open_vault, run_job};
+use disk_model::Disk;
+use provider_model::Provider;
+use std::alloc::Global;
+use stream_model::Sink;
+use vault::Vault;
+
+/// Runs a job over a vault that was just opened, and tells what came of it.
+pub fn answer_job<D: Disk, P: Provider, K: Sink>(
+    alloc: Global,
+    job: Job,
+    vault: Vault,
+    disk: &mut D,
+    providers: &mut [P],
+    sink: &mut K,
+) -> Report
+    requires { IsReady vault (D.holds disk.old) (D.faults disk.old) (length providers.old) }
+    ensures over { (records : List Record) (old : Seen) (left : Option (List ℕ)) (read_faults : ℕ)
+        → IsFresh vault records (D.holds disk.old) (D.faults disk.old) → IsOpened old records
+        → IsSeenBefore old (devices (D.holds disk.old) (D.faults disk.old) (map (as_seen P.held P.store_faults P.other_faults P.fetches) providers.old))
+        → old.sink ≡ K.written sink.old → old.sink_faults ≡ K.faults sink.old
+        → AnswersOver (kind_of job) records old
+        (seen (D.holds disk.new) (D.faults disk.new) (map (as_seen P.held P.store_faults P.other_faults P.fetches) providers.new) left read_faults
+        (K.written sink.new) (K.faults sink.new)) (ending_of result) }
+    ensures count { K.faults sink.old ≤ K.faults sink.new }
+{
+    let subject = Subject::new(&job, vault.setup().tolerance);
+    match run_job(vault, job, disk, providers) {
+        Ok(end) => ended(alloc, &subject, end, sink),
+        Err(why) => refused(why),
+    }
+}
+
+/// Opens the store, runs a job that reads no source, and tells what came of it.
+pub fn alone<D: Disk, P: Provider, K: Sink>(
+    alloc: Global,
+    job: Job,
+    disk: &mut D,
+    providers: &mut [P],
+    sink: &mut K,
+) -> Report
+    ensures answers { (left : Option (List ℕ)) (read_faults : ℕ) → AnswersAlone (kind_of job)
+        (seen (D.holds disk.old) (D.faults disk.old) (map (as_seen P.held P.store_faults P.other_faults P.fetches) providers.old) left read_faults
+        (K.written sink.old) (K.faults sink.old))
+        (seen (D.holds disk.new) (D.faults disk.new) (map (as_seen P.held P.store_faults P.other_faults P.fetches) providers.new) left read_faults
+        (K.written sink.new) (K.faults sink.new)) (ending_of result) }
+    ensures counts { (left : Option (List ℕ)) (read_faults : ℕ) → NoCountFalls
+        (seen (D.holds disk.old) (D.faults disk.old) (map (as_seen P.held P.store_faults P.other_faults P.fetches) providers.old) left read_faults
+        (K.written sink.old) (K.faults sink.old))
+        (seen (D.holds disk.new) (D.faults disk.new) (map (as_seen P.held P.store_faults P.other_faults P.fetches) providers.new) left read_faults
+        (K.written sink.new) (K.faults sink.new)) }
+{
+    match open_vault(alloc, disk, providers.len()) {
+        Ok(vault) => answer_job(alloc, job, vault, disk, providers, sink),
+        Err(why) => unopened(why),
+    }
+}

@@ -1,0 +1,47 @@
+// The command `list`.
+ghost use Rattle.std.specs.Prelude.{◌≡◌, ◌≤◌, ℕ, List, Option, length};
+ghost use Rattle.hail_devices.specs.Providers.{Provider};
+ghost use Rattle.hail_records.specs.Records.{Record};
+ghost use Rattle.hail_records.specs.Table.{files_of};
+ghost use Rattle.hail_commands.specs.Lines.{list_lines};
+ghost use Rattle.hail_commands.specs.Seen.{NoCountFalls};
+ghost use Rattle.hail_commands.specs.Sinking.{Sinking, Writes};
+ghost use Rattle.hail_commands.specs.Commands.{AnswersList};
+ghost use Rattle.vault.specs.Seen.{table_of};
+ghost use Rattle.vault_table.specs.Values.{IsFoldOf};
+ghost use Rattle.hail_top.specs.Endings.{seen, ending_of};
+
+use crate::refusals::unopened;
+use crate::report::{NO_MEMORY, Report};
+use command_jobs::open_vault;
+use command_lines::{list_lines, write_text};
+use disk_model::Disk;
+use std::alloc::Global;
+use stream_model::{Memory, Sink};
+use vault::Vault;
+
+/// Writes the files in effect.
+fn write_files<K: Sink>(alloc: Global, vault: &Vault, sink: &mut K) -> u8
+    ensures written { (records : List Record) → IsFoldOf records (table_of vault.now) → Writes (list_lines (files_of records)) result
+        (record { old = K.written sink.old; new = K.written sink.new; before = K.faults sink.old; now = K.faults sink.new }) }
+    ensures count { K.faults sink.old ≤ K.faults sink.new }
+{
+    match list_lines(alloc, vault.table()) {
+        Ok(lines) => write_text(lines.as_slice(), sink),
+        Err(Memory) => NO_MEMORY,
+    }
+}
+
+/// Opens the store, for so many providers handed in, and writes the files in effect.
+pub fn list<D: Disk, K: Sink>(alloc: Global, handed: usize, disk: &mut D, sink: &mut K) -> Report
+    ensures answers { (providers : List Provider) (left : Option (List ℕ)) (read_faults : ℕ) → length providers ≡ handed → AnswersList
+        (seen (D.holds disk.old) (D.faults disk.old) providers left read_faults (K.written sink.old) (K.faults sink.old))
+        (seen (D.holds disk.new) (D.faults disk.new) providers left read_faults (K.written sink.new) (K.faults sink.new)) (ending_of result) }
+    ensures disk_count { D.faults disk.old ≤ D.faults disk.new }
+    ensures sink_count { K.faults sink.old ≤ K.faults sink.new }
+{
+    match open_vault(alloc, disk, handed) {
+        Ok(vault) => Report::of(write_files(alloc, &vault, sink)),
+        Err(why) => unopened(why),
+    }
+}

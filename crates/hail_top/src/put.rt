@@ -1,0 +1,86 @@
+// The command `put`.
+ghost use Rattle.std.specs.Prelude.{◌≡◌, ◌≤◌, ◌⊎◌, ℕ, List, length, map};
+ghost use Rattle.hail_records.specs.Records.{Record};
+ghost use Rattle.hail_commands.specs.Seen.{Seen, NoCountFalls};
+ghost use Rattle.hail_commands.specs.Opens.{IsOpened};
+ghost use Rattle.hail_commands.specs.Commands.{AnswersPut};
+ghost use Rattle.vault.specs.Devices.{as_seen, devices};
+ghost use Rattle.command_jobs.specs.Opened.{IsFresh, IsReady};
+ghost use Rattle.command_jobs.specs.Ends.{IsSeenBefore, NoFaultUndone};
+ghost use Rattle.hail_top.specs.Endings.{seen, ending_of};
+ghost use Rattle.hail_top.specs.Jobs.{PutsOver};
+
+use crate::alone::answer_job;
+use crate::reading::read_up_to;
+use crate::refusals::{unopened, unread};
+use crate::report::Report;
+use command_jobs::{Job, open_vault};
+use disk_model::Disk;
+use provider_model::Provider;
+use std::alloc::Global;
+use stream_model::{Sink, Source};
+use vault::Vault;
+
+/// How many bytes of a source are read for a file: one more than the longest file has.
+const PAST_LONGEST: usize = (1 << 22) + 1;
+
+/// Reads the file, and puts it into a vault that was just opened.
+fn put_read<D: Disk, P: Provider, S: Source, K: Sink>(
+    alloc: Global,
+    name: &[u8],
+    vault: Vault,
+    disk: &mut D,
+    providers: &mut [P],
+    source: &mut S,
+    sink: &mut K,
+) -> Report
+    requires { IsReady vault (D.holds disk.old) (D.faults disk.old) (length providers.old) }
+    ensures over { (records : List Record) (old : Seen)
+        → IsFresh vault records (D.holds disk.old) (D.faults disk.old) → IsOpened old records
+        → IsSeenBefore old (devices (D.holds disk.old) (D.faults disk.old) (map (as_seen P.held P.store_faults P.other_faults P.fetches) providers.old))
+        → old.source ≡ S.left source.old → old.source_faults ≡ S.faults source.old
+        → old.sink ≡ K.written sink.old → old.sink_faults ≡ K.faults sink.old
+        → PutsOver name.now old
+        (seen (D.holds disk.new) (D.faults disk.new) (map (as_seen P.held P.store_faults P.other_faults P.fetches) providers.new) (S.left source.new)
+        (S.faults source.new) (K.written sink.new) (K.faults sink.new)) (ending_of result) }
+    ensures source_count { S.faults source.old ≤ S.faults source.new }
+    ensures sink_count { K.faults sink.old ≤ K.faults sink.new }
+{
+    match read_up_to(alloc, PAST_LONGEST, source) {
+        Ok(bytes) => answer_job(
+            alloc,
+            Job::Put { name, bytes },
+            vault,
+            disk,
+            providers,
+            sink,
+        ),
+        Err(fault) => unread(fault),
+    }
+}
+
+/// Opens the store, and puts the file that the source gives under a name.
+pub fn put<D: Disk, P: Provider, S: Source, K: Sink>(
+    alloc: Global,
+    name: &[u8],
+    disk: &mut D,
+    providers: &mut [P],
+    source: &mut S,
+    sink: &mut K,
+) -> Report
+    ensures answers { AnswersPut name.now
+        (seen (D.holds disk.old) (D.faults disk.old) (map (as_seen P.held P.store_faults P.other_faults P.fetches) providers.old) (S.left source.old)
+        (S.faults source.old) (K.written sink.old) (K.faults sink.old))
+        (seen (D.holds disk.new) (D.faults disk.new) (map (as_seen P.held P.store_faults P.other_faults P.fetches) providers.new) (S.left source.new)
+        (S.faults source.new) (K.written sink.new) (K.faults sink.new)) (ending_of result) }
+    ensures counts { NoCountFalls
+        (seen (D.holds disk.old) (D.faults disk.old) (map (as_seen P.held P.store_faults P.other_faults P.fetches) providers.old) (S.left source.old)
+        (S.faults source.old) (K.written sink.old) (K.faults sink.old))
+        (seen (D.holds disk.new) (D.faults disk.new) (map (as_seen P.held P.store_faults P.other_faults P.fetches) providers.new) (S.left source.new)
+        (S.faults source.new) (K.written sink.new) (K.faults sink.new)) }
+{
+    match open_vault(alloc, disk, providers.len()) {
+        Ok(vault) => put_read(alloc, name, vault, disk, providers, source, sink),
+        Err(why) => unopened(why),
+    }
+}

@@ -1,0 +1,54 @@
+// Reads the first bytes of a source.
+ghost use Rattle.std.specs.Prelude.{◌≡◌, IfOk, IsErrOf};
+ghost use Rattle.hail_devices.specs.Faults.{HasCause};
+ghost use Rattle.hail_commands.specs.Seen.{ReadsUpTo};
+ghost use Rattle.hail_top.specs.declared.reading.ReadFault.TheVariants as read_fault;
+
+use std::alloc::{AllocError, Global};
+use stream_model::{Bytes, Failed, Source};
+
+/// How many bytes are read at a time, at most.
+const PIECE: usize = 1 << 16;
+
+/// Why the bytes of a source were not read.
+#[derive(Clone, Copy, Debug, PartialEq, Eq)]
+pub enum ReadFault {
+    /// A read failed, and the source's count of faults rose.
+    Failed,
+    /// Memory ran out.
+    Memory,
+}
+
+impl From<Failed> for ReadFault {
+    ghost from_gives = { λ _ e. e ≡ read_fault.Failed };
+
+    fn from(_: Failed) -> Self {
+        ReadFault::Failed
+    }
+}
+
+impl From<AllocError> for ReadFault {
+    ghost from_gives = { λ _ e. e ≡ read_fault.Memory };
+
+    fn from(_: AllocError) -> Self {
+        ReadFault::Memory
+    }
+}
+
+/// Reads at most so many bytes, up to the end of the source.
+pub fn read_up_to<S: Source>(alloc: Global, most: usize, source: &mut S) -> Result<Bytes, ReadFault>
+    ensures bytes { IfOk result (λ bytes. ReadsUpTo most (S.left source.old) (S.left source.new) bytes) }
+    ensures cause { HasCause (S.faults source.old) (S.faults source.new) (IsErrOf result read_fault.Failed) }
+{
+    let mut piece = vec![in alloc; 0u8; most.min(PIECE)]?;
+    let mut bytes = Vec::new(alloc);
+    while bytes.len() < most {
+        let room = piece.len().min(most - bytes.len());
+        let count = source.read(&mut piece[..room])?;
+        if count == 0 {
+            break;
+        }
+        bytes.extend_from_slice(&piece[..count])?;
+    }
+    Ok(Bytes::from_vec(bytes))
+}
