@@ -37,11 +37,21 @@ fn a_put_is_in_effect_from_its_last_gate_on(rt: HostRuntime) -> Result<(), Fail>
         }
         if fails < 10 {
             client.refuses(&rt, "get a", "", 3)?;
-            client.answers(&rt, "put a", "newer", "stored a 5\n")?;
-            client.answers(&rt, "get a", "", "newer")?;
         } else {
             client.answers(&rt, "get a", "", "new")?;
         }
+    }
+    Ok(())
+}
+
+#[test]
+fn a_put_may_be_made_again(rt: HostRuntime) -> Result<(), Fail> {
+    for fails in [3, 6, 9, 10] {
+        let mut client = faulty_set_up(&rt, rt.alloc(), FOUR)?;
+        client.replace_disk(&[fails])?;
+        client.refuses(&rt, "put a", "new", 12)?;
+        client.answers(&rt, "put a", "newer", "stored a 5\n")?;
+        client.answers(&rt, "get a", "", "newer")?;
     }
     Ok(())
 }

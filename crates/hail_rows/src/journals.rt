@@ -1,6 +1,6 @@
 // What a disk may read before a command.
 
-use crate::client::{KEY, SIX, sure, sure_set_up};
+use crate::client::{FOUR, KEY, SIX, sure, sure_set_up};
 use std::test::Fail;
 
 #[test]
@@ -100,10 +100,11 @@ fn a_bad_journal_comes_before_few_providers(rt: HostRuntime) -> Result<(), Fail>
             client.refuses(&rt, line, "", status)?;
         }
     }
-    let mut client = sure_set_up(&rt, rt.alloc(), SIX)?;
-    client.providers.truncate(6);
-    client.answers(&rt, "list", "", "")?;
-    client.providers.truncate(5);
+    let mut client = sure_set_up(&rt, rt.alloc(), FOUR)?;
+    client.providers.truncate(4);
+    client.answers(&rt, "put a", "new", "stored a 3\n")?;
+    client.answers(&rt, "list", "", "a 3\n")?;
+    client.providers.truncate(3);
     for line in ["list", "put a/b", "get a/b", "drop a/b", "audit", "repair"] {
         client.refuses(&rt, line, "", 22)?;
     }
