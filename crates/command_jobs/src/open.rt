@@ -1,11 +1,15 @@
-ghost use Rattle.std.specs.Prelude.{◌≡◌, List, IfOk, IfErr, IsErrOf};
+ghost use Rattle.std.specs.Prelude.{◌≡◌, List, IfOk, IfErr, OnOk, IsErrOf};
 ghost use Rattle.std.specs.Option.{option_map};
 ghost use Rattle.hail_devices.specs.Cells.{reads};
+ghost use Rattle.hail_devices.specs.Disks.{synced};
 ghost use Rattle.hail_devices.specs.Faults.{HasCause};
+ghost use Rattle.hail_devices.specs.Told.{Goes};
 ghost use Rattle.hail_records.specs.Records.{Record};
+ghost use Rattle.hail_commands.specs.Seen.{IsResynced};
 ghost use Rattle.command_jobs.specs.declared.open.Unopened.TheVariants as unopened;
-ghost use Rattle.command_jobs.specs.Opened.{IsFresh, IsReadFor, IsUnopened, unopened_of};
+ghost use Rattle.command_jobs.specs.Opened.{IsFresh, IsReadFor, IsReady, IsUnopened, unopened_of};
 
+use command_laws::alone::opened_states;
 use disk_model::Disk;
 use std::alloc::Global;
 use vault::{StartFault, Vault};
@@ -45,10 +49,15 @@ impl From<StartFault> for Unopened {
 pub fn open_vault<D: Disk>(alloc: Global, disk: &mut D, handed: usize) -> Result<Vault, Unopened>
     ensures opened { IfOk result (λ vault. (records : List Record) × IsReadFor (D.holds disk.old) records handed
         × IsFresh vault records (D.holds disk.new) (D.faults disk.new)) }
+    ensures ready { IfOk result (λ vault. IsReady vault (D.holds disk.new) (D.faults disk.new) handed) }
     ensures refused { IfErr result (IsUnopened (D.holds disk.old) handed) }
     ensures reads { option_map reads (D.holds disk.new) ≡ option_map reads (D.holds disk.old) }
+    ensures disk { Goes IsResynced (D.holds disk.old) (D.holds disk.new) }
+    ensures synced { OnOk result (D.holds disk.new ≡ option_map synced (D.holds disk.old)) }
+    ensures few { IsErrOf result unopened.TooFewProviders → D.holds disk.new ≡ option_map synced (D.holds disk.old) }
     ensures cause { HasCause (D.faults disk.old) (D.faults disk.new) (IsErrOf result unopened.DiskFault) }
 {
+    opened_states();
     let vault = Vault::start(alloc, disk, FIRST_JOB)?;
     if handed < usize::from(vault.setup().n) {
         return Err(Unopened::TooFewProviders);

@@ -1,4 +1,4 @@
-ghost use Rattle.std.specs.Prelude.{◌≡◌, ◌<◌, ◌≤◌, ◌-◌, ◌^◌, ℕ, List, IfOk, IfErr, OnErr, length, map};
+ghost use Rattle.std.specs.Prelude.{◌≡◌, ◌<◌, ◌≤◌, ◌-◌, ◌^◌, ℕ, List, IfOk, IfErr, OnErr, is_some, length, map};
 ghost use Rattle.hail_machine.specs.Jobs.{Kind};
 ghost use Rattle.hail_machine.specs.States.{State};
 ghost use Rattle.hail_records.specs.Records.{Record};
@@ -32,10 +32,11 @@ pub fn run_job<D: Disk, P: Provider>(
         → IsFresh vault records (D.holds disk.old) (D.faults disk.old) → opens.IsOpened old records
         → IsSeenBefore old (devices (D.holds disk.old) (D.faults disk.old) (map (as_seen P.held P.store_faults P.other_faults P.fetches) providers.old))
         → IsSeenAfter new (devices (D.holds disk.new) (D.faults disk.new) (map (as_seen P.held P.store_faults P.other_faults P.fetches) providers.new))
-        → EndsOver records (kind_of job) ended old new) }
+        → EndsOver records (kind_of job.entry) ended old new) }
     ensures padded { IfOk result (λ ended. HasPaddedCounts ended.answer) }
     ensures refused { IfErr result (λ why. (records : List Record)
-        → IsFresh vault records (D.holds disk.old) (D.faults disk.old) → IsRefusedOver records (kind_of job) why) }
+        → IsFresh vault records (D.holds disk.old) (D.faults disk.old) → IsRefusedOver records (kind_of job.entry) why) }
+    ensures tells { is_some (D.holds disk.new) ≡ is_some (D.holds disk.old) }
     ensures untouched { OnErr result ((disk.new ≡ disk.old) × (providers.new ≡ providers.old)) }
 {
     opened_states();
@@ -48,7 +49,7 @@ pub fn run_job<D: Disk, P: Provider>(
 fn begin(vault: &mut Vault, job: Job) -> Result<u32, BeginFault>
     requires { next_job_of vault.old < 2 ^ 32 - 1 }
     ensures { (w : State) (d : Devices) (moment : ℕ) → Stands vault.old d w
-        → MakesBegin w moment (kind_of job) result vault.new d }
+        → MakesBegin w moment (kind_of job.entry) result vault.new d }
 {
     match job {
         Job::Put { name, bytes } => vault.begin_put(name, bytes),
@@ -73,6 +74,7 @@ fn finish<D: Disk, P: Provider>(
         → GoesToEnd w moment result vault.new
         (devices (D.holds disk.old) (D.faults disk.old) (map (as_seen P.held P.store_faults P.other_faults P.fetches) providers.old))
         (devices (D.holds disk.new) (D.faults disk.new) (map (as_seen P.held P.store_faults P.other_faults P.fetches) providers.new)) }
+    ensures tells { is_some (D.holds disk.new) ≡ is_some (D.holds disk.old) }
     ensures padded { HasPaddedCounts result.answer }
 {
     loop {

@@ -6,28 +6,34 @@ use record_codec::Setup;
 use std::alloc::Global;
 use std::test::Fail;
 use stream_model::Bytes;
-use vault::{Answer, init};
+use vault::{Answer, Ended, init};
 
-/// Runs a job over a vault that is opened for it; 9 where it is refused, 8 where no vault is opened, 7 at any other end.
+/// A word for how a job ends that is run over a vault opened for it.
 fn run(
     alloc: Global,
     job: Job,
-    wanted: &[u8],
     disk: &mut SureDisk,
     providers: &mut [SureProvider],
-) -> u8 {
+) -> &'static str {
     let Ok(vault) = open_vault(alloc, disk, providers.len()) else {
-        return 8;
+        return "unopened";
     };
-    match run_job(vault, job, disk, providers) {
-        Ok(ended) => match ended.answer {
-            Answer::Put => 0,
-            Answer::Got { bytes } if bytes.as_slice() == wanted => 1,
-            Answer::Dropped => 2,
-            Answer::Audited { .. } => 3,
-            _ => 7,
-        },
-        Err(_) => 9,
+    let Ok(ended) = run_job(vault, job, disk, providers) else {
+        return "refused";
+    };
+    let Ended { answer, heard: _ } = ended;
+    match answer {
+        Answer::Put => "put",
+        Answer::Got { bytes } => {
+            if bytes.as_slice() == b"hail".as_slice() {
+                "hail"
+            } else {
+                "other bytes"
+            }
+        }
+        Answer::Dropped => "dropped",
+        Answer::Audited { .. } => "audited",
+        _ => "another end",
     }
 }
 
@@ -50,51 +56,29 @@ fn jobs_run_to_their_end(rt: HostRuntime) -> Result<(), Fail> {
         picks: 2,
         tolerance: 0,
     };
-    let Some(master) = Master::from_hex(
-        b"000102030405060708090a0b0c0d0e0f101112131415161718191a1b1c1d1e1f",
-    ) else {
-        return Ok(());
+    let key = b"000102030405060708090a0b0c0d0e0f101112131415161718191a1b1c1d1e1f";
+    let master = Master::from_hex(key).expect(&rt, "a key");
+    let first = run(alloc, Job::Audit, &mut disk, &mut providers);
+    assert_eq!(rt; first, "unopened");
+    assert!(rt; init(alloc, &mut disk, &master, &setup).is_ok());
+    let put = Job::Put {
+        name: b"a",
+        bytes: Bytes::from_slice(alloc, b"hail")?,
     };
-    assert_eq!(rt; run(alloc, Job::Audit, b"", &mut disk, &mut providers), 8);
-    assert_eq!(rt; init(alloc, &mut disk, &master, &setup).is_ok(), true);
-    let bytes = Bytes::from_slice(alloc, b"hail")?;
-    let put = Job::Put { name: b"a", bytes };
-    assert_eq!(rt; run(alloc, put, b"", &mut disk, &mut providers), 0);
-    assert_eq!(rt;
-        run(
-            alloc,
-            Job::Get { name: b"a" },
-            b"hail",
-            &mut disk,
-            &mut providers
-        ),
-        1
-    );
-    assert_eq!(rt;
-        run(
-            alloc,
-            Job::Get { name: b"b" },
-            b"",
-            &mut disk,
-            &mut providers
-        ),
-        9
-    );
-    assert_eq!(rt; run(alloc, Job::Audit, b"", &mut disk, &mut providers), 3);
-    assert_eq!(rt; run(alloc, Job::Repair, b"", &mut disk, &mut providers), 9);
-    assert_eq!(rt;
-        run(
-            alloc,
-            Job::Drop { name: b"a" },
-            b"",
-            &mut disk,
-            &mut providers
-        ),
-        2
-    );
-    assert_eq!(rt;
-        run(alloc, Job::Audit, b"", &mut disk, &mut providers[..3]),
-        8
-    );
+    let jobs = [
+        (put, "put"),
+        (Job::Get { name: b"a" }, "hail"),
+        (Job::Get { name: b"b" }, "refused"),
+        (Job::Audit, "audited"),
+        (Job::Repair, "refused"),
+        (Job::Drop { name: b"a" }, "dropped"),
+        (Job::Drop { name: b"a" }, "refused"),
+    ];
+    for (job, wanted) in jobs {
+        let end = run(alloc, job, &mut disk, &mut providers);
+        assert_eq!(rt; end, wanted);
+    }
+    let few = run(alloc, Job::Audit, &mut disk, &mut providers[..3]);
+    assert_eq!(rt; few, "unopened");
     Ok(())
 }

@@ -16,20 +16,20 @@ use Rattle.column_laws.proofs.RightRows.{row-right}
 use Rattle.column_laws.proofs.UniqueLaws.{profile-room}
 use Rattle.hail_devices.specs.Faults.{Rose, last_count}
 use Rattle.hail_devices.specs.Providers.{Held, sized}
-use Rattle.hail_records.specs.Table.{File}
+use Rattle.hail_records.specs.Table.{File, file_of}
 use Rattle.hail_machine.specs.Setups.{object_of, stripes_of}
 use Rattle.hail_machine.specs.Answers as answer
 use Rattle.hail_machine.specs.Answers.{Answer}
 use Rattle.hail_machine.specs.Events.{AreBytes}
 use Rattle.hail_machine.specs.Heard.{Entry, HoldsForgery}
-use Rattle.hail_machine.specs.States.{State, setup_in, object_in, file_in}
+use Rattle.hail_machine.specs.States.{State, setup_in}
 use Rattle.hail_machine.proofs.JobLists.{cond_true, cond_false, same_value}
 use Rattle.run_laws.proofs.Files.{file_or_forged}
 use Rattle.hail_commands.specs.Gets.{block_heard, blocks_heard, HearsStripes, GetGives, GetLeaves}
 use Rattle.hail_commands.specs.Puts.{PutLeaves}
 use Rattle.hail_commands.specs.Drops.{DropLeaves}
 use Rattle.hail_commands.specs.Audits.{AuditGives}
-use Rattle.hail_commands.specs.Ran.{Ran, ran_from, setup_at_begin}
+use Rattle.hail_commands.specs.Ran.{Ran, ran_from, setup_at_begin, job_number}
 use Rattle.hail_commands.specs.Truthful.{missing, IsTruthful}
 use Rattle.sound_states.proofs.Given.{valid-shape}
 use Rattle.sound_states.proofs.Written.{setup-valid}
@@ -136,7 +136,7 @@ module _ (x : Ran) (file : File) (bytes : List ℕ) where
       is_wrong_block o bytes j t (block_at (blocks_heard x file.id t) j) ≡ false
   good-block m j H below good t l k = by_held (x.old j).held good (H.truthful j below)
     where
-      by_held : (h : Option Held) → is_bad_with x file.id bytes j h ≡ false →
+      by_held : (h : Option Held) → is_bad_with o bytes j (x.old j) (x.new j) h ≡ false →
           IfSome h (λ held. IsTruthful (λ s. block_heard x file.id s j) (λ s. sized (object_of (setup_at_begin x) file.id).profile.size (held file.id s)) (upto m) (x.old j).other_faults (x.new j).other_faults) →
           is_wrong_block o bytes j t (block_at (blocks_heard x file.id t) j) ≡ false
       by_held None g T = absurd (false≢true (sym g))
@@ -146,7 +146,7 @@ module _ (x : Ran) (file : File) (bytes : List ℕ) where
           ap (is_wrong_block o bytes j t) (block_at-map (block_heard x file.id t) (setup_at_begin x).n j below ∙ same) ∙ (wrong-sized o bytes j t (held file.id t) ∙ not-wrong-each o bytes j (held file.id) p.0 t k))
 
   -- a provider that gave a wrong block is bad
-  bad-block : (m t : ℕ) → HearsStripes x file m → t < m → t < stripes o (length bytes) → (j : ℕ) → j < 0 + (setup_at_begin x).n → is_wrong_block o bytes j t (block_at (blocks_heard x file.id t) j) ≡ true → is_bad x file.id bytes j ≡ true
+  pub bad-block : (m t : ℕ) → HearsStripes x file m → t < m → t < stripes o (length bytes) → (j : ℕ) → j < 0 + (setup_at_begin x).n → is_wrong_block o bytes j t (block_at (blocks_heard x file.id t) j) ≡ true → is_bad x file.id bytes j ≡ true
   bad-block m t H l k j below wrong = elim (cases_Bool (is_bad x file.id bytes j)) [
     | inl y ↦ y
     | inr n ↦ absurd (false≢true (sym (good-block m j H (omega (arith, below)) n t l k) ∙ wrong))
@@ -193,29 +193,21 @@ pub shape-of : (w new : State) (heard : List Entry) → IsOpened w → IsShape (
 unfolding setup_in
 shape-of w new heard O = valid-shape (setup_in w) (setup-valid 8 w (opened-sound w O) O.opened)
 
-module _ (w new : State) (name bytes : List ℕ) (heard : List Entry) (file : File) (O : IsOpened w) (in_effect : file_in w name ≡ Some file) (fits : AreBytes bytes) (size : length bytes ≡ file.size) where
-  abbrev ran : Ran
-  ran = ran_from w new heard
+-- a get of a file gives it, or holds a forgery
+module _ (x : Ran) (name bytes : List ℕ) (file : File) (shape : IsShape (setup_at_begin x).n (setup_at_begin x).l (setup_at_begin x).b) (in_effect : file_of x.records name ≡ Some file) (fits : AreBytes bytes) (size : length bytes ≡ file.size) where
+  pub gives-file : (how : Answer) → GetLeaves x name how → GetGives x file how
+  gives-file how L = subst (λ f. GetGives x f how) (same_value (file_of x.records name) L.file file L.in_effect in_effect) L.gives
 
-  gives-file : (how : Answer) → GetLeaves ran name how → GetGives ran file how
-  gives-file how L = subst (λ f. GetGives ran f how) (same_value (file_in w name) L.file file L.in_effect in_effect) L.gives
+  pub get-complete : (how : Answer) → GetLeaves x name how → bad_count x file.id bytes ≤ (setup_at_begin x).b → how ≡ answer.Got bytes
+  get-complete (answer.Got got) L few = ap answer.Got (few-right x file bytes shape size got fits (gives-file (answer.Got got) L) (omega (arith, few)))
+  get-complete (answer.Lost stripe row) L few = absurd (few-kept x file bytes shape size stripe row (gives-file (answer.Lost stripe row) L) few)
+  get-complete how L few = absurd L.gives
 
-  shape-valid : IsShape (setup_at_begin ran).n (setup_at_begin ran).l (setup_at_begin ran).b
-  shape-valid = shape-of w new heard O
+  pub get-right : (got : List ℕ) → GetLeaves x name (answer.Got got) → bad_count x file.id bytes ≤ (setup_at_begin x).b + 1 → got ≡ bytes
+  get-right got L few = few-right x file bytes shape size got fits (gives-file (answer.Got got) L) few
 
-  pub run-complete : (how : Answer) → GetLeaves ran name how → bad_count ran file.id bytes ≤ (setup_in w).b → how ≡ answer.Got bytes
-  unfolding setup_in
-  run-complete (answer.Got got) L few = ap answer.Got (few-right ran file bytes shape-valid size got fits (gives-file (answer.Got got) L) (omega (arith, few)))
-  run-complete (answer.Lost stripe row) L few = absurd (few-kept ran file bytes shape-valid size stripe row (gives-file (answer.Lost stripe row) L) few)
-  run-complete how L few = absurd L.gives
-
-  pub run-right : (got : List ℕ) → GetLeaves ran name (answer.Got got) → bad_count ran file.id bytes ≤ (setup_in w).b + 1 → got ≡ bytes
-  unfolding setup_in
-  run-right got L few = few-right ran file bytes shape-valid size got fits (gives-file (answer.Got got) L) few
-
-  pub run-forged : (got : List ℕ) → GetLeaves ran name (answer.Got got) → (got ≡ bytes) ⊎ HoldsForgery (object_in w file.id) bytes 1 heard
-  unfolding setup_in
-  run-forged got L = elim (right-or-forged ran file bytes shape-valid size got fits (gives-file (answer.Got got) L)) [
+  pub get-forged : (got : List ℕ) → GetLeaves x name (answer.Got got) → (got ≡ bytes) ⊎ HoldsForgery (object_of (setup_at_begin x) file.id) bytes job_number x.heard
+  get-forged got L = elim (right-or-forged x file bytes shape size got fits (gives-file (answer.Got got) L)) [
     | inl same ↦ inl same
     | inr forged ↦ inr (record { stripe = forged.0; place = forged.1; forgery = forged.2 })
   ]

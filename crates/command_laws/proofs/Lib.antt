@@ -21,3 +21,15 @@ pub mod Drops
 pub mod Complete
 pub mod Telling
 pub mod Mended
+pub mod Readings
+pub mod Known
+pub mod GetEnds
+pub mod JobEnds
+pub mod Unopened
+pub mod Causes
+pub mod Anew
+pub mod Unforged
+pub mod Images
+pub mod InitEnds
+pub mod RowCauses
+pub mod Failed

@@ -14,24 +14,21 @@ use Rattle.column_laws.proofs.UniqueLaws.{profile-room}
 use Rattle.hail_devices.specs.Faults.{Rose}
 use Rattle.hail_devices.specs.Providers.{Held}
 use Rattle.hail_records.specs.Records.{Setup}
-use Rattle.hail_records.specs.Table.{File, Due, files_of}
+use Rattle.hail_records.specs.Table.{File, Due, file_of, files_of}
 use Rattle.hail_machine.specs.Setups.{object_of, stripes_of}
 use Rattle.hail_machine.specs.Answers as answer
 use Rattle.hail_machine.specs.Answers.{Answer}
-use Rattle.hail_machine.specs.Heard.{Entry}
-use Rattle.hail_machine.specs.States.{State, setup_in, file_in}
 use Rattle.hail_machine.proofs.JobLists.{cond_true}
 use Rattle.hail_machine.proofs.ActionLists.{Each, each_append}
 use Rattle.hail_machine.proofs.RecordFacts.{listed_file}
 use Rattle.hail_commands.specs.Audits.{files_by_number}
-use Rattle.hail_commands.specs.Ran.{Ran, ran_from, setup_at_begin}
+use Rattle.hail_commands.specs.Ran.{Ran, setup_at_begin}
 use Rattle.hail_commands.specs.Repairs.{Place, blocks_at, held_at, LosesPlace, RepairLeaves}
 use Rattle.hail_commands.specs.Truthful.{missing, IsTruthful}
-use Rattle.lone_laws.specs.Walked.{IsOpened}
 use Rattle.command_laws.specs.Failing.{has_risen, is_bad_with, is_bad, bad_count}
 use Rattle.command_laws.proofs.Asked.{each-by_number}
 use Rattle.command_laws.proofs.Questions.{each-in}
-use Rattle.command_laws.proofs.Complete.{block_at-map, wrong-sized, not-wrong-each, not-risen, or-left, shape-of}
+use Rattle.command_laws.proofs.Complete.{block_at-map, wrong-sized, not-wrong-each, not-risen, or-left}
 
 -- ---- the last of what was asked
 
@@ -87,7 +84,7 @@ module _ (x : Ran) (shape : IsShape (setup_at_begin x).n (setup_at_begin x).l (s
   good-place : (j : ℕ) → j < (setup_at_begin x).n → is_bad x L.place.object bytes j ≡ false → L.place.stripe < stripes o (length bytes) → is_wrong_block o bytes j L.place.stripe (block_at (blocks_at x L.gave L.place) j) ≡ false
   good-place j below good k = by_held (x.old j).held good (L.truth j below)
     where
-      by_held : (h : Option Held) → is_bad_with x L.place.object bytes j h ≡ false →
+      by_held : (h : Option Held) → is_bad_with o bytes j (x.old j) (x.new j) h ≡ false →
           IfSome h (λ held. IsTruthful (L.gave j) (held_at x held) (L.done ++ L.place ∷ []) (x.old j).other_faults (x.new j).other_faults) →
           is_wrong_block o bytes j L.place.stripe (block_at (blocks_at x L.gave L.place) j) ≡ false
       by_held None g T = absurd (false≢true (sym g))
@@ -113,28 +110,23 @@ module _ (x : Ran) (shape : IsShape (setup_at_begin x).n (setup_at_begin x).l (s
 
 -- ---- the repair
 
-module _ (w new : State) (heard : List Entry) (O : IsOpened w) (bytes : ℕ → List ℕ) where
-  abbrev ran : Ran
-  ran = ran_from w new heard
-
+module _ (x : Ran) (shape : IsShape (setup_at_begin x).n (setup_at_begin x).l (setup_at_begin x).b) (bytes : ℕ → List ℕ) where
   -- a file whose bytes few providers are wrong for
   abbrev pub IsSafe : File → Type 0
-  IsSafe f = (length (bytes f.id) ≡ f.size) × (bad_count ran f.id (bytes f.id) ≤ (setup_in w).b)
+  IsSafe f = (length (bytes f.id) ≡ f.size) × (bad_count x f.id (bytes f.id) ≤ (setup_at_begin x).b)
 
-  lost-none : (due : Due) (stripe row : ℕ) → ((name : List ℕ) (file : File) → file_in w name ≡ Some file → IsSafe file) → LosesPlace ran due stripe row → ⊥
-  unfolding setup_in
+  lost-none : (due : Due) (stripe row : ℕ) → ((name : List ℕ) (file : File) → file_of x.records name ≡ Some file → IsSafe file) → LosesPlace x due stripe row → ⊥
   lost-none due stripe row safe L =
-      (let all : Each IsSafe (files_by_number (files_of w.records)) = each-by_number IsSafe (files_of w.records) (each-in IsSafe (files_of w.records) (λ f i. safe f.name f (listed_file w.records f i))) in
-      let fits = each-middle (Fits (setup_at_begin ran) IsSafe) L.done L.place L.rest (subst (Each (Fits (setup_at_begin ran) IsSafe)) L.part.parts (fits-places (setup_at_begin ran) IsSafe (files_by_number (files_of w.records)) all)) in
+      (let all : Each IsSafe (files_by_number (files_of x.records)) = each-by_number IsSafe (files_of x.records) (each-in IsSafe (files_of x.records) (λ f i. safe f.name f (listed_file x.records f i))) in
+      let fits = each-middle (Fits (setup_at_begin x) IsSafe) L.done L.place L.rest (subst (Each (Fits (setup_at_begin x) IsSafe)) L.part.parts (fits-places (setup_at_begin x) IsSafe (files_by_number (files_of x.records)) all)) in
       let file = fits.0 in
       let at : file.id ≡ L.place.object = fits.2 in
-      few-mended ran (shape-of w new heard O) due stripe row L (bytes file.id)
-      (subst (λ n. L.place.stripe < stripes_of (setup_at_begin ran) n) (sym fits.1.0) fits.3)
-      (subst (λ i. bad_count ran i (bytes file.id) ≤ (setup_at_begin ran).b) at fits.1.1))
+      few-mended x shape due stripe row L (bytes file.id)
+      (subst (λ n. L.place.stripe < stripes_of (setup_at_begin x) n) (sym fits.1.0) fits.3)
+      (subst (λ i. bad_count x i (bytes file.id) ≤ (setup_at_begin x).b) at fits.1.1))
 
-  pub repair-end : (how : Answer) → RepairLeaves ran how → (Rose w.disk_faults new.disk_faults → ⊥) → ((j : ℕ) → j < (setup_in w).n → Rose (w.providers j).store_faults (new.providers j).store_faults → ⊥) →
-      ((name : List ℕ) (file : File) → file_in w name ≡ Some file → IsSafe file) → ((number : ℕ) × (how ≡ answer.Repaired number)) ⊎ (how ≡ answer.Memory)
-  unfolding setup_in
+  pub repair-end : (how : Answer) → RepairLeaves x how → (Rose x.disk_before x.disk_after → ⊥) → ((j : ℕ) → j < (setup_at_begin x).n → Rose (x.old j).store_faults (x.new j).store_faults → ⊥) →
+      ((name : List ℕ) (file : File) → file_of x.records name ≡ Some file → IsSafe file) → ((number : ℕ) × (how ≡ answer.Repaired number)) ⊎ (how ≡ answer.Memory)
   repair-end (answer.Repaired number) L disk stores safe = inl (number, refl)
   repair-end answer.Memory L disk stores safe = inr refl
   repair-end (answer.Lost stripe row) L disk stores safe = absurd (lost-none L.due stripe row safe L.gives.1)

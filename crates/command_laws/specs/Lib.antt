@@ -1,1 +1,4 @@
 pub mod Failing
+pub mod Ends
+pub mod Kept
+pub mod Opened

@@ -2,5 +2,8 @@
 #![tactic(auto)]
 
 pub mod alone;
+pub mod ends;
 pub mod files;
+pub mod inits;
+pub mod kept;
 pub mod laws;

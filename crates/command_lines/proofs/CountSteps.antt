@@ -1,7 +1,7 @@
 -- The lines of an audit: their pieces, and one provider more.
-use Rattle.std.proofs.Common.{◌≡◌, ℕ, ◌+◌, ◌<◌, ◌≤◌, codes, List, [], ◌∷◌, ◌++◌, length, take, get_or, sym, ap, ◌∙◌, append_assoc, arith}
+use Rattle.std.proofs.Common.{◌≡◌, ℕ, ◌+◌, ◌<◌, codes, List, [], ◌∷◌, ◌++◌, length, take, get_or, sym, ap, ◌∙◌, append_assoc, arith}
 use Rattle.std.proofs.lemmas.List.{take_more, append-nil, length-take-le}
-use Rattle.std.proofs.lemmas.Bool.{lt-ltb, le-ltb}
+use Rattle.std.proofs.lemmas.Bool.{lt-ltb}
 use Rattle.std.specs.Fmt.{decimal}
 use Rattle.hail_machine.specs.Lines.{line, then_number}
 use Rattle.hail_commands.specs.Lines.{count_line, count_lines}
@@ -28,11 +28,6 @@ provider_line j count word text is =
 pub flagged_line : (tolerance j count : ℕ) (text : List ℕ) → tolerance < count
     → text ≡ codes "provider " ++ (decimal j ++ (codes " count " ++ (decimal count ++ (codes " flagged" ++ 10 ∷ [])))) → text ≡ count_line tolerance j count
 flagged_line tolerance j count text above is = rw (lt-ltb tolerance count above) (provider_line j count (codes " flagged") text is)
-
--- a count up to the tolerance
-pub ok_line : (tolerance j count : ℕ) (text : List ℕ) → count ≤ tolerance
-    → text ≡ codes "provider " ++ (decimal j ++ (codes " count " ++ (decimal count ++ (codes " ok" ++ 10 ∷ [])))) → text ≡ count_line tolerance j count
-ok_line tolerance j count text below is = rw (le-ltb tolerance count below) (provider_line j count (codes " ok") text is)
 
 -- one count more, behind others
 count_lines-snoc : (tolerance j : ℕ) (counts : List ℕ) (count : ℕ) → count_lines tolerance j (counts ++ count ∷ []) ≡ count_lines tolerance j counts ++ count_line tolerance (j + length counts) count

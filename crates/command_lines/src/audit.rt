@@ -36,7 +36,12 @@ fn line_of(alloc: Global, tolerance: u16, place: usize, count: u32) -> Result<St
 }
 
 /// Puts the line of each provider behind the text.
-fn push_counts(alloc: Global, text: &mut Vec<u8>, tolerance: u16, counts: &[u32]) -> Result<(), AllocError>
+fn push_counts(
+    alloc: Global,
+    text: &mut Vec<u8>,
+    tolerance: u16,
+    counts: &[u32],
+) -> Result<(), AllocError>
     ensures { OnOk result (text.new.items ≡ text.old.items ++ count_lines tolerance 0 counts.now) }
 {
     for place in 0..counts.len() {
@@ -48,7 +53,13 @@ fn push_counts(alloc: Global, text: &mut Vec<u8>, tolerance: u16, counts: &[u32]
 
 /// The lines after an audit: its number and how many rounds were undecided, then a line for each provider with its count,
 /// flagged where the count exceeds the tolerance. Want of memory is its one refusal.
-pub fn audit_lines(alloc: Global, tolerance: u16, number: u64, undecided: u32, counts: &Counts) -> Result<Bytes, Memory>
+pub fn audit_lines(
+    alloc: Global,
+    tolerance: u16,
+    number: u64,
+    undecided: u32,
+    counts: &Counts,
+) -> Result<Bytes, Memory>
     ensures { IfOk result (λ lines. lines ≡ audit_lines tolerance number undecided (counted counts.now)) }
 {
     let mut text = first_line(alloc, number, undecided)?.into_bytes();

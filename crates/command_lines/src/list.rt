@@ -16,7 +16,12 @@ fn lines_of(alloc: Global, table: &Table) -> Result<Vec<u8>, AllocError>
     let mut text = Vec::new(alloc);
     for place in 0..table.count() {
         if let Some(file) = table.at(place) {
-            push_named(alloc, &mut text, file.name.as_bytes(), u64::from(file.length))?;
+            push_named(
+                alloc,
+                &mut text,
+                file.name.as_bytes(),
+                u64::from(file.length),
+            )?;
         }
     }
     Ok(text)

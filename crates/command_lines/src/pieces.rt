@@ -5,7 +5,12 @@ ghost use Rattle.hail_machine.specs.Lines.{line, then_number};
 use std::alloc::{AllocError, Global};
 
 /// Puts a name, a number after a space, and a newline behind the text. After want of memory some front of them may stand there.
-pub fn push_named(alloc: Global, text: &mut Vec<u8>, name: &[u8], number: u64) -> Result<(), AllocError>
+pub fn push_named(
+    alloc: Global,
+    text: &mut Vec<u8>,
+    name: &[u8],
+    number: u64,
+) -> Result<(), AllocError>
     ensures { OnOk result (text.new.items ≡ text.old.items ++ line (name.now ++ then_number number)) }
 {
     let end = format!(in alloc; " {number}\n")?;

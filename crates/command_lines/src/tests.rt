@@ -35,7 +35,10 @@ fn one_line_tells_of_each_change(rt: HostRuntime) -> Result<(), Fail> {
             "stored notes.txt 100\n",
         ),
         (stored_line(rt.alloc(), b"a", 0)?, "stored a 0\n"),
-        (dropped_line(rt.alloc(), b"notes.txt")?, "dropped notes.txt\n"),
+        (
+            dropped_line(rt.alloc(), b"notes.txt")?,
+            "dropped notes.txt\n",
+        ),
         (repaired_line(rt.alloc(), 1)?, "repaired 1\n"),
         (
             repaired_line(rt.alloc(), u64::MAX)?,
@@ -51,7 +54,10 @@ fn one_line_tells_of_each_change(rt: HostRuntime) -> Result<(), Fail> {
 #[test]
 fn values_stand_with_a_space_between(rt: HostRuntime) -> Result<(), Fail> {
     let line = values_line(rt.alloc(), &[Symbol(0), Symbol(5), Symbol(u128::MAX)])?;
-    assert_eq!(rt; line.as_slice(), b"0 5 340282366920938463463374607431768211455\n".as_slice());
+    assert_eq!(rt;
+        line.as_slice(),
+        b"0 5 340282366920938463463374607431768211455\n".as_slice()
+    );
     assert_eq!(rt; values_line(rt.alloc(), &[])?.as_slice(), b"\n".as_slice());
     Ok(())
 }
@@ -62,9 +68,15 @@ fn an_audit_flags_the_counts_above_the_tolerance(rt: HostRuntime) -> Result<(), 
     counts.by[0] = 4;
     counts.by[5] = 3;
     let strict = audit_lines(rt.alloc(), 0, 1, 0, &counts)?;
-    assert_eq!(rt; strict.as_slice(), b"audit 1 undecided 0\nprovider 0 count 4 flagged\nprovider 1 count 0 ok\nprovider 2 count 0 ok\nprovider 3 count 0 ok\nprovider 4 count 0 ok\nprovider 5 count 3 flagged\n".as_slice());
+    assert_eq!(rt;
+        strict.as_slice(),
+        b"audit 1 undecided 0\nprovider 0 count 4 flagged\nprovider 1 count 0 ok\nprovider 2 count 0 ok\nprovider 3 count 0 ok\nprovider 4 count 0 ok\nprovider 5 count 3 flagged\n".as_slice()
+    );
     let mild = audit_lines(rt.alloc(), 3, 7, 2, &counts)?;
-    assert_eq!(rt; mild.as_slice(), b"audit 7 undecided 2\nprovider 0 count 4 flagged\nprovider 1 count 0 ok\nprovider 2 count 0 ok\nprovider 3 count 0 ok\nprovider 4 count 0 ok\nprovider 5 count 3 ok\n".as_slice());
+    assert_eq!(rt;
+        mild.as_slice(),
+        b"audit 7 undecided 2\nprovider 0 count 4 flagged\nprovider 1 count 0 ok\nprovider 2 count 0 ok\nprovider 3 count 0 ok\nprovider 4 count 0 ok\nprovider 5 count 3 ok\n".as_slice()
+    );
     Ok(())
 }
 

@@ -1,5 +1,5 @@
 -- The numbers of an `init`, by the places of their words.
-use Rattle.std.proofs.Common.{◌≡◌, List, [], ◌∷◌, get_or, sym}
+use Rattle.std.proofs.Common.{◌≡◌, List, [], ◌∷◌, get_or}
 use Rattle.std.specs.String.{string_bytes}
 use Rattle.hail_commands.specs.Words.{IsNumberWord}
 use Rattle.hail_commands.specs.Forms.{Numbers, IsInitForm}

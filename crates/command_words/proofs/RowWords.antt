@@ -1,6 +1,5 @@
 -- What the words of a row spell, word by word.
-use Rattle.std.proofs.Common.{◌≡◌, ℕ, zero, suc, ◌<◌, ◌≤◌, List, [], ◌∷◌, ◌++◌, length, get_or, drop, Option, String, Some, None, arith, Bool, true, false, refl, sym, ◌∙◌, ap, subst}
-use Rattle.std.specs.Str.Parse.{IsNumeral}
+use Rattle.std.proofs.Common.{◌≡◌, ℕ, zero, suc, ◌<◌, ◌≤◌, List, [], ◌∷◌, ◌++◌, length, get_or, drop, Option, String, arith, Bool, true, false, refl}
 use mathlib.Core.Bool.{not}
 use Rattle.std.specs.Str.{bytes_eq}
 use Rattle.std.proofs.lemmas.Slice.Eq.{bytes_eq-Decides}

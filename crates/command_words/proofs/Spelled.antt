@@ -1,16 +1,16 @@
 -- The one command that words may spell, read off the words.
-use Rattle.std.proofs.Common.{◌≡◌, ℕ, List, [], ◌∷◌, map, Option, String, Some, None, Bool, true, false, cond, sym, ◌∙◌, ap, refl, subst, arith}
+use Rattle.std.proofs.Common.{◌≡◌, ℕ, List, [], ◌∷◌, Option, Some, None, Bool, true, false, cond, sym, ◌∙◌, ap, refl, subst, arith}
 use Rattle.std.proofs.lemmas.Slice.Eq.{bytes_eq-Decides}
 use Rattle.std.specs.Prelude.{codes, if◌then◌else◌}
 use Rattle.std.specs.Str.{bytes_eq}
 use Rattle.std.specs.Str.Parse.{IsNumeral, digits_value}
 use Rattle.std.specs.String.{string_bytes}
-use Rattle.std.specs.declared.alloc.Global.{Global}
-use Rattle.hail_commands.specs.Words.{IsNumberWord, IsSymbolWord, AreSymbolWords}
+use Rattle.hail_commands.specs.Words.{IsSymbolWord, AreSymbolWords}
 use Rattle.hail_commands.specs.Forms.{Numbers, Command, RowOf, InitWith, PutUnder, GetOf, DropOf, ListAll, AuditAll, RepairDue, IsForm, IsInitForm, AreNumbers, IsNamedForm, IsBareForm}
 use Rattle.hail_commands.specs.Row.{IsRowForm}
 use Rattle.command_words.proofs.RowWords.{Word}
 
+-- the number of a word
 abbrev number : Word → ℕ
 number word = digits_value 10 (string_bytes word)
 
@@ -18,14 +18,17 @@ number word = digits_value 10 (string_bytes word)
 abbrev symbol : List ℕ → Option ℕ
 symbol text = if bytes_eq text (codes "-") then None else Some (digits_value 10 text)
 
+-- the symbols of words, one for each
 abbrev symbols : List Word → List (Option ℕ)
 symbols [] = []
 symbols (word ∷ words) = symbol (string_bytes word) ∷ symbols words
 
+-- the row of the words behind `row`
 abbrev row : List Word → Option Command
 row (n ∷ l ∷ b ∷ words) = Some (RowOf (number n) (number l) (number b) (symbols words))
 row words = None
 
+-- the setup of the words behind `init`
 abbrev init : List Word → Option Command
 init (n ∷ l ∷ b ∷ profile ∷ rounds ∷ picks ∷ tolerance ∷ []) = Some (InitWith (record {
   n = number n;
@@ -38,6 +41,7 @@ init (n ∷ l ∷ b ∷ profile ∷ rounds ∷ picks ∷ tolerance ∷ []) = Som
 }))
 init words = None
 
+-- the command of a name
 abbrev named : (List ℕ → Command) → List Word → Option Command
 named made (name ∷ []) = Some (made (string_bytes name))
 named made words = None
@@ -55,10 +59,12 @@ by_word first words =
     else if bytes_eq first (codes "repair") then Some RepairDue
     else None
 
+-- the command of the words
 abbrev spelled : List Word → Option Command
 spelled [] = None
 spelled (word ∷ words) = by_word (string_bytes word) words
 
+-- a symbol word is read off as its symbol
 symbol-word : (text : List ℕ) (s : Option ℕ) → IsSymbolWord text s → symbol text ≡ s
 symbol-word text None word = ap (λ (t : List ℕ). symbol t) word
 symbol-word text (Some s) word = at (bytes_eq text (codes "-")) refl
@@ -70,12 +76,14 @@ symbol-word text (Some s) word = at (bytes_eq text (codes "-")) refl
     at true is = absurd (no_digit (subst (λ (t : List ℕ). IsNumeral 10 t) ((bytes_eq-Decides text (codes "-")).0 is) word.numeral))
     at false is = ap (λ (n : ℕ). Some n) word.value
 
+-- and so are symbol words
 symbols-words : (words : List Word) (seen : List (Option ℕ)) → AreSymbolWords words seen → symbols words ≡ seen
 symbols-words [] [] all = refl
 symbols-words [] (s ∷ seen) all = absurd all
 symbols-words (w ∷ words) [] all = absurd all
 symbols-words (w ∷ words) (s ∷ seen) all = ap (λ (x : Option ℕ). x ∷ symbols words) (symbol-word (string_bytes w) s all.0) ∙ ap (λ (xs : List (Option ℕ)). s ∷ xs) (symbols-words words seen all.1)
 
+-- the words of a row
 spelled-row : (words : List Word) (n l b : ℕ) (seen : List (Option ℕ)) → IsRowForm words n l b seen → spelled words ≡ Some (RowOf n l b seen)
 spelled-row (c ∷ f ∷ s ∷ t ∷ words) n l b seen form =
     ap (λ (text : List ℕ). by_word text (f ∷ s ∷ t ∷ words)) form.0
@@ -85,6 +93,7 @@ spelled-row (c ∷ []) n l b seen form = absurd form
 spelled-row (c ∷ f ∷ []) n l b seen form = absurd form
 spelled-row (c ∷ f ∷ s ∷ []) n l b seen form = absurd form
 
+-- seven number words
 init-words : (words : List Word) (numbers : Numbers) → AreNumbers words numbers → init words ≡ Some (InitWith numbers)
 init-words (n ∷ l ∷ b ∷ profile ∷ rounds ∷ picks ∷ tolerance ∷ []) numbers all =
     ap (λ (x : Numbers). Some (InitWith x)) (λ i. record {
@@ -105,6 +114,7 @@ init-words (n ∷ l ∷ b ∷ profile ∷ rounds ∷ []) numbers all = absurd al
 init-words (n ∷ l ∷ b ∷ profile ∷ rounds ∷ picks ∷ []) numbers all = absurd all
 init-words (n ∷ l ∷ b ∷ profile ∷ rounds ∷ picks ∷ tolerance ∷ more ∷ words) numbers all = absurd all
 
+-- the words of an `init`
 spelled-init : (words : List Word) (numbers : Numbers) → IsInitForm words numbers → spelled words ≡ Some (InitWith numbers)
 spelled-init [] numbers form = absurd form
 spelled-init (c ∷ words) numbers form = ap (λ (text : List ℕ). by_word text words) form.0 ∙ init-words words numbers form.1

@@ -2,6 +2,10 @@
 --
 --   numbers_of numbers   the seven numbers of the definitions
 --   command_of command   the command of the definitions
+--   BeginWithRow words   the first word is `row`
+use Rattle.std.specs.Prelude.{◌≡◌, List, [], ◌∷◌, codes, String}
+use Rattle.std.specs.String.{string_bytes}
+use Rattle.std.specs.declared.alloc.Global.{Global}
 use Rattle.hail_commands.specs.Forms.{RowOf, InitWith, PutUnder, GetOf, DropOf, ListAll, AuditAll, RepairDue}
 use Rattle.hail_commands.specs.Forms.{Numbers as SevenNumbers, Command as Spelled}
 use Rattle.command_words.specs.declared.init.Numbers.{Numbers}
@@ -30,3 +34,8 @@ command_of (kind.Drop name) = DropOf name.now
 command_of kind.List = ListAll
 command_of kind.Audit = AuditAll
 command_of kind.Repair = RepairDue
+
+-- the first word is `row`
+abbrev pub BeginWithRow : List (String Global) → Type 0
+BeginWithRow [] = ⊥
+BeginWithRow (word ∷ words) = string_bytes word ≡ codes "row"

@@ -1,7 +1,7 @@
 // Reads the words of a command line.
-ghost use Rattle.std.specs.Prelude.{[], ◌∷◌, IfOk, MatchOption};
+ghost use Rattle.std.specs.Prelude.{[], ◌∷◌, IfOk, OnErr, MatchOption};
 ghost use Rattle.hail_commands.specs.Forms.{IsForm};
-ghost use Rattle.command_words.specs.Commands.{command_of};
+ghost use Rattle.command_words.specs.Commands.{command_of, BeginWithRow};
 
 use crate::init::{Numbers, read_init};
 use crate::row::{Row, read_row};
@@ -50,9 +50,10 @@ fn read_named<'a>(word: &'a String, name: &'a String) -> Option<Command<'a>>
     }
 }
 
-/// The command that the words spell, or `None` where they are no form of a command. Only the words of `row` take memory.
+/// The command that the words spell, or `None` where they are no form of a command. Only words that begin with `row` take memory.
 pub fn read_command<'a>(alloc: Global, words: &'a [String]) -> Result<Option<Command<'a>>, Memory>
-    ensures { IfOk result (λ found. MatchOption found
+    ensures memory { OnErr result (BeginWithRow words.now) }
+    ensures found { IfOk result (λ found. MatchOption found
         ((command : _) → IsForm words.now command → ⊥)
         (λ command. IsForm words.now (command_of command))) }
 {

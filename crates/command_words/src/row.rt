@@ -1,7 +1,8 @@
 // Reads the words of the command `row`.
-ghost use Rattle.std.specs.Prelude.{ℕ, MatchOption, IfOk};
+ghost use Rattle.std.specs.Prelude.{ℕ, MatchOption, IfOk, OnErr};
 ghost use Rattle.hail_commands.specs.Words.{AreSymbolWords};
 ghost use Rattle.hail_commands.specs.Row.{IsRowForm};
+ghost use Rattle.command_words.specs.Commands.{BeginWithRow};
 
 use crate::word::{read_number, read_symbol};
 use hail_field::Symbol;
@@ -34,7 +35,8 @@ fn read_symbols(alloc: Global, words: &[String]) -> Result<Option<Vec<Option<Sym
 
 /// The row that the words spell, or `None` where they are no form of the command.
 pub fn read_row(alloc: Global, words: &[String]) -> Result<Option<Row>, AllocError>
-    ensures { IfOk result (λ found. MatchOption found
+    ensures memory { OnErr result (BeginWithRow words.now) }
+    ensures found { IfOk result (λ found. MatchOption found
         ((n l b : ℕ) (seen : _) → IsRowForm words.now n l b seen → ⊥)
         (λ row. IsRowForm words.now row.n row.l row.b row.seen.items)) }
 {

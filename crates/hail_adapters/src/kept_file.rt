@@ -6,6 +6,7 @@ use hail_field::Memory;
 use std::alloc::Global;
 use std::fs::{self, OpenFile, OpenOptions};
 use std::io::{self, Seek, SeekFrom, Write};
+use std::path::Path;
 use std::rt::Runtime;
 
 /// A file that is opened when it is first needed, and then kept open. One that isn't there reads as empty, and the first
@@ -16,6 +17,7 @@ pub struct KeptFile<R: Runtime> {
     path: String,
     reading: Option<R::File>,
     writing: Option<R::File>,
+    has_synced_name: bool,
 }
 
 impl<R: Runtime> KeptFile<R> {
@@ -26,6 +28,7 @@ impl<R: Runtime> KeptFile<R> {
             rt: rt.clone()?,
             reading: None,
             writing: None,
+            has_synced_name: false,
         })
     }
 
@@ -78,16 +81,38 @@ impl<R: Runtime> KeptFile<R> {
         }
     }
 
-    /// Brings what was written to the medium.
+    /// Brings what was written to the medium, and at the first time the file's name in its folder too: another program may have made
+    /// the file and ended before it synced.
     pub fn sync(&mut self) -> io::Result<()> {
         if let Some(file) = &self.writing {
-            return file.sync_all();
+            file.sync_all()?;
+            return self.sync_name();
         }
         self.open_to_read()?;
         match &self.reading {
-            Some(file) => file.sync_all(),
+            Some(file) => {
+                file.sync_all()?;
+                self.sync_name()
+            }
             None => Ok(()),
         }
+    }
+
+    /// Brings the file's name to the medium, once.
+    fn sync_name(&mut self) -> io::Result<()> {
+        if !self.has_synced_name {
+            fs::open(&self.rt, folder_of(&self.path))?.sync_all()?;
+            self.has_synced_name = true;
+        }
+        Ok(())
+    }
+}
+
+/// The folder of a path to a file.
+fn folder_of(path: &str) -> &str {
+    match Path::new(path).parent() {
+        Some(folder) if !folder.as_str().is_empty() => folder.as_str(),
+        _ => ".",
     }
 }
 

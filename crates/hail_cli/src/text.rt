@@ -1,8 +1,12 @@
 // The line on standard error, by the status.
-ghost use Rattle.std.specs.Prelude.{◌≡◌, ◌↔◌, IsTrue};
-ghost use Rattle.hail_cli.specs.Text.{status_text};
+ghost use Rattle.std.specs.Prelude.{◌≡◌, ◌↔◌, ◌⊎◌, IsTrue};
+ghost use Rattle.hail_cli.specs.Text.{status_text, speaks_of_place};
 
-use hail_top::{BAD_SETUP, LOST_ROW, SINK_FAULT, USAGE};
+use hail_top::{
+    ALREADY_SET_UP, BAD_JOURNAL, BAD_KEY, BAD_NAME, BAD_SETUP, DISK_FAULT, JOURNAL_FULL, LOST_ROW,
+    NO_SUCH_NAME, NOT_SET_UP, NOTHING_DUE, PROVIDER_FAULT, REPAIR_DUE, SINK_FAULT, SOURCE_FAULT,
+    TOO_FEW_PROVIDERS, TOO_LONG, TOO_MANY_FILES, USAGE,
+};
 
 /// The text of a status other than 0.
 pub fn text_of(status: u8) -> &'static str
@@ -10,16 +14,34 @@ pub fn text_of(status: u8) -> &'static str
 {
     match status {
         USAGE => "hail: usage",
+        NO_SUCH_NAME => "hail: no such name",
         LOST_ROW => "hail: lost row",
+        REPAIR_DUE => "hail: repair due",
+        NOTHING_DUE => "hail: nothing due",
+        BAD_JOURNAL => "hail: bad journal at",
+        NOT_SET_UP => "hail: not set up",
+        ALREADY_SET_UP => "hail: already set up",
+        JOURNAL_FULL => "hail: journal full",
+        DISK_FAULT => "hail: disk fault",
+        PROVIDER_FAULT => "hail: provider fault",
+        SOURCE_FAULT => "hail: source fault",
         SINK_FAULT => "hail: sink fault",
+        TOO_LONG => "hail: too long",
+        BAD_NAME => "hail: bad name",
+        BAD_KEY => "hail: bad key",
         BAD_SETUP => "hail: bad setup",
+        TOO_MANY_FILES => "hail: too many files",
+        TOO_FEW_PROVIDERS => "hail: too few providers",
         _ => "hail: no memory",
     }
 }
 
 /// Whether the text of a status is followed by the place that the status speaks of.
 pub fn has_place(status: u8) -> bool
-    ensures { IsTrue result ↔ (status ≡ LOST_ROW) }
+    ensures { result ≡ speaks_of_place status }
 {
-    status == LOST_ROW
+    match status {
+        LOST_ROW | BAD_JOURNAL | PROVIDER_FAULT => true,
+        _ => false,
+    }
 }

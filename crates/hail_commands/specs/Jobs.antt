@@ -18,7 +18,7 @@ use Rattle.hail_machine.specs.Stands.{StandsForState}
 use Rattle.hail_machine.specs.Heard.{Entry}
 use Rattle.hail_machine.specs.Refusals.{Refusal}
 use Rattle.hail_commands.specs.Sinking.{Writes}
-use Rattle.hail_commands.specs.Seen.{Seen, Ending, IsRefused, sinking}
+use Rattle.hail_commands.specs.Seen.{Seen, Ending, IsRefused, IsSynced, sinking}
 use Rattle.hail_commands.specs.Opens.{setup_at}
 use Rattle.hail_commands.specs.Refusals.{refusal_of, status_of}
 use Rattle.hail_commands.specs.Lines.{text_of}
@@ -102,7 +102,8 @@ EndsBy text answer old new end = IsTold text old new end
 
 -- a command whose begin comes over these records
 pub data AnswersJob (kind : Kind) (records : List Record) (old new : Seen) (end : Ending) : Type 0 where
-  refused : (why : Refusal) → refusal_of records kind ≡ Some why → IsRefused (status_of why) 0 old new end → AnswersJob kind records old new end
-  no_memory : IsRefused 70 0 old new end → AnswersJob kind records old new end
+  refused : (why : Refusal) → refusal_of records kind ≡ Some why → IsSynced old new → IsRefused (status_of why) 0 old new end →
+      AnswersJob kind records old new end
+  no_memory : IsSynced old new → IsRefused 70 0 old new end → AnswersJob kind records old new end
   ended : (answer : Answer) → refusal_of records kind ≡ None → RunsAlone records kind answer old new end.heard →
       LeftAlone records kind answer old new end.heard → EndsBy (text_of (setup_at records).tolerance kind answer) answer old new end → AnswersJob kind records old new end

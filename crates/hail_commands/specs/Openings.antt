@@ -5,6 +5,7 @@
 --   IsBadStart bytes at       == the first place at which bytes are no journal, or a record may not follow those before it
 --   IsRead told rs            == the disk, where it tells, reads these records; of one that does not, a start has accepted them
 --   IsBadInit bytes at        == bytes are no journal, or the first record is no setup
+--   IsFree cells              == they read no records
 --   IsSetUpOn setup old new   == a store is set up on a disk that read no records
 --   MayBeLeft setup old image == an image that a failed init may leave
 use Rattle.std.specs.Prelude.{◌≡◌, ◌≢◌, ◌⊎◌, ℕ, ◌+◌, ◌<◌, ◌≤◌, IsTrue, List, [], ◌∷◌, ◌++◌, length, take, drop, Option, None, IfSome}
@@ -67,11 +68,15 @@ IsBadInit bytes at = IsBadAt bytes at ⊎ ((rs : List Record) × StandsFor bytes
 abbrev pub IsSetUpAlready : List ℕ → Type 0
 IsSetUpAlready bytes = (rs : List Record) × StandsFor bytes rs × BeginsWithSetup rs
 
+-- a disk that reads no records
+abbrev pub IsFree : Cells → Type 0
+IsFree cells = (length (reads cells) ≤ 9) ⊎ StandsFor (journal_read cells) []
+
 -- a store is set up on a disk that read no records: it reads the text of the one setup, then what it read past that end, and no byte is loose
 pub record IsSetUpOn (s : Setup) (old new : Cells) : Type 0 where
-  pub free : (length (reads old) ≤ 9) ⊎ StandsFor (journal_read old) []
+  pub free : IsFree old
   pub reads_are : new ≡ firm (text (SetUp s ∷ []) ++ drop (length (text (SetUp s ∷ []))) (reads old))
 
--- an image that a failed init may leave
+-- an image that a failed init may leave: one of the disk as it was, and where that read no records also one that reads none, or this setup
 abbrev pub MayBeLeft : Setup → Cells → List ℕ → Type 0
-MayBeLeft s old image = IsImage old image ⊎ ((length image ≤ 9) ⊎ (StandsFor image [] ⊎ StandsFor image (SetUp s ∷ [])))
+MayBeLeft s old image = IsImage old image ⊎ (IsFree old × ((length image ≤ 9) ⊎ (StandsFor image [] ⊎ StandsFor image (SetUp s ∷ []))))

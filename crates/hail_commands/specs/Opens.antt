@@ -13,7 +13,7 @@ use Rattle.hail_records.specs.Table.{setup_of}
 use Rattle.hail_records.specs.Reading.{IsNotSetUp}
 use Rattle.hail_machine.specs.Setups.{setup_or_none}
 use Rattle.hail_commands.specs.Openings.{journal_read, IsRead, IsBadStart}
-use Rattle.hail_commands.specs.Seen.{Seen, Ending, IsRefused}
+use Rattle.hail_commands.specs.Seen.{Seen, Ending, IsRefused, IsSynced}
 
 -- the setup in effect
 abbrev pub setup_at : List Record → Setup
@@ -29,6 +29,6 @@ pub data Unstarted (old new : Seen) (end : Ending) : Type 0 where
   disk_fault : Rose old.disk_faults new.disk_faults → IsRefused 12 0 old new end → Unstarted old new end
   not_set_up : IfSome old.disk (λ cells. IsNotSetUp (journal_read cells)) → IsRefused 9 0 old new end → Unstarted old new end
   bad_journal : (at : ℕ) → IfSome old.disk (λ cells. (9 < length (journal_read cells)) × IsBadStart (journal_read cells) at) → IsRefused 8 at old new end → Unstarted old new end
-  too_few_providers : (records : List Record) → IsRead old.disk records → length old.providers < (setup_at records).n →
+  too_few_providers : (records : List Record) → IsRead old.disk records → length old.providers < (setup_at records).n → IsSynced old new →
       IsRefused 22 0 old new end → Unstarted old new end
   no_memory : IsRefused 70 0 old new end → Unstarted old new end

@@ -4,17 +4,21 @@
 --   provider_at ps j       == what is seen of provider j; of one that was not handed in nothing is known
 --   sinking old new        == what the sink told and counted
 --   NoCountFalls old new   == no device's count of faults fell, and no provider came or went
---   SameReads old new      == the disk reads as before
+--   IsResynced old new     == a disk that was synced, or was left as it was
+--   KeepsDisk old new      == the disk was synced, or was left as it was; so all its images were images before
+--   IsSynced old new       == the disk was synced, and nothing else was done to it
 --   SameSource old new     == the source was not read
---   ReadsUpTo most old new bytes  == so many bytes were read of a source, at most so many; where they are fewer, it is at its end
+--   ReadsUpTo most old new bytes  == these bytes were read of a source, at most so many; where they are fewer, it is at its end
 --   Ending                 == how a command ended: its status, the place that the status speaks of, and what its job heard
---   IsRefused status at old new end  == the command ended so: nothing was heard or written, the disk reads as before, and the
+--   IsRefused status at old new end  == the command ended so: nothing was heard or written, the disk was at most synced, and the
 --                             providers are as before
-use Rattle.std.specs.Prelude.{◌≡◌, ℕ, ◌<◌, ◌≤◌, List, [], length, slice_get, unwrap_or, Option, None, IfSome}
+use Rattle.std.specs.Prelude.{◌≡◌, ◌⊎◌, ℕ, ◌<◌, ◌≤◌, List, [], length, slice_get, unwrap_or, Option, None, IfSome}
 use Rattle.std.specs.Option.{option_map}
-use Rattle.hail_devices.specs.Told.{then_told}
-use Rattle.hail_devices.specs.Cells.{Cells, reads}
+use Rattle.hail_devices.specs.Told.{Goes, then_told}
+use Rattle.hail_devices.specs.Cells.{Cells}
+use Rattle.hail_devices.specs.Disks.{synced}
 use Rattle.hail_devices.specs.Providers.{Provider}
+use Rattle.hail_machine.specs.Events.{AreBytes}
 use Rattle.hail_machine.specs.Heard.{Entry}
 use Rattle.hail_commands.specs.Sinking.{Sinking}
 
@@ -49,9 +53,17 @@ pub record NoCountFalls (old new : Seen) : Type 0 where
   pub source : old.source_faults ≤ new.source_faults
   pub sink : old.sink_faults ≤ new.sink_faults
 
--- the disk reads as before
-abbrev pub SameReads : Seen → Seen → Type 0
-SameReads old new = option_map reads new.disk ≡ option_map reads old.disk
+-- a disk that was synced, or was left as it was
+abbrev pub IsResynced : Cells → Cells → Type 0
+IsResynced old new = (new ≡ old) ⊎ (new ≡ synced old)
+
+-- the disk was synced, or was left as it was
+abbrev pub KeepsDisk : Seen → Seen → Type 0
+KeepsDisk old new = Goes IsResynced old.disk new.disk
+
+-- the disk was synced, and nothing else was done to it
+abbrev pub IsSynced : Seen → Seen → Type 0
+IsSynced old new = new.disk ≡ option_map synced old.disk
 
 -- the source was not read
 abbrev pub SameSource : Seen → Seen → Type 0
@@ -59,6 +71,7 @@ SameSource old new = (new.source ≡ old.source) × (new.source_faults ≡ old.s
 
 -- these bytes were read of a source, at most so many; it is at its end where they are fewer
 pub record ReadsUpTo (most : ℕ) (old new : Option (List ℕ)) (bytes : List ℕ) : Type 0 where
+  pub are_bytes : AreBytes bytes
   pub front : old ≡ then_told bytes new
   pub few : length bytes ≤ most
   pub end : length bytes < most → IfSome new (λ left. left ≡ [])
@@ -74,6 +87,6 @@ pub record IsRefused (status at : ℕ) (old new : Seen) (end : Ending) : Type 0 
   pub status_is : end.status ≡ status
   pub place : end.at ≡ at
   pub heard : end.heard ≡ []
-  pub disk : SameReads old new
+  pub disk : KeepsDisk old new
   pub providers : new.providers ≡ old.providers
   pub sink : new.sink ≡ old.sink

@@ -1,25 +1,19 @@
--- What an answer leaves open.
-use Rattle.std.proofs.Common.{◌≡◌, ℕ, ◌<◌, List, Option, refl, inl, inr, ◌⊎◌, arith}
+-- What an answer to a row leaves open.
+use Rattle.std.proofs.Common.{◌≡◌, ℕ, ◌<◌, List, Option, inl, inr, ◌⊎◌, arith}
 use Rattle.hail_field.specs.Shape.{IsShape}
 use Rattle.hail_devices.specs.Faults.{last_count}
 use Rattle.hail_codes.specs.Points.{upto}
 use Rattle.hail_codes.specs.DispersalCode.{Accepts}
-use Rattle.hail_top.specs.Sinking.{Sinking, Writes}
-use Rattle.hail_top.specs.Row.{IsRowForm, AnswersRow}
-use Rattle.hail_top.proofs.RowWords.{Word, IsRowForm-once}
+use Rattle.hail_commands.specs.Sinking.{Sinking, Writes}
+use Rattle.hail_commands.specs.Row.{AnswersRow}
 
 -- without a fault nothing but memory cuts a line off
 Writes-complete : (line : List ℕ) (status : ℕ) (sink : Sinking) → Writes line status sink → sink.before < last_count → sink.now ≡ sink.before → (status ≡ 0) ⊎ (status ≡ 70)
 Writes-complete line status sink (inl done) below still = inl done.0
-Writes-complete line status sink (inr (inl fault)) below still = absurd (omega (arith, fault.1 below, still))
+Writes-complete line status sink (inr (inl fault)) below still = absurd (omega (arith, fault.2 below, still))
 Writes-complete line status sink (inr (inr memory)) below still = inr memory.0
 
 pub answer-complete : (n l b : ℕ) (seen : List (Option ℕ)) (p : List ℕ) (status : ℕ) (sink : Sinking)
     → IsShape n l b → Accepts (upto n) seen l b p → AnswersRow n l b seen status sink
     → sink.before < last_count → sink.now ≡ sink.before → (status ≡ 0) ⊎ (status ≡ 70)
 answer-complete n l b seen p status sink shape accepted answers = Writes-complete _ status sink (answers.held shape p accepted)
-
-pub row-once : (words : List Word) (n l b n' l' b' : ℕ) (seen seen' : List (Option ℕ)) → IsRowForm words n l b seen → IsRowForm words n' l' b' seen'
-    → (n ≡ n') × (l ≡ l') × (b ≡ b') × (seen ≡ seen')
-row-once words n l b n' l' b' seen seen' first second =
-    IsRowForm-once words n l b seen n' l' b' seen' first second (λ n' l' b' seen'. (n ≡ n') × (l ≡ l') × (b ≡ b') × (seen ≡ seen')) (refl, refl, refl, refl)

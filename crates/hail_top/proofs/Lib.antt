@@ -1,6 +1,15 @@
 mod RowWords
 mod PointSteps
-mod LineSteps
 mod RowAnswers
-mod WordLaws
 mod AnswerLaws
+mod Refused
+mod SetUpEnds
+mod SetUpReads
+mod AnswerTexts
+mod JobEnds
+mod Unopened
+mod Opened
+mod PutEnds
+mod ListEnds
+mod Answered
+mod Told

@@ -4,10 +4,9 @@ use Rattle.hail_field.specs.Shape.{IsShape}
 use Rattle.hail_codes.specs.Polynomials.{value}
 use Rattle.hail_codes.specs.Points.{upto, values_at}
 use Rattle.hail_codes.specs.DispersalCode.{Accepts}
-use Rattle.hail_top.specs.Line.{values_line}
-use Rattle.hail_top.specs.Sinking.{Sinking, Writes}
-use Rattle.hail_top.specs.Row.{IsRowForm, Opens, AnswersRow}
-use Rattle.hail_top.proofs.RowWords.{Word, IsRowForm-once}
+use Rattle.hail_commands.specs.Line.{values_line}
+use Rattle.hail_commands.specs.Sinking.{Sinking, Writes}
+use Rattle.hail_commands.specs.Row.{Opens, AnswersRow}
 
 -- two polynomials that have one value everywhere have the same values at some points
 pub values_at-same : (points p q : List ℕ) → ((x : ℕ) → value p x ≡ value q x) → values_at points p ≡ values_at points q
@@ -32,9 +31,3 @@ AnswersRow-same n l b n' l' b' seen status sink same answers =
     subst (λ (x : ℕ). AnswersRow n l x seen status sink) same.2
     (subst (λ (x : ℕ). AnswersRow n x b' seen status sink) same.1
     (subst (λ (x : ℕ). AnswersRow x l' b' seen status sink) same.0 answers))
-
--- what answers the row that was read answers each row that the words spell
-pub answers_each : (words : List Word) (n l b : ℕ) (seen : List (Option ℕ)) (n' l' b' : ℕ) (seen' : List (Option ℕ)) (status : ℕ) (sink : Sinking)
-    → IsRowForm words n l b seen → IsRowForm words n' l' b' seen' → AnswersRow n l b seen status sink → AnswersRow n' l' b' seen' status sink
-answers_each words n l b seen n' l' b' seen' status sink first second answers =
-    IsRowForm-once words n l b seen n' l' b' seen' first second (λ n l b seen. AnswersRow n l b seen status sink) answers

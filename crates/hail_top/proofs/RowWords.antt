@@ -1,97 +1,31 @@
--- What the words of a row spell, word by word.
-use Rattle.std.proofs.Common.{◌≡◌, ℕ, zero, suc, ◌<◌, ◌≤◌, List, [], ◌∷◌, ◌++◌, length, get_or, drop, Option, String, Some, None, arith, Bool, true, false, refl, sym, ◌∙◌, ap, subst}
-use Rattle.std.specs.Str.Parse.{IsNumeral}
-use mathlib.Core.Bool.{not}
-use Rattle.std.specs.Str.{bytes_eq}
-use Rattle.std.proofs.lemmas.Slice.Eq.{bytes_eq-Decides}
-use Rattle.std.specs.String.{string_bytes}
+-- The words of a row are as many as its first number says.
+use Rattle.std.proofs.Common.{◌≡◌, ℕ, List, [], ◌∷◌, length, Option, String, arith, refl, ◌∙◌}
 use Rattle.std.specs.declared.alloc.Global.{Global}
-use Rattle.std.specs.Prelude.{codes}
-use Rattle.hail_top.specs.Word.{IsNumberWord, IsSymbolWord, AreSymbolWords}
-use Rattle.hail_top.specs.Row.{IsRowForm}
+use Rattle.hail_commands.specs.Words.{AreSymbolWords}
+use Rattle.hail_commands.specs.Row.{IsRowForm}
+use Rattle.hail_commands.specs.Forms.{Command, RowOf, InitWith, PutUnder, GetOf, DropOf, ListAll, AuditAll, RepairDue, IsForm}
+use Rattle.hail_top.specs.Rows.{HasItsSymbols}
 
-abbrev pub Word : Type 0
-Word = String Global
-
--- one word more
-pub AreSymbolWords-push : (words : List Word) (symbols : List (Option ℕ)) (word : Word) (symbol : Option ℕ) → AreSymbolWords words symbols → IsSymbolWord (string_bytes word) symbol → AreSymbolWords (words ++ word ∷ []) (symbols ++ symbol ∷ [])
-AreSymbolWords-push [] [] word symbol before here = (here, tt)
-AreSymbolWords-push (w ∷ words) (s ∷ symbols) word symbol before here = (before.0, AreSymbolWords-push words symbols word symbol before.1 here)
-AreSymbolWords-push [] (s ∷ symbols) word symbol before here = absurd before
-AreSymbolWords-push (w ∷ words) [] word symbol before here = absurd before
-
--- each word spells a symbol
-pub AreSymbolWords-at : (words : List Word) (symbols : List (Option ℕ)) (i : ℕ) (word : Word) → AreSymbolWords words symbols → i < length words → word ≡ get_or words i word → (symbol : Option ℕ) × IsSymbolWord (string_bytes word) symbol
-AreSymbolWords-at [] symbols i word all within is = absurd (omega arith)
-AreSymbolWords-at (w ∷ words) [] i word all within is = absurd all
-AreSymbolWords-at (w ∷ words) (s ∷ symbols) zero word all within is = rw is (s, all.0)
-AreSymbolWords-at (w ∷ words) (s ∷ symbols) (suc i) word all within is = AreSymbolWords-at words symbols i word all.1 (omega arith) is
-
--- the five parts of the words make the form
-pub IsRowForm-from_parts : (words : List Word) (command first second third : Word) (n l b : ℕ) (seen : List (Option ℕ))
-    → 4 ≤ length words → command ≡ get_or words 0 command → first ≡ get_or words 1 first → second ≡ get_or words 2 second → third ≡ get_or words 3 third
-    → string_bytes command ≡ codes "row" → IsNumberWord (string_bytes first) n → IsNumberWord (string_bytes second) l → IsNumberWord (string_bytes third) b
-    → length (drop 4 words) ≡ n → AreSymbolWords (drop 4 words) seen → IsRowForm words n l b seen
-IsRowForm-from_parts (c ∷ f ∷ s ∷ t ∷ words) command first second third n l b seen long is_c is_f is_s is_t row n_word l_word b_word count symbols =
-    ((rw (← is_c) row), (rw (← is_f) n_word), (rw (← is_s) l_word), (rw (← is_t) b_word), count, symbols)
-IsRowForm-from_parts [] command first second third n l b seen long is_c is_f is_s is_t row n_word l_word b_word count symbols = absurd (omega arith)
-IsRowForm-from_parts (c ∷ []) command first second third n l b seen long is_c is_f is_s is_t row n_word l_word b_word count symbols = absurd (omega arith)
-IsRowForm-from_parts (c ∷ f ∷ []) command first second third n l b seen long is_c is_f is_s is_t row n_word l_word b_word count symbols = absurd (omega arith)
-IsRowForm-from_parts (c ∷ f ∷ s ∷ []) command first second third n l b seen long is_c is_f is_s is_t row n_word l_word b_word count symbols = absurd (omega arith)
-
--- texts that `!=` does not tell apart are the same
-pub same_from_ne : (text other : List ℕ) → false ≡ not (bytes_eq text other) → text ≡ other
-same_from_ne text other not_different = (bytes_eq-Decides text other).0 (equal (bytes_eq text other) not_different)
-  where
-    equal : (test : Bool) → false ≡ not test → test ≡ true
-    equal true is = refl
-    equal false is = cc
-
--- a word spells one symbol at most
-pub IsSymbolWord-once : (text : List ℕ) (symbol other : Option ℕ) → IsSymbolWord text symbol → IsSymbolWord text other → symbol ≡ other
-IsSymbolWord-once text None None first second = refl
-IsSymbolWord-once text (Some symbol) (Some other) first second = ap (λ (n : ℕ). Some n) (sym first.value ∙ second.value)
-IsSymbolWord-once text None (Some other) first second = absurd (no_digit (subst (λ (t : List ℕ). IsNumeral 10 t) first second.numeral))
-  where
-    no_digit : IsNumeral 10 (codes "-") → ⊥
-    no_digit numeral = omega (arith, numeral.1.0)
-IsSymbolWord-once text (Some symbol) None first second = absurd (no_digit (subst (λ (t : List ℕ). IsNumeral 10 t) second first.numeral))
-  where
-    no_digit : IsNumeral 10 (codes "-") → ⊥
-    no_digit numeral = omega (arith, numeral.1.0)
-
-pub AreSymbolWords-once : (words : List Word) (symbols others : List (Option ℕ)) → AreSymbolWords words symbols → AreSymbolWords words others → symbols ≡ others
-AreSymbolWords-once [] [] [] first second = refl
-AreSymbolWords-once [] (s ∷ symbols) others first second = absurd first
-AreSymbolWords-once [] [] (o ∷ others) first second = absurd second
-AreSymbolWords-once (w ∷ words) [] others first second = absurd first
-AreSymbolWords-once (w ∷ words) (s ∷ symbols) [] first second = absurd second
-AreSymbolWords-once (w ∷ words) (s ∷ symbols) (o ∷ others) first second =
-    ap (λ (x : Option ℕ). x ∷ symbols) (IsSymbolWord-once (string_bytes w) s o first.0 second.0) ∙ ap (λ (xs : List (Option ℕ)). o ∷ xs) (AreSymbolWords-once words symbols others first.1 second.1)
-
-pub length-AreSymbolWords : (words : List Word) (symbols : List (Option ℕ)) → AreSymbolWords words symbols → length symbols ≡ length words
+length-AreSymbolWords : (words : List (String Global)) (symbols : List (Option ℕ)) → AreSymbolWords words symbols → length symbols ≡ length words
 length-AreSymbolWords [] [] all = refl
 length-AreSymbolWords [] (s ∷ symbols) all = absurd all
 length-AreSymbolWords (w ∷ words) [] all = absurd all
 length-AreSymbolWords (w ∷ words) (s ∷ symbols) all = omega (arith, length-AreSymbolWords words symbols all.1)
 
--- a row has as many symbols as its first number says
-pub length-IsRowForm : (words : List Word) (n l b : ℕ) (seen : List (Option ℕ)) → IsRowForm words n l b seen → length seen ≡ n
+length-IsRowForm : (words : List (String Global)) (n l b : ℕ) (seen : List (Option ℕ)) → IsRowForm words n l b seen → length seen ≡ n
 length-IsRowForm (c ∷ f ∷ s ∷ t ∷ words) n l b seen form = length-AreSymbolWords words seen form.5 ∙ form.4
 length-IsRowForm [] n l b seen form = absurd form
 length-IsRowForm (c ∷ []) n l b seen form = absurd form
 length-IsRowForm (c ∷ f ∷ []) n l b seen form = absurd form
 length-IsRowForm (c ∷ f ∷ s ∷ []) n l b seen form = absurd form
 
--- the words spell one row at most, so what holds of the one read holds of each
-pub IsRowForm-once : (words : List Word) (n l b : ℕ) (seen : List (Option ℕ)) (n' l' b' : ℕ) (seen' : List (Option ℕ)) → IsRowForm words n l b seen → IsRowForm words n' l' b' seen'
-    → (P : ℕ → ℕ → ℕ → List (Option ℕ) → Type 0) → P n l b seen → P n' l' b' seen'
-IsRowForm-once (c ∷ f ∷ s ∷ t ∷ words) n l b seen n' l' b' seen' first second P holds =
-    subst (λ (x : List (Option ℕ)). P n' l' b' x) (AreSymbolWords-once words seen seen' first.5 second.5)
-    (subst (λ (x : ℕ). P n' l' x seen) (sym first.3.value ∙ second.3.value)
-    (subst (λ (x : ℕ). P n' x b seen) (sym first.2.value ∙ second.2.value)
-    (subst (λ (x : ℕ). P x l b seen) (sym first.1.value ∙ second.1.value) holds)))
-IsRowForm-once [] n l b seen n' l' b' seen' first second P holds = absurd first
-IsRowForm-once (c ∷ []) n l b seen n' l' b' seen' first second P holds = absurd first
-IsRowForm-once (c ∷ f ∷ []) n l b seen n' l' b' seen' first second P holds = absurd first
-IsRowForm-once (c ∷ f ∷ s ∷ []) n l b seen n' l' b' seen' first second P holds = absurd first
+-- a row that words spell has as many symbols as it says
+pub HasItsSymbols-IsForm : (words : List (String Global)) (command : Command) → IsForm words command → HasItsSymbols command
+HasItsSymbols-IsForm words (RowOf n l b seen) form = length-IsRowForm words n l b seen form
+HasItsSymbols-IsForm words (InitWith numbers) form = tt
+HasItsSymbols-IsForm words (PutUnder name) form = tt
+HasItsSymbols-IsForm words (GetOf name) form = tt
+HasItsSymbols-IsForm words (DropOf name) form = tt
+HasItsSymbols-IsForm words ListAll form = tt
+HasItsSymbols-IsForm words AuditAll form = tt
+HasItsSymbols-IsForm words RepairDue form = tt

@@ -9,7 +9,7 @@
 --   TellsAnswer s answer status at sink == the text of the answer is written or cut off, or its fault is told
 use Rattle.std.specs.Prelude.{◌≡◌, ◌⊎◌, ℕ, List, length}
 use Rattle.hail_machine.specs.Jobs.{Kind, PutJob, GetJob, DropJob, AuditJob, RepairJob}
-use Rattle.hail_machine.specs.Answers.{Answer, Put, Got, Dropped, Audited, Repaired, Lost, ProviderFault, DiskFault, Memory}
+use Rattle.hail_machine.specs.Answers.{Answer, Put, Got, Dropped, Audited, Repaired, Lost, ProviderFault, DiskFault}
 use Rattle.hail_commands.specs.Lines.{stored_line, dropped_line, audit_lines, repaired_line}
 use Rattle.hail_commands.specs.Seen.{Ending}
 use Rattle.hail_commands.specs.Sinking.{Sinking, Writes}

@@ -1,9 +1,10 @@
 // Commands that run one job.
-ghost use Rattle.std.specs.Prelude.{◌≡◌, ◌≤◌, ℕ, List, Option, length, map};
+ghost use Rattle.std.specs.Prelude.{◌≡◌, ◌≤◌, ℕ, List, Option, length, map, is_some};
+ghost use Rattle.std.specs.Option.{option_map};
+ghost use Rattle.hail_devices.specs.Disks.{synced};
 ghost use Rattle.hail_records.specs.Records.{Record};
-ghost use Rattle.hail_commands.specs.Seen.{Seen, sinking, NoCountFalls};
+ghost use Rattle.hail_commands.specs.Seen.{Seen, NoCountFalls};
 ghost use Rattle.hail_commands.specs.Opens.{IsOpened};
-ghost use Rattle.hail_commands.specs.Sinking.{Sinking};
 ghost use Rattle.hail_commands.specs.Commands.{AnswersAlone};
 ghost use Rattle.vault.specs.Devices.{as_seen, devices};
 ghost use Rattle.command_jobs.specs.Kinds.{kind_of};
@@ -35,11 +36,12 @@ pub fn answer_job<D: Disk, P: Provider, K: Sink>(
     ensures over { (records : List Record) (old : Seen) (left : Option (List ℕ)) (read_faults : ℕ)
         → IsFresh vault records (D.holds disk.old) (D.faults disk.old) → IsOpened old records
         → IsSeenBefore old (devices (D.holds disk.old) (D.faults disk.old) (map (as_seen P.held P.store_faults P.other_faults P.fetches) providers.old))
-        → old.sink ≡ K.written sink.old → old.sink_faults ≡ K.faults sink.old
-        → AnswersOver (kind_of job) records old
+        → D.holds disk.old ≡ option_map synced old.disk → old.sink ≡ K.written sink.old → old.sink_faults ≡ K.faults sink.old
+        → AnswersOver (kind_of job.entry) records old
         (seen (D.holds disk.new) (D.faults disk.new) (map (as_seen P.held P.store_faults P.other_faults P.fetches) providers.new) left read_faults
         (K.written sink.new) (K.faults sink.new)) (ending_of result) }
     ensures count { K.faults sink.old ≤ K.faults sink.new }
+    ensures tells { is_some (D.holds disk.new) ≡ is_some (D.holds disk.old) }
 {
     let subject = Subject::new(&job, vault.setup().tolerance);
     match run_job(vault, job, disk, providers) {
@@ -56,7 +58,7 @@ pub fn alone<D: Disk, P: Provider, K: Sink>(
     providers: &mut [P],
     sink: &mut K,
 ) -> Report
-    ensures answers { (left : Option (List ℕ)) (read_faults : ℕ) → AnswersAlone (kind_of job)
+    ensures answers { (left : Option (List ℕ)) (read_faults : ℕ) → AnswersAlone (kind_of job.entry)
         (seen (D.holds disk.old) (D.faults disk.old) (map (as_seen P.held P.store_faults P.other_faults P.fetches) providers.old) left read_faults
         (K.written sink.old) (K.faults sink.old))
         (seen (D.holds disk.new) (D.faults disk.new) (map (as_seen P.held P.store_faults P.other_faults P.fetches) providers.new) left read_faults
@@ -66,6 +68,7 @@ pub fn alone<D: Disk, P: Provider, K: Sink>(
         (K.written sink.old) (K.faults sink.old))
         (seen (D.holds disk.new) (D.faults disk.new) (map (as_seen P.held P.store_faults P.other_faults P.fetches) providers.new) left read_faults
         (K.written sink.new) (K.faults sink.new)) }
+    ensures tells { is_some (D.holds disk.new) ≡ is_some (D.holds disk.old) }
 {
     match open_vault(alloc, disk, providers.len()) {
         Ok(vault) => answer_job(alloc, job, vault, disk, providers, sink),

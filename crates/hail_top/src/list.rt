@@ -1,11 +1,10 @@
 // The command `list`.
-ghost use Rattle.std.specs.Prelude.{◌≡◌, ◌≤◌, ℕ, List, Option, length};
+ghost use Rattle.std.specs.Prelude.{◌≡◌, ◌≤◌, ℕ, List, Option, length, is_some};
 ghost use Rattle.hail_devices.specs.Providers.{Provider};
 ghost use Rattle.hail_records.specs.Records.{Record};
 ghost use Rattle.hail_records.specs.Table.{files_of};
 ghost use Rattle.hail_commands.specs.Lines.{list_lines};
-ghost use Rattle.hail_commands.specs.Seen.{NoCountFalls};
-ghost use Rattle.hail_commands.specs.Sinking.{Sinking, Writes};
+ghost use Rattle.hail_commands.specs.Sinking.{Writes};
 ghost use Rattle.hail_commands.specs.Commands.{AnswersList};
 ghost use Rattle.vault.specs.Seen.{table_of};
 ghost use Rattle.vault_table.specs.Values.{IsFoldOf};
@@ -37,6 +36,7 @@ pub fn list<D: Disk, K: Sink>(alloc: Global, handed: usize, disk: &mut D, sink: 
     ensures answers { (providers : List Provider) (left : Option (List ℕ)) (read_faults : ℕ) → length providers ≡ handed → AnswersList
         (seen (D.holds disk.old) (D.faults disk.old) providers left read_faults (K.written sink.old) (K.faults sink.old))
         (seen (D.holds disk.new) (D.faults disk.new) providers left read_faults (K.written sink.new) (K.faults sink.new)) (ending_of result) }
+    ensures tells { is_some (D.holds disk.new) ≡ is_some (D.holds disk.old) }
     ensures disk_count { D.faults disk.old ≤ D.faults disk.new }
     ensures sink_count { K.faults sink.old ≤ K.faults sink.new }
 {

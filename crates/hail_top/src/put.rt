@@ -1,12 +1,14 @@
 // The command `put`.
-ghost use Rattle.std.specs.Prelude.{◌≡◌, ◌≤◌, ◌⊎◌, ℕ, List, length, map};
+ghost use Rattle.std.specs.Prelude.{◌≡◌, ◌≤◌, List, length, map, is_some};
+ghost use Rattle.std.specs.Option.{option_map};
+ghost use Rattle.hail_devices.specs.Disks.{synced};
 ghost use Rattle.hail_records.specs.Records.{Record};
 ghost use Rattle.hail_commands.specs.Seen.{Seen, NoCountFalls};
 ghost use Rattle.hail_commands.specs.Opens.{IsOpened};
 ghost use Rattle.hail_commands.specs.Commands.{AnswersPut};
 ghost use Rattle.vault.specs.Devices.{as_seen, devices};
 ghost use Rattle.command_jobs.specs.Opened.{IsFresh, IsReady};
-ghost use Rattle.command_jobs.specs.Ends.{IsSeenBefore, NoFaultUndone};
+ghost use Rattle.command_jobs.specs.Ends.{IsSeenBefore};
 ghost use Rattle.hail_top.specs.Endings.{seen, ending_of};
 ghost use Rattle.hail_top.specs.Jobs.{PutsOver};
 
@@ -38,13 +40,14 @@ fn put_read<D: Disk, P: Provider, S: Source, K: Sink>(
     ensures over { (records : List Record) (old : Seen)
         → IsFresh vault records (D.holds disk.old) (D.faults disk.old) → IsOpened old records
         → IsSeenBefore old (devices (D.holds disk.old) (D.faults disk.old) (map (as_seen P.held P.store_faults P.other_faults P.fetches) providers.old))
-        → old.source ≡ S.left source.old → old.source_faults ≡ S.faults source.old
+        → D.holds disk.old ≡ option_map synced old.disk → old.source ≡ S.left source.old → old.source_faults ≡ S.faults source.old
         → old.sink ≡ K.written sink.old → old.sink_faults ≡ K.faults sink.old
         → PutsOver name.now old
         (seen (D.holds disk.new) (D.faults disk.new) (map (as_seen P.held P.store_faults P.other_faults P.fetches) providers.new) (S.left source.new)
         (S.faults source.new) (K.written sink.new) (K.faults sink.new)) (ending_of result) }
     ensures source_count { S.faults source.old ≤ S.faults source.new }
     ensures sink_count { K.faults sink.old ≤ K.faults sink.new }
+    ensures tells { is_some (D.holds disk.new) ≡ is_some (D.holds disk.old) }
 {
     match read_up_to(alloc, PAST_LONGEST, source) {
         Ok(bytes) => answer_job(
@@ -78,6 +81,7 @@ pub fn put<D: Disk, P: Provider, S: Source, K: Sink>(
         (S.faults source.old) (K.written sink.old) (K.faults sink.old))
         (seen (D.holds disk.new) (D.faults disk.new) (map (as_seen P.held P.store_faults P.other_faults P.fetches) providers.new) (S.left source.new)
         (S.faults source.new) (K.written sink.new) (K.faults sink.new)) }
+    ensures tells { is_some (D.holds disk.new) ≡ is_some (D.holds disk.old) }
 {
     match open_vault(alloc, disk, providers.len()) {
         Ok(vault) => put_read(alloc, name, vault, disk, providers, source, sink),

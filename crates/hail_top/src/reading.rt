@@ -1,6 +1,7 @@
 // Reads the first bytes of a source.
 ghost use Rattle.std.specs.Prelude.{◌≡◌, IfOk, IsErrOf};
 ghost use Rattle.hail_devices.specs.Faults.{HasCause};
+ghost use Rattle.hail_machine.specs.Events.{AreBytes};
 ghost use Rattle.hail_commands.specs.Seen.{ReadsUpTo};
 ghost use Rattle.hail_top.specs.declared.reading.ReadFault.TheVariants as read_fault;
 
@@ -35,6 +36,20 @@ impl From<AllocError> for ReadFault {
     }
 }
 
+/// What a slice of bytes holds are bytes.
+fn bytes_are_bytes(bytes: &[u8])
+    ensures { AreBytes bytes.now }
+{}
+
+/// What was read, which are bytes.
+fn bytes_of(items: Vec<u8>) -> Bytes
+    ensures same { result ≡ items.items }
+    ensures are_bytes { AreBytes items.items }
+{
+    bytes_are_bytes(&items);
+    Bytes::from_vec(items)
+}
+
 /// Reads at most so many bytes, up to the end of the source.
 pub fn read_up_to<S: Source>(alloc: Global, most: usize, source: &mut S) -> Result<Bytes, ReadFault>
     ensures bytes { IfOk result (λ bytes. ReadsUpTo most (S.left source.old) (S.left source.new) bytes) }
@@ -44,11 +59,12 @@ pub fn read_up_to<S: Source>(alloc: Global, most: usize, source: &mut S) -> Resu
     let mut bytes = Vec::new(alloc);
     while bytes.len() < most {
         let room = piece.len().min(most - bytes.len());
-        let count = source.read(&mut piece[..room])?;
+        let out = &mut piece[..room];
+        let count = source.read(out)?;
         if count == 0 {
-            break;
+            return Ok(bytes_of(bytes));
         }
-        bytes.extend_from_slice(&piece[..count])?;
+        bytes.extend_from_slice(&out[..count])?;
     }
-    Ok(Bytes::from_vec(bytes))
+    Ok(bytes_of(bytes))
 }

@@ -1,5 +1,4 @@
 ghost use Rattle.std.specs.Prelude.{◌≡◌, []};
-ghost use Rattle.hail_commands.specs.Seen.{Ending};
 ghost use Rattle.hail_top.specs.Endings.{ending_of};
 
 use vault::HeardList;

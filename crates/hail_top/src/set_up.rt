@@ -1,5 +1,5 @@
 // The command `init`.
-ghost use Rattle.std.specs.Prelude.{◌≡◌, ◌≤◌, ℕ, List, Option, length};
+ghost use Rattle.std.specs.Prelude.{◌≡◌, ◌≤◌, ℕ, List, Option, length, is_some};
 ghost use Rattle.hail_devices.specs.Providers.{Provider};
 ghost use Rattle.hail_commands.specs.Forms.{Numbers as SevenNumbers};
 ghost use Rattle.hail_commands.specs.Keys.{longest_key};
@@ -52,6 +52,7 @@ fn set_up_disk<D: Disk, K: Sink>(
         → InitsDisk (with_master setup.now master.now.0)
         (seen (D.holds disk.old) (D.faults disk.old) providers left read_faults (K.written sink.old) (K.faults sink.old))
         (seen (D.holds disk.new) (D.faults disk.new) providers left' read_faults' (K.written sink.new) (K.faults sink.new)) (ending_of result) }
+    ensures tells { is_some (D.holds disk.new) ≡ is_some (D.holds disk.old) }
     ensures disk_count { D.faults disk.old ≤ D.faults disk.new }
     ensures sink_count { K.faults sink.old ≤ K.faults sink.new }
 {
@@ -73,6 +74,7 @@ fn set_up_with<D: Disk, K: Sink>(
         → IsSetupFor setup.now numbers (length providers) → ReadsUpTo longest_key left left' text.now → AnswersInit numbers
         (seen (D.holds disk.old) (D.faults disk.old) providers left read_faults (K.written sink.old) (K.faults sink.old))
         (seen (D.holds disk.new) (D.faults disk.new) providers left' read_faults' (K.written sink.new) (K.faults sink.new)) (ending_of result) }
+    ensures tells { is_some (D.holds disk.new) ≡ is_some (D.holds disk.old) }
     ensures disk_count { D.faults disk.old ≤ D.faults disk.new }
     ensures sink_count { K.faults sink.old ≤ K.faults sink.new }
 {
@@ -94,6 +96,7 @@ fn set_up_read<D: Disk, S: Source, K: Sink>(
         (seen (D.holds disk.old) (D.faults disk.old) providers (S.left source.old) (S.faults source.old) (K.written sink.old) (K.faults sink.old))
         (seen (D.holds disk.new) (D.faults disk.new) providers (S.left source.new) (S.faults source.new) (K.written sink.new) (K.faults sink.new))
         (ending_of result) }
+    ensures tells { is_some (D.holds disk.new) ≡ is_some (D.holds disk.old) }
     ensures disk_count { D.faults disk.old ≤ D.faults disk.new }
     ensures source_count { S.faults source.old ≤ S.faults source.new }
     ensures sink_count { K.faults sink.old ≤ K.faults sink.new }
@@ -117,6 +120,7 @@ pub fn set_up<D: Disk, S: Source, K: Sink>(
         (seen (D.holds disk.old) (D.faults disk.old) providers (S.left source.old) (S.faults source.old) (K.written sink.old) (K.faults sink.old))
         (seen (D.holds disk.new) (D.faults disk.new) providers (S.left source.new) (S.faults source.new) (K.written sink.new) (K.faults sink.new))
         (ending_of result) }
+    ensures tells { is_some (D.holds disk.new) ≡ is_some (D.holds disk.old) }
     ensures disk_count { D.faults disk.old ≤ D.faults disk.new }
     ensures source_count { S.faults source.old ≤ S.faults source.new }
     ensures sink_count { K.faults sink.old ≤ K.faults sink.new }

@@ -1,6 +1,5 @@
 // How the answer of a job is told: its text, or the status of its fault.
 ghost use Rattle.std.specs.Prelude.{◌≡◌, ◌≤◌, IfOk, IfErr};
-ghost use Rattle.hail_commands.specs.Sinking.{Sinking};
 ghost use Rattle.vault.specs.Outcomes.{answer_of};
 ghost use Rattle.command_jobs.specs.Kinds.{kind_of};
 ghost use Rattle.hail_top.specs.Telling.{IsSubject, IsTextOf, IsFaultOf, TellsAnswer, no_memory};

@@ -1,5 +1,5 @@
-ghost use Rattle.std.specs.Prelude.{◌≡◌, length, map};
-ghost use Rattle.hail_commands.specs.Forms.{Command as Spelled, RowOf, IsForm};
+ghost use Rattle.std.specs.Prelude.{◌≡◌, map, is_some};
+ghost use Rattle.hail_commands.specs.Forms.{Command as Spelled, IsForm};
 ghost use Rattle.hail_commands.specs.Seen.{NoCountFalls};
 ghost use Rattle.hail_commands.specs.Commands.{Answers, IsUsage};
 ghost use Rattle.vault.specs.Devices.{as_seen};
@@ -32,7 +32,7 @@ fn answer<D: Disk, P: Tamper, S: Source, K: Sink>(
     sink: &mut K,
 ) -> Report
     requires { HasItsSymbols (command_of command) }
-    ensures answers { Answers (command_of command)
+    ensures answers { Answers (command_of command.entry)
         (seen (D.holds disk.old) (D.faults disk.old) (map (as_seen P.held P.store_faults P.other_faults P.fetches) providers.old) (S.left source.old)
         (S.faults source.old) (K.written sink.old) (K.faults sink.old))
         (seen (D.holds disk.new) (D.faults disk.new) (map (as_seen P.held P.store_faults P.other_faults P.fetches) providers.new) (S.left source.new)
@@ -42,6 +42,7 @@ fn answer<D: Disk, P: Tamper, S: Source, K: Sink>(
         (S.faults source.old) (K.written sink.old) (K.faults sink.old))
         (seen (D.holds disk.new) (D.faults disk.new) (map (as_seen P.held P.store_faults P.other_faults P.fetches) providers.new) (S.left source.new)
         (S.faults source.new) (K.written sink.new) (K.faults sink.new)) }
+    ensures tells { is_some (D.holds disk.new) ≡ is_some (D.holds disk.old) }
 {
     match command {
         Command::Row(row) => Report::of(answer_row(alloc, &row, sink)),
@@ -79,6 +80,7 @@ pub fn hail<D: Disk, P: Tamper, S: Source, K: Sink>(
         (S.faults source.old) (K.written sink.old) (K.faults sink.old))
         (seen (D.holds disk.new) (D.faults disk.new) (map (as_seen P.held P.store_faults P.other_faults P.fetches) providers.new.items) (S.left source.new)
         (S.faults source.new) (K.written sink.new) (K.faults sink.new)) }
+    ensures tells { is_some (D.holds disk.new) ≡ is_some (D.holds disk.old) }
 {
     words_spell_one_command();
     match read_command(alloc, words) {

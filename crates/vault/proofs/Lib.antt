@@ -36,3 +36,5 @@ pub mod EndStep
 pub mod Asks
 pub mod AskStep
 pub mod AskJoin
+pub mod Carried
+pub mod HeardAt

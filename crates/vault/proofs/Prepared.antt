@@ -1,5 +1,5 @@
--- A disk that is made ready for its first record.
-use Rattle.std.proofs.Common.{◌≡◌, inl, inr, ℕ, ◌<◌, ◌≤◌, List, [], length, drop, Option, Some, None, refl, sym, ap, ◌∙◌, subst, arith, length-take}
+-- A disk that is made ready for its first record, and what a failed init leaves of it.
+use Rattle.std.proofs.Common.{◌≡◌, ◌⊎◌, inl, inr, ℕ, ◌<◌, ◌≤◌, List, [], ◌∷◌, length, drop, Option, Some, None, refl, sym, ap, ◌∙◌, subst, arith, length-take}
 use Rattle.std.specs.Prelude.{IfSome}
 use Rattle.std.specs.Option.{option_map}
 use Rattle.std.proofs.lemmas.List.{drop_all}
@@ -7,11 +7,12 @@ use Rattle.hail_devices.specs.Cells.{Cells, reads}
 use Rattle.hail_devices.specs.Disks.{synced}
 use Rattle.hail_devices.specs.Images.{IsImage, EachImage}
 use Rattle.hail_devices.specs.Told.{Goes}
-use Rattle.hail_records.specs.Records.{Setup, largest_journal}
+use Rattle.hail_records.specs.Records.{Setup, SetUp, largest_journal}
 use Rattle.hail_records.specs.Journal.{StandsFor}
+use Rattle.journal_core.specs.Moves.{MayStandFor}
 use Rattle.vault.specs.declared.fault.InitFault.{InitFault}
 use Rattle.vault.specs.declared.fault.InitFault.TheVariants as init_fault
-use Rattle.vault.specs.Openings.{journal_read, IsInitFault, IsResynced}
+use Rattle.vault.specs.Openings.{journal_read, IsInitFault, IsResynced, MayBeLeft}
 use Rattle.vault.specs.Preparing.{IsBlank, IsReadied, IsHalfReady, emptied, IsTextFault}
 use Rattle.vault.proofs.Readings.{reads-synced}
 use Rattle.vault.proofs.Opened.{IsLookedAt, stands-front}
@@ -71,3 +72,23 @@ readied-read (Some cells) mid bytes is looked stands =
       blank = record { bytes = reads cells; firm_is = refl; stands = stands-front largest_journal (reads cells) [] read };
       same = ap (drop 9) (reads-synced cells);
     })
+
+-- ---- what a failed init leaves
+
+each-left : (s : Setup) (cells : Cells) (new : Option Cells) (P : List ℕ → Type 0) → ((image : List ℕ) → P image → MayBeLeft s cells image) → EachImage new P → EachImage new (MayBeLeft s cells)
+each-left s cells None P step all = tt
+each-left s cells (Some new) P step all = λ image of. step image (all image of)
+
+half-left-at : (s : Setup) (cells : Cells) (new : Option Cells) → IsHalfReady cells new → EachImage new (MayBeLeft s cells)
+half-left-at s cells new (inl same) = each-left s cells new (IsImage cells) (λ image is. inl is) same
+half-left-at s cells new (inr short) = each-left s cells new (λ image. length image ≤ 9) (λ image is. inr (inl short.0, inl is)) short.1
+
+pub half-left : (s : Setup) (told new : Option Cells) → IfSome told (λ cells. IsHalfReady cells new) → IfSome told (λ cells. EachImage new (MayBeLeft s cells))
+half-left s None new half = tt
+half-left s (Some cells) new half = half-left-at s cells new half
+
+pub append-left : (s : Setup) (told mid new : Option Cells) → Goes IsReadied told mid → MayStandFor [] (SetUp s) new → IfSome told (λ cells. EachImage new (MayBeLeft s cells))
+append-left s None mid new ready stands = tt
+append-left s (Some cells) None new ready stands = absurd ready
+append-left s (Some cells) (Some mid) new ready stands =
+    each-left s cells new (λ image. StandsFor image [] ⊎ StandsFor image (SetUp s ∷ [])) (λ image is. inr (ready.free, inr is)) stands

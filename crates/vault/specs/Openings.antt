@@ -4,10 +4,12 @@
 --   StopsBehind bytes rs at   == behind these records the bytes end at a gate, or no record stands, or one that may not follow
 --   IsBadStart bytes at       == the first place at which bytes are no journal, or a record may not follow those before it
 --   IsStartFault bytes fault  == the causes for which no vault is opened
+--   LiesInJournal fault       == a cause that lies in what the disk reads
 --   IsRead told rs            == the disk, where it tells, reads these records
 --   IsBadInit bytes at        == bytes are no journal, or the first record is no setup
 --   IsInitFault bytes setup fault == the causes for which a store is not set up
 --   IsNoWrite fault            == an answer of init for which nothing is written
+--   IsFree cells              == they read no records
 --   IsSetUpOn setup old new    == a store is set up on a disk that read no records
 --   MayBeLeft setup old image == an image that a failed init may leave
 --   IsResynced old new        == a disk that was synced, or was left as it was
@@ -53,6 +55,13 @@ IsStartFault bytes (start_fault.BadJournal at) = (9 < length bytes) × IsBadStar
 IsStartFault bytes start_fault.DiskFault = Unit {0}
 IsStartFault bytes start_fault.Memory = Unit {0}
 
+-- a cause that lies in what the disk reads
+abbrev pub LiesInJournal : StartFault → Type 0
+LiesInJournal start_fault.NotSetUp = Unit {0}
+LiesInJournal (start_fault.BadJournal at) = Unit {0}
+LiesInJournal start_fault.DiskFault = ⊥
+LiesInJournal start_fault.Memory = ⊥
+
 -- the disk, where it tells, reads these records, of which there is one
 pub record IsRead (told : Option Cells) (rs : List Record) : Type 0 where
   pub some : rs ≢ []
@@ -95,14 +104,18 @@ IsNoWrite init_fault.Already = Unit {0}
 IsNoWrite init_fault.DiskFault = ⊥
 IsNoWrite init_fault.Memory = ⊥
 
+-- a disk that reads no records
+abbrev pub IsFree : Cells → Type 0
+IsFree cells = (length (reads cells) ≤ 9) ⊎ StandsFor (journal_read cells) []
+
 -- a store is set up on a disk that read no records: it reads the text of the one setup, then what it read past that end, and no byte is loose
 pub record IsSetUpOn (s : Setup) (old new : Cells) : Type 0 where
-  pub free : (length (reads old) ≤ 9) ⊎ StandsFor (journal_read old) []
+  pub free : IsFree old
   pub reads_are : new ≡ firm (text (SetUp s ∷ []) ++ drop (length (text (SetUp s ∷ []))) (reads old))
 
--- an image that a failed init may leave
+-- an image that a failed init may leave: one of the disk as it was, and where that read no records also one that reads none, or this setup
 abbrev pub MayBeLeft : Setup → Cells → List ℕ → Type 0
-MayBeLeft s old image = IsImage old image ⊎ ((length image ≤ 9) ⊎ (StandsFor image [] ⊎ StandsFor image (SetUp s ∷ [])))
+MayBeLeft s old image = IsImage old image ⊎ (IsFree old × ((length image ≤ 9) ⊎ (StandsFor image [] ⊎ StandsFor image (SetUp s ∷ []))))
 
 -- a disk that was synced, or was left as it was
 abbrev pub IsResynced : Cells → Cells → Type 0

@@ -5,6 +5,7 @@
 --   outcome_of turn       == of a step
 --   init_outcome result   == of an init
 --   IfEnded turn P        == P holds of the job's end, where the step was its last
+--   IsIdle turn           == a step that made no action
 --   HasPaddedCounts answer == the counts of an audit are padded
 use Rattle.std.specs.Prelude.{ℕ, Result, Ok, Err}
 use Rattle.hail_machine.specs.Refusals.{Refusal}
@@ -52,6 +53,14 @@ outcome_of turn.MustReopen = events.Refused refusal.MustReopen
 abbrev pub IfEnded : Turn → (Ended → Type 0) → Type 0
 IfEnded (turn.Done ended) P = P ended
 IfEnded t P = Unit {0}
+
+-- a step that made no action
+abbrev pub IsIdle : Turn → Type 0
+IsIdle (turn.Waiting holder) = Unit {0}
+IsIdle turn.NoSuchJob = Unit {0}
+IsIdle turn.MustReopen = Unit {0}
+IsIdle turn.More = ⊥
+IsIdle (turn.Done ended) = ⊥
 
 -- the counts of an audit are padded
 abbrev pub HasPaddedCounts : Answer → Type 0

@@ -18,7 +18,7 @@ use Rattle.record_codec.specs.declared.records.Record.{Record as RecordValue}
 use Rattle.record_codec.specs.declared.records.Record.TheVariants as kind
 use Rattle.vault.specs.declared.fault.InitFault.{InitFault}
 use Rattle.vault.specs.declared.fault.InitFault.TheVariants as init_fault
-use Rattle.vault.specs.Openings.{journal_read, BeginsWithSetup, IsBadInit}
+use Rattle.vault.specs.Openings.{IsFree, BeginsWithSetup, IsBadInit}
 
 -- a disk reads a journal with no record, and no byte is loose
 pub record IsBlank (cells : Cells) : Type 0 where
@@ -36,7 +36,7 @@ AreShort cells = (image : List ℕ) → IsImage cells image → length image ≤
 
 -- a disk that has no record was made blank, and reads past nine bytes as before
 pub record IsReadied (old new : Cells) : Type 0 where
-  pub free : (length (reads old) ≤ 9) ⊎ StandsFor (journal_read old) []
+  pub free : IsFree old
   pub blank : IsBlank new
   pub same : drop 9 (reads new) ≡ drop 9 (reads old)
 

@@ -17,6 +17,8 @@ mod folding;
 mod fresh;
 mod getting;
 mod heard;
+mod heard_list;
+pub mod laws;
 mod moves;
 mod preparing;
 mod question;

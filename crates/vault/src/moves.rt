@@ -1,11 +1,11 @@
-ghost use Rattle.std.specs.Prelude.{ℕ, List, ◌≡◌, ◌<◌, Some, IfSome};
+ghost use Rattle.std.specs.Prelude.{ℕ, List, ◌≡◌, ◌<◌, Some, IfSome, is_some};
 ghost use Rattle.hail_devices.specs.Providers.{Provider};
 ghost use Rattle.hail_machine.specs.Actions.{WriteBody, SyncBody, WriteGate, SyncGate};
 ghost use Rattle.hail_machine.specs.States.{State};
 ghost use Rattle.vault.specs.Devices.{devices};
 ghost use Rattle.vault.specs.Stands.{Stands, Comes, MakesTurn};
 ghost use Rattle.vault.specs.declared.turn.Turn.TheVariants as turn;
-ghost use Rattle.vault.specs.Outcomes.{IfEnded, HasPaddedCounts};
+ghost use Rattle.vault.specs.Outcomes.{IfEnded, IsIdle, HasPaddedCounts};
 ghost use Rattle.vault.specs.Seen.{left_of};
 
 use crate::flight::{Flight, Moved};
@@ -20,8 +20,10 @@ impl Vault {
         requires { Comes self.old.core job WriteBody }
         ensures machine { (w : State) (moment : ℕ) (providers : List Provider) → Stands self.old (devices (D.holds disk.old) (D.faults disk.old) providers) w
             → MakesTurn w moment job result self.new (devices (D.holds disk.old) (D.faults disk.old) providers) (devices (D.holds disk.new) (D.faults disk.new) providers) }
+        ensures tells { is_some (D.holds disk.new) ≡ is_some (D.holds disk.old) }
         ensures left { result ≡ Some turn.More → left_of self.new job < left_of self.old job }
         ensures padded { IfSome result (λ turn. IfEnded turn (λ ended. HasPaddedCounts ended.answer)) }
+        ensures acted { IfSome result (λ turn. IsIdle turn → ⊥) }
     {
         let entry = self.core.entry(job)?;
         let gate = self.core.end().checked_sub(1)?;
@@ -42,8 +44,10 @@ impl Vault {
         requires { Comes self.old.core job SyncBody }
         ensures machine { (w : State) (moment : ℕ) (providers : List Provider) → Stands self.old (devices (D.holds disk.old) (D.faults disk.old) providers) w
             → MakesTurn w moment job result self.new (devices (D.holds disk.old) (D.faults disk.old) providers) (devices (D.holds disk.new) (D.faults disk.new) providers) }
+        ensures tells { is_some (D.holds disk.new) ≡ is_some (D.holds disk.old) }
         ensures left { result ≡ Some turn.More → left_of self.new job < left_of self.old job }
         ensures padded { IfSome result (λ turn. IfEnded turn (λ ended. HasPaddedCounts ended.answer)) }
+        ensures acted { IfSome result (λ turn. IsIdle turn → ⊥) }
     {
         match self.flight.take()?.turn(disk) {
             Moved::On(flight) => {
@@ -61,8 +65,10 @@ impl Vault {
         requires { Comes self.old.core job WriteGate }
         ensures machine { (w : State) (moment : ℕ) (providers : List Provider) → Stands self.old (devices (D.holds disk.old) (D.faults disk.old) providers) w
             → MakesTurn w moment job result self.new (devices (D.holds disk.old) (D.faults disk.old) providers) (devices (D.holds disk.new) (D.faults disk.new) providers) }
+        ensures tells { is_some (D.holds disk.new) ≡ is_some (D.holds disk.old) }
         ensures left { result ≡ Some turn.More → left_of self.new job < left_of self.old job }
         ensures padded { IfSome result (λ turn. IfEnded turn (λ ended. HasPaddedCounts ended.answer)) }
+        ensures acted { IfSome result (λ turn. IsIdle turn → ⊥) }
     {
         match self.flight.take()?.turn(disk) {
             Moved::On(flight) => {
@@ -81,8 +87,10 @@ impl Vault {
         requires { Comes self.old.core job SyncGate }
         ensures machine { (w : State) (moment : ℕ) (providers : List Provider) → Stands self.old (devices (D.holds disk.old) (D.faults disk.old) providers) w
             → MakesTurn w moment job result self.new (devices (D.holds disk.old) (D.faults disk.old) providers) (devices (D.holds disk.new) (D.faults disk.new) providers) }
+        ensures tells { is_some (D.holds disk.new) ≡ is_some (D.holds disk.old) }
         ensures left { result ≡ Some turn.More → left_of self.new job < left_of self.old job }
         ensures padded { IfSome result (λ turn. IfEnded turn (λ ended. HasPaddedCounts ended.answer)) }
+        ensures acted { IfSome result (λ turn. IsIdle turn → ⊥) }
     {
         match self.flight.take()?.turn(disk) {
             Moved::Done => {

@@ -1,4 +1,4 @@
-ghost use Rattle.std.specs.Prelude.{◌≡◌, ◌≤◌, ◌^◌, [], ◌∷◌, List, ℕ, length, IfOk, IfErr, IfSome, OnOk, OnErr, IsErrOf, IsTrue};
+ghost use Rattle.std.specs.Prelude.{◌≡◌, ◌≤◌, ◌^◌, [], ◌∷◌, List, ℕ, length, IfOk, IfErr, IfSome, OnOk, OnErr, IsErrOf, IsTrue, is_some};
 ghost use Rattle.std.specs.Option.{option_map};
 ghost use Rattle.stream_model.specs.declared.fault.WriteFault.TheVariants as write_fault;
 ghost use Rattle.hail_devices.specs.Cells.{reads};
@@ -33,6 +33,7 @@ const FIRST_GATE: u64 = 8;
 fn make_empty<D: Disk>(disk: &mut D) -> Result<(), WriteFault>
     ensures ok { OnOk result (D.holds disk.new ≡ option_map emptied (D.holds disk.old)) }
     ensures left { OnErr result (IfSome (D.holds disk.old) (λ cells. length (reads cells) ≤ 9) → EachImage (D.holds disk.new) (λ image. length image ≤ 9)) }
+    ensures tells { is_some (D.holds disk.new) ≡ is_some (D.holds disk.old) }
     ensures cause { HasCause (D.faults disk.old) (D.faults disk.new) (IsErrOf result write_fault.Failed) }
 {
     disk.write_at(0, &NO_RECORD)?;
@@ -69,6 +70,7 @@ pub(crate) fn prepare<D: Disk>(alloc: Global, disk: &mut D) -> Result<(), InitFa
     ensures refused { (s : SetupData) → IfErr result (λ why. IfSome (D.holds disk.old) (λ cells. IsInitFault (journal_read cells) s why)) }
     ensures looked { IfErr result (λ why. IsNoWrite why → D.holds disk.new ≡ option_map synced (D.holds disk.old)) }
     ensures left { OnErr result (IfSome (D.holds disk.old) (λ cells. IsHalfReady cells (D.holds disk.new))) }
+    ensures tells { is_some (D.holds disk.new) ≡ is_some (D.holds disk.old) }
     ensures cause { HasCause (D.faults disk.old) (D.faults disk.new) (IsErrOf result init_fault.DiskFault) }
 {
     match read_disk(alloc, disk)? {
@@ -107,6 +109,7 @@ pub(crate) fn append_setup<D: Disk>(
     ensures ok { OnOk result (D.holds disk.new ≡ option_map (with_setup (with_master setup.now master.now.0)) (D.holds disk.old)) }
     ensures spelled { IsTrue (is_in_grammar (SetUp (with_master setup.now master.now.0))) }
     ensures left { OnErr result (IfSome (D.holds disk.old) IsBlank → MayStandFor [] (SetUp (with_master setup.now master.now.0)) (D.holds disk.new)) }
+    ensures tells { is_some (D.holds disk.new) ≡ is_some (D.holds disk.old) }
     ensures cause { HasCause (D.faults disk.old) (D.faults disk.new) (IsErrOf result write_fault.Failed) }
 {
     let append = Append::new(FIRST_GATE, &setup_record(master.0, setup));

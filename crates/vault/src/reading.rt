@@ -1,4 +1,4 @@
-ghost use Rattle.std.specs.Prelude.{◌≡◌, ◌<◌, ◌≤◌, ◌^◌, length, IfOk, IfSome, IfNone, OnOk, IsErrOf};
+ghost use Rattle.std.specs.Prelude.{◌≡◌, ◌<◌, ◌≤◌, ◌^◌, length, IfOk, IfSome, IfNone, OnOk, IsErrOf, is_some};
 ghost use Rattle.std.specs.Option.{option_map};
 ghost use Rattle.stream_model.specs.declared.fault.WriteFault.TheVariants as write_fault;
 ghost use Rattle.hail_devices.specs.Cells.{reads};
@@ -25,6 +25,7 @@ pub(crate) fn read_disk<D: Disk>(alloc: Global, disk: &mut D) -> Result<Option<V
     ensures few { IfOk result (λ found. IfSome found (λ v. length v.items ≤ 2 ^ 24)) }
     ensures synced { OnOk result (D.holds disk.new ≡ option_map synced (D.holds disk.old)) }
     ensures disk { Goes IsResynced (D.holds disk.old) (D.holds disk.new) }
+    ensures tells { is_some (D.holds disk.new) ≡ is_some (D.holds disk.old) }
     ensures cause { HasCause (D.faults disk.old) (D.faults disk.new) (IsErrOf result write_fault.Failed) }
 {
     disk.sync()?;

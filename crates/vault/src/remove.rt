@@ -6,7 +6,7 @@ ghost use Rattle.hail_machine.specs.States.{State};
 ghost use Rattle.vault.specs.Devices.{as_seen, devices};
 ghost use Rattle.vault.specs.Stands.{Stands, Comes, MakesTurn};
 ghost use Rattle.vault.specs.declared.turn.Turn.TheVariants as turn;
-ghost use Rattle.vault.specs.Outcomes.{IfEnded, HasPaddedCounts};
+ghost use Rattle.vault.specs.Outcomes.{IfEnded, IsIdle, HasPaddedCounts};
 ghost use Rattle.vault.specs.Seen.{left_of};
 
 use crate::turn::Turn;
@@ -38,6 +38,7 @@ impl Vault {
             (devices holds faults (map (as_seen P.held P.store_faults P.other_faults P.fetches) providers.new)) }
         ensures left { result ≡ Some turn.More → left_of self.new job < left_of self.old job }
         ensures padded { IfSome result (λ turn. IfEnded turn (λ ended. HasPaddedCounts ended.answer)) }
+        ensures acted { IfSome result (λ turn. IsIdle turn → ⊥) }
     {
         let index = provider as usize;
         if index >= providers.len() {

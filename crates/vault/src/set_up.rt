@@ -1,4 +1,4 @@
-ghost use Rattle.std.specs.Prelude.{ℕ, List, IfSome, IfErr, OnOk, OnErr, IsErrOf};
+ghost use Rattle.std.specs.Prelude.{◌≡◌, ℕ, List, IfSome, IfErr, OnOk, OnErr, IsErrOf, is_some};
 ghost use Rattle.hail_devices.specs.Faults.{HasCause};
 ghost use Rattle.hail_devices.specs.Images.{EachImage};
 ghost use Rattle.hail_devices.specs.Told.{Goes};
@@ -31,6 +31,7 @@ pub fn init<D: Disk>(
     ensures refused { IfErr result (λ why. IfSome (D.holds disk.old) (λ cells. IsInitFault (journal_read cells) (with_master setup.now master.now.0) why)) }
     ensures looked { IfErr result (λ why. IsNoWrite why → Goes IsResynced (D.holds disk.old) (D.holds disk.new)) }
     ensures left { OnErr result (IfSome (D.holds disk.old) (λ cells. EachImage (D.holds disk.new) (MayBeLeft (with_master setup.now master.now.0) cells))) }
+    ensures tells { is_some (D.holds disk.new) ≡ is_some (D.holds disk.old) }
     ensures cause { HasCause (D.faults disk.old) (D.faults disk.new) (IsErrOf result init_fault.DiskFault) }
     ensures machine { (w : State) (providers : List Provider) (moment : ℕ) → MayInit w (D.holds disk.old)
         → AreDevices (devices (D.holds disk.old) (D.faults disk.old) providers) w

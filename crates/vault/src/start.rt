@@ -8,7 +8,7 @@ ghost use Rattle.hail_records.specs.Records.{Record};
 ghost use Rattle.hail_machine.specs.States.{State};
 ghost use Rattle.vault.specs.declared.fault.StartFault.TheVariants as start_fault;
 ghost use Rattle.vault.specs.Devices.{devices};
-ghost use Rattle.vault.specs.Openings.{journal_read, IsStartFault, IsRead, IsResynced};
+ghost use Rattle.vault.specs.Openings.{journal_read, IsStartFault, LiesInJournal, IsRead, IsResynced};
 ghost use Rattle.vault.specs.Seen.{next_job_of};
 ghost use Rattle.vault.specs.Stands.{Stands, Carries};
 ghost use Rattle.vault.specs.Starts.{IsJustOpened};
@@ -31,6 +31,7 @@ impl Vault {
         ensures number { IfOk result (λ v. next_job_of v ≡ first) }
         ensures refused { IfErr result (λ why. IfSome (D.holds disk.old) (λ cells. IsStartFault (journal_read cells) why)) }
         ensures synced { OnOk result (D.holds disk.new ≡ option_map synced (D.holds disk.old)) }
+        ensures resynced { IfErr result (λ why. LiesInJournal why → D.holds disk.new ≡ option_map synced (D.holds disk.old)) }
         ensures disk { Goes IsResynced (D.holds disk.old) (D.holds disk.new) }
         ensures cause { HasCause (D.faults disk.old) (D.faults disk.new) (IsErrOf result start_fault.DiskFault) }
     {

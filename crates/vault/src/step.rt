@@ -1,9 +1,9 @@
-ghost use Rattle.std.specs.Prelude.{◌≡◌, ◌<◌, ◌≤◌, ℕ, Some, IfSome, length, map};
+ghost use Rattle.std.specs.Prelude.{◌≡◌, ◌<◌, ◌≤◌, ℕ, Some, IfSome, is_some, length, map};
 ghost use Rattle.hail_machine.specs.States.{State};
 ghost use Rattle.vault.specs.Devices.{Devices, as_seen, devices};
-ghost use Rattle.vault.specs.Outcomes.{IfEnded, HasPaddedCounts};
+ghost use Rattle.vault.specs.Outcomes.{IfEnded, IsIdle, HasPaddedCounts};
 ghost use Rattle.vault.specs.declared.turn.Turn.TheVariants as turn;
-ghost use Rattle.vault.specs.Seen.{provider_count, left_of};
+ghost use Rattle.vault.specs.Seen.{provider_count, left_of, IsUnchanged};
 ghost use Rattle.vault.specs.Stands.{Stands, Comes, MakesStep, MakesTurn};
 ghost use Rattle.vault_core.specs.Coming.{seen_action};
 
@@ -28,8 +28,12 @@ impl Vault {
             → MakesStep w moment job result self.new
             (devices (D.holds disk.old) (D.faults disk.old) (map (as_seen P.held P.store_faults P.other_faults P.fetches) providers.old))
             (devices (D.holds disk.new) (D.faults disk.new) (map (as_seen P.held P.store_faults P.other_faults P.fetches) providers.new)) }
+        ensures tells { is_some (D.holds disk.new) ≡ is_some (D.holds disk.old) }
         ensures left { result ≡ turn.More → left_of self.new job < left_of self.old job }
         ensures padded { IfEnded result (λ ended. HasPaddedCounts ended.answer) }
+        ensures waits { (w : State)
+            → Stands self.old (devices (D.holds disk.old) (D.faults disk.old) (map (as_seen P.held P.store_faults P.other_faults P.fetches) providers.old)) w
+            → IsIdle result → IsUnchanged self.old self.new × (disk.new ≡ disk.old) × (providers.new ≡ providers.old) }
     {
         match self.core.next(job) {
             Next::Act(action) => match self.act(job, action, disk, providers) {
@@ -56,8 +60,10 @@ impl Vault {
             → MakesTurn w moment job result self.new
             (devices (D.holds disk.old) (D.faults disk.old) (map (as_seen P.held P.store_faults P.other_faults P.fetches) providers.old))
             (devices (D.holds disk.new) (D.faults disk.new) (map (as_seen P.held P.store_faults P.other_faults P.fetches) providers.new)) }
+        ensures tells { is_some (D.holds disk.new) ≡ is_some (D.holds disk.old) }
         ensures left { result ≡ Some turn.More → left_of self.new job < left_of self.old job }
         ensures padded { IfSome result (λ turn. IfEnded turn (λ ended. HasPaddedCounts ended.answer)) }
+        ensures acted { IfSome result (λ turn. IsIdle turn → ⊥) }
     {
         match action {
             Action::WriteBody => self.write_body(job, disk),

@@ -1,4 +1,3 @@
-use Rattle.std.proofs.Common.{◌≡◌}
 use Rattle.command_lines.proofs.CountSteps.{audit_line}
 use Rattle.command_lines.proofs.audit.first_line.Goals as goal
 

@@ -1,5 +1,5 @@
-use Rattle.std.proofs.Common.{◌≡◌, ◌<◌, ◌≤◌, arith}
-use Rattle.command_lines.proofs.CountSteps.{flagged_line, ok_line}
+use Rattle.std.proofs.Common.{◌<◌, arith}
+use Rattle.command_lines.proofs.CountSteps.{flagged_line}
 use Rattle.command_lines.proofs.audit.line_of.Goals as goal
 
 pub returns-in_ok-format : goal.returns-in_ok-format

@@ -1,4 +1,4 @@
-use Rattle.std.proofs.Common.{◌≡◌, ◌++◌, List, ℕ, ap, ◌∙◌}
+use Rattle.std.proofs.Common.{◌++◌, List, ℕ, ap, ◌∙◌}
 use Rattle.command_lines.proofs.CountSteps.{counted_more}
 use Rattle.command_lines.proofs.audit.push_counts.Goals as goal
 

@@ -1,4 +1,4 @@
-use Rattle.std.proofs.Common.{◌≡◌, ◌++◌, List, ℕ, sym, ap, ◌∙◌, arith}
+use Rattle.std.proofs.Common.{◌++◌, List, ℕ, sym, ap, ◌∙◌, arith}
 use Rattle.hail_machine.specs.Lines.{line, then_number}
 use Rattle.vault_table.specs.Values.{file_of_entry}
 use Rattle.command_lines.proofs.ListSteps.{listed_more, listed_within}

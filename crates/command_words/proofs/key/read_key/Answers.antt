@@ -1,4 +1,4 @@
-use Rattle.std.proofs.Common.{List, ℕ, true, subst, sym}
+use Rattle.std.proofs.Common.{List, ℕ, subst, sym}
 use Rattle.key_schedule.specs.declared.master.Master.{Master}
 use Rattle.hail_commands.specs.Keys.{IsLineEnd}
 use Rattle.command_words.proofs.Keys.{line_end-IsKeyForm, key_read}

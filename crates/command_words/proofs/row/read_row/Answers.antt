@@ -7,8 +7,8 @@ use Rattle.command_words.proofs.RowWords.{Word, IsRowForm-from_parts, same_from_
 use Rattle.command_words.proofs.row.read_row.Goals as goal
 
 -- each part of the words was read
-pub returns : goal.returns
-returns c =
+pub returns-clause-found : goal.returns-clause-found
+returns-clause-found c =
     let words = c.args.words.now in
     let n_word = subst (λ (text : List ℕ). IsNumberWord text c.in-Some.n) c.as_str-2.ensures.value c.in-Some.ensures in
     let l_word = subst (λ (text : List ℕ). IsNumberWord text c.in-Some-read_number.l) c.as_str-3.ensures.value c.in-Some-read_number.ensures in

@@ -10,8 +10,10 @@ use Rattle.vault.specs.Devices.{devices}
 use Rattle.vault.specs.Inits.{MakesInit}
 use Rattle.vault.specs.Openings.{journal_read, IsInitFault}
 use Rattle.vault.specs.Faults.{init_answer}
+use Rattle.journal_core.proofs.MoveLemmas.{on_err}
 use Rattle.vault.proofs.Answers.{err-from}
 use Rattle.vault.proofs.FirstRecord.{set-up-on}
+use Rattle.vault.proofs.Prepared.{half-left, append-left}
 use Rattle.vault.proofs.InitEvents.{bad-refused, bad-setup, prepared-event, append-event, ready-event, err-is, cause-after, readied-blank}
 use Rattle.vault.proofs.set_up.init.Goals as goal
 
@@ -44,6 +46,10 @@ returns-in_err-prepare-clause-machine g c = λ w providers moment may are.
     (prepared-event s w moment providers (g.D.Disk.holds c.args.disk.now) (g.D.Disk.holds c.prepare.new.disk) (g.D.Disk.faults c.args.disk.now) (g.D.Disk.faults c.prepare.new.disk) why may are valid
     (c.in_err-prepare.ensures.refused s) c.in_err-prepare.ensures.looked c.in_err-prepare.ensures.left cause)
 
+pub returns-in_err-prepare-clause-left : goal.returns-in_err-prepare-clause-left
+returns-in_err-prepare-clause-left g c =
+    on_err c.from_residual.result _ (half-left (with_master c.args.setup.now c.args.master.now.0) (g.D.Disk.holds c.args.disk.now) (g.D.Disk.holds c.prepare.new.disk) c.in_err-prepare.ensures.left)
+
 pub append_setup-requires : goal.append_setup-requires
 append_setup-requires g c = sym (c.check.ensures c.args.master.now.0) ∙ c.if-not-check.false
 
@@ -60,6 +66,13 @@ returns-in_err-append_setup-clause-machine g c = λ w providers moment may are.
     subst (λ (r : Result Unit InitFault). MakesInit w moment s r after) (sym (err-is c.from_residual-in_err-append_setup.result (init_answer fault) c.from_residual-in_err-append_setup.ensures.1))
     (append-event s w moment providers (g.D.Disk.holds c.args.disk.now) (g.D.Disk.holds c.prepare.new.disk) (g.D.Disk.holds c.append_setup.new.disk) (g.D.Disk.faults c.args.disk.now)
     (g.D.Disk.faults c.append_setup.new.disk) fault may are valid c.in_ok-prepare.ensures.ok (c.in_err-append_setup.ensures.left blank) cause)
+
+pub returns-in_err-append_setup-clause-left : goal.returns-in_err-append_setup-clause-left
+returns-in_err-append_setup-clause-left g c =
+    let blank = readied-blank (g.D.Disk.holds c.args.disk.now) (g.D.Disk.holds c.prepare.new.disk) c.in_ok-prepare.ensures.ok in
+    on_err c.from_residual-in_err-append_setup.result _
+    (append-left (with_master c.args.setup.now c.args.master.now.0) (g.D.Disk.holds c.args.disk.now) (g.D.Disk.holds c.prepare.new.disk) (g.D.Disk.holds c.append_setup.new.disk)
+    c.in_ok-prepare.ensures.ok (c.in_err-append_setup.ensures.left blank))
 
 pub returns-clause-ok : goal.returns-clause-ok
 returns-clause-ok g c =

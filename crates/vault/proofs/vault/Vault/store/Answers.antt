@@ -48,7 +48,7 @@ returns-in-Err-Failed-clause-machine g c = λ w moment holds faults stands.
     (slice_get-map seen c.args.providers.now c.args.provider ∙ ap (option_map seen) (slice_get-get_or c.args.providers.now c.args.provider c.index-providers-index.result (omega (arith, c.if-index-providers.false))))
     (map-set seen c.args.providers.now c.args.provider c.store.new.to)
     _ _ _ refl refl (record { setup = refl; master = refl; shape = refl; profile = refl }) refl
-    (was_failed _ _ _ _ _ _ _ c.in-Err-Failed.is c.in-Err-Failed.field-0-is c.in_ok-store.ensures.stored) c.stop.ensures
+    (was_failed _ _ _ _ _ _ _ c.in-Err-Failed.is c.in-Err-Failed.field-0-is c.in_ok-store.ensures.stored) c.stop.ensures.stopped
 
 pub returns-in-Err-Memory-clause-machine : goal.returns-in-Err-Memory-clause-machine
 returns-in-Err-Memory-clause-machine g c = λ w moment holds faults stands.
@@ -60,4 +60,4 @@ returns-in-Err-Memory-clause-machine g c = λ w moment holds faults stands.
     (slice_get-map seen c.args.providers.now c.args.provider ∙ ap (option_map seen) (slice_get-get_or c.args.providers.now c.args.provider c.index-providers-index.result (omega (arith, c.if-index-providers.false))))
     (map-set seen c.args.providers.now c.args.provider c.store.new.to)
     _ _ _ refl refl (record { setup = refl; master = refl; shape = refl; profile = refl }) refl
-    (found_no_memory _ _ _ _ _ _ _ c.in-Err-Memory.is c.in-Err-Memory.field-0-is c.in_ok-store.ensures.stored) c.stop-in-Err-Memory.ensures
+    (found_no_memory _ _ _ _ _ _ _ c.in-Err-Memory.is c.in-Err-Memory.field-0-is c.in_ok-store.ensures.stored) c.stop-in-Err-Memory.ensures.stopped

@@ -32,4 +32,4 @@ returns-in-Err-clause-machine c = λ w moment d stands.
     let there = item_at c.args.self.now.jobs.items c.args.job c.in_ok-place.place c.index_mut.result.now at c.index_mut.ensures.value in
     lost_step c.args.self.now w d moment c.args.job _ _ stands c.requires c.in_ok-place.place c.index_mut.result.now at there
     (record { number = c.index_mut.result.now.number; task = c.work.new.self }) refl
-    _ _ _ _ _ _ c.in-Err.is refl c.in_ok-work.ensures.works refl refl (record { setup = refl; master = refl; shape = refl; profile = refl }) refl c.stop.ensures
+    _ _ _ _ _ _ c.in-Err.is refl c.in_ok-work.ensures.works refl refl (record { setup = refl; master = refl; shape = refl; profile = refl }) refl c.stop.ensures.stopped

@@ -14,7 +14,7 @@ returns-in-On-clause-machine g c = λ w moment providers stands.
 pub returns-in-Failed-clause-machine : goal.returns-in-Failed-clause-machine
 returns-in-Failed-clause-machine g c = λ w moment providers stands.
     gate_failed c.args.self.now w _ _ _ _ moment c.args.job providers stands c.requires c.in_ok-take.field-0 (sym c.in_ok-take.ensures.value)
-    _ _ _ c.in-Failed.ensures.made c.in-Failed.ensures.cause refl refl (record { setup = refl; master = refl; shape = refl; profile = refl }) c.stop.ensures
+    _ _ _ c.in-Failed.ensures.made c.in-Failed.ensures.cause refl refl (record { setup = refl; master = refl; shape = refl; profile = refl }) c.stop.ensures.stopped
 
 pub returns-in-Done-clause-machine : goal.returns-in-Done-clause-machine
 returns-in-Done-clause-machine g c = λ w moment providers stands.
@@ -24,4 +24,4 @@ returns-in-Done-clause-machine g c = λ w moment providers stands.
 pub returns-in-Memory-clause-machine : goal.returns-in-Memory-clause-machine
 returns-in-Memory-clause-machine g c = λ w moment providers stands.
     gate_unwritten c.args.self.now w _ _ _ _ moment c.args.job providers stands c.requires c.in_ok-take.field-0 (sym c.in_ok-take.ensures.value)
-    _ _ _ c.in-Memory.ensures.made c.in-Memory.ensures.cause refl refl c.take.ensures.after (record { setup = refl; master = refl; shape = refl; profile = refl }) c.stop-in-Memory.ensures
+    _ _ _ c.in-Memory.ensures.made c.in-Memory.ensures.cause refl refl c.take.ensures.after (record { setup = refl; master = refl; shape = refl; profile = refl }) c.stop-in-Memory.ensures.stopped

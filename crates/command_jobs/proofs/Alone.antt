@@ -1,0 +1,194 @@
+-- From the begin and the steps of a job to what its command tells of it.
+use Rattle.std.proofs.Common.{◌≡◌, ℕ, ◌≤◌, List, length, replicate, drop, Option, Some, None, Ok, Err, refl, ap, sym, subst, ◌∙◌, inl, inr, arith}
+use Rattle.std.specs.Option.{option_map}
+use Rattle.std.proofs.lemmas.List.{length-replicate}
+use Rattle.hail_devices.specs.Cells.{Cells, reads}
+use Rattle.hail_devices.specs.Providers.{Provider}
+use Rattle.hail_records.specs.Records.{Record}
+use Rattle.hail_records.specs.Journal.{text_size}
+use Rattle.hail_machine.specs.Jobs.{Kind}
+use Rattle.hail_machine.specs.Answers as answer
+use Rattle.hail_machine.specs.Answers.{Answer}
+use Rattle.hail_machine.specs.Events.{IsSpelledKind}
+use Rattle.hail_machine.specs.Begins.{new_job}
+use Rattle.hail_machine.specs.Heard.{Entry}
+use Rattle.hail_machine.specs.Refusals as refusal
+use Rattle.hail_machine.specs.Refusals.{Refusal}
+use Rattle.hail_machine.specs.States.{State}
+use Rattle.hail_machine.specs.Stands.{StandsForState}
+use Rattle.hail_commands.specs.Seen.{Seen, nobody}
+use Rattle.hail_commands.specs.Opens as opens
+use Rattle.hail_commands.specs.Opens.{setup_at}
+use Rattle.hail_commands.specs.Refusals as commands
+use Rattle.hail_commands.specs.JobRuns.{IsOpenedOver, GoesOnTo}
+use Rattle.hail_commands.specs.JobRuns as job_runs
+use Rattle.hail_commands.specs.Jobs.{past, SamePast, RanAlone, RunsAlone, LeftAlone}
+use Rattle.lone_laws.specs.Walked.{IsOpened}
+use Rattle.lone_laws.proofs.Walk.{walk-begin}
+use Rattle.vault_core.specs.declared.wish.BeginFault.{BeginFault}
+use Rattle.vault_core.specs.declared.wish.BeginFault.TheVariants as begin_fault
+use Rattle.vault_core.specs.Carried.{refusal_of}
+use Rattle.vault.specs.declared.turn.Ended.{Ended}
+use Rattle.vault.specs.declared.vault.Vault.{Vault}
+use Rattle.vault.specs.Devices.{Devices, devices}
+use Rattle.vault.specs.Outcomes.{answer_of}
+use Rattle.vault.specs.Stands.{Stands, MakesBegin}
+use Rattle.command_jobs.specs.Opened.{IsFresh}
+use Rattle.command_jobs.specs.Going.{IsOnly, IsUnderWay, GoesToEnd}
+use Rattle.command_jobs.specs.Ends.{IsSeenBefore, IsSeenAfter, IsRefusedOver, EndsOver}
+use Rattle.command_jobs.proofs.Begins.{refusal-of, spelled-begun}
+use Rattle.command_jobs.proofs.Fresh.{OpensAll, ThereIsOne, over-opened, just-opened}
+
+-- what the laws on commands say of what is left
+abbrev pub LeavesAll : Type 0
+LeavesAll = (records : List Record) (kind : Kind) (answer : Answer) (old new : Seen) (heard : List Entry) → opens.IsOpened old records → IsSpelledKind kind → length new.providers ≡ length old.providers →
+    RunsAlone records kind answer old new heard → LeftAlone records kind answer old new heard
+
+-- ---- what the disk reads past the text, from the time before the opening on
+
+past-of : (rs : List Record) (a b : Option Cells) → option_map reads b ≡ option_map reads a → option_map (past rs) b ≡ option_map (past rs) a
+past-of rs a b e = sym (through b) ∙ (ap (option_map (drop (text_size rs))) e ∙ through a)
+  where
+    through : (told : Option Cells) → option_map (drop (text_size rs)) (option_map reads told) ≡ option_map (past rs) told
+    through None = refl
+    through (Some cells) = refl
+
+past-before : (how : Answer) (rs : List Record) (a b c : Option Cells) → option_map reads b ≡ option_map reads a → SamePast how rs b c → SamePast how rs a c
+past-before answer.Put rs a b c e h = h ∙ past-of rs a b e
+past-before (answer.Got bytes) rs a b c e h = h ∙ past-of rs a b e
+past-before answer.Dropped rs a b c e h = h ∙ past-of rs a b e
+past-before (answer.Audited number undecided counts) rs a b c e h = h ∙ past-of rs a b e
+past-before (answer.Repaired number) rs a b c e h = h ∙ past-of rs a b e
+past-before (answer.Lost stripe row) rs a b c e h = h ∙ past-of rs a b e
+past-before (answer.ProviderFault j) rs a b c e h = h ∙ past-of rs a b e
+past-before answer.DiskFault rs a b c e h = tt
+past-before answer.Memory rs a b c e h = tt
+
+-- ---- the begin
+
+-- what the vault says of its begin
+abbrev pub BeginsAs : Vault → Kind → ℕ → Vault → Type 0
+BeginsAs old kind number new = (w : State) (d : Devices) (moment : ℕ) → Stands old d w → MakesBegin w moment kind (Ok number) new d
+
+abbrev pub RefusesAs : Vault → Kind → BeginFault → Vault → Type 0
+RefusesAs old kind why new = (w : State) (d : Devices) (moment : ℕ) → Stands old d w → MakesBegin w moment kind (Err why) new d
+
+-- a job that began over a state just opened
+record HasBegun (w : State) (kind : Kind) (number : ℕ) (v : Vault) (d : Devices) : Type 0 where
+  made : MakesBegin w 1 kind (Ok number) v d
+  spelled : IsSpelledKind kind
+  first : number ≡ 1
+  only : IsOnly w kind made.state
+  unrefused : commands.refusal_of w.records kind ≡ None
+
+has-begun : (w : State) (kind : Kind) (number : ℕ) (old new : Vault) (d : Devices) → IsOpened w → Stands old d w → BeginsAs old kind number new → HasBegun w kind number new d
+has-begun w kind number old new d O stands begins =
+    (let M = begins w d 1 stands in
+    let s = spelled-begun w M.state kind number O.rest.idle.0 M.begins M.stands.core.sound in
+    let b = walk-begin 1 number w M.state kind O s M.begins in
+    record {
+      made = M;
+      spelled = s;
+      first = b.0;
+      only = record { opened = O; job = new_job w 1 kind; walked = b.1 };
+      unrefused = sym (refusal-of w kind O.rest.idle.0 O.rest.idle.2) ∙ M.begins.1;
+    })
+
+-- ---- over a vault that was just opened
+
+module _ (law : OpensAll) (there : ThereIsOne) (v : Vault) (records : List Record) (holds : Option Cells) (faults : ℕ) (F : IsFresh v records holds faults) where
+  -- a state that was just opened, for which the vault stands
+  record Opened (providers : List Provider) (w : State) : Type 0 where
+    over : IsOpenedOver w records faults providers
+    opened : IsOpened w
+    stands : Stands v (devices holds faults providers) w
+
+  opened-at : (providers : List Provider) (w : State) → (setup_at records).n ≤ length providers → IsOpenedOver w records faults providers → Opened providers w
+  opened-at providers w enough over =
+      (let O = over-opened law w records faults providers F.read enough over in
+      record { over = over; opened = O; stands = F.stands w providers (just-opened w records faults providers O over) })
+
+  opened-one : (providers : List Provider) → (setup_at records).n ≤ length providers → (w : State) × Opened providers w
+  opened-one providers enough = (let x = there records faults providers F.read.accepted in (x.0, opened-at providers x.0 enough x.1))
+
+  pub under-way : (next : Vault) (kind : Kind) (number : ℕ) (providers : List Provider) → (setup_at records).n ≤ length providers → BeginsAs v kind number next → (number ≡ 1) × IsUnderWay next (devices holds faults providers)
+  under-way next kind number providers enough begins =
+      (let x = opened-one providers enough in
+      let h = has-begun x.0 kind number v next (devices holds faults providers) x.1.opened x.1.stands begins in
+      (h.first, record { start = x.0; kind = kind; state = h.made.state; only = h.only; stands = h.made.stands }))
+
+  memory-is : (why : BeginFault) → refusal_of why ≡ refusal.Memory → why ≡ begin_fault.Memory
+  memory-is begin_fault.MustReopen e = cc
+  memory-is begin_fault.Busy e = cc
+  memory-is begin_fault.BadName e = cc
+  memory-is begin_fault.TooLong e = cc
+  memory-is begin_fault.NoSuchName e = cc
+  memory-is begin_fault.TooManyFiles e = cc
+  memory-is begin_fault.RepairDue e = cc
+  memory-is begin_fault.NothingDue e = cc
+  memory-is begin_fault.JournalFull e = cc
+  memory-is begin_fault.Memory e = refl
+
+  pub refused-over : (next : Vault) (kind : Kind) (why : BeginFault) → RefusesAs v kind why next → IsRefusedOver records kind why
+  refused-over next kind why refuses =
+      (let ps : List Provider = replicate (setup_at records).n nobody in
+      let few : (setup_at records).n ≤ length ps = (let e = length-replicate (setup_at records).n nobody in omega (arith, e)) in
+      let x = opened-one ps few in
+      let O = x.1.opened in
+      let M = refuses x.0 (devices holds faults ps) 1 x.1.stands in
+      elim M.begins.1 [
+        | inl e ↦ inr (subst (λ rs. commands.refusal_of rs kind ≡ Some (refusal_of why)) x.1.over.records (sym (refusal-of x.0 kind O.rest.idle.0 O.rest.idle.2) ∙ e))
+        | inr e ↦ inl (memory-is why e)
+      ])
+
+  module _ (leaves : LeavesAll) (next last : Vault) (kind : Kind) (number : ℕ) (ended : Ended) (providers after : List Provider) (new_holds : Option Cells) (new_faults : ℕ) (begins : BeginsAs v kind number next)
+      (goes : (start w : State) (kind : Kind) (moment : ℕ) → IsOnly start kind w → Stands next (devices holds faults providers) w → GoesToEnd w moment ended last (devices holds faults providers) (devices new_holds new_faults after))
+      (same : length after ≡ length providers)
+      (old new : Seen) (R : opens.IsOpened old records) (B : IsSeenBefore old (devices holds faults providers)) (A : IsSeenAfter new (devices new_holds new_faults after)) where
+    enough : (setup_at records).n ≤ length providers
+    enough = subst (λ (ps : List Provider). (setup_at records).n ≤ length ps) B.providers R.enough
+
+    ran-alone : (w : State) → IsOpenedOver w records faults providers → RanAlone records kind (answer_of ended.answer) old new ended.heard faults w
+    ran-alone w over =
+        (let x = opened-at providers w enough over in
+        let h = has-begun w kind number v next (devices holds faults providers) x.opened x.stands begins in
+        let G = goes w h.made.state kind 2 h.only h.made.stands in
+        record {
+          last = G.last;
+          runs = record {
+            begun = h.made.state;
+            job = number;
+            begins = h.made.begins;
+            goes_on = subst (λ n. GoesOnTo h.made.state 2 n (answer_of ended.answer) ended.heard G.last) (sym h.first) G.goes;
+          };
+          images = subst (λ told. StandsForState told G.last) (sym A.disk) G.stands.devices.images;
+          faults_are = G.stands.devices.faults ∙ sym A.faults;
+          handed = subst (λ (ps : List Provider). job_runs.AreHanded ps G.last) (sym A.providers) (record { count = G.stands.devices.providers.count; each = G.stands.devices.providers.each });
+          past_text = subst (λ told. SamePast (answer_of ended.answer) G.last.records old.disk told) (sym A.disk) (past-before (answer_of ended.answer) G.last.records old.disk holds new_holds B.reads G.past_text);
+        })
+
+    runs-alone : RunsAlone records kind (answer_of ended.answer) old new ended.heard
+    runs-alone = record {
+      faults = faults;
+      before = B.faults;
+      ran = λ w over. ran-alone w (subst (λ (ps : List Provider). IsOpenedOver w records faults ps) B.providers over);
+    }
+
+    begun-one : (w : State) × (HasBegun w kind number next (devices holds faults providers) × (w.records ≡ records))
+    begun-one = (let x = opened-one providers enough in (x.0, (has-begun x.0 kind number v next (devices holds faults providers) x.1.opened x.1.stands begins, x.1.over.records)))
+
+    left-alone : LeftAlone records kind (answer_of ended.answer) old new ended.heard
+    left-alone = leaves records kind (answer_of ended.answer) old new ended.heard R begun-one.1.0.spelled (ap length A.providers ∙ (same ∙ sym (ap length B.providers))) runs-alone
+
+    pub ends-over : EndsOver records kind ended old new
+    ends-over = record {
+      unrefused = subst (λ rs. commands.refusal_of rs kind ≡ None) begun-one.1.1 begun-one.1.0.unrefused;
+      runs = runs-alone;
+      left = left-alone;
+      counts = record {
+        disk = (let a = left-alone.before in let b = left-alone.leaves.counts.disk in omega (arith, a, b));
+        handed = ap length A.providers ∙ (same ∙ sym (ap length B.providers));
+        stores = left-alone.leaves.counts.stores;
+        others = left-alone.leaves.counts.others;
+      };
+    }

@@ -1,0 +1,6 @@
+pub mod Acting
+pub mod Begins
+pub mod Readings
+pub mod Fresh
+pub mod Goings
+pub mod Alone

@@ -1,0 +1,183 @@
+-- A repair with few providers that are wrong or fail writes the files' own blocks.
+use Rattle.std.proofs.Common.{◌≡◌, ℕ, zero, suc, ◌+◌, ◌<◌, ◌≤◌, ◌&&◌, ◌⊎◌, Bool, true, false, cond, List, [], ◌∷◌, ◌++◌, length, map, get_or, Option, None, Some, refl, ap, sym, subst, ◌∙◌, inl, inr, arith, All}
+use Rattle.std.specs.Prelude.{IfSome, nat_lt, is_some, is_none}
+use Rattle.std.specs.List.{flat_map, range_with_len}
+use Rattle.std.proofs.lemmas.Bool.{cases_Bool, cases_eq, false≢true}
+use Rattle.hail_field.specs.Shape.{IsShape}
+use Rattle.hail_codes.specs.Points.{upto}
+use Rattle.hail_columns.specs.Objects.{Object, stripes, symbols_in}
+use Rattle.hail_columns.specs.Columns.{is_wrong_block, is_wrong, columns, column_of_symbols}
+use Rattle.hail_columns.specs.Opened.{block_at}
+use Rattle.hail_columns.specs.Verdicts.{is_flagged}
+use Rattle.column_laws.proofs.Counts.{count_of-within}
+use Rattle.column_laws.proofs.RightRows.{symbols-right}
+use Rattle.hail_devices.specs.Providers.{Held}
+use Rattle.hail_devices.specs.Told.{Goes}
+use Rattle.hail_records.specs.Records.{Record}
+use Rattle.hail_records.specs.Table.{File, Due, file_of, files_of, find_file, due_of, is_same_name}
+use Rattle.hail_records.proofs.FilesLaws.{find-files_of}
+use Rattle.hail_machine.specs.Setups.{object_of, stripes_of}
+use Rattle.hail_machine.specs.Jobs.{RepairJob}
+use Rattle.hail_machine.proofs.JobLists.{cond_true, cond_false, same_value}
+use Rattle.hail_machine.proofs.RecordFacts.{In}
+use Rattle.hail_commands.specs.Seen.{Seen, Ending}
+use Rattle.hail_commands.specs.Opens.{setup_at}
+use Rattle.hail_commands.specs.Audits.{with_number, files_by_number}
+use Rattle.hail_commands.specs.Ran.{Ran, setup_at_begin}
+use Rattle.hail_commands.specs.Repairs.{Place, places_of, blocks_at, held_at, flags, IfFlagged, GivesPlace, RewrittenOn, RewritesAll}
+use Rattle.hail_commands.specs.Truthful.{missing, IsTruthful}
+use Rattle.hail_commands.specs.Commands.{AnswersAlone}
+use Rattle.command_laws.specs.Failing.{has_risen, is_bad_with, is_bad, bad_count, bad_seen}
+use Rattle.command_laws.specs.Ends.{IsDone, IsKnown, HoldsFile, IsRepaired, ran_to, after_repair}
+use Rattle.command_laws.proofs.Complete.{block_at-map, wrong-sized, not-wrong-each, not-risen, or-left}
+use Rattle.command_laws.proofs.Known.{known-once}
+use Rattle.command_laws.proofs.GetEnds.{shape-at}
+use Rattle.command_laws.proofs.JobEnds.{repair-done}
+
+-- ---- elements of lists
+
+in-left : {X : Type 0} (xs ys : List X) (z : X) → In z xs → In z (xs ++ ys)
+in-left [] ys z i = absurd i
+in-left (x ∷ xs) ys z (inl e) = inl e
+in-left (x ∷ xs) ys z (inr i) = inr (in-left xs ys z i)
+
+in-right : {X : Type 0} (xs ys : List X) (z : X) → In z ys → In z (xs ++ ys)
+in-right [] ys z i = i
+in-right (x ∷ xs) ys z i = inr (in-right xs ys z i)
+
+in-range : {X : Type 0} (f : ℕ → X) (a n j : ℕ) → a ≤ j → j < a + n → In (f j) (map f (range_with_len a n))
+in-range f a zero j l u = absurd (omega (arith, l, u))
+in-range f a (suc n) j l u = elim (cases_eq j a) [
+  | inl e ↦ inl (ap f e)
+  | inr m ↦ inr (in-range f (a + 1) n j (omega (arith, l, m)) (omega (arith, u)))
+]
+
+in-flat : {X Y : Type 0} (g : X → List Y) (xs : List X) (x : X) (z : Y) → In x xs → In z (g x) → In z (flat_map g xs)
+in-flat g [] x z i h = absurd i
+in-flat g (y ∷ xs) x z (inl e) h = in-left (g y) (flat_map g xs) z (subst (λ q. In z (g q)) e h)
+in-flat g (y ∷ xs) x z (inr i) h = in-right (g y) (flat_map g xs) z (in-flat g xs x z i h)
+
+in-number : (f : File) (fs : List File) (z : File) → (z ≡ f) ⊎ In z fs → In z (with_number f fs)
+in-number f [] z (inl e) = inl e
+in-number f [] z (inr i) = absurd i
+in-number f (g ∷ gs) z (inl e) = elim (cases_Bool (nat_lt f.id g.id)) [
+  | inl t ↦ subst (λ l. In z l) (sym (cond_true (nat_lt f.id g.id) (f ∷ g ∷ gs) (g ∷ with_number f gs) t)) (inl e)
+  | inr o ↦ subst (λ l. In z l) (sym (cond_false (nat_lt f.id g.id) (f ∷ g ∷ gs) (g ∷ with_number f gs) o)) (inr (in-number f gs z (inl e)))
+]
+in-number f (g ∷ gs) z (inr (inl e)) = elim (cases_Bool (nat_lt f.id g.id)) [
+  | inl t ↦ subst (λ l. In z l) (sym (cond_true (nat_lt f.id g.id) (f ∷ g ∷ gs) (g ∷ with_number f gs) t)) (inr (inl e))
+  | inr o ↦ subst (λ l. In z l) (sym (cond_false (nat_lt f.id g.id) (f ∷ g ∷ gs) (g ∷ with_number f gs) o)) (inl e)
+]
+in-number f (g ∷ gs) z (inr (inr i)) = elim (cases_Bool (nat_lt f.id g.id)) [
+  | inl t ↦ subst (λ l. In z l) (sym (cond_true (nat_lt f.id g.id) (f ∷ g ∷ gs) (g ∷ with_number f gs) t)) (inr (inr i))
+  | inr o ↦ subst (λ l. In z l) (sym (cond_false (nat_lt f.id g.id) (f ∷ g ∷ gs) (g ∷ with_number f gs) o)) (inr (in-number f gs z (inr i)))
+]
+
+in-by_number : (fs : List File) (z : File) → In z fs → In z (files_by_number fs)
+in-by_number [] z i = absurd i
+in-by_number (f ∷ fs) z (inl e) = in-number f (files_by_number fs) z (inl e)
+in-by_number (f ∷ fs) z (inr i) = in-number f (files_by_number fs) z (inr (in-by_number fs z i))
+
+find-in : (fs : List File) (name : List ℕ) (z : File) → find_file fs name ≡ Some z → In z fs
+find-in [] name z h = absurd (let e : None ≡ Some z = h in cc)
+find-in (f ∷ fs) name z h = elim (cases_Bool (is_same_name f.name name)) [
+  | inl t ↦ (let e : Some z ≡ Some f = sym h ∙ cond_true (is_same_name f.name name) (Some f) (find_file fs name) t in inl (let g : z ≡ f = cc in g))
+  | inr o ↦ inr (find-in fs name z (sym (cond_false (is_same_name f.name name) (Some f) (find_file fs name) o) ∙ h))
+]
+
+in-index : {X : Type 0} (xs : List X) (z : X) → In z xs → (k : ℕ) × (k < length xs) × ((d : X) → get_or xs k d ≡ z)
+in-index [] z i = absurd i
+in-index (x ∷ xs) z (inl e) = (0, omega arith, λ d. sym e)
+in-index (x ∷ xs) z (inr i) = (let h = in-index xs z i in (suc h.0, (let l = h.1 in omega (arith, l)), λ d. h.2 d))
+
+all-in : {X : Type 0} (P : X → Type 0) (xs : List X) (z : X) → All P xs → In z xs → P z
+all-in P xs z all i = (let h = in-index xs z i in subst P (h.2 z) (all h.0 z h.1))
+
+-- ---- what was given where no count rose
+
+missing-in : {A B : Type 0} (given held : A → Option B) (xs : List A) (z : A) → In z xs → (is_none (given z) && is_some (held z)) ≡ true → 1 ≤ missing given held xs
+missing-in given held [] z i e = absurd i
+missing-in given held (x ∷ xs) z (inl same) e =
+    (let c : ◌≡◌ {A = ℕ} (cond (is_none (given x) && is_some (held x)) 1 0) 1 = cond_true (is_none (given x) && is_some (held x)) 1 0 (subst (λ y. (is_none (given y) && is_some (held y)) ≡ true) same e) in omega (arith, c))
+missing-in given held (x ∷ xs) z (inr i) e = (let r = missing-in given held xs z i e in omega (arith, r))
+
+held-in : {A B : Type 0} (given held : A → Option B) (xs : List A) (z : A) (before now : ℕ) → IsTruthful given held xs before now → has_risen before now ≡ false → In z xs → given z ≡ held z
+held-in given held xs z before now T calm i =
+    (let c = not-risen before now calm in
+    let few : before + missing given held xs ≤ now = T.few c.1 in
+    elim (all-in (λ y. (given y ≡ held y) ⊎ (given y ≡ None)) xs z T.each i) [ inl same ↦ same | inr none ↦ by_held (held z) refl none few c.0 ])
+  where
+    by_held : (h : Option _) → held z ≡ h → given z ≡ None → before + missing given held xs ≤ now → now ≤ before → given z ≡ held z
+    by_held None e none few low = none ∙ sym e
+    by_held (Some b) e none few low = absurd (let both : (is_none (given z) && is_some (held z)) ≡ true = (λ k. is_none (none k) && is_some (e k)) in
+        let r = missing-in given held xs z i both in omega (arith, r, few, low))
+
+-- ---- a place of a file
+
+module _ (x : Ran) (shape : IsShape (setup_at_begin x).n (setup_at_begin x).l (setup_at_begin x).b) (due : Due) (W : RewritesAll x due) (name : List ℕ) (file : File) (bytes : List ℕ)
+    (in_effect : file_of x.records name ≡ Some file) (size : length bytes ≡ file.size) (few : bad_count x file.id bytes ≤ (setup_at_begin x).b) (stripe : ℕ) (within : stripe < stripes_of (setup_at_begin x) file.size) where
+  abbrev o : Object
+  o = object_of (setup_at_begin x) file.id
+
+  abbrev place : Place
+  place = record { object = file.id; stripe = stripe }
+
+  asked : In place (places_of x)
+  asked = in-flat (λ (f : File). map (λ t. record { object = f.id; stripe = t }) (upto (stripes_of (setup_at_begin x) f.size))) (files_by_number (files_of x.records)) file place
+      (in-by_number (files_of x.records) file (find-in (files_of x.records) name file (find-files_of x.records name ∙ in_effect)))
+      (in-range (λ t. record { object = file.id; stripe = t }) 0 (stripes_of (setup_at_begin x) file.size) stripe (omega arith) (omega (arith, within)))
+
+  inside : stripe < stripes o (length bytes)
+  inside = subst (λ n. stripe < stripes_of (setup_at_begin x) n) (sym size) within
+
+  good-given : (j : ℕ) → j < (setup_at_begin x).n → is_bad x file.id bytes j ≡ false → is_wrong_block o bytes j stripe (block_at (blocks_at x W.gave place) j) ≡ false
+  good-given j below good = by_held (x.old j).held good (W.truth j below)
+    where
+      by_held : (h : Option Held) → is_bad_with o bytes j (x.old j) (x.new j) h ≡ false →
+          IfSome h (λ held. IsTruthful (W.gave j) (held_at x held) (places_of x) (x.old j).other_faults (x.new j).other_faults) →
+          is_wrong_block o bytes j stripe (block_at (blocks_at x W.gave place) j) ≡ false
+      by_held None g T = absurd (false≢true (sym g))
+      by_held (Some held) g T =
+          (let p = or-left (is_wrong o bytes j (held file.id)) (has_risen (x.old j).other_faults (x.new j).other_faults) g in
+          let same = held-in (W.gave j) (held_at x held) (places_of x) place (x.old j).other_faults (x.new j).other_faults T p.1 asked in
+          ap (is_wrong_block o bytes j stripe) (block_at-map (λ i. W.gave i place) (setup_at_begin x).n j below ∙ same)
+          ∙ (wrong-sized o bytes j stripe (held file.id stripe) ∙ not-wrong-each o bytes j (held file.id) p.0 stripe inside))
+
+  bad-given : (j : ℕ) → j < 0 + (setup_at_begin x).n → is_wrong_block o bytes j stripe (block_at (blocks_at x W.gave place) j) ≡ true → is_bad x file.id bytes j ≡ true
+  bad-given j below wrong = elim (cases_Bool (is_bad x file.id bytes j)) [
+    | inl y ↦ y
+    | inr n ↦ absurd (false≢true (sym (good-given j (omega (arith, below)) n) ∙ wrong))
+  ]
+
+  right-symbols : W.symbols place ≡ symbols_in o bytes stripe
+  right-symbols =
+      (let fewer = count_of-within (λ j. is_wrong_block o bytes j stripe (block_at (blocks_at x W.gave place) j)) (is_bad x file.id bytes) 0 (setup_at_begin x).n bad-given in
+      symbols-right o bytes (setup_at_begin x).profile stripe (blocks_at x W.gave place) (W.symbols place) refl shape (omega (arith, fewer, few)) (all-in (GivesPlace x W.gave W.symbols) (places_of x) place W.gives asked))
+
+  goes : (flag : Bool) (j : ℕ) (old new : Option Held) → flag ≡ true → Goes (IfFlagged flag (RewrittenOn (setup_at_begin x) W.symbols (places_of x) j)) old new →
+      IfSome new (λ held. held file.id stripe ≡ Some (columns o bytes j stripe))
+  goes flag j old None flagged h = tt
+  goes flag j None (Some held) flagged h = absurd h
+  goes true j (Some before) (Some held) flagged h = all-in (λ p. held p.object p.stripe ≡ Some (column_of_symbols (object_of (setup_at_begin x) p.object) (W.symbols p) j p.stripe)) (places_of x) place h.stored asked ∙ ap (λ s. Some (column_of_symbols o s j stripe)) right-symbols
+  goes false j (Some before) (Some held) flagged h = absurd (false≢true flagged)
+
+  pub holds-right : (j : ℕ) → j < (setup_at_begin x).n → flags x due j ≡ true → IfSome (x.new j).held (λ held. held file.id stripe ≡ Some (columns o bytes j stripe))
+  holds-right j below flagged = goes (flags x due j) j (x.old j).held (x.new j).held flagged (W.held j below)
+
+-- ---- the repair of a command
+
+pub repair-right : (name bytes : List ℕ) (records : List Record) (file : File) (due : Due) (j : ℕ) (old new : Seen) (end : Ending) → AnswersAlone RepairJob old new end → IsKnown old records → IsDone end →
+    due_of records ≡ Some due → file_of records name ≡ Some file → length bytes ≡ file.size → bad_seen records old new file.id bytes ≤ (setup_at records).b → j < (setup_at records).n →
+    is_flagged (setup_at records).tolerance due.counts j ≡ true → HoldsFile records new bytes file j
+repair-right name bytes records file due j old new end A K done is_due in_effect size few below flagged =
+    (let R = repair-done old new end A done in
+    let same : R.records ≡ records = known-once old records R.records K R.opened.read in
+    subst (λ rs. due_of rs ≡ Some due → file_of rs name ≡ Some file → bad_seen rs old new file.id bytes ≤ (setup_at rs).b → j < (setup_at rs).n →
+    is_flagged (setup_at rs).tolerance due.counts j ≡ true → HoldsFile rs new bytes file j) same (by-records R) is_due in_effect few below flagged)
+  where
+    by-records : (R : IsRepaired old new end) → due_of R.records ≡ Some due → file_of R.records name ≡ Some file → bad_seen R.records old new file.id bytes ≤ (setup_at R.records).b → j < (setup_at R.records).n →
+        is_flagged (setup_at R.records).tolerance due.counts j ≡ true → HoldsFile R.records new bytes file j
+    by-records R is in_effect few below flagged stripe within =
+        (let due_is : R.due ≡ due = same_value (due_of R.records) R.due due R.is_due is in
+        holds-right (ran_to (after_repair R.records R.due) R.records old new end.heard) (shape-at old R.records R.opened) R.due R.rewritten name file bytes in_effect size few stripe within j below
+        (subst (λ (d : Due). is_flagged (setup_at R.records).tolerance d.counts j ≡ true) (sym due_is) flagged))

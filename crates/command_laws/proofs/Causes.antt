@@ -1,0 +1,176 @@
+-- A status of a fault comes only where the count of that device rose.
+use Rattle.std.proofs.Common.{◌≡◌, ℕ, ◌==◌, Bool, true, false, List, refl, ap, sym, ◌∙◌, subst, inl, inr, arith}
+use Rattle.std.specs.Prelude.{if◌then◌else◌}
+use Rattle.std.proofs.lemmas.Bool.{false≢true}
+use Rattle.hail_devices.specs.Faults.{Rose}
+use Rattle.hail_records.specs.Records.{Record}
+use Rattle.hail_machine.specs.Jobs.{Kind, PutJob, GetJob, DropJob, AuditJob, RepairJob}
+use Rattle.hail_machine.specs.Answers as answer
+use Rattle.hail_machine.specs.Answers.{Answer}
+use Rattle.hail_machine.specs.Refusals as refusal
+use Rattle.hail_machine.specs.Refusals.{Refusal}
+use Rattle.hail_commands.specs.Forms.{Command, Numbers, RowOf, InitWith, PutUnder, GetOf, DropOf, ListAll, AuditAll, RepairDue}
+use Rattle.hail_commands.specs.Sinking.{Writes}
+use Rattle.hail_commands.specs.Seen.{Seen, Ending, provider_at, sinking}
+use Rattle.hail_commands.specs.Opens.{Unstarted}
+use Rattle.hail_commands.specs.Refusals.{status_of}
+use Rattle.hail_commands.specs.Ran.{Ran}
+use Rattle.hail_commands.specs.Jobs.{AnswersJob, EndsBy, LeavesBy, LeftAlone}
+use Rattle.hail_commands.specs.Inits.{AnswersInit, InitsDisk}
+use Rattle.hail_commands.specs.Commands.{AnswersPut, AnswersAlone, AnswersList, Answers}
+use Rattle.command_laws.specs.Ends.{FaultsHaveCauses, opens_store}
+use Rattle.command_laws.proofs.JobEnds.{rose-before}
+use Rattle.command_laws.proofs.GetEnds.{ran_left}
+
+-- a status of a fault
+abbrev is_fault : ℕ → Bool
+is_fault n = if n == 12 then true else if n == 13 then true else if n == 14 then true else n == 15
+
+module _ (old new : Seen) (end : Ending) where
+  not-fault : (n m : ℕ) → is_fault n ≡ false → is_fault m ≡ true → end.status ≡ n → end.status ≡ m → ⊥
+  not-fault n m sound bad is also = false≢true (sym sound ∙ (ap is_fault (sym is ∙ also) ∙ bad))
+
+  none-rose : (n : ℕ) → is_fault n ≡ false → end.status ≡ n → FaultsHaveCauses old new end
+  none-rose n sound is = record {
+    disk = λ e. absurd (not-fault n 12 sound refl is e);
+    provider = λ e. absurd (not-fault n 13 sound refl is e);
+    source = λ e. absurd (not-fault n 14 sound refl is e);
+    sink = λ e. absurd (not-fault n 15 sound refl is e);
+  }
+
+  differ : (n m : ℕ) → (n ≡ m → ⊥) → end.status ≡ n → end.status ≡ m → ⊥
+  differ n m other is also = other (sym is ∙ also)
+
+  disk-rose : end.status ≡ 12 → Rose old.disk_faults new.disk_faults → FaultsHaveCauses old new end
+  disk-rose is rose = record {
+    disk = λ e. rose;
+    provider = λ e. absurd (differ 12 13 (λ k. omega (arith, k)) is e);
+    source = λ e. absurd (differ 12 14 (λ k. omega (arith, k)) is e);
+    sink = λ e. absurd (differ 12 15 (λ k. omega (arith, k)) is e);
+  }
+
+  provider-rose : end.status ≡ 13 → Rose (provider_at old.providers end.at).store_faults (provider_at new.providers end.at).store_faults → FaultsHaveCauses old new end
+  provider-rose is rose = record {
+    disk = λ e. absurd (differ 13 12 (λ k. omega (arith, k)) is e);
+    provider = λ e. rose;
+    source = λ e. absurd (differ 13 14 (λ k. omega (arith, k)) is e);
+    sink = λ e. absurd (differ 13 15 (λ k. omega (arith, k)) is e);
+  }
+
+  source-rose : end.status ≡ 14 → Rose old.source_faults new.source_faults → FaultsHaveCauses old new end
+  source-rose is rose = record {
+    disk = λ e. absurd (differ 14 12 (λ k. omega (arith, k)) is e);
+    provider = λ e. absurd (differ 14 13 (λ k. omega (arith, k)) is e);
+    source = λ e. rose;
+    sink = λ e. absurd (differ 14 15 (λ k. omega (arith, k)) is e);
+  }
+
+  sink-rose : end.status ≡ 15 → Rose old.sink_faults new.sink_faults → FaultsHaveCauses old new end
+  sink-rose is rose = record {
+    disk = λ e. absurd (differ 15 12 (λ k. omega (arith, k)) is e);
+    provider = λ e. absurd (differ 15 13 (λ k. omega (arith, k)) is e);
+    source = λ e. absurd (differ 15 14 (λ k. omega (arith, k)) is e);
+    sink = λ e. rose;
+  }
+
+  written-causes : (text : List ℕ) → Writes text end.status (sinking old new) → FaultsHaveCauses old new end
+  written-causes text (inl w) = none-rose 0 refl w.0
+  written-causes text (inr (inl w)) = sink-rose w.1 w.2
+  written-causes text (inr (inr w)) = none-rose 70 refl w.0
+
+  unstarted-causes : Unstarted old new end → FaultsHaveCauses old new end
+  unstarted-causes (Unstarted.disk_fault rose r) = disk-rose r.status_is rose
+  unstarted-causes (Unstarted.not_set_up is r) = none-rose 9 refl r.status_is
+  unstarted-causes (Unstarted.bad_journal at is r) = none-rose 8 refl r.status_is
+  unstarted-causes (Unstarted.too_few_providers records read few synced r) = none-rose 22 refl r.status_is
+  unstarted-causes (Unstarted.no_memory r) = none-rose 70 refl r.status_is
+
+  refused-none : (why : Refusal) → is_fault (status_of why) ≡ false
+  refused-none refusal.NoSuchName = refl
+  refused-none refusal.RepairDue = refl
+  refused-none refusal.NothingDue = refl
+  refused-none refusal.JournalFull = refl
+  refused-none refusal.TooLong = refl
+  refused-none refusal.BadName = refl
+  refused-none refusal.TooManyFiles = refl
+  refused-none refusal.MustReopen = refl
+  refused-none refusal.Busy = refl
+  refused-none refusal.Memory = refl
+  refused-none refusal.BadSetup = refl
+  refused-none refusal.DiskFault = refl
+  refused-none (refusal.BadJournal at) = refl
+  refused-none refusal.Already = refl
+  refused-none refusal.NotSetUp = refl
+  refused-none refusal.TooFewProviders = refl
+  refused-none refusal.NoSuchJob = refl
+
+  -- what a job left that ended in a fault
+  disk-by : (x : Ran) (kind : Kind) → LeavesBy x kind answer.DiskFault → Rose x.disk_before x.disk_after
+  disk-by x (PutJob name bytes) L = L.0.0
+  disk-by x (GetJob name) L = absurd L.gives
+  disk-by x (DropJob name) L = L.0.0
+  disk-by x AuditJob L = L.gives.0
+  disk-by x RepairJob L = L.0.gives.0
+
+  provider-by : (x : Ran) (kind : Kind) (j : ℕ) → LeavesBy x kind (answer.ProviderFault j) → Rose (x.old j).store_faults (x.new j).store_faults
+  provider-by x (PutJob name bytes) j L = L.0.1
+  provider-by x (GetJob name) j L = absurd L.gives
+  provider-by x (DropJob name) j L = absurd L.0
+  provider-by x AuditJob j L = absurd L.gives
+  provider-by x RepairJob j L = L.0.gives.2
+
+  ended-causes : (kind : Kind) (records : List Record) (text : List ℕ) (how : Answer) → LeftAlone records kind how old new end.heard → EndsBy text how old new end → FaultsHaveCauses old new end
+  ended-causes kind records text (answer.Lost stripe row) left by = none-rose 4 refl by.status_is
+  ended-causes kind records text (answer.ProviderFault j) left by =
+      provider-rose by.status_is (subst (λ k. Rose (provider_at old.providers k).store_faults (provider_at new.providers k).store_faults) (sym by.place)
+      (provider-by (ran_left records kind (answer.ProviderFault j) old new end.heard left) kind j left.leaves.by_kind))
+  ended-causes kind records text answer.DiskFault left by =
+      disk-rose by.status_is (rose-before old.disk_faults left.faults new.disk_faults left.before left.leaves.counts.disk (disk-by (ran_left records kind answer.DiskFault old new end.heard left) kind left.leaves.by_kind))
+  ended-causes kind records text answer.Memory left by = none-rose 70 refl by.status_is
+  ended-causes kind records text answer.Put left by = written-causes text by.written
+  ended-causes kind records text (answer.Got bytes) left by = written-causes text by.written
+  ended-causes kind records text answer.Dropped left by = written-causes text by.written
+  ended-causes kind records text (answer.Audited number undecided counts) left by = written-causes text by.written
+  ended-causes kind records text (answer.Repaired number) left by = written-causes text by.written
+
+  job-causes : (kind : Kind) (records : List Record) → AnswersJob kind records old new end → FaultsHaveCauses old new end
+  job-causes kind records (AnswersJob.refused why is synced r) = none-rose (status_of why) (refused-none why) r.status_is
+  job-causes kind records (AnswersJob.no_memory synced r) = none-rose 70 refl r.status_is
+  job-causes kind records (AnswersJob.ended how none runs left by) = ended-causes kind records _ how left by
+
+  put-causes : (name : List ℕ) → AnswersPut name old new end → FaultsHaveCauses old new end
+  put-causes name (AnswersPut.unstarted u same) = unstarted-causes u
+  put-causes name (AnswersPut.source_fault records opened rose synced r) = source-rose r.status_is rose
+  put-causes name (AnswersPut.no_memory r) = none-rose 70 refl r.status_is
+  put-causes name (AnswersPut.begun records bytes opened read A) = job-causes _ records A
+
+  alone-causes : (kind : Kind) → AnswersAlone kind old new end → FaultsHaveCauses old new end
+  alone-causes kind (AnswersAlone.unstarted u) = unstarted-causes u
+  alone-causes kind (AnswersAlone.begun records opened A) = job-causes kind records A
+
+  list-causes : AnswersList old new end → FaultsHaveCauses old new end
+  list-causes (AnswersList.unstarted u) = unstarted-causes u
+  list-causes (AnswersList.no_memory r) = none-rose 70 refl r.status_is
+  list-causes (AnswersList.listed records opened L) = written-causes _ L.written
+
+  pub init-causes : (numbers : Numbers) → AnswersInit numbers old new end → FaultsHaveCauses old new end
+  init-causes numbers (AnswersInit.bad_setup bad same r) = none-rose 20 refl r.status_is
+  init-causes numbers (AnswersInit.too_few_providers good few same r) = none-rose 22 refl r.status_is
+  init-causes numbers (AnswersInit.source_fault good enough rose r) = source-rose r.status_is rose
+  init-causes numbers (AnswersInit.bad_key bytes good enough read bad r) = none-rose 18 refl r.status_is
+  init-causes numbers (AnswersInit.keyed bytes key good enough read form (InitsDisk.disk_fault rose F)) = disk-rose F.status_is rose
+  init-causes numbers (AnswersInit.keyed bytes key good enough read form (InitsDisk.bad_journal at is r)) = none-rose 8 refl r.status_is
+  init-causes numbers (AnswersInit.keyed bytes key good enough read form (InitsDisk.already is r)) = none-rose 10 refl r.status_is
+  init-causes numbers (AnswersInit.keyed bytes key good enough read form (InitsDisk.no_memory F)) = none-rose 70 refl F.status_is
+  init-causes numbers (AnswersInit.keyed bytes key good enough read form (InitsDisk.ready R)) = written-causes _ R.written
+  init-causes numbers (AnswersInit.no_memory r) = none-rose 70 refl r.status_is
+
+  pub store-causes : (command : Command) → Answers command old new end → opens_store command ≡ true → FaultsHaveCauses old new end
+  store-causes (RowOf n l b seen) A opens = absurd (false≢true opens)
+  store-causes (InitWith numbers) A opens = absurd (false≢true opens)
+  store-causes (PutUnder name) A opens = put-causes name A
+  store-causes (GetOf name) A opens = alone-causes (GetJob name) A.0
+  store-causes (DropOf name) A opens = alone-causes (DropJob name) A.0
+  store-causes ListAll A opens = list-causes A.0
+  store-causes AuditAll A opens = alone-causes AuditJob A.0
+  store-causes RepairDue A opens = alone-causes RepairJob A.0

@@ -1,0 +1,295 @@
+-- What the images of the disk stand for after a command.
+use Rattle.std.proofs.Common.{◌≡◌, ◌≢◌, ℕ, suc, ◌+◌, ◌<◌, ◌≤◌, ◌⊎◌, true, false, List, [], ◌∷◌, ◌++◌, length, take, drop, reverse, Option, None, Some, refl, ap, sym, subst, ◌∙◌, inl, inr, arith, append_assoc, length-append}
+use Rattle.std.specs.Prelude.{IfSome, IsSomeAnd, is_some}
+use Rattle.std.specs.Option.{option_map}
+use Rattle.std.proofs.Math.Seq.{take-append_seam, take-append-add, take-length}
+use Rattle.std.proofs.lemmas.Bool.{false≢true}
+use Rattle.std.proofs.lemmas.List.{reverse-append, take-append-drop}
+use Rattle.hail_devices.specs.Cells.{Cells, reads, firm}
+use Rattle.hail_devices.specs.Disks.{synced}
+use Rattle.hail_devices.specs.Images.{IsImage, EachImage}
+use Rattle.hail_devices.specs.Told.{Goes}
+use Rattle.hail_records.specs.Records.{Record, largest_journal}
+use Rattle.hail_records.specs.Spellings.{spelling}
+use Rattle.hail_records.specs.Journal.{before_gate, StandsFor, StandsOrIsEmpty}
+use Rattle.journal_core.proofs.Meanings.{one_meaning}
+use Rattle.hail_machine.specs.Jobs.{Kind, PutJob, GetJob, DropJob, AuditJob, RepairJob}
+use Rattle.hail_machine.specs.Answers as answer
+use Rattle.hail_machine.specs.Answers.{Answer}
+use Rattle.hail_commands.specs.Forms.{Command, Numbers, RowOf, InitWith, PutUnder, GetOf, DropOf, ListAll, AuditAll, RepairDue}
+use Rattle.hail_commands.specs.Seen.{Seen, Ending, IsRefused, IsResynced}
+use Rattle.hail_commands.specs.Openings.{IsFree, IsSetUpOn, MayBeLeft}
+use Rattle.hail_commands.specs.Opens.{IsOpened, Unstarted}
+use Rattle.hail_commands.specs.Ran.{Ran, IsWhole, IsCut, IsCutInDoubt}
+use Rattle.hail_commands.specs.Puts.{put_records}
+use Rattle.hail_commands.specs.Audits.{audit_records}
+use Rattle.hail_commands.specs.Jobs.{AnswersJob, LeavesBy}
+use Rattle.hail_commands.specs.Inits.{setup_with, AnswersInit, InitsDisk}
+use Rattle.hail_commands.specs.Commands.{AnswersPut, AnswersAlone, AnswersList, Answers}
+use Rattle.command_laws.specs.Ends.{IsKnown, IsJobOf, opens_store}
+use Rattle.command_laws.specs.Kept.{KeepsImages, AreAppended, IsAfter, LeavesImages, InitImages}
+use Rattle.command_laws.proofs.Known.{known-once}
+use Rattle.command_laws.proofs.GetEnds.{ran_left}
+use Rattle.command_laws.proofs.JobEnds.{unstarted-refused}
+
+-- ---- images of a disk that was synced
+
+-- what is read is an image
+pub reads-image : (cells : Cells) → IsImage cells (reads cells)
+reads-image [] = tt
+reads-image (c ∷ cells) = ((λ e. refl), reads-image cells)
+
+-- where no byte is loose there is one image
+image-firm : (bytes image : List ℕ) → IsImage (firm bytes) image → image ≡ bytes
+image-firm [] [] is = refl
+image-firm [] (b ∷ image) is = absurd is
+image-firm (b ∷ bytes) [] is = absurd is
+image-firm (b ∷ bytes) (i ∷ image) is = (λ k. is.0 refl k ∷ image-firm bytes image is.1 k)
+
+image-synced : (cells : Cells) (image : List ℕ) → IsImage (synced cells) image → IsImage cells image
+image-synced cells image is = subst (IsImage cells) (sym (image-firm (reads cells) image is)) (reads-image cells)
+
+image-resynced : (old new : Cells) → IsResynced old new → (image : List ℕ) → IsImage new image → IsImage old image
+image-resynced old new (inl same) image is = subst (λ (c : Cells). IsImage c image) same is
+image-resynced old new (inr after) image is = image-synced old image (subst (λ (c : Cells). IsImage c image) after is)
+
+-- each image was one before
+abbrev Keeps : Option Cells → Option Cells → Type 0
+Keeps old new = IfSome old (λ cells. EachImage new (IsImage cells))
+
+keeps-resynced : (old new : Option Cells) → Goes IsResynced old new → Keeps old new
+keeps-resynced None None g = tt
+keeps-resynced None (Some new) g = absurd g
+keeps-resynced (Some old) None g = absurd g
+keeps-resynced (Some old) (Some new) g = image-resynced old new g
+
+keeps-synced : (old new : Option Cells) → new ≡ option_map synced old → Keeps old new
+keeps-synced None new is = tt
+keeps-synced (Some old) new is = subst (λ (d : Option Cells). EachImage d (IsImage old)) (sym is) (image-synced old)
+
+pub keeps-same : (old new : Option Cells) → new ≡ old → Keeps old new
+keeps-same None new is = tt
+keeps-same (Some old) new is = subst (λ (d : Option Cells). EachImage d (IsImage old)) (sym is) (λ image of. of)
+
+pub refused-keeps : (status at : ℕ) (old new : Seen) (end : Ending) → IsRefused status at old new end → KeepsImages old new
+refused-keeps status at old new end r = keeps-resynced old.disk new.disk r.disk
+
+unstarted-keeps : (old new : Seen) (end : Ending) → Unstarted old new end → KeepsImages old new
+unstarted-keeps old new end u = (let r = unstarted-refused old new end u in refused-keeps r.0 r.1 old new end r.3)
+
+-- ---- the records that a job wrote
+
+-- the first few came into effect, and the next one may be in doubt
+record Came (x : Ran) (own : List Record) : Type 0 where
+  count : ℕ
+  after : x.after ≡ reverse (take count own) ++ x.records
+  doubt : (x.doubt ≡ None) ⊎ ((next : Record) × (x.doubt ≡ Some next) × (next ∷ x.after ≡ reverse (take (suc count) own) ++ x.records))
+
+came-some : (x : Ran) (own : List Record) (count : ℕ) → IsWhole x (take count own) → Came x own
+came-some x own count W = record { count = count; after = W.after; doubt = inl W.sure }
+
+came-whole : (x : Ran) (own : List Record) → IsWhole x own → Came x own
+came-whole x own W = record { count = length own; after = W.after ∙ ap (λ (l : List Record). reverse l ++ x.records) (sym (take-length own)); doubt = inl W.sure }
+
+came-cut : (x : Ran) (own : List Record) → IsCut x own → Came x own
+came-cut x own C = record {
+  count = length C.done;
+  after = C.after ∙ ap (λ (l : List Record). reverse l ++ x.records) (sym (ap (take (length C.done)) C.parts ∙ take-append_seam C.done (C.next ∷ C.rest)));
+  doubt = inl C.sure;
+}
+
+came-doubt : (x : Ran) (own : List Record) → IsCutInDoubt x own → Came x own
+came-doubt x own C = record {
+  count = length C.done;
+  after = C.after ∙ ap (λ (l : List Record). reverse l ++ x.records) (sym (ap (take (length C.done)) C.parts ∙ take-append_seam C.done (C.next ∷ C.rest)));
+  doubt = elim C.doubt [ inl sure ↦ inl sure | inr is ↦ inr (C.next, is, more) ];
+}
+  where
+    one : take (suc (length C.done)) own ≡ C.done ++ C.next ∷ []
+    one = ap (take (suc (length C.done))) C.parts ∙ (ap (λ n. take n (C.done ++ C.next ∷ C.rest)) (let e : suc (length C.done) ≡ length C.done + 1 = omega arith in e) ∙ take-append-add C.done (C.next ∷ C.rest) 1)
+
+    more : C.next ∷ x.after ≡ reverse (take (suc (length C.done)) own) ++ x.records
+    more = ap (λ (l : List Record). C.next ∷ l) C.after ∙ (ap (λ (l : List Record). l ++ x.records) (sym (reverse-append C.done (C.next ∷ []))) ∙ ap (λ (l : List Record). reverse l ++ x.records) (sym one))
+
+-- those of its kind
+abbrev Wrote : Ran → Kind → Type 0
+Wrote x kind = (own : List Record) × AreAppended x.records kind own × Came x own
+
+audit-wrote : (x : Ran) (undecided : ℕ) (counts : List ℕ) → Came x (audit_records x.records undecided counts) → Wrote x AuditJob
+audit-wrote x undecided counts C = (audit_records x.records undecided counts, (undecided, counts, refl), C)
+
+wrote-by : (x : Ran) (kind : Kind) (how : Answer) → LeavesBy x kind how → Wrote x kind
+wrote-by x (PutJob name bytes) answer.Put L = (put_records x.records name (length bytes), refl, came-whole x _ L.0.0)
+wrote-by x (PutJob name bytes) (answer.ProviderFault j) L = (put_records x.records name (length bytes), refl, came-some x _ 1 L.0.2)
+wrote-by x (PutJob name bytes) answer.DiskFault L = (put_records x.records name (length bytes), refl, came-doubt x _ L.0.1)
+wrote-by x (PutJob name bytes) answer.Memory L = (put_records x.records name (length bytes), refl, came-cut x _ L.0.0)
+wrote-by x (PutJob name bytes) how L = absurd L.0
+wrote-by x (GetJob name) how L = ([], refl, record { count = 0; after = L.records; doubt = inl L.sure })
+wrote-by x (DropJob name) answer.Dropped L = (_, refl, came-whole x _ L.0.0)
+wrote-by x (DropJob name) answer.DiskFault L = (_, refl, came-doubt x _ L.0.1)
+wrote-by x (DropJob name) answer.Memory L = (_, refl, came-cut x _ L.0.0)
+wrote-by x (DropJob name) how L = absurd L.0
+wrote-by x AuditJob (answer.Audited number undecided counts) L = audit-wrote x undecided counts (came-whole x _ L.gives.1)
+wrote-by x AuditJob answer.DiskFault L = audit-wrote x L.gives.1.0 L.gives.1.1 (came-doubt x _ L.gives.1.2)
+wrote-by x AuditJob answer.Memory L = audit-wrote x L.gives.0 L.gives.1 (came-cut x _ L.gives.2)
+wrote-by x AuditJob how L = absurd L.gives
+wrote-by x RepairJob (answer.Repaired number) L = (_, (L.0.due, L.0.is_due, refl), came-whole x _ L.0.gives.1)
+wrote-by x RepairJob (answer.Lost stripe row) L = (_, (L.0.due, L.0.is_due, refl), came-some x _ 0 L.0.gives.0)
+wrote-by x RepairJob (answer.ProviderFault j) L = (_, (L.0.due, L.0.is_due, refl), came-some x _ 0 L.0.gives.3)
+wrote-by x RepairJob answer.DiskFault L = (_, (L.0.due, L.0.is_due, refl), came-doubt x _ L.0.gives.1)
+wrote-by x RepairJob answer.Memory L = (_, (L.0.due, L.0.is_due, refl), came-cut x _ L.0.gives.0)
+wrote-by x RepairJob how L = absurd L.0.gives
+
+none-behind : (a b : List Record) → a ++ b ≡ [] → b ≡ []
+none-behind [] b e = e
+none-behind (r ∷ a) b e = absurd (let f : r ∷ (a ++ b) ≡ [] = e in cc)
+
+image-after : (x : Ran) (kind : Kind) → x.records ≢ [] → Wrote x kind → (image : List ℕ) →
+    StandsOrIsEmpty image x.after ⊎ IsSomeAnd x.doubt (λ entry. StandsFor image (entry ∷ x.after)) → IsAfter x.records kind image
+image-after x kind some W image (inl (inl stands)) = record { own = W.0; are_own = W.1; count = W.2.count; stands = subst (StandsFor image) W.2.after stands }
+image-after x kind some W image (inl (inr empty)) = absurd (some (none-behind (reverse (take W.2.count W.0)) x.records (sym W.2.after ∙ empty.0)))
+image-after x kind some W image (inr entry) = elim W.2.doubt [
+  | inl sure ↦ absurd (subst (λ d. IsSomeAnd d (λ e. StandsFor image (e ∷ x.after))) sure entry)
+  | inr (next, is, more) ↦ record {
+    own = W.0;
+    are_own = W.1;
+    count = suc W.2.count;
+    stands = subst (StandsFor image) more (subst (λ d. IsSomeAnd d (λ e. StandsFor image (e ∷ x.after))) is entry);
+  }
+]
+
+images-after : (x : Ran) (kind : Kind) → x.records ≢ [] → Wrote x kind → (told : Option Cells) →
+    EachImage told (λ image. StandsOrIsEmpty image x.after ⊎ IsSomeAnd x.doubt (λ entry. StandsFor image (entry ∷ x.after))) → EachImage told (IsAfter x.records kind)
+images-after x kind some W None h = tt
+images-after x kind some W (Some cells) h = λ image is. image-after x kind some W image (h image is)
+
+-- ---- commands that look at a store
+
+job-images : (kind : Kind) (records : List Record) (old new : Seen) (end : Ending) → IsOpened old records → AnswersJob kind records old new end →
+    KeepsImages old new ⊎ EachImage new.disk (IsAfter records kind)
+job-images kind records old new end opened (AnswersJob.refused why is after r) = inl (refused-keeps _ 0 old new end r)
+job-images kind records old new end opened (AnswersJob.no_memory after r) = inl (refused-keeps 70 0 old new end r)
+job-images kind records old new end opened (AnswersJob.ended how none runs left by) =
+    inr (images-after (ran_left records kind how old new end.heard left) kind opened.read.some (wrote-by (ran_left records kind how old new end.heard left) kind how left.leaves.by_kind) new.disk left.images)
+
+of-job : (command : Command) (kind : Kind) (records : List Record) (old new : Seen) → IsOpened old records → IsJobOf command old new kind →
+    KeepsImages old new ⊎ EachImage new.disk (IsAfter records kind) → LeavesImages command old new
+of-job command kind records old new opened is (inl kept) = LeavesImages.kept kept
+of-job command kind records old new opened is (inr images) = LeavesImages.ran records kind opened is images
+
+put-images : (name : List ℕ) (old new : Seen) (end : Ending) → AnswersPut name old new end → LeavesImages (PutUnder name) old new
+put-images name old new end (AnswersPut.unstarted u same) = LeavesImages.kept (unstarted-keeps old new end u)
+put-images name old new end (AnswersPut.source_fault records opened rose after r) = LeavesImages.kept (refused-keeps 14 0 old new end r)
+put-images name old new end (AnswersPut.no_memory r) = LeavesImages.kept (refused-keeps 70 0 old new end r)
+put-images name old new end (AnswersPut.begun records bytes opened read A) =
+    of-job (PutUnder name) (PutJob name bytes) records old new opened (bytes, read, refl) (job-images (PutJob name bytes) records old new end opened A)
+
+alone-images : (command : Command) (kind : Kind) (old new : Seen) (end : Ending) → IsJobOf command old new kind → AnswersAlone kind old new end → LeavesImages command old new
+alone-images command kind old new end is (AnswersAlone.unstarted u) = LeavesImages.kept (unstarted-keeps old new end u)
+alone-images command kind old new end is (AnswersAlone.begun records opened A) = of-job command kind records old new opened is (job-images kind records old new end opened A)
+
+list-images : (old new : Seen) (end : Ending) → AnswersList old new end → KeepsImages old new
+list-images old new end (AnswersList.unstarted u) = unstarted-keeps old new end u
+list-images old new end (AnswersList.no_memory r) = refused-keeps 70 0 old new end r
+list-images old new end (AnswersList.listed records opened L) = keeps-synced old.disk new.disk L.disk
+
+pub store-images : (command : Command) (old new : Seen) (end : Ending) → Answers command old new end → opens_store command ≡ true → LeavesImages command old new
+store-images (RowOf n l b seen) old new end A opens = absurd (false≢true opens)
+store-images (InitWith numbers) old new end A opens = absurd (false≢true opens)
+store-images (PutUnder name) old new end A opens = put-images name old new end A
+store-images (GetOf name) old new end A opens = alone-images (GetOf name) (GetJob name) old new end refl A.0
+store-images (DropOf name) old new end A opens = alone-images (DropOf name) (DropJob name) old new end refl A.0
+store-images ListAll old new end A opens = LeavesImages.kept (list-images old new end A.0)
+store-images AuditAll old new end A opens = alone-images AuditAll AuditJob old new end refl A.0
+store-images RepairDue old new end A opens = alone-images RepairDue RepairJob old new end refl A.0
+
+-- what each image stands for, where each stood for the records before
+abbrev StandsAfter : Command → List Record → Seen → Seen → List ℕ → Type 0
+StandsAfter command records old new image = StandsFor image records ⊎ ((kind : Kind) × IsJobOf command old new kind × IsAfter records kind image)
+
+kept-stand : (command : Command) (records : List Record) (old new : Seen) (before after : Option Cells) → IfSome before (λ cells. EachImage after (IsImage cells)) → before ≢ None →
+    EachImage before (λ image. StandsFor image records) → EachImage after (StandsAfter command records old new)
+kept-stand command records old new None after kept tells stand = absurd (tells refl)
+kept-stand command records old new (Some cells) None kept tells stand = tt
+kept-stand command records old new (Some cells) (Some now) kept tells stand = λ image is. inl (stand image (kept image is))
+
+ran-stand : (command : Command) (records : List Record) (kind : Kind) (old new : Seen) → IsJobOf command old new kind → (after : Option Cells) → EachImage after (IsAfter records kind) →
+    EachImage after (StandsAfter command records old new)
+ran-stand command records kind old new is None h = tt
+ran-stand command records kind old new is (Some cells) h = λ image of. inr (kind, is, h image of)
+
+pub known-images : (command : Command) (records : List Record) (old new : Seen) (end : Ending) → Answers command old new end → opens_store command ≡ true → IsKnown old records →
+    EachImage old.disk (λ image. StandsFor image records) → EachImage new.disk (StandsAfter command records old new)
+known-images command records old new end A opens K stand = go (store-images command old new end A opens)
+  where
+    tells : old.disk ≢ None
+    tells none = false≢true (let e : false ≡ true = sym (ap is_some none) ∙ K.tells in e)
+
+    go : LeavesImages command old new → EachImage new.disk (StandsAfter command records old new)
+    go (LeavesImages.kept kept) = kept-stand command records old new old.disk new.disk kept tells stand
+    go (LeavesImages.ran other kind opened is images) =
+        ran-stand command records kind old new is new.disk (subst (λ rs. EachImage new.disk (IsAfter rs kind)) (known-once old records other K opened.read) images)
+
+-- ---- init
+
+length-before : (rs : List Record) → 8 ≤ length (before_gate rs)
+length-before [] = omega arith
+length-before (r ∷ rs) = (let h = length-before rs in let e = length-append (before_gate rs) (1 ∷ spelling r) in omega (arith, h, e))
+
+-- bytes that stand for a record are longer than those of an empty disk
+stands-long : (bytes : List ℕ) (rs : List Record) → rs ≢ [] → StandsFor bytes rs → 9 < length bytes
+stands-long bytes [] some S = absurd (some refl)
+stands-long bytes (r ∷ rs) some S =
+    (let h = length-before rs in
+    let a = length-append (before_gate rs) (1 ∷ spelling r) in
+    let b = length-append (before_gate (r ∷ rs)) (S.gate ∷ S.rest) in
+    let e = ap length S.bytes_are in omega (arith, h, a, b, e))
+
+-- what stands at the front of bytes stands in them
+stands-front : (n : ℕ) (bytes : List ℕ) (rs : List Record) → StandsFor (take n bytes) rs → StandsFor bytes rs
+stands-front n bytes rs S = record {
+  in_grammar = S.in_grammar;
+  gate = S.gate;
+  rest = S.rest ++ drop n bytes;
+  closed = S.closed;
+  bytes_are = sym (take-append-drop n bytes) ∙ (ap (λ l. l ++ drop n bytes) S.bytes_are ∙ append_assoc (before_gate rs) (S.gate ∷ S.rest) (drop n bytes));
+}
+
+not-free : (cells : Cells) (rs : List Record) → rs ≢ [] → StandsFor (reads cells) rs → IsFree cells → ⊥
+not-free cells rs some S (inl short) = (let long = stands-long (reads cells) rs some S in omega (arith, long, short))
+not-free cells rs some S (inr none) = some (one_meaning (reads cells) rs [] S (stands-front largest_journal (reads cells) [] none))
+
+left-kept : (cells : Cells) (numbers : Numbers) (key : List ℕ) → (IsFree cells → ⊥) → (after : Option Cells) → EachImage after (MayBeLeft (setup_with numbers key) cells) → EachImage after (IsImage cells)
+left-kept cells numbers key taken None h = tt
+left-kept cells numbers key taken (Some now) h = λ image is. elim (h image is) [ inl same ↦ same | inr free ↦ absurd (taken free.0) ]
+
+kept-left : (numbers : Numbers) (key : List ℕ) (old new : Option Cells) → IfSome old (λ cells. EachImage new (IsImage cells)) → IfSome old (λ cells. EachImage new (MayBeLeft (setup_with numbers key) cells))
+kept-left numbers key None new h = tt
+kept-left numbers key (Some cells) None h = tt
+kept-left numbers key (Some cells) (Some now) h = λ image is. inl (h image is)
+
+refused-init : (numbers : Numbers) (status at : ℕ) (old new : Seen) (end : Ending) → IsRefused status at old new end → InitImages numbers old new
+refused-init numbers status at old new end r = ([], inr (kept-left numbers [] old.disk new.disk (refused-keeps status at old new end r)))
+
+pub init-images : (numbers : Numbers) (old new : Seen) (end : Ending) → AnswersInit numbers old new end → InitImages numbers old new
+init-images numbers old new end (AnswersInit.bad_setup bad same r) = refused-init numbers 20 0 old new end r
+init-images numbers old new end (AnswersInit.too_few_providers good few same r) = refused-init numbers 22 0 old new end r
+init-images numbers old new end (AnswersInit.source_fault good enough rose r) = refused-init numbers 14 0 old new end r
+init-images numbers old new end (AnswersInit.bad_key bytes good enough read bad r) = refused-init numbers 18 0 old new end r
+init-images numbers old new end (AnswersInit.no_memory r) = refused-init numbers 70 0 old new end r
+init-images numbers old new end (AnswersInit.keyed bytes key good enough read form (InitsDisk.disk_fault rose F)) = (key, inr F.images)
+init-images numbers old new end (AnswersInit.keyed bytes key good enough read form (InitsDisk.no_memory F)) = (key, inr F.images)
+init-images numbers old new end (AnswersInit.keyed bytes key good enough read form (InitsDisk.bad_journal at is r)) = refused-init numbers 8 at old new end r
+init-images numbers old new end (AnswersInit.keyed bytes key good enough read form (InitsDisk.already is r)) = refused-init numbers 10 0 old new end r
+init-images numbers old new end (AnswersInit.keyed bytes key good enough read form (InitsDisk.ready R)) = (key, inl R.disk)
+
+pub init-kept : (numbers : Numbers) (records : List Record) (old new : Seen) (end : Ending) → AnswersInit numbers old new end → records ≢ [] → EachImage old.disk (λ image. StandsFor image records) → KeepsImages old new
+init-kept numbers records old new end A some stand = go old.disk new.disk stand (init-images numbers old new end A)
+  where
+    go : (before after : Option Cells) → EachImage before (λ image. StandsFor image records) →
+        (key : List ℕ) × (Goes (IsSetUpOn (setup_with numbers key)) before after ⊎ IfSome before (λ cells. EachImage after (MayBeLeft (setup_with numbers key) cells))) →
+        IfSome before (λ cells. EachImage after (IsImage cells))
+    go None after stand h = tt
+    go (Some cells) None stand (key, inl g) = absurd g
+    go (Some cells) (Some now) stand (key, inl g) = absurd (not-free cells records some (stand (reads cells) (reads-image cells)) g.free)
+    go (Some cells) after stand (key, inr left) = left-kept cells numbers key (not-free cells records some (stand (reads cells) (reads-image cells))) after left

@@ -1,0 +1,21 @@
+use Rattle.command_laws.proofs.Known.{refused-only, refused-always, known-only, known-always}
+use Rattle.command_laws.proofs.JobEnds.{put-only, put-always}
+use Rattle.command_laws.proofs.ends.refusals_are_exact.Goals as goal
+
+pub returns-clause-only : goal.returns-clause-only
+returns-clause-only c = refused-only
+
+pub returns-clause-always : goal.returns-clause-always
+returns-clause-always c = refused-always
+
+pub returns-clause-known_only : goal.returns-clause-known_only
+returns-clause-known_only c = known-only
+
+pub returns-clause-known_always : goal.returns-clause-known_always
+returns-clause-known_always c = known-always
+
+pub returns-clause-put_only : goal.returns-clause-put_only
+returns-clause-put_only c = put-only
+
+pub returns-clause-put_always : goal.returns-clause-put_always
+returns-clause-put_always c = put-always

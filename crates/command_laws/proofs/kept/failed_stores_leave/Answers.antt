@@ -1,0 +1,11 @@
+use Rattle.command_laws.proofs.Failed.{put-fails, repair-fails, stores-only}
+use Rattle.command_laws.proofs.kept.failed_stores_leave.Goals as goal
+
+pub returns-clause-put : goal.returns-clause-put
+returns-clause-put c = put-fails
+
+pub returns-clause-repair : goal.returns-clause-repair
+returns-clause-repair c old new end A is = repair-fails old new end A.0 is
+
+pub returns-clause-only : goal.returns-clause-only
+returns-clause-only c = stores-only

@@ -1,0 +1,51 @@
+-- A command was answered.
+use Rattle.std.proofs.Common.{◌≡◌, ℕ, List, Option, refl, sym, subst, inr}
+use Rattle.hail_devices.specs.Told.{TakesFront}
+use Rattle.hail_codes.specs.Points.{upto, values_at}
+use Rattle.hail_commands.specs.Forms.{Command as Spelled}
+use Rattle.hail_commands.specs.Forms.{RowOf, InitWith, PutUnder, GetOf, DropOf, ListAll, AuditAll, RepairDue}
+use Rattle.hail_commands.specs.Seen.{Seen, Ending, IsRefused, sinking}
+use Rattle.hail_commands.specs.Line.{values_line, no_row_line}
+use Rattle.hail_commands.specs.Row.{AnswersRow}
+use Rattle.hail_commands.specs.Opens as opens
+use Rattle.hail_commands.specs.Inits as inits
+use Rattle.hail_commands.specs.Commands as commands
+use Rattle.hail_commands.specs.Commands.{Answers}
+use Rattle.command_words.specs.declared.command.Command.{Command}
+use Rattle.command_words.specs.Commands.{command_of}
+use Rattle.hail_top.specs.Endings.{ends}
+use Rattle.hail_top.proofs.Refused.{refused-told}
+use Rattle.hail_top.proofs.Told.{left}
+use Rattle.hail_top.proofs.AnswerTexts.{front-none}
+
+-- it is this command
+pub answered : (command other : Command) (old new : Seen) (end : Ending) → command ≡ other → Answers (command_of other) old new end → Answers (command_of command) old new end
+answered command other old new end is answers = subst (λ (c : Command). Answers (command_of c) old new end) (sym is) answers
+
+-- a command for which there was no memory, and no device was called
+pub no_memory-told : (command : Spelled) (same : Seen) (end : Ending) → end ≡ ends 70 0 → Answers command same same end
+no_memory-told command same end is = subst (λ (e : Ending). Answers command same same e) (sym is) (by_command command)
+  where
+    refused : IsRefused 70 0 same same (ends 70 0)
+    refused = refused-told 70 0 same same (ends 70 0) refl (left same.disk) refl refl
+
+    none : (text : List ℕ) → TakesFront same.sink same.sink text
+    none text = front-none same.sink same.sink text refl
+
+    row : (n l b : ℕ) (symbols : List (Option ℕ)) → AnswersRow n l b symbols 70 (sinking same same)
+    row n l b symbols = record {
+      no_shape = λ _. (inr refl, refl);
+      lost = λ _ _. inr (inr (refl, none no_row_line));
+      held = λ _ p _. inr (inr (refl, none (values_line (values_at (upto l) p))));
+    }
+
+    by_command : (command : Spelled) → Answers command same same (ends 70 0)
+    by_command (RowOf n l b symbols) =
+        (row n l b symbols, record { disk = refl; disk_faults = refl; providers = refl; source = (refl, refl); place = refl; heard = refl })
+    by_command (InitWith numbers) = inits.no_memory refused
+    by_command (PutUnder name) = commands.no_memory refused
+    by_command (GetOf name) = (commands.unstarted (opens.no_memory refused), (refl, refl))
+    by_command (DropOf name) = (commands.unstarted (opens.no_memory refused), (refl, refl))
+    by_command ListAll = (commands.no_memory refused, (refl, refl))
+    by_command AuditAll = (commands.unstarted (opens.no_memory refused), (refl, refl))
+    by_command RepairDue = (commands.unstarted (opens.no_memory refused), (refl, refl))

@@ -1,0 +1,29 @@
+-- A vault was opened for a command.
+use Rattle.std.proofs.Common.{◌≡◌, ℕ, ◌≤◌, List, length, subst, arith}
+use Rattle.hail_records.specs.Records.{Record}
+use Rattle.hail_commands.specs.Seen.{Seen, NoCountFalls}
+use Rattle.hail_commands.specs.Opens.{setup_at, IsOpened}
+use Rattle.command_jobs.specs.Opened.{IsReadFor}
+use Rattle.command_jobs.specs.Ends.{NoFaultUndone}
+
+-- the records are read, and enough providers are handed in
+pub opened-read : (old : Seen) (records : List Record) (handed : ℕ) → handed ≡ length old.providers → IsReadFor old.disk records handed → IsOpened old records
+opened-read old records handed as_many for = record {
+  read = for.read;
+  enough = subst (λ (n : ℕ). (setup_at records).n ≤ n) as_many for.enough;
+}
+
+-- no count falls where none of the disk or of a provider does, nor of the streams
+pub no_count_falls : (old new : Seen) → NoFaultUndone old new → old.source_faults ≤ new.source_faults → old.sink_faults ≤ new.sink_faults → NoCountFalls old new
+no_count_falls old new counts source sink = record {
+  disk = counts.disk;
+  handed = counts.handed;
+  stores = counts.stores;
+  others = counts.others;
+  source = source;
+  sink = sink;
+}
+
+-- a count that stands still
+pub still : (n : ℕ) → n ≤ n
+still n = omega arith

@@ -1,0 +1,50 @@
+-- How a put ends whose vault was opened.
+use Rattle.std.proofs.Common.{◌≡◌, ℕ, ◌+◌, List, Option, refl, sym, ◌∙◌, subst}
+use Rattle.std.specs.Option.{option_map}
+use Rattle.hail_devices.specs.Disks.{synced}
+use Rattle.hail_devices.specs.Faults.{Rose}
+use Rattle.hail_records.specs.Records.{Record, largest_file}
+use Rattle.hail_machine.specs.Jobs.{PutJob}
+use Rattle.hail_commands.specs.Seen.{Seen, Ending, KeepsDisk, IsSynced, ReadsUpTo}
+use Rattle.hail_commands.specs.Opens.{IsOpened}
+use Rattle.hail_commands.specs.Commands.{AnswersPut, begun, source_fault, no_memory}
+use Rattle.vault.specs.Devices.{Devices}
+use Rattle.command_jobs.specs.Ends.{IsSeenBefore}
+use Rattle.hail_top.specs.declared.reading.ReadFault.{ReadFault}
+use Rattle.hail_top.specs.declared.reading.ReadFault.TheVariants as read_fault
+use Rattle.hail_top.specs.Telling.{unread_ending}
+use Rattle.hail_top.specs.Jobs.{AnswersOver, PutsOver}
+use Rattle.hail_top.proofs.Refused.{refused-told}
+use Rattle.hail_top.proofs.Told.{resynced}
+use Rattle.hail_top.proofs.JobEnds.{untouched}
+
+-- the source was read, and the job was refused or ended
+pub begun-put : (name bytes : List ℕ) (records : List Record) (old new : Seen) (end : Ending) (left : Option (List ℕ)) → old.source ≡ left → IsOpened old records
+    → ReadsUpTo (largest_file + 1) left new.source bytes → AnswersOver (PutJob name bytes) records old new end → PutsOver name old new end
+begun-put name bytes records old new end left is opened read over = record {
+  answers = begun records bytes opened (subst (λ (told : Option (List ℕ)). ReadsUpTo (largest_file + 1) told new.source bytes) (sym is) read) over.answers;
+  counts = over.counts;
+}
+
+-- the source was not read
+pub unread-put : (name : List ℕ) (records : List Record) (old new : Seen) (d : Devices) (end : Ending) (fault : ReadFault) (count : ℕ) → old.source_faults ≡ count
+    → IsOpened old records → IsSeenBefore old d → d.holds ≡ option_map synced old.disk → end ≡ unread_ending fault → (fault ≡ read_fault.Failed → Rose count new.source_faults)
+    → new.disk ≡ d.holds → new.disk_faults ≡ d.faults → new.providers ≡ d.providers → new.sink ≡ old.sink → PutsOver name old new end
+unread-put name records old new d end fault count is_count opened before was_synced is rose disk faults providers silent = record {
+  answers = by_fault fault is rose;
+  counts = untouched old new d before faults providers;
+}
+  where
+    synced_here : IsSynced old new
+    synced_here = disk ∙ was_synced
+
+    kept : KeepsDisk old new
+    kept = resynced old.disk new.disk synced_here
+
+    same_providers : new.providers ≡ old.providers
+    same_providers = providers ∙ sym before.providers
+
+    by_fault : (fault : ReadFault) → end ≡ unread_ending fault → (fault ≡ read_fault.Failed → Rose count new.source_faults) → AnswersPut name old new end
+    by_fault read_fault.Failed is rose =
+        source_fault records opened (subst (λ (n : ℕ). Rose n new.source_faults) (sym is_count) (rose refl)) synced_here (refused-told 14 0 old new end is kept same_providers silent)
+    by_fault read_fault.Memory is rose = no_memory (refused-told 70 0 old new end is kept same_providers silent)

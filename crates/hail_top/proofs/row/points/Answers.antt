@@ -1,0 +1,11 @@
+use Rattle.std.proofs.Common.{List, ◌++◌, ◌∷◌, ℕ, [], ap, ◌∙◌, sym}
+use Rattle.hail_top.proofs.PointSteps.{upto-more}
+use Rattle.hail_top.proofs.row.points.Goals as goal
+
+pub loop-place-preserved : goal.loop-place-preserved
+loop-place-preserved c =
+    let place = c.loop-place.place in
+    c.in_ok-push.ensures.items
+    ∙ ap (λ (x : ℕ). c.loop-place.points.items ++ x ∷ []) c.from.ensures
+    ∙ ap (λ (xs : List ℕ). xs ++ place ∷ []) c.loop-place.invariant
+    ∙ sym (upto-more place)

@@ -1,7 +1,0 @@
-use Rattle.std.proofs.Common.{take}
-use Rattle.hail_top.specs.Word.{AreSymbolWords}
-use Rattle.hail_top.proofs.row.read_symbols.Given as goal
-
--- the words so far spell the symbols so far
-abbrev pub invariant-loop-word : goal.invariant-loop-word
-invariant-loop-word l = AreSymbolWords (take l.word-index l.words) l.symbols.items

@@ -1,6 +1,0 @@
-use Rattle.std.proofs.Common.{◌≡◌, take}
-use Rattle.hail_codes.specs.Points.{values_at}
-use Rattle.hail_top.proofs.row_command.values.Given as goal
-
-abbrev pub invariant-loop-point : goal.invariant-loop-point
-invariant-loop-point l = l.values.items ≡ values_at (take l.point-index l.points) l.work.rest

@@ -1,0 +1,20 @@
+-- A vault that stands for a state is carried by its disk.
+use Rattle.std.proofs.Common.{◌≡◌, false, List, Option, Some, None}
+use Rattle.hail_devices.specs.Cells.{Cells}
+use Rattle.hail_records.specs.Records.{Record}
+use Rattle.hail_machine.specs.States.{State}
+use Rattle.hail_machine.specs.States as states
+use Rattle.vault.specs.declared.flight.Flight.{Flight}
+use Rattle.vault.specs.declared.vault.Vault.{Vault}
+use Rattle.vault.specs.Devices.{Devices}
+use Rattle.vault.specs.Stands.{IsFlight, Stands, CarriesText, Carries}
+
+pub carried_text : (f : Option Flight) (append : Option states.Append) (rs : List Record) (told : Option Cells) → IsFlight f append rs told → CarriesText f rs told
+carried_text None None rs told closed = closed
+carried_text (Some f) (Some append) rs told flight = (append.entry, flight.1)
+carried_text None (Some append) rs told never = absurd never
+carried_text (Some f) None rs told never = absurd never
+
+pub carried : (v : Vault) (d : Devices) (w : State) → Stands v d w → w.is_barred ≡ false → Carries v d.holds
+carried v d w stands unbarred =
+    (w.records, stands.core.table, stands.core.end, carried_text v.flight w.append w.records d.holds (stands.flight unbarred))

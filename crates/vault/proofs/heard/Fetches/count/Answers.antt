@@ -1,0 +1,13 @@
+use Rattle.std.proofs.Common.{arith}
+use Rattle.column_codec.proofs.PresentLemmas.{length-present_blocks}
+use Rattle.vault.specs.Heard.{blocks_in}
+use Rattle.vault.proofs.HeardAt.{length-fetched_entries}
+use Rattle.vault.proofs.heard.Fetches.count.Goals as goal
+
+pub returns : goal.returns
+returns c =
+    let f = c.args.self.now in
+    let b = f.blocks in
+    let entries = length-fetched_entries f.job f.fetches.items (blocks_in b) in
+    let blocks = length-present_blocks b.size b.present.items b.symbols.items in
+    omega (arith, entries, blocks)

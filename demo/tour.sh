@@ -1,0 +1,97 @@
+#!/bin/sh
+# A tour: three files are stored over six folders, one folder is lost and another altered, the files come back, the loss is found and
+# mended. It shows each command with its answer, ends with 0 exactly where each answer was the one due, and leaves nothing behind.
+set -eu
+
+hail=$(CDPATH='' cd -P -- "$(dirname "$0")/.." && pwd -P)/hail
+scratch=$(mktemp -d)
+trap 'rm -rf "$scratch"' EXIT
+cd "$scratch"
+
+fail() {
+    echo "tour: $1" >&2
+    exit 1
+}
+
+# The command ends with this status and writes this text: FILE is its source, WORDS are its words.
+answers() {
+    wanted=$1 text=$2 file=$3
+    shift 3
+    echo "$ hail home $*$([ "$file" = /dev/null ] || echo " < $file")"
+    status=0
+    "$hail" home "$@" <"$file" >out 2>err || status=$?
+    cat out err
+    [ "$status" -eq "$wanted" ] || fail "it ends with $status, not $wanted"
+    [ "$(cat out err)" = "$text" ] || fail "the answer due was: $text"
+}
+
+# The file of this name comes back as it was stored.
+comes_back() {
+    echo "$ hail home get $1 > back"
+    "$hail" home get "$1" </dev/null >back || fail "$1 is not given"
+    cmp "$1" back || fail "$1 came back otherwise"
+}
+
+# Changes the first byte of four symbols of a block.
+alter() {
+    for place in 0 1 2 3; do
+        printf '\377' | dd of="$1" bs=1 seek=$((16 * place + 5)) conv=notrunc 2>/dev/null
+    done
+}
+
+echo '# A store over six providers: three hold the file, three hold parity, and one of the six may be wrong.'
+mkdir home
+echo 000102030405060708090a0b0c0d0e0f101112131415161718191a1b1c1d1e1f >key
+answers 0 ready key init 6 3 1 1 4 8 0
+
+echo '# Three files: an empty one, a text, and 1 MiB.'
+: >empty
+seq 1 40 >notes.txt
+seq 1 200000 | head -c 1048576 >numbers
+answers 0 'stored empty 0' empty put empty
+answers 0 'stored notes.txt 111' notes.txt put notes.txt
+answers 0 'stored numbers 1048576' numbers put numbers
+answers 0 'empty 0
+notes.txt 111
+numbers 1048576' /dev/null list
+
+echo '# The folder of provider 2 is lost, and a block of provider 5 is altered in four places.'
+cp -r home/provider-2 kept
+rm -r home/provider-2
+cp home/provider-5/3-0 before
+alter home/provider-5/3-0
+! cmp -s before home/provider-5/3-0 || fail 'nothing was altered'
+comes_back empty
+comes_back notes.txt
+comes_back numbers
+
+echo '# An audit asks each provider for one symbol a round, and finds the loss. Until it is mended no other audit begins.'
+answers 0 'audit 1 undecided 0
+provider 0 count 0 ok
+provider 1 count 0 ok
+provider 2 count 8 flagged
+provider 3 count 0 ok
+provider 4 count 0 ok
+provider 5 count 0 ok' /dev/null audit
+answers 6 'hail: repair due' /dev/null audit
+answers 0 'repaired 1' /dev/null repair
+diff -r kept home/provider-2 || fail 'the blocks of provider 2 are other ones'
+answers 0 'audit 2 undecided 0
+provider 0 count 0 ok
+provider 1 count 0 ok
+provider 2 count 0 ok
+provider 3 count 0 ok
+provider 4 count 0 ok
+provider 5 count 0 ok' /dev/null audit
+
+echo '# A file is dropped; what is left of it on the providers goes too.'
+answers 0 'dropped notes.txt' /dev/null drop notes.txt
+[ -z "$(find home -name '2-*')" ] || fail 'a block of the dropped file is left'
+answers 3 'hail: no such name' /dev/null get notes.txt
+answers 0 'empty 0
+numbers 1048576' /dev/null list
+
+echo '# With two folders lost, nothing is given that could be wrong.'
+rm -r home/provider-0 home/provider-1
+answers 4 'hail: lost row 0' /dev/null get numbers
+echo '# The tour is done.'
