@@ -21,7 +21,8 @@ pub const SIX: &str = "init 6 3 1 1 4 8 0";
 pub const FOUR: &str = "init 4 1 1 0 1 1 0";
 
 /// A file of 100 bytes.
-pub const NOTES: &str = "HAIL keeps a file with several providers, so that nobody has to be trusted; this file has 100 bytes.";
+pub const NOTES: &str =
+    "HAIL keeps a file with several providers, so that nobody has to be trusted; this file has 100 bytes.";
 
 /// How many providers are handed in.
 const PROVIDERS: usize = 16;

@@ -29,11 +29,7 @@ fn begin_repair(rt: &impl Abort, vault: &mut Vault) {
 }
 
 /// The next step of the first job.
-fn step(
-    rt: &impl Abort,
-    vault: &mut Vault,
-    client: &mut Client<SureDisk, SureProvider>,
-) -> Turn {
+fn step(rt: &impl Abort, vault: &mut Vault, client: &mut Client<SureDisk, SureProvider>) -> Turn {
     assert!(rt; usize::from(vault.setup().n) <= client.providers.len());
     vault.step(1, &mut client.disk, &mut client.providers)
 }
@@ -51,11 +47,7 @@ fn go_on(
 }
 
 /// The first job's last step ends a repair of the first audit.
-fn end_repair(
-    rt: &impl Abort,
-    vault: &mut Vault,
-    client: &mut Client<SureDisk, SureProvider>,
-) {
+fn end_repair(rt: &impl Abort, vault: &mut Vault, client: &mut Client<SureDisk, SureProvider>) {
     assert!(rt;
         matches!(
             step(rt, vault, client),

@@ -60,7 +60,8 @@ fn a_provider_may_give_another_codeword(rt: HostRuntime) -> Result<(), Fail> {
 }
 
 /// Another file of 100 bytes.
-const OTHER: &str = "Whoever has the key makes columns of any other bytes, and all providers together can give these: 100";
+const OTHER: &str =
+    "Whoever has the key makes columns of any other bytes, and all providers together can give these: 100";
 
 #[test]
 fn a_forgery_by_the_key_is_written_out(rt: HostRuntime) -> Result<(), Fail> {

@@ -3,9 +3,11 @@
 use crate::client::{FOUR, KEY, faulty, faulty_set_up};
 use std::test::Fail;
 
-const THIRD_FLAGGED: &str = "audit 1 undecided 0\nprovider 0 count 0 ok\nprovider 1 count 0 ok\nprovider 2 count 1 flagged\nprovider 3 count 0 ok\n";
+const THIRD_FLAGGED: &str =
+    "audit 1 undecided 0\nprovider 0 count 0 ok\nprovider 1 count 0 ok\nprovider 2 count 1 flagged\nprovider 3 count 0 ok\n";
 
-const THIRD_FLAGGED_AGAIN: &str = "audit 2 undecided 0\nprovider 0 count 0 ok\nprovider 1 count 0 ok\nprovider 2 count 1 flagged\nprovider 3 count 0 ok\n";
+const THIRD_FLAGGED_AGAIN: &str =
+    "audit 2 undecided 0\nprovider 0 count 0 ok\nprovider 1 count 0 ok\nprovider 2 count 1 flagged\nprovider 3 count 0 ok\n";
 
 // An empty disk is synced and asked for its length, then its nine bytes are written and synced, then the setup appended.
 #[test]

@@ -34,9 +34,17 @@ fn bad_journals_are_told_with_their_place(rt: HostRuntime) -> Result<(), Fail> {
         (b"HAILJRN2\x00\x00\x00\x00", 0, 0),
         (b"HAILJRN1\x01\x01\x06", 9, 9),
         (b"HAILJRN1\x01\x08\x00", 9, 9),
-        (b"HAILJRN1\x01\x05\x01\x00\x00\x00\x00\x00\x00\x00\x00", 9, 9),
+        (
+            b"HAILJRN1\x01\x05\x01\x00\x00\x00\x00\x00\x00\x00\x00",
+            9,
+            9,
+        ),
         (b"HAILJRN1\x01\x05\x01\x00\x00\x00\x00\x00\x00\x00", 9, 18),
-        (b"HAILJRN1\x01\x05\x01\x00\x00\x00\x00\x00\x00\x00\x01\x00", 9, 19),
+        (
+            b"HAILJRN1\x01\x05\x01\x00\x00\x00\x00\x00\x00\x00\x01\x00",
+            9,
+            19,
+        ),
     ];
     for (disk, at, init_at) in disks {
         let mut client = sure(rt.alloc(), disk)?;
@@ -54,7 +62,10 @@ fn a_record_that_may_not_follow_is_told_with_its_place(rt: HostRuntime) -> Resul
     let records: [(&[u8], u64); 7] = [
         (b"\x01\x04\x01\x61\x00", 51),
         (b"\x01\x02\x02\x00\x00\x00\x00\x00\x00\x00\x01a\x00", 51),
-        (b"\x01\x03\x01\x00\x00\x00\x00\x00\x00\x00\x00\x00\x00\x00\x00", 51),
+        (
+            b"\x01\x03\x01\x00\x00\x00\x00\x00\x00\x00\x00\x00\x00\x00\x00",
+            51,
+        ),
         (b"\x01\x05\x02\x00\x00\x00\x00\x00\x00\x00\x00", 51),
         (b"\x01\x07\x01\x00\x00\x00\x00\x00\x00\x00\x00", 51),
         (

@@ -1,4 +1,4 @@
-// Limits of files, names and the journal.
+// Limits of names and files.
 
 use crate::client::{sure, sure_set_up};
 use std::alloc::Global;
@@ -47,45 +47,6 @@ fn a_further_name_does_not_go_beside_1024(rt: HostRuntime) -> Result<(), Fail> {
     client.answers(&rt, "put 1024", "", "stored 1024 0\n")?;
     client.refuses(&rt, "put 0", "", 21)?;
     client.answers(&rt, "get 512", "", "new")
-}
-
-/// A journal of 16,777,190 bytes, or of one more: puts that were started, and at the end one that is done, or one more that was
-/// started.
-fn long_journal(alloc: Global, is_longer: bool) -> Result<Vec<u8>, Fail> {
-    let mut bytes = opened(alloc)?;
-    for id in 1..223_696u64 {
-        push_started(&mut bytes, id, &[b'a'; 64])?;
-    }
-    if is_longer {
-        push_started(&mut bytes, 223_696, b"last")?;
-    } else {
-        push_done(&mut bytes, 223_695)?;
-    }
-    bytes.push(0)?;
-    Ok(bytes)
-}
-
-#[test]
-fn a_put_fills_the_journal(rt: HostRuntime) -> Result<(), Fail> {
-    let bytes = long_journal(rt.alloc(), false)?;
-    assert_eq!(rt; bytes.len(), 16_777_190);
-    let mut client = sure(rt.alloc(), &bytes)?;
-    client.answers(&rt, "put a", "", "stored a 0\n")?;
-    assert_eq!(rt; client.disk.bytes().len(), 16_777_216);
-    client.refuses(&rt, "put b", "", 11)?;
-    client.refuses(&rt, "drop a", "", 11)?;
-    client.refuses(&rt, "audit", "", 11)?;
-    client.answers(&rt, "get a", "", "")
-}
-
-#[test]
-fn a_put_finds_a_byte_too_few(rt: HostRuntime) -> Result<(), Fail> {
-    let bytes = long_journal(rt.alloc(), true)?;
-    assert_eq!(rt; bytes.len(), 16_777_191);
-    let mut client = sure(rt.alloc(), &bytes)?;
-    client.refuses(&rt, "put a", "", 11)?;
-    assert_eq!(rt; client.disk.bytes().len(), 16_777_191);
-    client.answers(&rt, "list", "", "")
 }
 
 /// So many bytes.

@@ -5,10 +5,12 @@ use hail_field::Symbol;
 use std::test::Fail;
 
 /// The audit of six providers of which only the first was counted, in each round.
-const FIRST_FLAGGED: &str = "audit 1 undecided 0\nprovider 0 count 4 flagged\nprovider 1 count 0 ok\nprovider 2 count 0 ok\nprovider 3 count 0 ok\nprovider 4 count 0 ok\nprovider 5 count 0 ok\n";
+const FIRST_FLAGGED: &str =
+    "audit 1 undecided 0\nprovider 0 count 4 flagged\nprovider 1 count 0 ok\nprovider 2 count 0 ok\nprovider 3 count 0 ok\nprovider 4 count 0 ok\nprovider 5 count 0 ok\n";
 
 /// The audit of four providers of which the third was counted in the one round.
-const THIRD_FLAGGED: &str = "audit 1 undecided 0\nprovider 0 count 0 ok\nprovider 1 count 0 ok\nprovider 2 count 1 flagged\nprovider 3 count 0 ok\n";
+const THIRD_FLAGGED: &str =
+    "audit 1 undecided 0\nprovider 0 count 0 ok\nprovider 1 count 0 ok\nprovider 2 count 1 flagged\nprovider 3 count 0 ok\n";
 
 #[test]
 fn a_lost_block_is_rebuilt(rt: HostRuntime) -> Result<(), Fail> {

@@ -5,7 +5,8 @@ use std::test::Fail;
 use stream_model::{MemSink, MemSource};
 
 /// The journal of six providers and the key.
-const SIX_SET_UP: [u8; 51] = *b"HAILJRN1\x01\x01\x06\x03\x01\x01\x04\x08\x00\x00\x00\x01\x02\x03\x04\x05\x06\x07\x08\x09\x0a\x0b\x0c\x0d\x0e\x0f\x10\x11\x12\x13\x14\x15\x16\x17\x18\x19\x1a\x1b\x1c\x1d\x1e\x1f\x00";
+const SIX_SET_UP: [u8; 51] =
+    *b"HAILJRN1\x01\x01\x06\x03\x01\x01\x04\x08\x00\x00\x00\x01\x02\x03\x04\x05\x06\x07\x08\x09\x0a\x0b\x0c\x0d\x0e\x0f\x10\x11\x12\x13\x14\x15\x16\x17\x18\x19\x1a\x1b\x1c\x1d\x1e\x1f\x00";
 
 #[test]
 fn a_store_is_set_up_once(rt: HostRuntime) -> Result<(), Fail> {
@@ -35,7 +36,11 @@ fn the_key_may_end_with_its_line(rt: HostRuntime) -> Result<(), Fail> {
         let mut client = sure(rt.alloc(), b"")?;
         let source = format!(in rt.alloc(); "{KEY}{end}")?;
         client.ends(&rt, SIX, source.as_bytes(), (status, 0), text.as_bytes())?;
-        let left = if status == 0 { SIX_SET_UP.as_slice() } else { b"" };
+        let left = if status == 0 {
+            SIX_SET_UP.as_slice()
+        } else {
+            b""
+        };
         assert_eq!(rt; client.disk.bytes(), left, "{end:?}");
     }
     Ok(())
@@ -97,8 +102,14 @@ fn numbers_out_of_their_limits_are_refused(rt: HostRuntime) -> Result<(), Fail> 
 fn numbers_at_their_limits_are_kept(rt: HostRuntime) -> Result<(), Fail> {
     let rows: [(&str, [u8; 10]); 4] = [
         ("init 4 1 1 0 1 1 0", [1, 1, 4, 1, 1, 0, 1, 1, 0, 0]),
-        ("init 16 13 1 4 64 64 4096", [1, 1, 16, 13, 1, 4, 64, 64, 0, 16]),
-        ("init 16 1 7 2 1 64 4095", [1, 1, 16, 1, 7, 2, 1, 64, 255, 15]),
+        (
+            "init 16 13 1 4 64 64 4096",
+            [1, 1, 16, 13, 1, 4, 64, 64, 0, 16],
+        ),
+        (
+            "init 16 1 7 2 1 64 4095",
+            [1, 1, 16, 1, 7, 2, 1, 64, 255, 15],
+        ),
         ("init 5 2 1 3 64 1 256", [1, 1, 5, 2, 1, 3, 64, 1, 0, 1]),
     ];
     for (line, bytes) in rows {

@@ -1,6 +1,6 @@
 // Sources and sinks fail.
 
-use crate::client::{FOUR, KEY, Client, faulty, faulty_set_up};
+use crate::client::{Client, FOUR, KEY, faulty, faulty_set_up};
 use disk_model::MemDisk;
 use provider_model::MemProvider;
 use std::process::Abort;
@@ -34,7 +34,11 @@ fn only_a_put_reads_the_source(rt: HostRuntime) -> Result<(), Fail> {
     for line in ["get a", "list", "audit", "repair", "drop a"] {
         let mut source = MemSource::new(rt.alloc(), b"", &[0])?;
         let mut sink = MemSink::new(rt.alloc(), &[])?;
-        assert_eq!(rt; client.call(line, &mut source, &mut sink)?, (0, 0), "{line}");
+        assert_eq!(rt;
+            client.call(line, &mut source, &mut sink)?,
+            (0, 0),
+            "{line}"
+        );
         assert!(rt; !sink.written().is_empty(), "{line}");
     }
     Ok(())
