@@ -15,10 +15,12 @@ step-requires g c =
     omega (arith, few, e)
 
 pub loop-ended-preserved : goal.loop-ended-preserved
-loop-ended-preserved g c = (λ start w kind moment only stands.
-    let way = c.loop-ended.invariant.0 start w kind moment only stands in
-    one-more start kind w moment c.args.number c.requires.first c.loop-ended.vault c.step.new.self _ _ _ way (c.in-More.ensures.machine (now w way.steps) (moment + length way.steps) way.stands),
-    c.step.ensures.tells ∙ c.loop-ended.invariant.1)
+loop-ended-preserved g c = (
+  λ start w kind moment only stands.
+      let way = c.loop-ended.invariant.0 start w kind moment only stands in
+      one-more start kind w moment c.args.number c.requires.first c.loop-ended.vault c.step.new.self _ _ _ way (c.in-More.ensures.machine (now w way.steps) (moment + length way.steps) way.stands),
+  c.step.ensures.tells ∙ c.loop-ended.invariant.1,
+)
 
 pub returns-in-Done-clause-ended : goal.returns-in-Done-clause-ended
 returns-in-Done-clause-ended g c = λ start w kind moment only stands.
