@@ -5,37 +5,40 @@ ghost use Rattle.hail_codes.specs.Points.{upto, multiplier as multiplier_of};
 ghost use Rattle.hail_codes.specs.ServerCode.{IsGeneratorRow};
 ghost use Rattle.code_points.specs.Profile.{plain_profile};
 
+use crate::bytes::{byte_inverse, byte_product, byte_sum};
 use crate::profile::Profile;
-use crate::table::multiplier;
+use crate::table::byte_multiplier;
 use hail_field::Symbol;
 
-/// The point at a place.
-fn point(place: u32) -> Symbol
+/// The point at a place, which is a byte.
+fn point(place: u32) -> u8
+    requires { place < 256 }
     ensures { result ≡ place }
 {
-    Symbol(u128::from(place))
+    place as u8
 }
 
 /// The product of x + point over the points from `start` to before `end`.
 #[tactic(auto, using(crate::proofs::Steps::product_start, crate::proofs::Steps::product_step))]
-fn product_of_sums(x: Symbol, start: u32, end: u32) -> Symbol
-    requires { start ≤ end }
+fn product_of_sums(x: u8, start: u32, end: u32) -> u8
+    requires order { start ≤ end }
+    requires bytes { end ≤ 256 }
     ensures { result ≡ value (vanish (range_with_len start (end - start))) x }
 {
-    let mut product = Symbol::ONE;
+    let mut product = 1;
     for place in (start..end).rev() {
-        product = point(place).add(x).mul(product);
+        product = byte_product(byte_sum(point(place), x), product);
     }
     product
 }
 
 /// The multiplier of a kept point among the kept points.
-fn kept_multiplier(profile: Profile, place: u32) -> Symbol
+fn kept_multiplier(profile: Profile, place: u32) -> u8
     requires { place < profile.keep }
     ensures { result ≡ multiplier_of place (upto profile.keep) }
 {
     let rest = product_of_sums(point(place), profile.keep, profile.size);
-    multiplier(profile, place).mul(rest)
+    byte_product(byte_multiplier(profile, place), rest)
 }
 
 /// The coefficients of a kept place: 1 at the place itself.
@@ -57,9 +60,10 @@ fn parity_row(profile: Profile, place: u32, out: &mut [Symbol])
 {
     let whole = product_of_sums(point(place), 0, profile.keep);
     for k in 0..profile.keep {
-        let gap = point(place).add(point(k));
-        let ratio = whole.mul(gap.inv().unwrap());
-        out[k as usize] = ratio.mul(kept_multiplier(profile, k));
+        let gap = byte_sum(point(place), point(k));
+        let ratio = byte_product(whole, byte_inverse(gap));
+        let coefficient = byte_product(ratio, kept_multiplier(profile, k));
+        out[k as usize] = Symbol(u128::from(coefficient));
     }
 }
 

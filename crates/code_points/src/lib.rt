@@ -1,12 +1,14 @@
 //! The profiles of the server code, and the coefficients of its codewords.
 #![tactic(auto)]
 
+mod bytes;
 mod generator;
 mod profile;
 mod table;
 #[cfg(test)]
 mod tests;
 
+pub use bytes::byte_product;
 pub use generator::generator_row;
 pub use profile::{Profile, find_profile};
 pub use table::multiplier;

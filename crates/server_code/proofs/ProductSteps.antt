@@ -4,13 +4,8 @@ use Rattle.std.proofs.lemmas.List.{ext_get_or, length-map, get_or-map, get_or-se
 use Rattle.std.proofs.lemmas.List.FromFn.{length-map-range_with_len, get_or-map-range_with_len, map-range_with_len_more}
 use Rattle.std.specs.List.{range_with_len}
 use Rattle.hail_field.specs.Nim.{nim_mul}
-use Rattle.hail_field.proofs.AllNumbers.{nim_mul-lt}
 use Rattle.server_code.specs.Products.{AreProducts}
 use Rattle.server_code.proofs.MakeSteps.{last_or_before}
-
--- the product of bytes is one
-pub byte_product : (a b : ℕ) → a < 256 → b < 256 → nim_mul a b < 256
-byte_product a b ha hb = nim_mul-lt 3 a b ha hb
 
 -- the entry at a place
 abbrev pub entry : ℕ → ℕ

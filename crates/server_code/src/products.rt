@@ -2,18 +2,10 @@ ghost use Rattle.std.specs.Prelude.{◌≡◌, IfOk};
 ghost use Rattle.hail_field.specs.Nim.{nim_mul};
 ghost use Rattle.server_code.specs.Products.{AreProducts};
 
+use code_points::byte_product;
 use hail_field::Symbol;
 use hail_field::laws::bytes_of_product;
 use std::alloc::{AllocError, Global};
-
-/// The product of two bytes, which is one.
-#[tactic(auto, using(crate::proofs::ProductSteps::byte_product))]
-fn product(a: u8, b: u8) -> u8
-    ensures { result ≡ nim_mul a b }
-{
-    let product = Symbol(u128::from(a)).mul(Symbol(u128::from(b)));
-    product.0 as u8
-}
 
 /// The products of all pairs of bytes: that of c and b stands at 256 c + b.
 pub fn products(alloc: Global) -> Result<Vec<u8>, AllocError>
@@ -21,7 +13,7 @@ pub fn products(alloc: Global) -> Result<Vec<u8>, AllocError>
 {
     let mut table = Vec::with_capacity(alloc, 65536)?;
     for place in 0..65536u32 {
-        table.push(product((place % 256) as u8, (place / 256) as u8))?;
+        table.push(byte_product((place % 256) as u8, (place / 256) as u8))?;
     }
     Ok(table)
 }

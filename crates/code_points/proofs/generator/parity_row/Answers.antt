@@ -1,5 +1,4 @@
 use Rattle.std.proofs.Common.{◌≡◌, ℕ, sym, subst, map, List, arith}
-use Rattle.std.proofs.lemmas.Grind.{common_steps}
 use Rattle.std.proofs.lemmas.List.FromFn.{fill_by_all}
 use Rattle.hail_codes.specs.Points.{upto}
 use Rattle.hail_codes.specs.ServerCode.{IsGeneratorRow}
@@ -9,11 +8,10 @@ use Rattle.code_points.specs.Profile.{plain_profile}
 use Rattle.code_points.proofs.Coefficients.{parity-lt}
 use Rattle.code_points.proofs.generator.parity_row.Goals as goal
 
-pub unwrap-requires : goal.unwrap-requires
-unwrap-requires c =
+pub byte_inverse-requires : goal.byte_inverse-requires
+byte_inverse-requires c =
     let differ : c.args.place ≡ c.loop-k.k → ⊥ = λ e. omega (arith, e) in
-    let some : c.add-gap.result ≡ 0 → ⊥ = λ e. gap_not_zero c.args.place c.loop-k.k differ (cc (e)) in
-    grind (arith, common_steps, some, c.inv.ensures.zero)
+    λ e. gap_not_zero c.args.place c.loop-k.k differ (cc (e))
 
 pub returns : goal.returns
 returns c =

@@ -4,7 +4,7 @@ use Rattle.server_code.proofs.products.products.Goals as goal
 
 pub loop-place-preserved : goal.loop-place-preserved
 loop-place-preserved c =
-    products_more c.loop-place.table.items c.push.new.self.items c.loop-place.place c.product.result c.in_ok-push.ensures.items c.product.ensures c.loop-place.invariant
+    products_more c.loop-place.table.items c.push.new.self.items c.loop-place.place c.byte_product.result c.in_ok-push.ensures.items c.byte_product.ensures c.loop-place.invariant
 
 pub returns : goal.returns
 returns c =

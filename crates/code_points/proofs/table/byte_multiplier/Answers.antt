@@ -1,12 +1,12 @@
 use Rattle.std.proofs.Common.{◌≡◌, ◌∙◌, sym, ap, arith}
 use Rattle.hail_codes.specs.Points.{upto, multiplier as multiplier_of}
 use Rattle.code_points.proofs.Multipliers.{first_is, other_is}
-use Rattle.code_points.proofs.table.multiplier.Goals as goal
+use Rattle.code_points.proofs.table.byte_multiplier.Goals as goal
 
 pub returns-then-profile-eq0 : goal.returns-then-profile-eq0
 returns-then-profile-eq0 c =
     let e : c.args.profile.size ≡ 6 = rw c.if-profile-eq0.true at c.args.profile.size_is in
-    c.from.ensures ∙ first_is c.args.place (omega arith) ∙ ap (λ n. multiplier_of c.args.place (upto n)) (sym e)
+    first_is c.args.place (omega arith) ∙ ap (λ n. multiplier_of c.args.place (upto n)) (sym e)
 
 pub returns-else-profile-eq0 : goal.returns-else-profile-eq0
 returns-else-profile-eq0 c =
