@@ -1,0 +1,160 @@
+#!/bin/bash
+# Worked rows of the commands over real folders: words, input and damage, and the status, the text and the bytes that are due.
+# It tells each row that goes otherwise, ends with 0 exactly where none does, and leaves nothing behind.
+set -u
+
+hail=$(CDPATH='' cd -P -- "$(dirname "$0")/.." && pwd -P)/hail
+scratch=$(mktemp -d) || exit 1
+trap 'rm -rf "$scratch"' EXIT
+cd "$scratch" || exit 1
+failed=0
+
+wrong() {
+    echo "row: $1" >&2
+    failed=1
+}
+
+# The command over the home ends with this status and writes this text, its line on standard error behind it: SOURCE is its input.
+row() {
+    local wanted=$1 text=$2 source=$3
+    shift 3
+    "$hail" home "$@" <"$source" >out 2>err
+    local status=$?
+    [ "$status" -eq "$wanted" ] || wrong "$* ends with $status, not $wanted"
+    [ "$(cat out err)" = "$text" ] || wrong "$* writes $(cat out err), not $text"
+}
+
+# A new home, set up with these numbers.
+set_up() {
+    rm -rf home
+    mkdir home
+    row 0 ready key init "$@"
+}
+
+# The hexadecimal digits of the journal from a place on.
+journal_from() {
+    tail -c "+$(($1 + 1))" home/journal | od -An -v -tx1 | tr -d ' \n'
+}
+
+# The journal of a new home is these bytes, as printf spells them.
+journal_is() {
+    rm -rf home
+    mkdir home
+    printf "$1" >home/journal
+}
+
+digits=000102030405060708090a0b0c0d0e0f101112131415161718191a1b1c1d1e1f
+echo "$digits" >key
+printf '%s' "${digits%f}" >short
+: >empty
+seq 1 100 | head -c 100 >notes
+lost='hail: lost row'
+
+# Setting up: the bytes of the journal, a second time, a key of 63 digits, numbers of no setup.
+set_up 6 3 1 1 4 8 0
+[ "$(journal_from 0)" = "4841494c4a524e310101060301010408000000$(echo "$digits" | cut -c3-)00" ] || wrong 'the journal of init has other bytes'
+row 10 'hail: already set up' key init 6 3 1 1 4 8 0
+rm home/journal
+row 18 'hail: bad key' short init 6 3 1 1 4 8 0
+row 20 'hail: bad setup' key init 6 3 2 1 4 8 0
+row 20 'hail: bad setup' key init 256 3 1 1 4 8 0
+row 2 'hail: usage' key init 6 3 1 1 4 8
+row 9 'hail: not set up' empty list
+
+# An empty file has no block, a get of it writes nothing, and no round is asked.
+set_up 6 3 1 1 4 8 0
+row 0 'stored empty 0' empty put empty
+[ -z "$(ls -d home/provider-* 2>/dev/null)" ] || wrong 'an empty file has a block'
+row 0 '' empty get empty
+all_ok='provider 0 count 0 ok
+provider 1 count 0 ok
+provider 2 count 0 ok
+provider 3 count 0 ok
+provider 4 count 0 ok
+provider 5 count 0 ok'
+row 0 "audit 1 undecided 0
+$all_ok" empty audit
+
+# A text of 100 bytes: the records, a block of 16 symbols for each provider, those of providers 1 and 2 all zero.
+set_up 6 3 1 1 4 8 0
+row 0 'stored notes.txt 100' notes put notes.txt
+[ "$(journal_from 50)" = 01020100000000000000096e6f7465732e7478740103010000000000000064000000"00" ] || wrong 'the records of a put have other bytes'
+for provider in 0 1 2 3 4 5; do
+    [ "$(ls home/provider-$provider)" = 1-0 ] || wrong "provider $provider holds other blocks"
+    [ "$(stat -c %s home/provider-$provider/1-0)" -eq 256 ] || wrong "provider $provider has a block of another size"
+done
+for provider in 1 2; do
+    head -c 256 /dev/zero | cmp -s - home/provider-$provider/1-0 || wrong "the block of provider $provider is not zero"
+done
+row 0 'notes.txt 100' empty list
+row 0 "$(cat notes)" empty get notes.txt
+row 17 'hail: bad name' notes put a/b
+row 3 'hail: no such name' empty get nope
+row 2 'hail: usage' empty fly
+row 14 'hail: source fault' . put a
+"$hail" home list </dev/null >/dev/full 2>err
+[ $? -eq 15 ] && [ "$(cat err)" = 'hail: sink fault' ] || wrong 'a full output is no sink fault'
+
+# One block lost and four places of another altered do no harm; the loss is found and mended, and nothing else is written.
+cp -r home kept
+rm home/provider-0/1-0
+for place in 0 1 2 3; do
+    printf '\377' | dd of=home/provider-5/1-0 bs=1 seek=$((16 * place)) conv=notrunc 2>dd
+done
+row 0 "$(cat notes)" empty get notes.txt
+cp kept/provider-5/1-0 home/provider-5/1-0
+row 0 "audit 1 undecided 0
+$(echo "$all_ok" | sed 's/0 count 0 ok/0 count 4 flagged/')" empty audit
+row 6 'hail: repair due' empty audit
+row 0 'repaired 1' empty repair
+diff -r -x journal kept home || wrong 'a repair leaves other blocks'
+row 7 'hail: nothing due' empty repair
+rm home/provider-0/1-0 home/provider-1/1-0
+row 4 "$lost 0" empty get notes.txt
+
+# Two of four providers lost: the round is undecided, and nobody counts. A store that fails leaves the repair due.
+set_up 4 1 1 0 1 1 0
+printf abc >three
+row 0 'stored a 3' three put a
+rm home/provider-0/1-0 home/provider-1/1-0
+four_ok=$(echo "$all_ok" | head -n 4)
+row 0 "audit 1 undecided 1
+$four_ok" empty audit
+row 0 "audit 2 undecided 1
+$four_ok" empty audit
+set_up 4 1 1 0 1 1 0
+row 0 'stored a 3' three put a
+rm -r home/provider-2
+row 0 "audit 1 undecided 0
+$(echo "$four_ok" | sed 's/2 count 0 ok/2 count 1 flagged/')" empty audit
+: >home/provider-2
+row 13 'hail: provider fault 2' empty repair
+rm home/provider-2
+row 0 'repaired 1' empty repair
+
+# What a disk may read: nothing set up, or a bad journal with its place; a journal that cannot be read is a fault.
+for bytes in '' 'HAILJRN1' 'HAILJRN1\001' 'HAILJRN1\000\377\377'; do
+    journal_is "$bytes"
+    row 9 'hail: not set up' empty list
+    row 0 ready key init 4 1 1 0 1 1 0
+done
+journal_is 'HAILJRN1\001\001\006'
+row 8 'hail: bad journal at 9' empty list
+row 8 'hail: bad journal at 9' key init 4 1 1 0 1 1 0
+journal_is 'HAILJRN2\000\000\000\000'
+row 8 'hail: bad journal at 0' empty list
+journal_is 'HAILJRN1\001\005\001\000\000\000\000\000\000\000\000'
+row 8 'hail: bad journal at 9' empty list
+rm -rf home
+mkdir -p home/journal
+row 12 'hail: disk fault' empty list
+
+# The longest file, and one byte more.
+set_up 6 3 1 4 4 8 0
+head -c 4194304 /dev/zero >long
+row 0 'stored big 4194304' long put big
+"$hail" home get big </dev/null | cmp -s - long || wrong 'the longest file comes back otherwise'
+echo >>long
+row 16 'hail: too long' long put longer
+row 0 'big 4194304' empty list
+exit "$failed"
