@@ -112,6 +112,17 @@ row 7 'hail: nothing due' empty repair
 rm home/provider-0/1-0 home/provider-1/1-0
 row 4 "$lost 0" empty get notes.txt
 
+# Columns of another file that were made with the key under the same number are given: only who has the key can make them.
+set_up 6 3 1 1 4 8 0
+row 0 'stored notes.txt 100' notes put notes.txt
+mv home first
+set_up 6 3 1 1 4 8 0
+seq 200 300 | head -c 100 >other
+row 0 'stored notes.txt 100' other put notes.txt
+cp first/journal home/journal
+row 0 "$(cat other)" empty get notes.txt
+rm -r first
+
 # Two of four providers lost: the round is undecided, and nobody counts. A store that fails leaves the repair due.
 set_up 4 1 1 0 1 1 0
 printf abc >three
