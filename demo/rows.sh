@@ -160,6 +160,34 @@ rm -rf home
 mkdir -p home/journal
 row 12 'hail: disk fault' empty list
 
+# A journal of 16,777,190 bytes has room for the records of a put under a name of one byte, and one of 16,777,191 has not.
+fill_journal() {
+    python3 - "$1" <<'END'
+import sys
+name = int(sys.argv[1])
+head = open('home/journal', 'rb').read()[:-1]
+started = b'\x01\x02' + (1).to_bytes(8, 'little') + bytes([name]) + b'a' * name
+audits = b''.join(b'\x01\x05' + k.to_bytes(8, 'little') for k in range(1, 1677713))
+open('home/journal', 'wb').write(head + started + audits + b'\0')
+END
+}
+set_up 4 1 1 0 1 1 0
+fill_journal 8
+[ "$(stat -c %s home/journal)" -eq 16777190 ] || wrong 'the journal was filled otherwise'
+row 0 'stored a 0' empty put a
+set_up 4 1 1 0 1 1 0
+fill_journal 9
+row 11 'hail: journal full' empty put a
+
+# With 1,024 names in effect a further one is refused, and one of them is not.
+set_up 4 1 1 0 1 1 0
+for name in $(seq 1 1024); do
+    "$hail" home put "$name" </dev/null >out || wrong "put $name"
+done
+row 21 'hail: too many files' empty put 1025
+row 0 'stored 7 3' three put 7
+[ "$("$hail" home list </dev/null | wc -l)" -eq 1024 ] || wrong 'not all names are listed'
+
 # The longest file, and one byte more.
 set_up 6 3 1 4 4 8 0
 head -c 4194304 /dev/zero >long
