@@ -26,7 +26,7 @@ fn first_wrong_call(
     (kept, done): (u64, u64),
     (without, with): (&[Row], &[Row]),
 ) -> Option<u64> {
-    for call in 0..done + 2 {
+    for call in 0..done.saturating_add(2) {
         let wanted = if call < done {
             refused(row.line, 12, 0)
         } else {

@@ -245,12 +245,14 @@ pub fn with_failing_provider(
 
 /// Which provider was fetched from at a place of what was heard, and the first symbol of the block that it gave.
 pub fn fetched(report: &Report, place: usize) -> Option<(u32, Symbol)> {
-    match report.heard.at(place)? {
-        Heard::Fetched {
-            provider,
-            block,
-            ..
-        } => Some((provider, *block?.first()?)),
-        Heard::Answered { .. } => None,
+    match report.heard.at(place) {
+        Some(
+            Heard::Fetched {
+                provider,
+                block: Some(block),
+                ..
+            },
+        ) => Some((provider, *block.first()?)),
+        _ => None,
     }
 }
