@@ -2,6 +2,16 @@
 #![tactic(auto)]
 
 #[cfg(test)]
-mod probe;
+mod asking;
+#[cfg(test)]
+mod counted;
+#[cfg(test)]
+mod rebuilding;
+#[cfg(test)]
+mod setups;
+#[cfg(test)]
+mod sharing;
+#[cfg(test)]
+mod stopping;
 #[cfg(test)]
 mod store;

@@ -59,7 +59,11 @@ fn left_by(alloc: Global, steps: u32, picks: &[u8]) -> Option<Left> {
 /// sync a gate that the step before wrote.
 fn wanted(steps: u32, open: bool) -> Left {
     let passed = if open { steps + 1 } else { steps };
-    let last = if steps == STEPS { Seen::Put } else { Seen::More };
+    let last = if steps == STEPS {
+        Seen::Put
+    } else {
+        Seen::More
+    };
     let text = if passed >= 12 { Text::New } else { Text::Old };
     let number = if passed >= 4 { 3 } else { 2 };
     (last, Seen::Got(text), number)
@@ -84,7 +88,11 @@ fn cuts_leave_the_old_text_or_the_new(rt: HostRuntime) {
         (&[1; 50], true),
     ];
     for (picks, open) in rows {
-        assert_eq!(rt; first_wrong(rt.alloc(), picks, open), None, "with {picks:?}");
+        assert_eq!(rt;
+            first_wrong(rt.alloc(), picks, open),
+            None,
+            "with {picks:?}"
+        );
     }
 }
 
@@ -98,6 +106,10 @@ fn cuts_at_the_last_gate(rt: HostRuntime) {
     ];
     for (steps, picks, text) in rows {
         let left = left_by(rt.alloc(), steps, picks);
-        assert_eq!(rt; left, Some((Seen::More, Seen::Got(text), 3)), "after {steps} steps");
+        assert_eq!(rt;
+            left,
+            Some((Seen::More, Seen::Got(text), 3)),
+            "after {steps} steps"
+        );
     }
 }
