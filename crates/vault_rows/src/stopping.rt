@@ -58,14 +58,15 @@ fn left_by(alloc: Global, steps: u32, picks: &[u8]) -> Option<Left> {
 /// What it is to leave, where the gates that a stop may undo stay open, or are closed. The fourth and the twelfth step
 /// sync a gate that the step before wrote.
 fn wanted(steps: u32, open: bool) -> Left {
-    let passed = if open { steps + 1 } else { steps };
     let last = if steps == STEPS {
         Seen::Put
     } else {
         Seen::More
     };
-    let text = if passed >= 12 { Text::New } else { Text::Old };
-    let number = if passed >= 4 { 3 } else { 2 };
+    let replaced = steps >= 12 || (open && steps == 11);
+    let drawn = steps >= 4 || (open && steps == 3);
+    let text = if replaced { Text::New } else { Text::Old };
+    let number = if drawn { 3 } else { 2 };
     (last, Seen::Got(text), number)
 }
 
