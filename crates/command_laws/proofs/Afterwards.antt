@@ -198,4 +198,4 @@ sure-next records new next S N = elim N.disk [
     stopped-at : (a b : Option Cells) → is_some a ≡ true → EachImage a (λ image. StandsFor image records) → Goes Stopped a b → (image : List ℕ) × (b ≡ Some (firm image)) × StandsFor image records
     stopped-at None b tells stand g = absurd (false≢true tells)
     stopped-at (Some a) None tells stand g = absurd g
-    stopped-at (Some a) (Some b) tells stand (image, (of, is)) = (image, ap Some is, stand image of)
+    stopped-at (Some a) (Some b) tells stand (image, of, is) = (image, ap Some is, stand image of)

@@ -1,5 +1,5 @@
 -- The records of a store after a command that is done, and after any command.
-use Rattle.std.proofs.Common.{◌≡◌, ◌≢◌, ℕ, ◌+◌, ◌<◌, ◌≤◌, ◌⊎◌, Bool, true, false, List, [], ◌∷◌, ◌++◌, length, reverse, take, Option, None, Some, refl, ap, sym, subst, ◌∙◌, inl, inr, arith, append_assoc}
+use Rattle.std.proofs.Common.{◌≡◌, ◌≢◌, ℕ, suc, ◌+◌, ◌<◌, ◌≤◌, ◌⊎◌, Bool, true, false, List, [], ◌∷◌, ◌++◌, length, reverse, take, Option, None, Some, refl, ap, sym, subst, ◌∙◌, inl, inr, arith, append_assoc}
 use Rattle.std.specs.Prelude.{is_some, IfSome, IsTrue}
 use Rattle.std.specs.List.{list_all}
 use Rattle.std.specs.Option.{option_map}
@@ -28,10 +28,10 @@ use Rattle.hail_commands.specs.Openings.{journal_read, IsRead, IsSetUpOn}
 use Rattle.hail_commands.specs.Opens.{IsOpened, Unstarted, setup_at}
 use Rattle.hail_commands.specs.Refusals.{status_of}
 use Rattle.hail_commands.specs.Lines.{text_of}
-use Rattle.hail_commands.specs.Inits.{setup_with}
+use Rattle.hail_commands.specs.Inits.{setup_with, AnswersInit}
 use Rattle.hail_commands.specs.Gets.{GetLeaves}
 use Rattle.hail_commands.specs.Jobs.{AnswersJob, EndsBy, SamePast, past}
-use Rattle.hail_commands.specs.Commands.{AnswersPut, AnswersAlone, AnswersList, AnswersInit, Answers}
+use Rattle.hail_commands.specs.Commands.{AnswersPut, AnswersAlone, AnswersList, Answers}
 use Rattle.sound_states.proofs.Records.{is_some-at}
 use Rattle.command_laws.specs.Ends.{IsDone, IsKnown, IsJobOf, DiskHas, opens_store, after_put, after_drop, after_audit, after_repair, IsPut, IsDropped, IsAudited, IsRepaired}
 use Rattle.command_laws.specs.Kept.{IsAfter}
@@ -202,7 +202,7 @@ list-sure records old new end A done K = (let P = list-done old new end A done i
 
 all-bytes : (bytes : List ℕ) → IsBytes bytes → list_all is_byte bytes ≡ true
 all-bytes [] fits = refl
-all-bytes (b ∷ bytes) fits = (let rest : list_all is_byte bytes ≡ true = all-bytes bytes (λ i. fits (i + 1)) in let here = fits 0 in grind (arith, nat_tests, here, rest))
+all-bytes (b ∷ bytes) fits = (let rest : list_all is_byte bytes ≡ true = all-bytes bytes (λ i. fits (suc i)) in let here = fits 0 in grind (arith, nat_tests, here, rest))
 
 key-master : (text key : List ℕ) → IsKeyForm text key → is_master key ≡ true
 key-master text key F = (let d = decode_of-ok F.digits key F.spelled in
@@ -308,7 +308,7 @@ next-image new next tells N = elim N.disk [
     stopped-at : (a b : Option Cells) → is_some a ≡ true → Goes Stopped a b → (cells : Cells) × (b ≡ Some cells) × ((P : List ℕ → Type 0) → EachImage a P → P (reads cells))
     stopped-at None b tells g = absurd (false≢true tells)
     stopped-at (Some a) None tells g = absurd g
-    stopped-at (Some a) (Some b) tells (image, (of, is)) = (firm image, ap Some is, λ P h. subst P (sym (reads-firm image)) (h image of))
+    stopped-at (Some a) (Some b) tells (image, of, is) = (firm image, ap Some is, λ P h. subst P (sym (reads-firm image)) (h image of))
 
 pub known-always : (command : Command) (records : List Record) (old new next : Seen) (end : Ending) → Answers command old new end → opens_store command ≡ true → IsSure old records →
     is_some new.disk ≡ is_some old.disk → IsNext new next → (after : List Record) × IsKnown next after × IsThen command records old new after

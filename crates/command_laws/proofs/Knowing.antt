@@ -161,7 +161,7 @@ abbrev pub HasBytes : Kind → Type 0
 HasBytes (PutJob name bytes) = AreBytes bytes
 HasBytes kind = Unit {0}
 
-spelled-kind : (records : List Record) (kind : Kind) → HasBytes kind → refusal_of records kind ≡ None → IsSpelledKind kind
+pub spelled-kind : (records : List Record) (kind : Kind) → HasBytes kind → refusal_of records kind ≡ None → IsSpelledKind kind
 spelled-kind records (PutJob name bytes) are none = (name-bytes name (first-off (is_name name) _ _ none), are)
 spelled-kind records (GetJob name) are none = name-bytes name (first-off (is_name name) _ _ none)
 spelled-kind records (DropJob name) are none = name-bytes name (first-off (is_name name) _ _ none)
@@ -174,7 +174,7 @@ spelled-kind records RepairJob are none = tt
 abbrev pub LeavesGood : List Record → Seen → Seen → Type 0
 LeavesGood records old new = AreGood (setup_at records) new.disk × ((setup_at records).n ≤ length new.providers)
 
-ran-good : (records : List Record) (kind : Kind) (how : Answer) (old new : Seen) (heard : List Entry) → IsOpened old records → IsSpelledKind kind → RunsAlone records kind how old new heard → LeavesGood records old new
+pub ran-good : (records : List Record) (kind : Kind) (how : Answer) (old new : Seen) (heard : List Entry) → IsOpened old records → IsSpelledKind kind → RunsAlone records kind how old new heard → LeavesGood records old new
 unfolding setup_in
 ran-good records kind how old new heard R spelled A =
     (let w : State = opened_state records A.faults old.providers in

@@ -37,3 +37,4 @@ pub mod LastStates
 pub mod Knowing
 pub mod Afterwards
 pub mod DoneStores
+pub mod FilesStay
