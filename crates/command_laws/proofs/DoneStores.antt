@@ -14,7 +14,7 @@ use Rattle.hail_devices.specs.Images.{IsImage, EachImage}
 use Rattle.hail_devices.specs.Told.{Goes, then_told}
 use Rattle.hail_records.specs.Records.{Record, Setup, SetUp, is_byte, is_master, is_in_grammar, is_setup, largest_file, largest_journal}
 use Rattle.hail_records.specs.Journal.{text, before_gate, StandsFor}
-use Rattle.hail_records.specs.Table.{Due, due_of}
+use Rattle.hail_records.specs.Table.{Due, next_audit, due_of}
 use Rattle.journal_core.proofs.Meanings.{one_meaning}
 use Rattle.hail_machine.specs.Jobs.{Kind, PutJob, GetJob, DropJob, AuditJob, RepairJob}
 use Rattle.hail_machine.specs.Answers as answer
@@ -27,14 +27,14 @@ use Rattle.hail_commands.specs.Seen.{Seen, Ending, IsRefused, ReadsUpTo}
 use Rattle.hail_commands.specs.Openings.{journal_read, IsRead, IsSetUpOn}
 use Rattle.hail_commands.specs.Opens.{IsOpened, Unstarted, setup_at}
 use Rattle.hail_commands.specs.Refusals.{status_of}
-use Rattle.hail_commands.specs.Lines.{text_of}
+use Rattle.hail_commands.specs.Lines.{text_of, audit_lines}
 use Rattle.hail_commands.specs.Inits.{setup_with, AnswersInit}
 use Rattle.hail_commands.specs.Gets.{GetLeaves}
-use Rattle.hail_commands.specs.Jobs.{AnswersJob, EndsBy, SamePast, past}
+use Rattle.hail_commands.specs.Jobs.{AnswersJob, EndsBy, SamePast, past, IsTold}
 use Rattle.hail_commands.specs.Commands.{AnswersPut, AnswersAlone, AnswersList, Answers}
 use Rattle.sound_states.proofs.Records.{is_some-at}
 use Rattle.command_laws.specs.Ends.{IsDone, IsKnown, IsJobOf, DiskHas, opens_store, after_put, after_drop, after_audit, after_repair, IsPut, IsDropped, IsAudited, IsRepaired}
-use Rattle.command_laws.specs.Kept.{IsAfter}
+use Rattle.command_laws.specs.Kept.{IsAfter, after_start, LosesRepair, FailsToRepair, FailsToPut}
 use Rattle.command_laws.specs.Opened.{IsInit}
 use Rattle.command_laws.specs.After.{IsSure, IsNext, HasGrown, IsThen}
 use Rattle.command_laws.proofs.Known.{known-once, alone-known, unstarted-known, refused-not}
@@ -42,31 +42,33 @@ use Rattle.command_laws.proofs.JobEnds.{unstarted-done, put-done, drop-done, aud
 use Rattle.command_laws.proofs.GetEnds.{ran_left}
 use Rattle.command_laws.proofs.InitEnds.{key-once, form-all, init-done, list-done}
 use Rattle.command_laws.proofs.Images.{reads-image, image-firm, stands-front, known-images}
-use Rattle.command_laws.proofs.Failed.{images-same}
+use Rattle.command_laws.proofs.Failed.{images-same, put-fails, repair-fails, repair-loses}
 use Rattle.command_laws.proofs.Knowing.{IsGood, AreGood, sure-good, known-good, LeavesGood, HasBytes, job-good, ran-good, spelled-kind}
 use Rattle.command_laws.proofs.Afterwards.{known-refused, sure-refused, sure-next, reads-firm}
 
 -- ---- statuses of a job that came to its end by itself
 
--- done, or a row lost
+-- done, a row lost, or a store that failed
 abbrev pub IsOver : ℕ → Type 0
-IsOver status = ((status ≡ 0) ⊎ (status ≡ 15)) ⊎ (status ≡ 4)
+IsOver status = ((status ≡ 0) ⊎ (status ≡ 15)) ⊎ ((status ≡ 4) ⊎ (status ≡ 13))
 
-over-not : (status m : ℕ) → status ≡ m → m ≢ 0 → m ≢ 15 → m ≢ 4 → IsOver status → ⊥
-over-not status m is zero sink lost (inl (inl e)) = zero (sym is ∙ e)
-over-not status m is zero sink lost (inl (inr e)) = sink (sym is ∙ e)
-over-not status m is zero sink lost (inr e) = lost (sym is ∙ e)
+over-not : (status m : ℕ) → status ≡ m → m ≢ 0 → m ≢ 15 → m ≢ 4 → m ≢ 13 → IsOver status → ⊥
+over-not status m is zero sink lost store (inl (inl e)) = zero (sym is ∙ e)
+over-not status m is zero sink lost store (inl (inr e)) = sink (sym is ∙ e)
+over-not status m is zero sink lost store (inr (inl e)) = lost (sym is ∙ e)
+over-not status m is zero sink lost store (inr (inr e)) = store (sym is ∙ e)
 
 over-twelve : (status : ℕ) → status ≡ 12 → IsOver status → ⊥
-over-twelve status is = over-not status 12 is (λ e. omega (arith, e)) (λ e. omega (arith, e)) (λ e. omega (arith, e))
+over-twelve status is = over-not status 12 is (λ e. omega (arith, e)) (λ e. omega (arith, e)) (λ e. omega (arith, e)) (λ e. omega (arith, e))
 
 over-memory : (status : ℕ) → status ≡ 70 → IsOver status → ⊥
-over-memory status is = over-not status 70 is (λ e. omega (arith, e)) (λ e. omega (arith, e)) (λ e. omega (arith, e))
+over-memory status is = over-not status 70 is (λ e. omega (arith, e)) (λ e. omega (arith, e)) (λ e. omega (arith, e)) (λ e. omega (arith, e))
 
 over-refused : (why : Refusal) (status : ℕ) → status ≡ status_of why → IsOver status → ⊥
 over-refused why status is (inl (inl e)) = refused-not why 0 refl (λ k. omega (arith, k)) (sym is ∙ e)
 over-refused why status is (inl (inr e)) = refused-not why 15 refl (λ k. omega (arith, k)) (sym is ∙ e)
-over-refused why status is (inr e) = refused-not why 4 refl (λ k. omega (arith, k)) (sym is ∙ e)
+over-refused why status is (inr (inl e)) = refused-not why 4 refl (λ k. omega (arith, k)) (sym is ∙ e)
+over-refused why status is (inr (inr e)) = refused-not why 13 refl (λ k. omega (arith, k)) (sym is ∙ e)
 
 -- ---- a disk that told tells on
 
@@ -116,12 +118,16 @@ alone-over kind records old new end K are A over = elim (alone-known kind old ne
   | inr job ↦ left-over kind records old new end K.opened are job over
 ]
 
-put-over : (name : List ℕ) (records : List Record) (old new : Seen) (end : Ending) → IsKnown old records → AnswersPut name old new end → IsDone end → Left records old new
-put-over name records old new end K (AnswersPut.unstarted u same) done = absurd (unstarted-done old new end u done)
-put-over name records old new end K (AnswersPut.source_fault other opened rose synced r) done = absurd (over-not end.status 14 r.status_is (λ e. omega (arith, e)) (λ e. omega (arith, e)) (λ e. omega (arith, e)) (inl done))
-put-over name records old new end K (AnswersPut.no_memory r) done = absurd (over-memory end.status r.status_is (inl done))
-put-over name records old new end K (AnswersPut.begun other bytes opened read A) done =
-    subst (λ rs. Left rs old new) (known-once old records other K opened.read) (left-over (PutJob name bytes) other old new end opened read.are_bytes A (inl done))
+put-over : (name : List ℕ) (records : List Record) (old new : Seen) (end : Ending) → IsKnown old records → AnswersPut name old new end → IsOver end.status → Left records old new
+put-over name records old new end K (AnswersPut.unstarted u same) over = elim (unstarted-known old new end records K u) [
+  | inl (rose, r) ↦ absurd (over-twelve end.status r.status_is over)
+  | inr r ↦ absurd (over-memory end.status r.status_is over)
+]
+put-over name records old new end K (AnswersPut.source_fault other opened rose synced r) over =
+    absurd (over-not end.status 14 r.status_is (λ e. omega (arith, e)) (λ e. omega (arith, e)) (λ e. omega (arith, e)) (λ e. omega (arith, e)) over)
+put-over name records old new end K (AnswersPut.no_memory r) over = absurd (over-memory end.status r.status_is over)
+put-over name records old new end K (AnswersPut.begun other bytes opened read A) over =
+    subst (λ rs. Left rs old new) (known-once old records other K opened.read) (left-over (PutJob name bytes) other old new end opened read.are_bytes A over)
 
 sure-left : (records after : List Record) (old new : Seen) → IsKnown old records → Left records old new → DiskHas after new → IsSure new after
 sure-left records after old new K L has = (let c = is_some-at new.disk (L.1 ∙ K.tells) in sure-good (setup_at records) new c.0 after c.1 L.0.0 L.0.1 has)
@@ -143,7 +149,7 @@ put-sure name bytes records old new end A done K source =
     let same = known-once old records P.records K P.opened.read in
     let read = whole-read (largest_file + 1) old.source new.source bytes P.bytes source P.read P.whole in
     let has : DiskHas (after_put records name (length bytes)) new = subst (λ rs. DiskHas (after_put rs name (length bytes)) new) same (subst (λ bs. DiskHas (after_put P.records name (length bs)) new) read P.disk) in
-    sure-left records (after_put records name (length bytes)) old new K (put-over name records old new end K A done) has)
+    sure-left records (after_put records name (length bytes)) old new K (put-over name records old new end K A (inl done)) has)
 
 pub drop-sure : (name : List ℕ) (records : List Record) (old new : Seen) (end : Ending) → AnswersAlone (DropJob name) old new end → IsDone end → IsKnown old records → IsSure new (after_drop records name)
 drop-sure name records old new end A done K =
@@ -152,10 +158,16 @@ drop-sure name records old new end A done K =
     sure-left records (after_drop records name) old new K (alone-over (DropJob name) records old new end K tt A (inl done)) (subst (λ rs. DiskHas (after_drop rs name) new) same P.disk))
 
 pub audit-sure : (records : List Record) (old new : Seen) (end : Ending) → AnswersAlone AuditJob old new end → IsDone end → IsKnown old records → (undecided : ℕ) × (counts : List ℕ) × IsSure new (after_audit records undecided counts)
+    × IsTold (audit_lines (setup_at records).tolerance (next_audit records) undecided counts) old new end
 audit-sure records old new end A done K =
     (let P = audit-done old new end A done in
     let same = known-once old records P.records K P.opened.read in
-    (P.undecided, P.counts, sure-left records (after_audit records P.undecided P.counts) old new K (alone-over AuditJob records old new end K tt A (inl done)) (subst (λ rs. DiskHas (after_audit rs P.undecided P.counts) new) same P.disk)))
+    (
+      P.undecided,
+      P.counts,
+      sure-left records (after_audit records P.undecided P.counts) old new K (alone-over AuditJob records old new end K tt A (inl done)) (subst (λ rs. DiskHas (after_audit rs P.undecided P.counts) new) same P.disk),
+      subst (λ rs. IsTold (audit_lines (setup_at rs).tolerance (next_audit rs) P.undecided P.counts) old new end) same P.told,
+    ))
 
 pub repair-sure : (records : List Record) (due : Due) (old new : Seen) (end : Ending) → AnswersAlone RepairJob old new end → IsDone end → IsKnown old records → due_of records ≡ Some due → IsSure new (after_repair records due)
 repair-sure records due old new end A done K is_due =
@@ -179,6 +191,21 @@ get-sure name records old new end A over K = elim (alone-known (GetJob name) old
   | inl (inr r) ↦ absurd (over-memory end.status r.status_is over)
   | inr job ↦ sure-left records records old new K (left-over (GetJob name) records old new end K.opened tt job over) (get-has name records old new end K.opened job over)
 ]
+
+-- ---- a store that failed, and a row that a repair lost
+
+pub failed-put-sure : (name : List ℕ) (records : List Record) (old new : Seen) (end : Ending) → AnswersPut name old new end → end.status ≡ 13 → IsKnown old records → IsSure new (after_start records name)
+failed-put-sure name records old new end A failed K =
+    (let P = put-fails name old new end A failed in
+    let same = known-once old records P.records K P.opened.read in
+    sure-left records (after_start records name) old new K (put-over name records old new end K A (inr (inr failed))) (subst (λ rs. DiskHas (after_start rs name) new) same P.disk))
+
+pub failed-repair-sure : (records : List Record) (old new : Seen) (end : Ending) → AnswersAlone RepairJob old new end → (end.status ≡ 4) ⊎ (end.status ≡ 13) → IsKnown old records → IsSure new records
+failed-repair-sure records old new end A failed K = sure-left records records old new K (alone-over RepairJob records old new end K tt A (inr failed)) (has failed)
+  where
+    has : (end.status ≡ 4) ⊎ (end.status ≡ 13) → DiskHas records new
+    has (inl lost) = (let P = repair-loses old new end A lost in subst (λ rs. DiskHas rs new) (known-once old records P.records K P.opened.read) P.disk)
+    has (inr store) = (let P = repair-fails old new end A store in subst (λ rs. DiskHas rs new) (known-once old records P.records K P.opened.read) P.disk)
 
 -- a disk that was synced, over known records
 synced-sure : (records : List Record) (old new : Seen) → IsKnown old records → new.disk ≡ option_map synced old.disk → new.providers ≡ old.providers → IsSure new records

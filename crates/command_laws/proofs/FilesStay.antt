@@ -21,7 +21,7 @@ use Rattle.hail_commands.specs.Blocks.{StoredOn}
 use Rattle.hail_commands.specs.Commands.{AnswersPut}
 use Rattle.command_laws.specs.Failing.{has_risen, is_bad_with, is_bad_for, bad_seen}
 use Rattle.command_laws.specs.Ends.{IsDone, IsKnown, after_put, IsPut}
-use Rattle.command_laws.specs.After.{is_wrong_told, is_wrong_at, HasFile, IsUntouched, IsSteady, few_spoilt}
+use Rattle.command_laws.specs.After.{is_wrong_told, is_wrong_at, HasFile, IsUntouched, IsSteady, spoilt_below}
 use Rattle.command_laws.proofs.Complete.{each-not-wrong}
 use Rattle.command_laws.proofs.Known.{known-once}
 use Rattle.command_laws.proofs.JobEnds.{put-done}
@@ -29,7 +29,7 @@ use Rattle.command_laws.proofs.DoneStores.{whole-read}
 
 -- ---- a provider's own blocks are not wrong
 
-own-right : (o : Object) (bytes : List ℕ) (j stripe : ℕ) → is_wrong_block o bytes j stripe (Some (columns o bytes j stripe)) ≡ false
+pub own-right : (o : Object) (bytes : List ℕ) (j stripe : ℕ) → is_wrong_block o bytes j stripe (Some (columns o bytes j stripe)) ≡ false
 own-right o bytes j stripe = not-wrong (length (columns o bytes j stripe)) o.profile.size o.profile.fix (differences (columns o bytes j stripe) (columns o bytes j stripe))
     (length-column_of_symbols o (symbols_in o bytes stripe) j stripe) (differences-same (columns o bytes j stripe))
   where
@@ -64,7 +64,7 @@ put-has name bytes records spoilt old new end A done K source tells =
 
 -- ---- between two commands
 
-pub next-has : (name bytes : List ℕ) (records : List Record) (spoilt : ℕ → Bool) (new next : Seen) → HasFile new records name bytes spoilt → IsUntouched records spoilt new next → HasFile next records name bytes spoilt
+pub next-has : (name bytes : List ℕ) (records : List Record) (spoilt : ℕ → Bool) (new next : Seen) → HasFile new records name bytes spoilt → IsUntouched (setup_at records).n spoilt new next → HasFile next records name bytes spoilt
 next-has name bytes records spoilt new next H U = record {
   file = H.file;
   in_effect = H.in_effect;
@@ -97,8 +97,8 @@ bad-off : (o : Object) (bytes : List ℕ) (j : ℕ) (p q : Provider) (told : Opt
 bad-off o bytes j p q None right calm = absurd (false≢true (sym right))
 bad-off o bytes j p q (Some held) right calm = (λ i. right i || calm i)
 
-pub bad-few : (name bytes : List ℕ) (records : List Record) (spoilt : ℕ → Bool) (old new : Seen) (H : HasFile old records name bytes spoilt) → IsSteady records spoilt old new →
-    bad_seen records old new H.file.id bytes ≤ few_spoilt records spoilt
+pub bad-few : (name bytes : List ℕ) (records : List Record) (spoilt : ℕ → Bool) (old new : Seen) (H : HasFile old records name bytes spoilt) → IsSteady (setup_at records).n spoilt old new →
+    bad_seen records old new H.file.id bytes ≤ spoilt_below (setup_at records).n spoilt
 bad-few name bytes records spoilt old new H steady =
     count_of-within (λ j. is_bad_for (object_of (setup_at records) H.file.id) bytes j (provider_at old.providers j) (provider_at new.providers j)) spoilt 0 (setup_at records).n within
   where

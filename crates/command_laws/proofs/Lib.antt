@@ -38,3 +38,5 @@ pub mod Knowing
 pub mod Afterwards
 pub mod DoneStores
 pub mod FilesStay
+pub mod FilesKept
+pub mod Chains

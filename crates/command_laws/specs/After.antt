@@ -6,10 +6,12 @@
 --   is_refusal status          == the status tells that a command was refused, or that its source failed
 --   is_wrong_at records s id bytes j == provider j is wrong for an object of these bytes, or does not tell what it holds
 --   HasFile s records name bytes spoilt == a file of these bytes is in effect, and each provider that is not spoilt is right for it
---   IsUntouched records spoilt new next == each provider that is not spoilt holds what it held
---   IsSteady records spoilt old new == no count of failed calls rose but of providers that are spoilt
---   few_spoilt records spoilt  == how many providers of the setup are spoilt
-use Rattle.std.specs.Prelude.{◌≡◌, ◌⊎◌, ℕ, ◌<◌, ◌==◌, ◌||◌, Bool, true, false, List, ◌++◌, length, reverse, take, Option, None, Some}
+--   IsUntouched n spoilt new next == each of n providers that is not spoilt holds what it held
+--   IsSteady n spoilt old new  == of none of n providers that is not spoilt the count of failed calls rose
+--   spoilt_below n spoilt      == how many of n providers are spoilt
+--   keeps_blocks command       == a get, a list and an audit
+--   IsOther name command       == a put or a drop of another name
+use Rattle.std.specs.Prelude.{◌≡◌, ◌≢◌, ◌⊎◌, ℕ, ◌<◌, ◌==◌, ◌||◌, Bool, true, false, List, ◌++◌, length, reverse, take, Option, None, Some}
 use Rattle.hail_codes.specs.Points.{upto}
 use Rattle.hail_columns.specs.Objects.{Object}
 use Rattle.hail_columns.specs.Columns.{is_wrong}
@@ -23,7 +25,7 @@ use Rattle.hail_records.specs.Table.{File, file_of}
 use Rattle.hail_machine.specs.Setups.{object_of}
 use Rattle.hail_machine.specs.Jobs.{Kind}
 use Rattle.hail_machine.specs.Events.{AreBytes}
-use Rattle.hail_commands.specs.Forms.{Command}
+use Rattle.hail_commands.specs.Forms.{Command, PutUnder, GetOf, DropOf, ListAll, AuditAll}
 use Rattle.hail_commands.specs.Seen.{Seen, provider_at}
 use Rattle.hail_commands.specs.Opens.{setup_at}
 use Rattle.command_laws.specs.Ends.{IsKnown, IsJobOf, DiskHas}
@@ -75,16 +77,29 @@ pub record HasFile (s : Seen) (records : List Record) (name bytes : List ℕ) (s
   pub size : length bytes ≡ file.size
   pub right : (j : ℕ) → j < (setup_at records).n → spoilt j ≡ false → is_wrong_at records s file.id bytes j ≡ false
 
--- each provider that is not spoilt holds what it held
-abbrev pub IsUntouched : List Record → (ℕ → Bool) → Seen → Seen → Type 0
-IsUntouched records spoilt new next =
-    (j : ℕ) → j < (setup_at records).n → spoilt j ≡ false → (provider_at next.providers j).held ≡ (provider_at new.providers j).held
+-- each of n providers that is not spoilt holds what it held
+abbrev pub IsUntouched : ℕ → (ℕ → Bool) → Seen → Seen → Type 0
+IsUntouched n spoilt new next =
+    (j : ℕ) → j < n → spoilt j ≡ false → (provider_at next.providers j).held ≡ (provider_at new.providers j).held
 
--- no count of failed calls rose but of providers that are spoilt
-abbrev pub IsSteady : List Record → (ℕ → Bool) → Seen → Seen → Type 0
-IsSteady records spoilt old new =
-    (j : ℕ) → j < (setup_at records).n → spoilt j ≡ false → Rose (provider_at old.providers j).other_faults (provider_at new.providers j).other_faults → ⊥
+-- of none of n providers that is not spoilt the count of failed calls rose
+abbrev pub IsSteady : ℕ → (ℕ → Bool) → Seen → Seen → Type 0
+IsSteady n spoilt old new =
+    (j : ℕ) → j < n → spoilt j ≡ false → Rose (provider_at old.providers j).other_faults (provider_at new.providers j).other_faults → ⊥
 
--- how many providers of the setup are spoilt
-abbrev pub few_spoilt : List Record → (ℕ → Bool) → ℕ
-few_spoilt records spoilt = count_of spoilt (upto (setup_at records).n)
+-- how many of n providers are spoilt
+abbrev pub spoilt_below : ℕ → (ℕ → Bool) → ℕ
+spoilt_below n spoilt = count_of spoilt (upto n)
+
+-- a get, a list and an audit
+abbrev pub keeps_blocks : Command → Bool
+keeps_blocks (GetOf name) = true
+keeps_blocks ListAll = true
+keeps_blocks AuditAll = true
+keeps_blocks command = false
+
+-- a put or a drop of another name
+abbrev pub IsOther : List ℕ → Command → Type 0
+IsOther name (PutUnder other) = other ≢ name
+IsOther name (DropOf other) = other ≢ name
+IsOther name command = ⊥
