@@ -21,11 +21,11 @@ use Rattle.hail_commands.specs.Opens.{IsOpened, setup_at}
 use Rattle.hail_commands.specs.Blocks.{StoredOn, PartlyStored, DroppedFrom}
 use Rattle.hail_commands.specs.Puts.{PutLeaves}
 use Rattle.hail_commands.specs.Drops.{DropLeaves}
-use Rattle.hail_commands.specs.Repairs.{places_of, RewrittenOn, IfFlagged}
+use Rattle.hail_commands.specs.Repairs.{IfFlagged}
 use Rattle.hail_commands.specs.Jobs.{AnswersJob, LeftAlone}
 use Rattle.hail_commands.specs.Commands.{AnswersPut, AnswersAlone, Answers}
 use Rattle.sound_states.proofs.Records.{sound-accepted}
-use Rattle.command_laws.specs.Ends.{IsDone, IsKnown, IsJobOf, HoldsFile, SameHolds, after_repair, ran_to, IsRepaired}
+use Rattle.command_laws.specs.Ends.{IsDone, IsKnown, IsJobOf, HoldsFile, SameHolds, after_repair, IsRepaired}
 use Rattle.command_laws.specs.Kept.{AreAppended}
 use Rattle.command_laws.specs.After.{is_wrong_told, HasFile, IsThen, HasGrown, IsSteady, spoilt_below, keeps_blocks, IsOther}
 use Rattle.command_laws.proofs.Complete.{each-not-wrong, not-wrong-each}
@@ -263,14 +263,17 @@ and-off true true h off = absurd (false≢true (sym off))
 and-off true false h off = absurd (false≢true (sym h))
 and-off false c h off = refl
 
--- a provider that is not flagged goes on as it was
-abbrev GoesFlagged : List Record → Due → Seen → Seen → ℕ → Type 0
-GoesFlagged records due old new j =
-    (change : Held → Held → Type 0) × Goes (IfFlagged (is_flagged (setup_at records).tolerance due.counts j) change) (provider_at old.providers j).held (provider_at new.providers j).held
+-- a provider that is not flagged holds an object as it did, and each tells on that told
+abbrev GoesFlagged : ℕ → List Record → Due → Seen → Seen → ℕ → Type 0
+GoesFlagged id records due old new j =
+    (is_flagged (setup_at records).tolerance due.counts j ≡ false → SameAt id (provider_at old.providers j).held (provider_at new.providers j).held)
+    × (is_some (provider_at old.providers j).held ≡ true → is_some (provider_at new.providers j).held ≡ true)
 
-repaired-goes : (old new : Seen) (end : Ending) (P : IsRepaired old new end) (j : ℕ) → j < (setup_at P.records).n → GoesFlagged P.records P.due old new j
-repaired-goes old new end P j below =
-    (RewrittenOn (setup_at P.records) P.rewritten.symbols (places_of (ran_to (after_repair P.records P.due) P.records old new end.heard)) j, P.rewritten.held j below)
+repaired-goes : (id : ℕ) (old new : Seen) (end : Ending) (P : IsRepaired old new end) (j : ℕ) → j < (setup_at P.records).n → GoesFlagged id P.records P.due old new j
+repaired-goes id old new end P j below = (
+  λ off. flag-off id (is_flagged (setup_at P.records).tolerance P.due.counts j) _ (provider_at old.providers j).held (provider_at new.providers j).held off (P.rewritten.held j below),
+  λ tells. goes-tells _ (provider_at old.providers j).held (provider_at new.providers j).held tells (P.rewritten.held j below),
+)
 
 pub repair-has : (name bytes : List ℕ) (records : List Record) (due : Due) (spoilt : ℕ → Bool) (old new : Seen) (end : Ending) → AnswersAlone RepairJob old new end → IsDone end → IsKnown old records → due_of records ≡ Some due →
     HasFile old records name bytes spoilt → IsSteady (setup_at records).n spoilt old new → spoilt_below (setup_at records).n spoilt ≤ (setup_at records).b →
@@ -284,18 +287,18 @@ repair-has name bytes records due spoilt old new end A done K is_due H steady fe
   right = right;
 }
   where
-    goes : (j : ℕ) → j < (setup_at records).n → GoesFlagged records due old new j
+    goes : (j : ℕ) → j < (setup_at records).n → GoesFlagged H.file.id records due old new j
     goes j below = (let P = repair-done old new end A done in
         let same = known-once old records P.records K P.opened.read in
         let due_is : P.due ≡ due = same_value (due_of records) P.due due (ap due_of (sym same) ∙ P.is_due) is_due in
-        subst (λ (d : Due). GoesFlagged records d old new j) due_is (subst (λ rs. GoesFlagged rs P.due old new j) same (repaired-goes old new end P j (subst (λ rs. j < (setup_at rs).n) (sym same) below))))
+        subst (λ (d : Due). GoesFlagged H.file.id records d old new j) due_is (subst (λ rs. GoesFlagged H.file.id rs P.due old new j) same (repaired-goes H.file.id old new end P j (subst (λ rs. j < (setup_at rs).n) (sym same) below))))
 
     right : (j : ℕ) → j < (setup_at records).n → (spoilt j && not (is_flagged (setup_at records).tolerance due.counts j)) ≡ false →
         is_wrong_told (object_of (setup_at records) H.file.id) bytes j (provider_at new.providers j).held ≡ false
     right j below clean = (let g = goes j below in elim (cases_Bool (is_flagged (setup_at records).tolerance due.counts j)) [
-      | inl flagged ↦ columns-right (setup_at records) H.file bytes j (provider_at new.providers j).held H.size (goes-tells _ _ _ (tells j flagged) g.1)
+      | inl flagged ↦ columns-right (setup_at records) H.file bytes j (provider_at new.providers j).held H.size (g.1 (tells j flagged))
           (repair-right name bytes records H.file due j old new end A K done is_due H.in_effect H.size (let b = bad-few name bytes records spoilt old new H steady in omega (arith, b, few)) below flagged)
       | inr free ↦ wrong-same (object_of (setup_at records) H.file.id) bytes j (provider_at old.providers j).held (provider_at new.providers j).held
-          (flag-off H.file.id (is_flagged (setup_at records).tolerance due.counts j) g.0 (provider_at old.providers j).held (provider_at new.providers j).held free g.1)
+          (g.0 free)
           (H.right j below (and-off (spoilt j) (is_flagged (setup_at records).tolerance due.counts j) clean free))
     ])
