@@ -14,7 +14,7 @@ returns-in-Done-clause-machine g c = λ w moment providers stands.
 pub returns-in-Failed-clause-machine : goal.returns-in-Failed-clause-machine
 returns-in-Failed-clause-machine g c = λ w moment providers stands.
     gate_unsynced c.args.self.now w _ _ _ _ moment c.args.job providers stands c.requires c.in_ok-take.field-0 (sym c.in_ok-take.ensures.value)
-    _ _ _ c.in-Failed.ensures.made c.in-Failed.ensures.cause refl refl (record { setup = refl; master = refl; shape = refl; profile = refl }) c.stop.ensures.stopped
+    _ _ _ c.in-Failed.ensures.made c.turn.ensures.beyond c.in-Failed.ensures.cause refl refl (record { setup = refl; master = refl; shape = refl; profile = refl }) c.stop.ensures.stopped
 
 pub returns-in_default-clause-machine : goal.returns-in_default-clause-machine
 returns-in_default-clause-machine g c = λ w moment providers stands.
