@@ -76,7 +76,7 @@ module _ (v : Vault) (w : State) (holds : Option Cells) (faults number : ℕ) (p
   pub next : ComesNext w number action None
   next = comes.machine w stands.core
 
-  held : (a : Append) × (w.append ≡ Some a) × IsAt a next.job (moves_before action)
+  pub held : (a : Append) × (w.append ≡ Some a) × IsAt a next.job (moves_before action)
   held = mover 8 w stands.core.sound number next.job action next.runs next.comes later
 
   in_flight : IsFlight v.flight (Some held.0) w.records holds
@@ -86,11 +86,11 @@ module _ (v : Vault) (w : State) (holds : Option Cells) (faults number : ℕ) (p
   pub not_none : v.flight ≡ None → ⊥
   not_none is = no_flight v.flight held.0 w.records holds is in_flight
 
-  entry_is : held.0.job ≡ number → entry_in v.core number ≡ Some held.0.entry
+  pub entry_is : held.0.job ≡ number → entry_in v.core number ≡ Some held.0.entry
   entry_is = entry_kept v.core w w.append number stands.core.append held.0 held.1
 
   module _ (f : Flight) (is : v.flight ≡ Some f) where
-    mine : (moves_of f.append ≡ held.0.moves) × Appends w.records held.0.entry f.append holds
+    pub mine : (moves_of f.append ≡ held.0.moves) × Appends w.records held.0.entry f.append holds
     mine = subst (λ (o : Option Flight). IsFlight o (Some held.0) w.records holds) is in_flight
 
     -- so many moves are made
@@ -110,6 +110,7 @@ past_moved v w holds holds' faults faults' number ps stands action comes later m
     record {
       entry = a.0.entry;
       writing = record { job = next.job; runs = next.runs; moves = ap is_move next.comes ∙ moves; writes = subst (λ (j : Job). Writes w j j.kind a.0.entry) same sound.writes };
+      in_flight = λ x is. ap (λ (y : Append). y.entry) (one_of x a.0 (sym is ∙ a.1));
       same = beyond_of w.records a.0.entry f.append holds holds' m.1 beyond;
     }
 

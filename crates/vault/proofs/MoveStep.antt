@@ -148,7 +148,7 @@ moves_end v v1 v2 w new holds holds' faults faults' moment number ps action repl
 
 -- ---- texts
 
-before_size : (rs : List Record) → IsTrue (list_all is_in_grammar rs) → length (before_gate rs) + 1 ≡ text_size rs
+pub before_size : (rs : List Record) → IsTrue (list_all is_in_grammar rs) → length (before_gate rs) + 1 ≡ text_size rs
 before_size rs good = (let a = length-text rs good in let b = length-append (before_gate rs) (0 ∷ []) in omega (arith, a, b))
 
 -- the text with the record, by what an append writes
@@ -290,7 +290,7 @@ module _ (v : Vault) (w : State) (holds holds' : Option Cells) (faults faults' m
         flight = λ free. absurd (let e : true ≡ false = free in true_false e);
       })
       refl (λ on. absurd (on refl))
-      (λ e. record { entry = entry_of entry; writing = writing; same = beyond_of w.records (entry_of entry) f.append holds holds' begun beyond })
+      (λ e. record { entry = entry_of entry; writing = writing; in_flight = λ a is. absurd (let e : None ≡ Some a = sym alone ∙ is in cc); same = beyond_of w.records (entry_of entry) f.append holds holds' begun beyond })
     where
       true_false : true ≡ false → ⊥
       true_false e = cc

@@ -4,7 +4,7 @@
 --   called_provider coming   == the provider that the next action calls: of a store, a fetch, an ask, a removal
 --   moves_made coming        == how many moves of its append are made before the next action
 --   MovesCells n gate body turn old new == the cells after a step that makes the move after n, by what came of it
-use Rattle.std.specs.Prelude.{◌≡◌, ℕ, Bool, true, false, List, Option, None, Some}
+use Rattle.std.specs.Prelude.{◌≡◌, ℕ, Bool, false, List, Option, None, Some}
 use Rattle.std.specs.Option.{option_map}
 use Rattle.hail_devices.specs.Cells.{Cells}
 use Rattle.hail_devices.specs.Told.{Goes}

@@ -78,10 +78,12 @@ pub record MakesBegin (w : State) (moment : ℕ) (kind : Kind) (result : Result 
   pub begins : Begins 8 moment w kind (begin_outcome result) state
   pub stands : Stands v d state
 
--- past the text of the records in effect, with the one that the job was appending, the disk reads as before
+-- past the text of the records in effect, with the one that the job was appending, the disk reads as before; where an append was in
+-- flight, it is its record
 pub record IsSamePast (w : State) (job : ℕ) (old new : Devices) : Type 0 where
   pub entry : Record
   pub writing : IsWriting w job entry
+  pub in_flight : (a : states.Append) → w.append ≡ Some a → a.entry ≡ entry
   pub same : Goes (SameFrom (text_size (entry ∷ w.records))) old.holds new.holds
 
 -- a step is one of the machine; past the text with the record in flight the disk reads as before, and where a call of it failed, past
