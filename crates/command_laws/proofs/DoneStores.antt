@@ -76,16 +76,16 @@ is_some-map : {A B : Type 0} (f : A → B) (o : Option A) → is_some (option_ma
 is_some-map f None = refl
 is_some-map f (Some x) = refl
 
-tells-past : (how : Answer) (rs : List Record) (a b : Option Cells) → (how ≡ answer.DiskFault → ⊥) → (how ≡ answer.Memory → ⊥) → SamePast how rs a b → is_some b ≡ is_some a
-tells-past answer.Put rs a b d m h = sym (is_some-map (past rs) b) ∙ (ap is_some h ∙ is_some-map (past rs) a)
-tells-past (answer.Got bytes) rs a b d m h = sym (is_some-map (past rs) b) ∙ (ap is_some h ∙ is_some-map (past rs) a)
-tells-past answer.Dropped rs a b d m h = sym (is_some-map (past rs) b) ∙ (ap is_some h ∙ is_some-map (past rs) a)
-tells-past (answer.Audited number undecided counts) rs a b d m h = sym (is_some-map (past rs) b) ∙ (ap is_some h ∙ is_some-map (past rs) a)
-tells-past (answer.Repaired number) rs a b d m h = sym (is_some-map (past rs) b) ∙ (ap is_some h ∙ is_some-map (past rs) a)
-tells-past (answer.Lost stripe row) rs a b d m h = sym (is_some-map (past rs) b) ∙ (ap is_some h ∙ is_some-map (past rs) a)
-tells-past (answer.ProviderFault j) rs a b d m h = sym (is_some-map (past rs) b) ∙ (ap is_some h ∙ is_some-map (past rs) a)
-tells-past answer.DiskFault rs a b d m h = absurd (d refl)
-tells-past answer.Memory rs a b d m h = absurd (m refl)
+tells-past : (kind : Kind) (how : Answer) (before rs : List Record) (a b : Option Cells) → (how ≡ answer.DiskFault → ⊥) → (how ≡ answer.Memory → ⊥) → SamePast kind how before rs a b → is_some b ≡ is_some a
+tells-past kind answer.Put before rs a b d m h = sym (is_some-map (past rs) b) ∙ (ap is_some h ∙ is_some-map (past rs) a)
+tells-past kind (answer.Got bytes) before rs a b d m h = sym (is_some-map (past rs) b) ∙ (ap is_some h ∙ is_some-map (past rs) a)
+tells-past kind answer.Dropped before rs a b d m h = sym (is_some-map (past rs) b) ∙ (ap is_some h ∙ is_some-map (past rs) a)
+tells-past kind (answer.Audited number undecided counts) before rs a b d m h = sym (is_some-map (past rs) b) ∙ (ap is_some h ∙ is_some-map (past rs) a)
+tells-past kind (answer.Repaired number) before rs a b d m h = sym (is_some-map (past rs) b) ∙ (ap is_some h ∙ is_some-map (past rs) a)
+tells-past kind (answer.Lost stripe row) before rs a b d m h = sym (is_some-map (past rs) b) ∙ (ap is_some h ∙ is_some-map (past rs) a)
+tells-past kind (answer.ProviderFault j) before rs a b d m h = sym (is_some-map (past rs) b) ∙ (ap is_some h ∙ is_some-map (past rs) a)
+tells-past kind answer.DiskFault before rs a b d m h = absurd (d refl)
+tells-past kind answer.Memory before rs a b d m h = absurd (m refl)
 
 over-told : (text : List ℕ) (how : Answer) (old new : Seen) (end : Ending) → EndsBy text how old new end → IsOver end.status → (how ≡ answer.DiskFault → ⊥) × (how ≡ answer.Memory → ⊥)
 over-told text answer.DiskFault old new end e over = absurd (over-twelve end.status e.status_is over)
@@ -109,7 +109,7 @@ left-over kind records old new end R are (AnswersJob.refused why is synced r) ov
 left-over kind records old new end R are (AnswersJob.no_memory synced r) over = absurd (over-memory end.status r.status_is over)
 left-over kind records old new end R are (AnswersJob.ended how none runs left by) over =
     (let other = over-told _ how old new end by over in
-    (ran-good records kind how old new end.heard R (spelled-kind records kind are none) runs, tells-past how left.after old.disk new.disk other.0 other.1 left.past_text))
+    (ran-good records kind how old new end.heard R (spelled-kind records kind are none) runs, tells-past kind how records left.after old.disk new.disk other.0 other.1 left.past_text))
 
 alone-over : (kind : Kind) (records : List Record) (old new : Seen) (end : Ending) → IsKnown old records → HasBytes kind → AnswersAlone kind old new end → IsOver end.status → Left records old new
 alone-over kind records old new end K are A over = elim (alone-known kind old new end records K A) [
