@@ -1,12 +1,9 @@
 -- A job that was cut short: what of its records is in effect, and which one comes next.
-use Rattle.std.proofs.Common.{◌≡◌, ℕ, zero, ◌+◌, ◌<◌, ◌≤◌, ◌==◌, ◌⊎◌, true, List, [], ◌∷◌, ◌++◌, length, replicate, Option, Some, None, refl, ap, sym, subst, ◌∙◌, inl, inr, arith}
-use Rattle.std.specs.Prelude.{IfSome}
-use Rattle.std.specs.Option.{option_map}
+use Rattle.std.proofs.Common.{◌≡◌, ℕ, ◌<◌, ◌⊎◌, true, [], ◌∷◌, length, replicate, Option, Some, None, refl, ap, sym, subst, ◌∙◌, inl, inr, arith}
 use Rattle.std.proofs.lemmas.List.{length-replicate}
 use Rattle.hail_columns.specs.Verdicts.{Sums}
 use Rattle.hail_records.specs.Records.{Setup, Record, PutStart, PutDone, AuditStart, AuditDone}
 use Rattle.hail_records.specs.Table.{next_id, next_audit}
-use Rattle.hail_records.specs.Journal.{text_size}
 use Rattle.hail_machine.specs.Jobs.{Kind, PutJob, GetJob, DropJob, AuditJob, RepairJob, Job, job_of}
 use Rattle.hail_machine.specs.Actions.{Action, WriteBody, SyncBody, WriteGate, SyncGate, Store, Fetch, Ask, Work, Remove, End, actions_left, appends_left}
 use Rattle.hail_machine.specs.Answers as answer
@@ -18,8 +15,8 @@ use Rattle.hail_machine.specs.Steps.{next_action, Acts}
 use Rattle.hail_machine.specs.Machine.{Happens}
 use Rattle.hail_machine.proofs.JobLists.{same_value}
 use Rattle.hail_commands.specs.Opens.{setup_at}
-use Rattle.hail_commands.specs.Jobs.{IsNext, IsNextOf}
-use Rattle.sound_states.specs.Orders.{moves_made, moves_before, IsInOrder}
+use Rattle.hail_commands.specs.Jobs.{IsNext}
+use Rattle.sound_states.specs.Orders.{moves_made, moves_before}
 use Rattle.sound_states.proofs.Events.{moves-next}
 use Rattle.sound_states.proofs.Given.{holder}
 use Rattle.sound_states.proofs.Orders.{appends-order}
@@ -28,7 +25,6 @@ use Rattle.lone_laws.specs.Walked.{IsOpened, first_record, IsSecondRecord, Walke
 use Rattle.lone_laws.proofs.Walk.{found, runs, Wrote, wrote}
 use Rattle.vault_core.specs.Carried.{IsWriting}
 use Rattle.vault_core.specs.Coming.{is_move}
-use Rattle.vault.specs.Devices.{records_in_flight}
 use Rattle.command_jobs.proofs.Acting.{one-found, none-flies, step-makes}
 
 -- ---- what an end in a fault of the disk, or for want of memory, leaves in effect
@@ -97,8 +93,12 @@ module _ (start : State) (O : IsOpened start) (kind : Kind) (w : State) (job : J
   next-first entry (PutJob name bytes) e h same is = record { done = []; rest = PutDone (next_id start.records) (length bytes) ∷ []; parts = ap (λ (r : Record). r ∷ PutDone (next_id start.records) (length bytes) ∷ []) (sym is); after_is = same }
   next-first entry (GetJob name) e h same is = h
   next-first entry (DropJob name) e h same is = record { done = []; rest = []; parts = ap (λ (r : Record). r ∷ []) (sym is); after_is = same }
-  next-first entry AuditJob e h same is = (0, replicate (setup_at start.records).n 0, length-replicate (setup_at start.records).n 0,
-      record { done = []; rest = AuditDone (next_audit start.records) 0 (replicate (setup_at start.records).n 0) ∷ []; parts = ap (λ (r : Record). r ∷ AuditDone (next_audit start.records) 0 (replicate (setup_at start.records).n 0) ∷ []) (sym is); after_is = same })
+  next-first entry AuditJob e h same is = (
+    0,
+    replicate (setup_at start.records).n 0,
+    length-replicate (setup_at start.records).n 0,
+    record { done = []; rest = AuditDone (next_audit start.records) 0 (replicate (setup_at start.records).n 0) ∷ []; parts = ap (λ (r : Record). r ∷ AuditDone (next_audit start.records) 0 (replicate (setup_at start.records).n 0) ∷ []) (sym is); after_is = same },
+  )
   next-first entry RepairJob e h same is = record { done = []; rest = []; parts = ap (λ (r : Record). r ∷ []) (sym is); after_is = same }
 
   setup-at : setup_in start ≡ setup_at start.records
@@ -115,9 +115,12 @@ module _ (start : State) (O : IsOpened start) (kind : Kind) (w : State) (job : J
   next-second entry (GetJob name) same is = absurd is
   next-second entry (DropJob name) same is = absurd is
   next-second entry AuditJob same is =
-      (let sums : Sums = is.0 in
-      (sums.undecided, sums.counts, many-counts sums is.1,
-        record { done = AuditStart (next_audit start.records) ∷ []; rest = []; parts = ap (λ (r : Record). AuditStart (next_audit start.records) ∷ r ∷ []) (sym is.2); after_is = same }))
+      (let sums : Sums = is.0 in (
+        sums.undecided,
+        sums.counts,
+        many-counts sums is.1,
+        record { done = AuditStart (next_audit start.records) ∷ []; rest = []; parts = ap (λ (r : Record). AuditStart (next_audit start.records) ∷ r ∷ []) (sym is.2); after_is = same },
+      ))
   next-second entry RepairJob same is = absurd is
 
   next-wrote : (entry : Record) → Writes w job kind entry → Wrote start O kind w job W entry → IsNext kind start.records w.records entry
