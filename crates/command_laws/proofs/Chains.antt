@@ -1,12 +1,14 @@
 -- Commands one after the other.
 use Rattle.std.proofs.Common.{◌≡◌, ◌≢◌, ℕ, ◌+◌, ◌≤◌, ◌⊎◌, Bool, true, false, cond, not, List, [], ◌∷◌, length, Option, None, Some, refl, ap, sym, subst, ◌∙◌, inl, inr, arith}
-use Rattle.std.specs.Prelude.{is_some, ◌&&◌}
+use Rattle.std.specs.Prelude.{is_some, nat_lt, ◌&&◌}
+use Rattle.std.proofs.lemmas.Bool.Decides.{nat_tests}
 use Rattle.hail_columns.specs.Verdicts.{is_flagged}
+use Rattle.hail_devices.specs.Cells.{Cells}
 use Rattle.hail_devices.specs.Faults.{Rose}
 use Rattle.hail_devices.specs.Told.{told_then}
-use Rattle.hail_records.specs.Records.{Record, SetUp, is_name}
+use Rattle.hail_records.specs.Records.{Record, Setup, SetUp, is_name, largest_file, largest_journal}
 use Rattle.hail_records.specs.Table.{Due, file_of, due_of}
-use Rattle.hail_machine.specs.Jobs.{Kind, GetJob, DropJob, RepairJob}
+use Rattle.hail_machine.specs.Jobs.{Kind, PutJob, GetJob, DropJob, RepairJob}
 use Rattle.hail_machine.specs.Refusals as refusal
 use Rattle.hail_machine.specs.Refusals.{Refusal}
 use Rattle.hail_machine.proofs.JobLists.{cond_true, same_value}
@@ -14,16 +16,20 @@ use Rattle.hail_machine.proofs.RecordFacts.{same_name-refl}
 use Rattle.hail_commands.specs.Forms.{Numbers}
 use Rattle.hail_commands.specs.Keys.{IsKeyForm}
 use Rattle.hail_commands.specs.Seen.{Seen, Ending, provider_at}
+use Rattle.hail_commands.specs.Openings.{IsFree}
 use Rattle.hail_commands.specs.Opens.{setup_at}
+use Rattle.hail_commands.specs.Lines.{ready_line, stored_line}
 use Rattle.hail_commands.specs.Inits.{AnswersInit, setup_with}
-use Rattle.hail_commands.specs.Refusals.{refusal_of}
+use Rattle.hail_commands.specs.Refusals.{refusal_of, takes_too_much}
 use Rattle.hail_commands.specs.Commands.{AnswersPut, AnswersAlone}
 use Rattle.sound_states.proofs.Records.{file-spelled}
-use Rattle.command_laws.specs.Ends.{IsDone, IsKnown, EndsWell, after_put, after_drop, after_repair}
-use Rattle.command_laws.specs.After.{IsSure, IsNext, HasFile, IsUntouched, IsSteady, spoilt_below}
+use Rattle.command_laws.specs.Ends.{IsDone, IsKnown, Gives, EndsWell, after_put, after_drop, after_repair}
+use Rattle.command_laws.specs.After.{IsSure, IsNext, HasFile, IsUntouched, IsSteady, spoilt_below, IsFaultless}
+use Rattle.command_laws.specs.Opened.{IsKeyed}
 use Rattle.command_laws.proofs.Known.{known-once, known-always}
 use Rattle.command_laws.proofs.GetEnds.{seen-complete, seen-right}
-use Rattle.command_laws.proofs.JobEnds.{drop-done}
+use Rattle.command_laws.proofs.JobEnds.{put-well, drop-done}
+use Rattle.command_laws.proofs.InitEnds.{init-well}
 use Rattle.command_laws.proofs.Afterwards.{sure-next}
 use Rattle.command_laws.proofs.DoneStores.{init-sure, put-sure, drop-sure, repair-sure}
 use Rattle.command_laws.proofs.FilesStay.{put-has, next-has, bad-few}
@@ -70,6 +76,39 @@ init-put-get numbers key name bytes spoilt a b c d e f first second last I P G N
     (let records : List Record = SetUp (setup_with numbers key) ∷ [] in
     let sure = sure-next records b c (init-sure numbers key a b first I done told text) N in
     put-get name bytes records spoilt c d e f second last P G M sure.known source also tells untouched steady few disk sink)
+
+-- ---- all three with no fault
+
+ends-zero : (text : List ℕ) (old new : Seen) (end : Ending) → EndsWell text old new end → end.status ≢ 70 → Gives text old new end
+ends-zero text old new end (inl gives) some = gives
+ends-zero text old new end (inr (memory, front)) some = absurd (some memory)
+
+short-name : (name : List ℕ) → is_name name ≡ true → length name ≤ 64
+short-name name h = grind (arith, nat_tests, h)
+
+not-less : (a b : ℕ) → b ≤ a → nat_lt a b ≡ false
+not-less a b l = grind (arith, nat_tests, l)
+
+-- over a store that was just set up a put is not refused
+put-begins : (s : Setup) (name bytes : List ℕ) → is_name name ≡ true → length bytes ≤ largest_file → refusal_of (SetUp s ∷ []) (PutJob name bytes) ≡ None
+put-begins s name bytes named short =
+    (let long : nat_lt largest_file (length bytes) ≡ false = not-less largest_file (length bytes) short in
+    let full : nat_lt largest_journal (51 + (11 + (length name + 14))) ≡ false = not-less largest_journal (51 + (11 + (length name + 14))) (let l = short-name name named in omega (arith, l)) in
+    let room : takes_too_much (SetUp s ∷ []) (PutJob name bytes) ≡ false = ap (nat_lt largest_journal) (omega arith) ∙ full in
+    (λ i. cond (not (named i)) (Some refusal.BadName) (cond (long i) (Some refusal.TooLong) (cond (room i) (Some refusal.JournalFull) None))))
+
+pub all-whole : (numbers : Numbers) (key name bytes : List ℕ) (spoilt : ℕ → Bool) (cells : Cells) (a b c d e f : Seen) (first second last : Ending) → AnswersInit numbers a b first → AnswersPut name c d second →
+    AnswersAlone (GetJob name) e f last → IsNext b c → IsNext d e → a.disk ≡ Some cells → IsFree cells → IsKeyed numbers key a → c.source ≡ Some bytes → is_name name ≡ true → length bytes ≤ largest_file →
+    ((j : ℕ) → spoilt j ≡ false → is_some (provider_at c.providers j).held ≡ true) → IsUntouched numbers.n spoilt d e → IsSteady numbers.n spoilt e f → spoilt_below numbers.n spoilt ≤ numbers.b →
+    IsFaultless a b → IsFaultless c d → IsFaultless e f → first.status ≢ 70 → second.status ≢ 70 → last.status ≢ 70 → (first.status ≡ 0) × (second.status ≡ 0) × Gives bytes e f last
+all-whole numbers key name bytes spoilt cells a b c d e f first second last I P G N M disk free K source named short tells untouched steady few calm quiet still some more most =
+    (let records : List Record = SetUp (setup_with numbers key) ∷ [] in
+    let zero = (ends-zero ready_line a b first (init-well numbers key cells a b first I K disk free calm.source calm.disk calm.sink) some).0 in
+    let sure = sure-next records b c (init-sure numbers key a b first I (inl zero) (ap is_some disk) (K.bytes, K.source, K.form)) N in
+    let begins = put-begins (setup_with numbers key) name bytes named short in
+    let put = (ends-zero (stored_line name (length bytes)) c d second (put-well name bytes records c d second P sure.known source begins quiet.disk (λ j below. quiet.stores j) quiet.source quiet.sink) more).0 in
+    let got = put-get name bytes records spoilt c d e f second last P G M sure.known source (inl put) tells untouched steady few still.disk still.sink in
+    (zero, put, ends-zero bytes e f last got most))
 
 -- ---- a get after a drop
 

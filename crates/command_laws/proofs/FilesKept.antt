@@ -19,7 +19,7 @@ use Rattle.hail_commands.specs.Forms.{Command, RowOf, InitWith, PutUnder, GetOf,
 use Rattle.hail_commands.specs.Seen.{Seen, Ending, IsRefused, provider_at}
 use Rattle.hail_commands.specs.Opens.{IsOpened, setup_at}
 use Rattle.hail_commands.specs.Blocks.{StoredOn, PartlyStored, DroppedFrom}
-use Rattle.hail_commands.specs.Puts.{PutLeaves}
+use Rattle.hail_commands.specs.Puts.{PutIsCut, PutLeaves}
 use Rattle.hail_commands.specs.Drops.{DropLeaves}
 use Rattle.hail_commands.specs.Repairs.{IfFlagged}
 use Rattle.hail_commands.specs.Jobs.{AnswersJob, LeftAlone}
@@ -178,13 +178,20 @@ module _ (name other : List ℕ) (records : List Record) (file : File) (sound : 
       stored : (rose : Type 0) (j : ℕ) (a b : Held) → StoredOn (object_of (setup_at records) (next_id records)) bytes (file_of records other) rose j a b → SameOf file.id a b
       stored rose j a b S stripe = S.others file.id stripe (record { stored = λ e. absurd (not-next e); removed = not-older })
 
+      all : (j : ℕ) (a b : Held) → StoredOn (object_of (setup_at records) (next_id records)) bytes None ⊥ j a b → SameOf file.id a b
+      all j a b S stripe = S.others file.id stripe (record { stored = λ e. absurd (not-next e); removed = tt })
+
+      cut : PutIsCut (ran_left records (PutJob other bytes) how old new end.heard left) other bytes → KeepsObject records file.id old new
+      cut (PutIsCut.at_start after doubt held) = λ j below. same-told file.id (provider_at old.providers j).held (provider_at new.providers j).held (held j below)
+      cut (PutIsCut.at_done after doubt stored) = λ j below. same-goes file.id _ (all j) (provider_at old.providers j).held (provider_at new.providers j).held (stored j below)
+
       partly : (j : ℕ) (a b : Held) → PartlyStored (object_of (setup_at records) (next_id records)) bytes j a b → SameOf file.id a b
       partly j a b S stripe = S.others file.id stripe not-next
 
       by_answer : (h : Answer) → PutLeaves (ran_left records (PutJob other bytes) how old new end.heard left) other bytes h → KeepsObject records file.id old new
       by_answer answer.Put L = λ j below. same-goes file.id _ (stored _ j) (provider_at old.providers j).held (provider_at new.providers j).held (L.1 j below)
       by_answer (answer.ProviderFault k) L = λ j below. same-goes file.id _ (partly j) (provider_at old.providers j).held (provider_at new.providers j).held (L.3 j below)
-      by_answer answer.DiskFault L = λ j below. same-goes file.id _ (partly j) (provider_at old.providers j).held (provider_at new.providers j).held (L.2 j below)
+      by_answer answer.DiskFault L = cut L.1
       by_answer answer.Memory L = λ j below. same-goes file.id _ (partly j) (provider_at old.providers j).held (provider_at new.providers j).held (L.1 j below)
       by_answer h L = absurd L
 

@@ -3,6 +3,7 @@ pub mod Given
 pub mod Providers
 pub mod Heard
 pub mod Lasts
+pub mod Moving
 pub mod Asked
 pub mod Judged
 pub mod Truth

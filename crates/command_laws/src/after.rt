@@ -1,22 +1,25 @@
 //! What a user may believe between two commands: the store is known again, by the status of the last one, and so the next one is
 //! spoken of. No run of a job and no state stands in these clauses.
-ghost use Rattle.std.specs.Prelude.{◌≡◌, ◌⊎◌, ℕ, ◌+◌, ◌≤◌, ◌&&◌, true, false, Bool, not, List, [], ◌∷◌, length, Some, None, is_some};
+ghost use Rattle.std.specs.Prelude.{◌≡◌, ◌≢◌, ◌⊎◌, ℕ, ◌+◌, ◌≤◌, ◌&&◌, true, false, Bool, not, List, [], ◌∷◌, length, Some, None, is_some};
 ghost use Rattle.hail_columns.specs.Verdicts.{is_flagged};
+ghost use Rattle.hail_devices.specs.Cells.{Cells};
 ghost use Rattle.hail_devices.specs.Faults.{Rose};
 ghost use Rattle.hail_devices.specs.Told.{told_then};
-ghost use Rattle.hail_records.specs.Records.{Record, SetUp, is_name};
+ghost use Rattle.hail_records.specs.Records.{Record, SetUp, is_name, largest_file};
 ghost use Rattle.hail_records.specs.Table.{Due, next_audit, file_of, due_of};
 ghost use Rattle.hail_commands.specs.Forms.{Command, Numbers, InitWith, PutUnder, GetOf, DropOf, ListAll, AuditAll, RepairDue};
 ghost use Rattle.hail_commands.specs.Keys.{IsKeyForm};
 ghost use Rattle.hail_commands.specs.Seen.{Seen, Ending, IsRefused, provider_at};
+ghost use Rattle.hail_commands.specs.Openings.{IsFree};
 ghost use Rattle.hail_commands.specs.Opens.{setup_at};
 ghost use Rattle.hail_commands.specs.Inits.{setup_with};
 ghost use Rattle.hail_commands.specs.Lines.{audit_lines};
 ghost use Rattle.hail_commands.specs.Jobs.{IsTold};
 ghost use Rattle.hail_commands.specs.Commands.{Answers};
-ghost use Rattle.command_laws.specs.Ends.{IsDone, IsKnown, EndsWell, opens_store, after_put, after_drop, after_audit, after_repair};
-ghost use Rattle.command_laws.specs.After.{IsSure, IsNext, IsThen, is_refusal, HasFile, IsUntouched, IsSteady, spoilt_below, keeps_blocks, IsOther};
+ghost use Rattle.command_laws.specs.Ends.{IsDone, IsKnown, Gives, EndsWell, opens_store, after_put, after_drop, after_audit, after_repair};
+ghost use Rattle.command_laws.specs.After.{IsSure, IsNext, IsThen, is_refusal, HasFile, IsUntouched, IsSteady, spoilt_below, IsFaultless, keeps_blocks, IsOther};
 ghost use Rattle.command_laws.specs.Kept.{after_start};
+ghost use Rattle.command_laws.specs.Opened.{IsKeyed};
 
 /// A store that is known stays known, whatever comes of a command, and a stop after it: its records are those before, or these with the
 /// first few of those that the job of the command appends. After a refusal they are those before, and nothing has changed.
@@ -100,9 +103,17 @@ pub fn gets_tell_what_stands()
 {}
 
 /// An init, a put and a get over the same devices, where at most b providers are spoilt since the put or fail in the get: the get gives the
-/// bytes of the put, unless the disk or the sink fails in it, or no memory is found. Stops between the commands do no harm. A get after the
-/// put and a drop ends with 3.
+/// bytes of the put, unless the disk or the sink fails in it, or no memory is found. Stops between the commands do no harm. Over a fresh disk
+/// with a good key, name and length, all three end with 0, unless a device fails or no memory is found. A get after a drop ends with 3, and
+/// after a repair it gives its bytes again though others are spoilt by then.
 pub fn put_files_are_got()
+    ensures whole { (numbers : Numbers) (key name bytes : List ℕ) (spoilt : ℕ → Bool) (cells : Cells) (a b c d e f : Seen) (first second last : Ending) →
+        Answers (InitWith numbers) a b first → Answers (PutUnder name) c d second → Answers (GetOf name) e f last → IsNext b c → IsNext d e →
+        a.disk ≡ Some cells → IsFree cells → IsKeyed numbers key a → c.source ≡ Some bytes → is_name name ≡ true → length bytes ≤ largest_file →
+        ((j : ℕ) → spoilt j ≡ false → is_some (provider_at c.providers j).held ≡ true) →
+        IsUntouched numbers.n spoilt d e → IsSteady numbers.n spoilt e f → spoilt_below numbers.n spoilt ≤ numbers.b →
+        IsFaultless a b → IsFaultless c d → IsFaultless e f → first.status ≢ 70 → second.status ≢ 70 → last.status ≢ 70 →
+        (first.status ≡ 0) × (second.status ≡ 0) × Gives bytes e f last }
     ensures got { (numbers : Numbers) (key name bytes : List ℕ) (spoilt : ℕ → Bool) (a b c d e f : Seen) (first second last : Ending) →
         Answers (InitWith numbers) a b first → Answers (PutUnder name) c d second → Answers (GetOf name) e f last → IsNext b c → IsNext d e →
         is_some a.disk ≡ true → ((text : List ℕ) × (a.source ≡ Some text) × IsKeyForm text key) → c.source ≡ Some bytes →

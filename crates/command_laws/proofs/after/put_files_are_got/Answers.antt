@@ -1,5 +1,8 @@
-use Rattle.command_laws.proofs.Chains.{init-put-get, put-get, drop-get, repair-get}
+use Rattle.command_laws.proofs.Chains.{all-whole, init-put-get, put-get, drop-get, repair-get}
 use Rattle.command_laws.proofs.after.put_files_are_got.Goals as goal
+
+pub returns-clause-whole : goal.returns-clause-whole
+returns-clause-whole x numbers key name bytes spoilt cells a b c d e f first second last I P G = all-whole numbers key name bytes spoilt cells a b c d e f first second last I P G.0
 
 pub returns-clause-got : goal.returns-clause-got
 returns-clause-got x numbers key name bytes spoilt a b c d e f first second last I P G = init-put-get numbers key name bytes spoilt a b c d e f first second last I P G.0
