@@ -326,7 +326,7 @@ image-told command records old new image rs G (inr (kind, is, after)) = (rs, G, 
 }))
 
 -- the next command finds an image of the disk
-next-image : (new next : Seen) → is_some new.disk ≡ true → IsNext new next → (cells : Cells) × (next.disk ≡ Some cells) × ((P : List ℕ → Type 0) → EachImage new.disk P → P (reads cells))
+pub next-image : (new next : Seen) → is_some new.disk ≡ true → IsNext new next → (cells : Cells) × (next.disk ≡ Some cells) × ((P : List ℕ → Type 0) → EachImage new.disk P → P (reads cells))
 next-image new next tells N = elim N.disk [
   | inl same ↦ (let c = is_some-at new.disk tells in (c.0, same ∙ c.1, λ P h. subst (λ d. EachImage d P) c.1 h (reads c.0) (reads-image c.0)))
   | inr stopped ↦ stopped-at new.disk next.disk tells stopped

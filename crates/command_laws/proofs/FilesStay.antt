@@ -36,7 +36,7 @@ own-right o bytes j stripe = not-wrong (length (columns o bytes j stripe)) o.pro
     not-wrong : (n size fix d : ℕ) → n ≡ size → d ≡ 0 → not (n == size) || nat_lt fix d ≡ false
     not-wrong n size fix d a b = grind (arith, a, b)
 
-stored-right : (o : Object) (bytes : List ℕ) (older : Option File) (rose : Type 0) (j : ℕ) (a b : Option Held) → is_some a ≡ true → Goes (StoredOn o bytes older rose j) a b → is_wrong_told o bytes j b ≡ false
+pub stored-right : (o : Object) (bytes : List ℕ) (older : Option File) (rose : Type 0) (j : ℕ) (a b : Option Held) → is_some a ≡ true → Goes (StoredOn o bytes older rose j) a b → is_wrong_told o bytes j b ≡ false
 stored-right o bytes older rose j None b tells g = absurd (false≢true tells)
 stored-right o bytes older rose j (Some a) None tells g = absurd g
 stored-right o bytes older rose j (Some a) (Some b) tells g = each-not-wrong o bytes j (b o.id) (λ t l. ap (is_wrong_block o bytes j t) (g.stored t l) ∙ own-right o bytes j t)

@@ -40,4 +40,5 @@ pub mod Afterwards
 pub mod DoneStores
 pub mod FilesStay
 pub mod FilesKept
+pub mod PutInEffect
 pub mod Chains

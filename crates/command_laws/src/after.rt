@@ -60,12 +60,18 @@ pub fn done_commands_leave_known_stores()
         (end.status ≡ 4) ⊎ (end.status ≡ 13) → IsKnown old records → IsSure new records }
 {}
 
-/// A put that is done leaves its file, right on every provider that tells what it holds; between two commands it stays so on each provider
+/// A put that is done leaves its file, right on every provider that tells what it holds, and so does one that was cut off or found no memory,
+/// where the next command finds it in effect. Between two commands it stays so on each provider
 /// that nobody touches. A get, a list, an audit, a put and a drop of another name leave it as it is, whatever comes of them, and so does a
 /// refusal. A repair that is done makes each flagged provider right for it, where at most b providers are spoilt or fail.
 pub fn files_stay()
     ensures put { (name bytes : List ℕ) (records : List Record) (spoilt : ℕ → Bool) (old new : Seen) (end : Ending) →
         Answers (PutUnder name) old new end → IsDone end → IsKnown old records → old.source ≡ Some bytes →
+        ((j : ℕ) → spoilt j ≡ false → is_some (provider_at old.providers j).held ≡ true) →
+        HasFile new (after_put records name (length bytes)) name bytes spoilt }
+    ensures put_in_effect { (name bytes : List ℕ) (records : List Record) (spoilt : ℕ → Bool) (old new next : Seen) (end : Ending) →
+        Answers (PutUnder name) old new end → IsSure old records → old.source ≡ Some bytes → IsNext new next →
+        IsKnown next (after_put records name (length bytes)) →
         ((j : ℕ) → spoilt j ≡ false → is_some (provider_at old.providers j).held ≡ true) →
         HasFile new (after_put records name (length bytes)) name bytes spoilt }
     ensures next { (name bytes : List ℕ) (records : List Record) (spoilt : ℕ → Bool) (new next : Seen) → HasFile new records name bytes spoilt →

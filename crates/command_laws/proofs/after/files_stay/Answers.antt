@@ -1,9 +1,13 @@
 use Rattle.command_laws.proofs.FilesStay.{put-has, next-has}
 use Rattle.command_laws.proofs.FilesKept.{reads-have, refused-has, others-have, repair-has}
+use Rattle.command_laws.proofs.PutInEffect.{put-in-effect}
 use Rattle.command_laws.proofs.after.files_stay.Goals as goal
 
 pub returns-clause-put : goal.returns-clause-put
 returns-clause-put c = put-has
+
+pub returns-clause-put_in_effect : goal.returns-clause-put_in_effect
+returns-clause-put_in_effect c = put-in-effect
 
 pub returns-clause-next : goal.returns-clause-next
 returns-clause-next c = next-has
