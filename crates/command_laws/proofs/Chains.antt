@@ -1,6 +1,6 @@
 -- Commands one after the other.
 use Rattle.std.proofs.Common.{◌≡◌, ◌≢◌, ℕ, ◌+◌, ◌≤◌, ◌⊎◌, Bool, true, false, cond, not, List, [], ◌∷◌, length, Option, None, Some, refl, ap, sym, subst, ◌∙◌, inl, inr, arith}
-use Rattle.std.specs.Prelude.{is_some, nat_lt, ◌&&◌}
+use Rattle.std.specs.Prelude.{is_some, nat_lt, ◌&&◌, ◌||◌}
 use Rattle.std.proofs.lemmas.Bool.Decides.{nat_tests}
 use Rattle.hail_columns.specs.Verdicts.{is_flagged}
 use Rattle.hail_devices.specs.Cells.{Cells}
@@ -95,7 +95,7 @@ put-begins s name bytes named short =
     (let long : nat_lt largest_file (length bytes) ≡ false = not-less largest_file (length bytes) short in
     let full : nat_lt largest_journal (51 + (11 + (length name + 14))) ≡ false = not-less largest_journal (51 + (11 + (length name + 14))) (let l = short-name name named in omega (arith, l)) in
     let room : takes_too_much (SetUp s ∷ []) (PutJob name bytes) ≡ false = ap (nat_lt largest_journal) (omega arith) ∙ full in
-    (λ i. cond (not (named i)) (Some refusal.BadName) (cond (long i) (Some refusal.TooLong) (cond (room i) (Some refusal.JournalFull) None))))
+    (λ i. cond (not (named i)) (Some refusal.BadName) (cond (long i) (Some refusal.TooLong) (cond (room i || false) (Some refusal.JournalFull) None))))
 
 pub all-whole : (numbers : Numbers) (key name bytes : List ℕ) (spoilt : ℕ → Bool) (cells : Cells) (a b c d e f : Seen) (first second last : Ending) → AnswersInit numbers a b first → AnswersPut name c d second →
     AnswersAlone (GetJob name) e f last → IsNext b c → IsNext d e → a.disk ≡ Some cells → IsFree cells → IsKeyed numbers key a → c.source ≡ Some bytes → is_name name ≡ true → length bytes ≤ largest_file →

@@ -117,7 +117,7 @@ module _ (name bytes : List ℕ) (records : List Record) (spoilt : ℕ → Bool)
 
     by-answer : (h : Answer) → PutLeaves x name bytes h → HasFile new (after_put records name (length bytes)) name bytes spoilt
     by-answer answer.Put L = has-stored are _ _ L.1
-    by-answer (answer.ProviderFault k) L = absurd (let W = L.2 in cut-off (PutStart (next_id records) name ∷ []) W.after (omega arith) (λ entry is. sure-off entry _ W.sure is))
+    by-answer (answer.ProviderFault k) L = absurd (let W = L.2 in cut-off (PutStart (next_id records) name ∷ []) W.after (omega arith) (λ entry is. sure-off entry (PutStart (next_id records) name ∷ []) W.sure is))
     by-answer answer.DiskFault L = by-cut L.1
       where
         by-cut : PutIsCut x name bytes → HasFile new (after_put records name (length bytes)) name bytes spoilt
@@ -136,6 +136,9 @@ put-in-effect name bytes records spoilt old new next end (AnswersPut.no_memory r
 put-in-effect name bytes records spoilt old new next end (AnswersPut.begun rs seen opened read A) S source N F tells =
     job (subst (λ l. AnswersJob (PutJob name seen) l old new end) (known-once old records rs S.known opened.read) A)
   where
+    by-left : (how : Answer) → AreBytes bytes → LeftAlone records (PutJob name bytes) how old new end.heard → HasFile new (after_put records name (length bytes)) name bytes spoilt
+    by-left how are left = by-answer name bytes records spoilt old new next end S N F tells are how left how left.leaves.by_kind.0
+
     job : AnswersJob (PutJob name seen) records old new end → HasFile new (after_put records name (length bytes)) name bytes spoilt
     job (AnswersJob.refused why is synced r) = absurd (refused-not name bytes records spoilt old new next end S N F tells _ 0 r)
     job (AnswersJob.no_memory synced r) = absurd (refused-not name bytes records spoilt old new next end S N F tells 70 0 r)
@@ -143,6 +146,3 @@ put-in-effect name bytes records spoilt old new next end (AnswersPut.begun rs se
         (let short = not-long records name seen none in
         let same : seen ≡ bytes = whole-read (largest_file + 1) old.source new.source bytes seen source read (read.end (omega (arith, short))) in
         by-left how (subst AreBytes same read.are_bytes) (subst (λ bs. LeftAlone records (PutJob name bs) how old new end.heard) same left))
-
-    by-left : (how : Answer) → AreBytes bytes → LeftAlone records (PutJob name bytes) how old new end.heard → HasFile new (after_put records name (length bytes)) name bytes spoilt
-    by-left how are left = by-answer name bytes records spoilt old new next end S N F tells are how left how left.leaves.by_kind.0
