@@ -41,7 +41,7 @@ use Rattle.command_laws.proofs.JobEnds.{unstarted-refused, put-done, drop-done, 
 use Rattle.command_laws.proofs.InitEnds.{key-once, form-all, init-done, list-done}
 use Rattle.command_laws.proofs.Images.{reads-image, image-firm, stands-front, refused-keeps, store-images}
 use Rattle.command_laws.proofs.Failed.{images-same}
-use Rattle.command_laws.proofs.Knowing.{IsGood, AreGood, read-good, sure-good, known-good, LeavesGood, HasBytes, job-good, ran-good, spelled-kind}
+use Rattle.command_laws.proofs.Knowing.{IsGood, AreGood, read-good, sure-good, known-good, LeavesGood}
 
 -- ---- refusals
 

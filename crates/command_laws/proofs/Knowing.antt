@@ -27,7 +27,7 @@ use Rattle.hail_commands.specs.Seen.{Seen, Ending, IsRefused}
 use Rattle.hail_commands.specs.Openings.{journal_read, IsRead}
 use Rattle.hail_commands.specs.Opens.{IsOpened, setup_at}
 use Rattle.hail_commands.specs.Refusals.{refusal_of, status_of}
-use Rattle.hail_commands.specs.Jobs.{AnswersJob, RunsAlone}
+use Rattle.hail_commands.specs.Jobs.{RunsAlone}
 use Rattle.sound_states.proofs.Records.{is_some-at, setup-more}
 use Rattle.command_laws.specs.Ends.{IsKnown, DiskHas}
 use Rattle.command_laws.specs.After.{IsSure}
@@ -182,10 +182,3 @@ ran-good records kind how old new heard R spelled A =
     let ran = A.ran w over in
     let L = last-state w ran.last kind how heard (over-opened w old records A.faults R over) spelled ran.runs in
     (images-good w ran.last new.disk L ran.images, (let a = L.handed in let b = ran.handed.count in let c = over.handed.count in let e = R.enough in omega (arith, a, b, c, e))))
-
--- a job is refused, or leaves what is good
-pub job-good : (kind : Kind) (records : List Record) (old new : Seen) (end : Ending) → IsOpened old records → HasBytes kind → AnswersJob kind records old new end →
-    ((status : ℕ) × (at : ℕ) × IsRefused status at old new end) ⊎ LeavesGood records old new
-job-good kind records old new end R are (AnswersJob.refused why is synced r) = inl (status_of why, 0, r)
-job-good kind records old new end R are (AnswersJob.no_memory synced r) = inl (70, 0, r)
-job-good kind records old new end R are (AnswersJob.ended how none runs left by) = inr (ran-good records kind how old new end.heard R (spelled-kind records kind are none) runs)

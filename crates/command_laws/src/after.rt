@@ -25,7 +25,7 @@ ghost use Rattle.command_laws.specs.Opened.{IsKeyed};
 /// first few of those that the job of the command appends. After a refusal they are those before, and nothing has changed.
 pub fn stores_stay_known()
     ensures always { (command : Command) (records : List Record) (old new next : Seen) (end : Ending) → Answers command old new end →
-        opens_store command ≡ true → IsSure old records → is_some new.disk ≡ is_some old.disk → IsNext new next →
+        opens_store command ≡ true → IsSure old records → IsNext new next →
         (after : List Record) × IsKnown next after × IsThen command records old new after }
     ensures refusal { (command : Command) (old new : Seen) (end : Ending) → Answers command old new end → is_refusal end.status ≡ true →
         IsRefused end.status end.at old new end }
