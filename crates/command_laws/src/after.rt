@@ -111,7 +111,7 @@ pub fn gets_tell_what_stands()
 /// An init, a put and a get over the same devices, where at most b providers are spoilt since the put or fail in the get: the get gives the
 /// bytes of the put, unless the disk or the sink fails in it, or no memory is found. Stops between the commands do no harm. Over a fresh disk
 /// with a good key, name and length, all three end with 0, unless a device fails or no memory is found. A get after a drop ends with 3, and
-/// after a repair it gives its bytes again though others are spoilt by then.
+/// after a put, an audit and a repair it gives the bytes of the put though others are spoilt by then than those that were flagged.
 pub fn put_files_are_got()
     ensures whole { (numbers : Numbers) (key name bytes : List ℕ) (spoilt : ℕ → Bool) (cells : Cells) (a b c d e f : Seen) (first second last : Ending) →
         Answers (InitWith numbers) a b first → Answers (PutUnder name) c d second → Answers (GetOf name) e f last → IsNext b c → IsNext d e →
@@ -144,4 +144,17 @@ pub fn put_files_are_got()
         IsUntouched (setup_at records).n later d e → IsSteady (setup_at records).n later e f →
         spoilt_below (setup_at records).n later ≤ (setup_at records).b →
         (Rose e.disk_faults f.disk_faults → ⊥) → (Rose e.sink_faults f.sink_faults → ⊥) → EndsWell bytes e f last }
+    ensures mended { (name bytes : List ℕ) (records : List Record) (spoilt : ℕ → Bool) (a b c d e f g h : Seen) (first second third last : Ending) →
+        Answers (PutUnder name) a b first → Answers AuditAll c d second → Answers RepairDue e f third → Answers (GetOf name) g h last →
+        IsNext b c → IsNext d e → IsNext f g → IsKnown a records → a.source ≡ Some bytes → IsDone first → IsDone second → IsDone third →
+        ((j : ℕ) → spoilt j ≡ false → is_some (provider_at a.providers j).held ≡ true) →
+        ((j : ℕ) → is_some (provider_at e.providers j).held ≡ true) →
+        IsUntouched (setup_at records).n spoilt b c → IsUntouched (setup_at records).n spoilt d e → IsSteady (setup_at records).n spoilt e f →
+        spoilt_below (setup_at records).n spoilt ≤ (setup_at records).b →
+        (undecided : ℕ) × (counts : List ℕ) × IsTold (audit_lines (setup_at records).tolerance (next_audit records) undecided counts) c d second
+        × ((later : ℕ → Bool) →
+        ((j : ℕ) → later j ≡ false → (spoilt j && not (is_flagged (setup_at records).tolerance counts j)) ≡ false) →
+        IsUntouched (setup_at records).n later f g → IsSteady (setup_at records).n later g h →
+        spoilt_below (setup_at records).n later ≤ (setup_at records).b →
+        (Rose g.disk_faults h.disk_faults → ⊥) → (Rose g.sink_faults h.sink_faults → ⊥) → EndsWell bytes g h last) }
 {}
