@@ -52,7 +52,7 @@ same-told id a b same = subst (SameAt id a) (sym same) (none a)
     none None = tt
     none (Some held) = λ stripe. refl
 
-wrong-same : (o : Object) (bytes : List ℕ) (j : ℕ) (a b : Option Held) → SameAt o.id a b → is_wrong_told o bytes j a ≡ false → is_wrong_told o bytes j b ≡ false
+pub wrong-same : (o : Object) (bytes : List ℕ) (j : ℕ) (a b : Option Held) → SameAt o.id a b → is_wrong_told o bytes j a ≡ false → is_wrong_told o bytes j b ≡ false
 wrong-same o bytes j None None same right = right
 wrong-same o bytes j None (Some b) same right = absurd same
 wrong-same o bytes j (Some a) None same right = absurd same
@@ -247,25 +247,25 @@ others-have RepairDue name bytes records after spoilt old new end A differ K H T
 
 -- ---- a repair that is done
 
-flag-off : (id : ℕ) (flag : Bool) (change : Held → Held → Type 0) (a b : Option Held) → flag ≡ false → Goes (IfFlagged flag change) a b → SameAt id a b
+pub flag-off : (id : ℕ) (flag : Bool) (change : Held → Held → Type 0) (a b : Option Held) → flag ≡ false → Goes (IfFlagged flag change) a b → SameAt id a b
 flag-off id false change None None off g = tt
 flag-off id false change (Some a) (Some b) off g = λ stripe. g id stripe
 flag-off id false change None (Some b) off g = absurd g
 flag-off id false change (Some a) None off g = absurd g
 flag-off id true change a b off g = absurd (false≢true (sym off))
 
-goes-tells : (change : Held → Held → Type 0) (a b : Option Held) → is_some a ≡ true → Goes change a b → is_some b ≡ true
+pub goes-tells : (change : Held → Held → Type 0) (a b : Option Held) → is_some a ≡ true → Goes change a b → is_some b ≡ true
 goes-tells change None b tells g = absurd (false≢true tells)
 goes-tells change (Some a) None tells g = absurd g
 goes-tells change (Some a) (Some b) tells g = refl
 
-columns-right : (s : Setup) (file : File) (bytes : List ℕ) (j : ℕ) (told : Option Held) → length bytes ≡ file.size → is_some told ≡ true →
+pub columns-right : (s : Setup) (file : File) (bytes : List ℕ) (j : ℕ) (told : Option Held) → length bytes ≡ file.size → is_some told ≡ true →
     ((stripe : ℕ) → stripe < stripes_of s file.size → IfSome told (λ held. held file.id stripe ≡ Some (columns (object_of s file.id) bytes j stripe))) → is_wrong_told (object_of s file.id) bytes j told ≡ false
 columns-right s file bytes j None size tells h = absurd (false≢true tells)
 columns-right s file bytes j (Some held) size tells h =
     each-not-wrong (object_of s file.id) bytes j (held file.id) (λ t l. ap (is_wrong_block (object_of s file.id) bytes j t) (h t (subst (λ n. t < stripes_of s n) size l)) ∙ own-right (object_of s file.id) bytes j t)
 
-and-off : (b c : Bool) → (b && not c) ≡ false → c ≡ false → b ≡ false
+pub and-off : (b c : Bool) → (b && not c) ≡ false → c ≡ false → b ≡ false
 and-off true true h off = absurd (false≢true (sym off))
 and-off true false h off = absurd (false≢true (sym h))
 and-off false c h off = refl

@@ -41,4 +41,5 @@ pub mod DoneStores
 pub mod FilesStay
 pub mod FilesKept
 pub mod PutInEffect
+pub mod RepairInEffect
 pub mod Chains

@@ -35,7 +35,7 @@ use Rattle.command_laws.proofs.DoneStores.{next-image, whole-read}
 use Rattle.command_laws.proofs.FilesStay.{stored-right}
 
 -- a disk that the next command finds told before
-tells-back : (new next : Seen) → IsNext new next → is_some next.disk ≡ true → is_some new.disk ≡ true
+pub tells-back : (new next : Seen) → IsNext new next → is_some next.disk ≡ true → is_some new.disk ≡ true
 tells-back new next N tells = elim N.disk [
   | inl same ↦ ap is_some (sym same) ∙ tells
   | inr stopped ↦ stopped-at new.disk next.disk tells stopped

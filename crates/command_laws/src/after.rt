@@ -63,7 +63,8 @@ pub fn done_commands_leave_known_stores()
 /// A put that is done leaves its file, right on every provider that tells what it holds, and so does one that was cut off or found no memory,
 /// where the next command finds it in effect. Between two commands it stays so on each provider
 /// that nobody touches. A get, a list, an audit, a put and a drop of another name leave it as it is, whatever comes of them, and so does a
-/// refusal. A repair that is done makes each flagged provider right for it, where at most b providers are spoilt or fail.
+/// refusal. A repair that is done makes each flagged provider right for it, where at most b providers are spoilt or fail; so does
+/// one that was cut off, where the next command finds its end in effect.
 pub fn files_stay()
     ensures put { (name bytes : List ℕ) (records : List Record) (spoilt : ℕ → Bool) (old new : Seen) (end : Ending) →
         Answers (PutUnder name) old new end → IsDone end → IsKnown old records → old.source ≡ Some bytes →
@@ -86,6 +87,12 @@ pub fn files_stay()
         IsThen command records old new after → HasFile new after name bytes spoilt }
     ensures repair { (name bytes : List ℕ) (records : List Record) (due : Due) (spoilt : ℕ → Bool) (old new : Seen) (end : Ending) →
         Answers RepairDue old new end → IsDone end → IsKnown old records → due_of records ≡ Some due → HasFile old records name bytes spoilt →
+        IsSteady (setup_at records).n spoilt old new → spoilt_below (setup_at records).n spoilt ≤ (setup_at records).b →
+        ((j : ℕ) → is_flagged (setup_at records).tolerance due.counts j ≡ true → is_some (provider_at old.providers j).held ≡ true) →
+        HasFile new (after_repair records due) name bytes (λ j. spoilt j && not (is_flagged (setup_at records).tolerance due.counts j)) }
+    ensures repair_in_effect { (name bytes : List ℕ) (records : List Record) (due : Due) (spoilt : ℕ → Bool) (old new next : Seen) (end : Ending) →
+        Answers RepairDue old new end → IsSure old records → due_of records ≡ Some due → IsNext new next →
+        IsKnown next (after_repair records due) → HasFile old records name bytes spoilt →
         IsSteady (setup_at records).n spoilt old new → spoilt_below (setup_at records).n spoilt ≤ (setup_at records).b →
         ((j : ℕ) → is_flagged (setup_at records).tolerance due.counts j ≡ true → is_some (provider_at old.providers j).held ≡ true) →
         HasFile new (after_repair records due) name bytes (λ j. spoilt j && not (is_flagged (setup_at records).tolerance due.counts j)) }
