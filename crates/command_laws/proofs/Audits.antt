@@ -44,7 +44,7 @@ use Rattle.command_laws.proofs.Runs.{Ends, job-ends}
 use Rattle.command_laws.proofs.Given.{answer-heard}
 use Rattle.command_laws.proofs.Providers.{Called, each-take, each-upto, made-keeps}
 use Rattle.command_laws.proofs.Heard.{AreDistinct, entries-made}
-use Rattle.command_laws.proofs.Lasts.{InDoubt, Faults, move-faults, NoRoom, move-memory, none-moving}
+use Rattle.command_laws.proofs.Lasts.{Faults, move-faults, NoRoom, move-memory, none-moving}
 use Rattle.command_laws.proofs.Moving.{IsMove, IsUnmoved, move-is, moved-first, moved-second}
 use Rattle.command_laws.proofs.Leaving.{counts-rise, others-stay}
 use Rattle.command_laws.proofs.Asked.{pinned-by_number, asks_of, asks-questions, distinct-asks, entries-questions, each-by_number}

@@ -189,8 +189,7 @@ put-audit-repair-get name bytes records spoilt a b c d e f g h first second thir
     let file-e = next-has name bytes counted spoilt d e (reads-have AuditAll name bytes stored counted spoilt c d second A refl file-c (audit-then stored audit.0 audit.1 c d)) two in
     let repair = repair-done e f third R repaired in
     let is_due : due_of counted ≡ Some repair.due = ap due_of (sym (known-once e counted repair.records sure-e.known repair.opened.read)) ∙ repair.is_due in
-    let same : repair.due.counts ≡ audit.1 = audit-due stored audit.0 audit.1 repair.due (none-due stored (next_audit stored) sure-e.known.opened.read.accepted.1.0) is_due in
-    (
+    let same : repair.due.counts ≡ audit.1 = audit-due stored audit.0 audit.1 repair.due (none-due stored (next_audit stored) sure-e.known.opened.read.accepted.1.0) is_due in (
       audit.0,
       audit.1,
       audit.3,

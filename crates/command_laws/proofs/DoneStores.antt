@@ -1,6 +1,6 @@
 -- The records of a store after a command that is done, and after any command.
-use Rattle.std.proofs.Common.{◌≡◌, ◌≢◌, ℕ, suc, ◌+◌, ◌<◌, ◌≤◌, ◌⊎◌, Bool, true, false, List, [], ◌∷◌, ◌++◌, length, reverse, take, Option, None, Some, refl, ap, sym, subst, ◌∙◌, inl, inr, arith, append_assoc}
-use Rattle.std.specs.Prelude.{is_some, IfSome, IsTrue}
+use Rattle.std.proofs.Common.{◌≡◌, ◌≢◌, ℕ, suc, ◌+◌, ◌<◌, ◌≤◌, ◌⊎◌, true, List, [], ◌∷◌, ◌++◌, length, Option, None, Some, refl, ap, sym, subst, ◌∙◌, inl, inr, arith, append_assoc}
+use Rattle.std.specs.Prelude.{is_some, IfSome}
 use Rattle.std.specs.List.{list_all}
 use Rattle.std.specs.Option.{option_map}
 use Rattle.std.proofs.lemmas.Bool.{and_from, false≢true}
@@ -10,9 +10,9 @@ use Rattle.hex.specs.Hex.{IsBytes}
 use Rattle.hex.proofs.HexLemmas.{decode_of-ok}
 use Rattle.hail_devices.specs.Cells.{Cells, reads, firm}
 use Rattle.hail_devices.specs.Disks.{synced, Stopped}
-use Rattle.hail_devices.specs.Images.{IsImage, EachImage}
-use Rattle.hail_devices.specs.Told.{Goes, then_told}
-use Rattle.hail_records.specs.Records.{Record, Setup, SetUp, is_byte, is_master, is_in_grammar, is_setup, largest_file, largest_journal}
+use Rattle.hail_devices.specs.Images.{EachImage}
+use Rattle.hail_devices.specs.Told.{Goes}
+use Rattle.hail_records.specs.Records.{Record, Setup, SetUp, is_byte, is_master, is_setup, largest_file, largest_journal}
 use Rattle.hail_records.specs.Journal.{text, before_gate, StandsFor}
 use Rattle.hail_records.specs.Table.{Due, next_audit, due_of}
 use Rattle.journal_core.proofs.Meanings.{one_meaning}
@@ -24,27 +24,26 @@ use Rattle.hail_machine.proofs.JobLists.{same_value}
 use Rattle.hail_commands.specs.Forms.{Command, Numbers, RowOf, InitWith, PutUnder, GetOf, DropOf, ListAll, AuditAll, RepairDue}
 use Rattle.hail_commands.specs.Keys.{IsKeyForm}
 use Rattle.hail_commands.specs.Seen.{Seen, Ending, IsRefused, ReadsUpTo}
-use Rattle.hail_commands.specs.Openings.{journal_read, IsRead, IsSetUpOn}
+use Rattle.hail_commands.specs.Openings.{journal_read, IsSetUpOn}
 use Rattle.hail_commands.specs.Opens.{IsOpened, Unstarted, setup_at}
 use Rattle.hail_commands.specs.Refusals.{status_of}
-use Rattle.hail_commands.specs.Lines.{text_of, audit_lines}
+use Rattle.hail_commands.specs.Lines.{audit_lines}
 use Rattle.hail_commands.specs.Inits.{setup_with, AnswersInit}
 use Rattle.hail_commands.specs.Gets.{GetLeaves}
-use Rattle.hail_commands.specs.Jobs.{AnswersJob, EndsBy, SamePast, past, with_next, IsTold}
+use Rattle.hail_commands.specs.Jobs.{AnswersJob, SamePast, past, with_next, IsTold}
 use Rattle.hail_commands.specs.Commands.{AnswersPut, AnswersAlone, AnswersList, Answers}
 use Rattle.sound_states.proofs.Records.{is_some-at}
-use Rattle.command_laws.specs.Ends.{IsDone, IsKnown, IsJobOf, DiskHas, opens_store, after_put, after_drop, after_audit, after_repair, IsPut, IsDropped, IsAudited, IsRepaired}
-use Rattle.command_laws.specs.Kept.{IsAfter, after_start, LosesRepair, FailsToRepair, FailsToPut}
-use Rattle.command_laws.specs.Opened.{IsInit}
-use Rattle.command_laws.specs.After.{IsSure, IsNext, HasGrown, IsThen}
+use Rattle.command_laws.specs.Ends.{IsDone, IsKnown, IsJobOf, DiskHas, opens_store, after_put, after_drop, after_audit, after_repair}
+use Rattle.command_laws.specs.Kept.{IsAfter, after_start}
+use Rattle.command_laws.specs.After.{IsSure, IsNext, IsThen}
 use Rattle.command_laws.proofs.Known.{known-once, alone-known, unstarted-known, refused-not}
-use Rattle.command_laws.proofs.JobEnds.{unstarted-done, put-done, drop-done, audit-done, repair-done}
+use Rattle.command_laws.proofs.JobEnds.{put-done, drop-done, audit-done, repair-done}
 use Rattle.command_laws.proofs.GetEnds.{ran_left}
 use Rattle.command_laws.proofs.InitEnds.{key-once, form-all, init-done, list-done}
 use Rattle.command_laws.proofs.Images.{reads-image, image-firm, stands-front, known-images}
 use Rattle.command_laws.proofs.Failed.{images-same, put-fails, repair-fails, repair-loses}
-use Rattle.command_laws.proofs.Knowing.{IsGood, AreGood, sure-good, known-good, LeavesGood, HasBytes, ran-good, spelled-kind}
-use Rattle.command_laws.proofs.Afterwards.{known-refused, sure-refused, sure-next, reads-firm}
+use Rattle.command_laws.proofs.Knowing.{IsGood, sure-good, known-good, LeavesGood, HasBytes, ran-good, spelled-kind}
+use Rattle.command_laws.proofs.Afterwards.{sure-refused, sure-next, reads-firm}
 
 -- ---- statuses of a job that came to its end by itself
 
@@ -149,8 +148,7 @@ pub audit-sure : (records : List Record) (old new : Seen) (end : Ending) → Ans
     × IsTold (audit_lines (setup_at records).tolerance (next_audit records) undecided counts) old new end
 audit-sure records old new end A done K =
     (let P = audit-done old new end A done in
-    let same = known-once old records P.records K P.opened.read in
-    (
+    let same = known-once old records P.records K P.opened.read in (
       P.undecided,
       P.counts,
       sure-left records (after_audit records P.undecided P.counts) old new K (alone-over AuditJob records old new end K tt A (inl done)) (subst (λ rs. DiskHas (after_audit rs P.undecided P.counts) new) same P.disk),
@@ -310,14 +308,18 @@ Told command records old new image = (rs : List Record) × IsGood (setup_at reco
 image-told : (command : Command) (records : List Record) (old new : Seen) (image : List ℕ) (rs : List Record) → IsGood (setup_at records) image rs →
     StandsFor image records ⊎ ((kind : Kind) × IsJobOf command old new kind × IsAfter records kind image) → Told command records old new image
 image-told command records old new image rs G (inl stands) = (rs, G, inl (one_meaning image rs records G.stands stands))
-image-told command records old new image rs G (inr (kind, is, after)) = (rs, G, inr (record {
-  kind = kind;
-  of_command = is;
-  own = after.own;
-  are_own = after.are_own;
-  count = after.count;
-  after_is = one_meaning image rs _ G.stands after.stands;
-}))
+image-told command records old new image rs G (inr (kind, is, after)) = (
+  rs,
+  G,
+  inr (record {
+    kind = kind;
+    of_command = is;
+    own = after.own;
+    are_own = after.are_own;
+    count = after.count;
+    after_is = one_meaning image rs _ G.stands after.stands;
+  }),
+)
 
 -- the next command finds an image of the disk
 pub next-image : (new next : Seen) → is_some new.disk ≡ true → IsNext new next → (cells : Cells) × (next.disk ≡ Some cells) × ((P : List ℕ → Type 0) → EachImage new.disk P → P (reads cells))

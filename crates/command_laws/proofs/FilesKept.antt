@@ -1,7 +1,7 @@
 -- A file that is in effect stays right over the commands that do not touch it, and over a repair.
-use Rattle.std.proofs.Common.{◌≡◌, ◌≢◌, ℕ, zero, suc, ◌+◌, ◌<◌, ◌≤◌, ◌==◌, ◌⊎◌, ◌&&◌, Bool, true, false, cond, not, List, [], ◌∷◌, ◌++◌, length, reverse, take, Option, None, Some, refl, ap, sym, subst, ◌∙◌, inl, inr, arith}
+use Rattle.std.proofs.Common.{◌≡◌, ◌≢◌, ℕ, zero, suc, ◌<◌, ◌≤◌, ◌==◌, ◌&&◌, Bool, true, false, not, List, [], ◌∷◌, ◌++◌, length, reverse, take, Option, None, Some, refl, ap, sym, subst, ◌∙◌, inl, inr, arith}
 use Rattle.std.specs.Prelude.{is_some, IfSome}
-use Rattle.std.proofs.lemmas.Bool.{cases_Bool, cases_lt, false≢true, eq-eqb}
+use Rattle.std.proofs.lemmas.Bool.{cases_Bool, false≢true, eq-eqb}
 use Rattle.hail_columns.specs.Objects.{Object}
 use Rattle.hail_columns.specs.Columns.{columns, is_wrong_block}
 use Rattle.hail_columns.specs.Verdicts.{is_flagged}
@@ -10,14 +10,14 @@ use Rattle.hail_devices.specs.Told.{Goes}
 use Rattle.hail_records.specs.Records.{Record, Setup, PutStart, PutDone, Drop, AuditStart, AuditDone}
 use Rattle.hail_records.specs.Table.{File, Due, next_id, next_audit, file_of, due_of, started_as, is_start_of}
 use Rattle.hail_machine.specs.Setups.{object_of, stripes_of}
-use Rattle.hail_machine.specs.Jobs.{Kind, PutJob, GetJob, DropJob, AuditJob, RepairJob}
+use Rattle.hail_machine.specs.Jobs.{PutJob, DropJob, RepairJob}
 use Rattle.hail_machine.specs.Answers as answer
 use Rattle.hail_machine.specs.Answers.{Answer}
 use Rattle.hail_machine.proofs.JobLists.{cond_true, cond_false, same_value}
 use Rattle.hail_machine.proofs.RecordFacts.{AreSound, other_name}
 use Rattle.hail_commands.specs.Forms.{Command, RowOf, InitWith, PutUnder, GetOf, DropOf, ListAll, AuditAll, RepairDue}
 use Rattle.hail_commands.specs.Seen.{Seen, Ending, IsRefused, provider_at}
-use Rattle.hail_commands.specs.Opens.{IsOpened, setup_at}
+use Rattle.hail_commands.specs.Opens.{setup_at}
 use Rattle.hail_commands.specs.Blocks.{StoredOn, PartlyStored, DroppedFrom}
 use Rattle.hail_commands.specs.Puts.{PutIsCut, PutLeaves}
 use Rattle.hail_commands.specs.Drops.{DropLeaves}
@@ -25,7 +25,7 @@ use Rattle.hail_commands.specs.Repairs.{IfFlagged}
 use Rattle.hail_commands.specs.Jobs.{AnswersJob, LeftAlone}
 use Rattle.hail_commands.specs.Commands.{AnswersPut, AnswersAlone, Answers}
 use Rattle.sound_states.proofs.Records.{sound-accepted}
-use Rattle.command_laws.specs.Ends.{IsDone, IsKnown, IsJobOf, HoldsFile, SameHolds, after_repair, IsRepaired}
+use Rattle.command_laws.specs.Ends.{IsDone, IsKnown, SameHolds, after_repair, IsRepaired}
 use Rattle.command_laws.specs.Kept.{AreAppended}
 use Rattle.command_laws.specs.After.{is_wrong_told, HasFile, IsThen, HasGrown, IsSteady, spoilt_below, keeps_blocks, IsOther}
 use Rattle.command_laws.proofs.Complete.{each-not-wrong, not-wrong-each}
@@ -104,8 +104,11 @@ audit-grown name records after old new G =
     (first-two (Stays name records) (AuditStart (next_audit records)) (AuditDone (next_audit records) own.0 own.1) records (refl, refl) (refl, refl) (refl, refl) G.count))
 
 put-stays : (name other : List ℕ) (records : List Record) (size : ℕ) → other ≢ name → Stays name records (PutDone (next_id records) size ∷ PutStart (next_id records) other ∷ records)
-put-stays name other records size differ = (cond_false (is_start_of name (started_as (PutStart (next_id records) other ∷ records) (next_id records))) _ _
-    (ap (is_start_of name) (cond_true (next_id records == next_id records) (Some other) (started_as records (next_id records)) (eq-eqb (next_id records) (next_id records) refl)) ∙ other_name other name differ), refl)
+put-stays name other records size differ = (
+  cond_false (is_start_of name (started_as (PutStart (next_id records) other ∷ records) (next_id records))) _ _
+      (ap (is_start_of name) (cond_true (next_id records == next_id records) (Some other) (started_as records (next_id records)) (eq-eqb (next_id records) (next_id records) refl)) ∙ other_name other name differ),
+  refl,
+)
 
 put-grown : (name other : List ℕ) (records after : List Record) (old new : Seen) → other ≢ name → HasGrown (PutUnder other) records old new after → Stays name records after
 put-grown name other records after old new differ G =

@@ -1,12 +1,12 @@
 -- A file that is in effect and right on most providers, between two commands.
-use Rattle.std.proofs.Common.{◌≡◌, ◌≢◌, ℕ, ◌+◌, ◌<◌, ◌≤◌, ◌==◌, ◌⊎◌, ◌||◌, Bool, true, false, cond, not, List, [], ◌∷◌, length, Option, None, Some, refl, ap, sym, subst, ◌∙◌, inl, inr, arith}
+use Rattle.std.proofs.Common.{◌≡◌, ℕ, ◌+◌, ◌<◌, ◌≤◌, ◌==◌, ◌||◌, Bool, true, false, not, List, length, Option, None, Some, refl, ap, sym, subst, ◌∙◌, inl, inr, arith}
 use Rattle.std.specs.Prelude.{is_some, nat_lt, nat_le}
 use Rattle.std.proofs.lemmas.Bool.{cases_Bool, cases_lt, false≢true}
 use Rattle.std.proofs.lemmas.Bool.Decides.{nat_tests}
 use Rattle.hail_codes.specs.ServerCode.{differences}
 use Rattle.hail_codes.proofs.Codewords.{differences-same}
 use Rattle.hail_columns.specs.Objects.{Object, symbols_in}
-use Rattle.hail_columns.specs.Columns.{columns, is_wrong, is_wrong_block}
+use Rattle.hail_columns.specs.Columns.{columns, is_wrong_block}
 use Rattle.hail_columns.proofs.ColumnLaws.{length-column_of_symbols}
 use Rattle.column_laws.proofs.Counts.{count_of-within}
 use Rattle.hail_devices.specs.Faults.{Rose, last_count}
@@ -21,7 +21,7 @@ use Rattle.hail_commands.specs.Blocks.{StoredOn}
 use Rattle.hail_commands.specs.Commands.{AnswersPut}
 use Rattle.command_laws.specs.Failing.{has_risen, is_bad_with, is_bad_for, bad_seen}
 use Rattle.command_laws.specs.Ends.{IsDone, IsKnown, after_put, IsPut}
-use Rattle.command_laws.specs.After.{is_wrong_told, is_wrong_at, HasFile, IsUntouched, IsSteady, spoilt_below}
+use Rattle.command_laws.specs.After.{is_wrong_told, HasFile, IsUntouched, IsSteady, spoilt_below}
 use Rattle.command_laws.proofs.Complete.{each-not-wrong}
 use Rattle.command_laws.proofs.Known.{known-once}
 use Rattle.command_laws.proofs.JobEnds.{put-done}

@@ -1,13 +1,13 @@
 -- A put or an audit at a move of one of its two appends: at its first one it has done nothing else, and at its second one all that stands
 -- between them.
-use Rattle.std.proofs.Common.{◌≡◌, ℕ, zero, suc, ◌+◌, ◌-◌, ◌<◌, ◌≤◌, ◌⊎◌, List, [], ◌∷◌, ◌++◌, length, take, Some, refl, ap, sym, subst, ◌∙◌, inl, inr, arith}
+use Rattle.std.proofs.Common.{◌≡◌, ℕ, zero, suc, ◌+◌, ◌-◌, ◌<◌, ◌≤◌, List, [], ◌∷◌, ◌++◌, length, take, Some, ap, sym, subst, ◌∙◌, inl, inr, arith}
 use Rattle.std.specs.Prelude.{slice_get}
 use Rattle.hail_devices.specs.Providers.{Provider}
 use Rattle.hail_machine.specs.Jobs.{Given, Job}
 use Rattle.hail_machine.specs.Actions.{Action, WriteBody, SyncBody, WriteGate, SyncGate, Store, Fetch, Ask, Work, Remove, End, append_actions}
 use Rattle.hail_machine.specs.Answers as answer
 use Rattle.hail_machine.specs.Events.{Ended}
-use Rattle.hail_machine.specs.States.{State, Append}
+use Rattle.hail_machine.specs.States.{State}
 use Rattle.hail_machine.specs.Appends.{Moves}
 use Rattle.hail_machine.proofs.ActionLists.{Each, each_get, split_get}
 use Rattle.lone_laws.specs.Made.{With, Did, Made}

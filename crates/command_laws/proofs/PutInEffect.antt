@@ -7,9 +7,9 @@ use Rattle.hail_devices.specs.Cells.{Cells, reads}
 use Rattle.hail_devices.specs.Disks.{Stopped}
 use Rattle.hail_devices.specs.Images.{EachImage}
 use Rattle.hail_devices.specs.Told.{Goes}
-use Rattle.hail_records.specs.Records.{Record, PutStart, PutDone, largest_file, largest_journal}
+use Rattle.hail_records.specs.Records.{Record, PutStart, largest_file, largest_journal}
 use Rattle.hail_records.specs.Journal.{StandsFor, StandsOrIsEmpty}
-use Rattle.hail_records.specs.Table.{File, next_id, file_of}
+use Rattle.hail_records.specs.Table.{File, next_id}
 use Rattle.journal_core.proofs.Meanings.{one_meaning}
 use Rattle.hail_machine.specs.Setups.{object_of}
 use Rattle.hail_machine.specs.Events.{AreBytes}
@@ -19,12 +19,12 @@ use Rattle.hail_machine.specs.Answers.{Answer}
 use Rattle.hail_commands.specs.Seen.{Seen, Ending, IsRefused, provider_at}
 use Rattle.hail_commands.specs.Openings.{journal_read}
 use Rattle.hail_commands.specs.Opens.{setup_at}
-use Rattle.hail_commands.specs.Ran.{Ran, IsWhole, IsCut}
+use Rattle.hail_commands.specs.Ran.{Ran}
 use Rattle.hail_commands.specs.Blocks.{StoredOn}
 use Rattle.hail_commands.specs.Puts.{put_records, PutIsCut, PutLeaves}
 use Rattle.hail_commands.specs.Jobs.{AnswersJob, LeftAlone}
 use Rattle.hail_commands.specs.Commands.{AnswersPut}
-use Rattle.command_laws.specs.Ends.{IsKnown, DiskHas, after_put}
+use Rattle.command_laws.specs.Ends.{IsKnown, after_put}
 use Rattle.command_laws.specs.After.{IsSure, IsNext, HasFile}
 use Rattle.command_laws.proofs.Known.{known-once}
 use Rattle.command_laws.proofs.GetEnds.{ran_left}

@@ -42,7 +42,7 @@ use Rattle.lone_laws.proofs.Walk.{Wrote, wrote, runs, left-start, first-body}
 use Rattle.command_laws.proofs.Runs.{Ends}
 use Rattle.command_laws.proofs.Providers.{Called, IsBelow, made-keeps, each-take}
 use Rattle.command_laws.proofs.Truth.{made-rises}
-use Rattle.command_laws.proofs.Lasts.{InDoubt, Faults, move-faults, NoRoom, move-memory, none-moving}
+use Rattle.command_laws.proofs.Lasts.{Faults, move-faults, NoRoom, move-memory, none-moving}
 use Rattle.command_laws.proofs.Moving.{IsMove, IsUnmoved, move-is, moved-first, moved-second}
 use Rattle.command_laws.proofs.Leaving.{below, LastCall, last-call, counts-rise, others-stay}
 use Rattle.command_laws.proofs.Audits.{move-answers}
@@ -416,10 +416,13 @@ module _ (start new : State) (name bytes : List ℕ) (how : Answer) (heard : Lis
     ]
 
     faulted : Faults start O (PutJob name bytes) E.before E.job E.walked new → Gives answer.DiskFault
-    faulted F = (rose-from start.disk_faults E.before.disk_faults new.disk_faults E.walked.disk F.low F.rose, elim (stands F.left) [
-      | Stand.at_first l is ↦ PutIsCut.at_start (F.records ∙ is) (doubt-first l F) (λ j below. ap (λ (f : ℕ → Provider). (f j).held) (F.providers ∙ untouched l))
-      | Stand.at_second l is ↦ PutIsCut.at_done (F.records ∙ is) (doubt-second l F) (stores-all (second l) F.providers)
-    ])
+    faulted F = (
+      rose-from start.disk_faults E.before.disk_faults new.disk_faults E.walked.disk F.low F.rose,
+      elim (stands F.left) [
+        | Stand.at_first l is ↦ PutIsCut.at_start (F.records ∙ is) (doubt-first l F) (λ j below. ap (λ (f : ℕ → Provider). (f j).held) (F.providers ∙ untouched l))
+        | Stand.at_second l is ↦ PutIsCut.at_done (F.records ∙ is) (doubt-second l F) (stores-all (second l) F.providers)
+      ],
+    )
 
   no-room : StoresPart ran bytes → NoRoom start O (PutJob name bytes) E.before E.job E.walked new → Gives answer.Memory
   no-room part N =
