@@ -1,47 +1,30 @@
 -- A store is known again after a command, and the next one finds it so.
-use Rattle.std.proofs.Common.{◌≡◌, ◌≢◌, ℕ, ◌+◌, ◌<◌, ◌≤◌, ◌⊎◌, Bool, true, false, List, [], ◌∷◌, ◌++◌, length, take, Option, None, Some, refl, ap, sym, subst, ◌∙◌, inl, inr, arith, append_assoc}
-use Rattle.std.specs.Prelude.{is_some, IfSome, IsTrue}
-use Rattle.std.specs.List.{list_all}
-use Rattle.std.specs.Option.{option_map}
-use Rattle.std.proofs.lemmas.Bool.{and_from, false≢true}
-use Rattle.std.proofs.lemmas.Bool.Decides.{nat_tests}
-use Rattle.std.proofs.lemmas.List.{append-nil}
-use Rattle.hex.specs.Hex.{IsBytes}
-use Rattle.hex.proofs.HexLemmas.{decode_of-ok}
+use Rattle.std.proofs.Common.{◌≡◌, ℕ, ◌<◌, ◌≤◌, true, false, List, [], ◌∷◌, length, take, Option, None, Some, refl, ap, sym, subst, ◌∙◌, inl, inr, arith}
+use Rattle.std.specs.Prelude.{is_some, IfSome}
+use Rattle.std.proofs.lemmas.Bool.{false≢true}
 use Rattle.hail_field.specs.Shape.{IsShape}
 use Rattle.hail_devices.specs.Cells.{Cells, reads, firm}
 use Rattle.hail_devices.specs.Disks.{synced, Stopped}
 use Rattle.hail_devices.specs.Images.{IsImage, EachImage}
 use Rattle.hail_devices.specs.Told.{Goes}
-use Rattle.hail_records.specs.Records.{Record, Setup, SetUp, is_byte, is_master, is_in_grammar, is_setup, largest_file, largest_journal}
-use Rattle.hail_records.specs.Journal.{text, before_gate, StandsFor}
-use Rattle.hail_records.specs.Table.{Due, due_of}
+use Rattle.hail_records.specs.Records.{Record, Setup, largest_journal}
+use Rattle.hail_records.specs.Journal.{StandsFor}
 use Rattle.hail_machine.specs.Jobs.{Kind, PutJob, GetJob, DropJob, AuditJob, RepairJob}
-use Rattle.hail_machine.specs.Answers as answer
-use Rattle.hail_machine.specs.Answers.{Answer}
-use Rattle.hail_machine.proofs.JobLists.{same_value}
 use Rattle.hail_commands.specs.Forms.{Command, Numbers, RowOf, InitWith, PutUnder, GetOf, DropOf, ListAll, AuditAll, RepairDue}
-use Rattle.hail_commands.specs.Keys.{IsKeyForm}
 use Rattle.hail_commands.specs.Sinking.{Writes, Tells}
-use Rattle.hail_commands.specs.Seen.{Seen, Ending, IsRefused, IsResynced, ReadsUpTo, sinking}
-use Rattle.hail_commands.specs.Openings.{journal_read, IsRead, IsSetUpOn}
-use Rattle.hail_commands.specs.Opens.{IsOpened, Unstarted, setup_at}
-use Rattle.hail_commands.specs.Row.{AnswersRow}
-use Rattle.hail_commands.specs.Lines.{text_of}
+use Rattle.hail_commands.specs.Seen.{Seen, Ending, IsRefused, IsResynced, sinking}
+use Rattle.hail_commands.specs.Openings.{IsRead}
+use Rattle.hail_commands.specs.Opens.{Unstarted, setup_at}
 use Rattle.hail_commands.specs.Inits.{setup_with, AnswersInit, InitsDisk}
-use Rattle.hail_commands.specs.Jobs.{AnswersJob, EndsBy, SamePast}
+use Rattle.hail_commands.specs.Jobs.{AnswersJob}
 use Rattle.hail_commands.specs.Commands.{AnswersPut, AnswersAlone, AnswersList, Answers}
 use Rattle.sound_states.proofs.Records.{is_some-at}
-use Rattle.command_laws.specs.Ends.{IsDone, IsKnown, DiskHas, opens_store, after_put, after_drop, after_audit, after_repair, IsPut, IsDropped, IsAudited, IsRepaired}
-use Rattle.command_laws.specs.Kept.{KeepsImages, IsAfter}
-use Rattle.command_laws.specs.Opened.{IsInit}
-use Rattle.command_laws.specs.After.{IsSure, IsNext, HasGrown, IsThen, is_refusal}
-use Rattle.command_laws.proofs.Known.{known-once, alone-known, unstarted-known, refused-not, EndStatus, status-ended}
-use Rattle.command_laws.proofs.JobEnds.{unstarted-refused, put-done, drop-done, audit-done, repair-done}
-use Rattle.command_laws.proofs.InitEnds.{key-once, form-all, init-done, list-done}
-use Rattle.command_laws.proofs.Images.{reads-image, image-firm, stands-front, refused-keeps, store-images}
-use Rattle.command_laws.proofs.Failed.{images-same}
-use Rattle.command_laws.proofs.Knowing.{IsGood, AreGood, read-good, sure-good, known-good, LeavesGood, HasBytes, job-good, ran-good, spelled-kind}
+use Rattle.command_laws.specs.Ends.{IsKnown}
+use Rattle.command_laws.specs.After.{IsSure, IsNext, is_refusal}
+use Rattle.command_laws.proofs.Known.{EndStatus, status-ended}
+use Rattle.command_laws.proofs.JobEnds.{unstarted-refused}
+use Rattle.command_laws.proofs.Images.{reads-image, image-firm, refused-keeps}
+use Rattle.command_laws.proofs.Knowing.{known-good}
 
 -- ---- refusals
 
@@ -56,13 +39,16 @@ reads-resynced old new (inr after) = ap reads after ∙ reads-firm (reads old)
 read-kept : (a b : Option Cells) (records : List Record) → Goes IsResynced a b → is_some a ≡ true → IsRead a records → (is_some b ≡ true) × IsRead b records
 read-kept None b records g tells R = absurd (false≢true tells)
 read-kept (Some a) None records g tells R = absurd g
-read-kept (Some a) (Some b) records g tells R = (refl, record {
-  some = R.some;
-  in_grammar = R.in_grammar;
-  accepted = R.accepted;
-  room = R.room;
-  reads_are = subst (λ bytes. (9 < length bytes) × StandsFor (take largest_journal bytes) records) (sym (reads-resynced a b g)) R.reads_are;
-})
+read-kept (Some a) (Some b) records g tells R = (
+  refl,
+  record {
+    some = R.some;
+    in_grammar = R.in_grammar;
+    accepted = R.accepted;
+    room = R.room;
+    reads_are = subst (λ bytes. (9 < length bytes) × StandsFor (take largest_journal bytes) records) (sym (reads-resynced a b g)) R.reads_are;
+  },
+)
 
 pub known-refused : (status at : ℕ) (records : List Record) (old new : Seen) (end : Ending) → IsRefused status at old new end → IsKnown old records → IsKnown new records
 known-refused status at records old new end r K = (let kept = read-kept old.disk new.disk records r.disk K.tells K.opened.read in record {
@@ -185,14 +171,14 @@ known-sure s records cells told S is stands handed = (let R = S.known.opened.rea
 pub sure-next : (records : List Record) (new next : Seen) → IsSure new records → IsNext new next → IsSure next records
 sure-next records new next S N = elim N.disk [
   | inl same ↦ (let c = is_some-at new.disk S.known.tells in record {
-      known = known-sure new records c.0 next S (same ∙ c.1)
-          (subst (λ d. EachImage d (λ image. StandsFor image records)) c.1 S.images (reads c.0) (reads-image c.0)) N.handed;
-      images = subst (λ d. EachImage d (λ image. StandsFor image records)) (sym same) S.images;
-    })
+    known = known-sure new records c.0 next S (same ∙ c.1)
+        (subst (λ d. EachImage d (λ image. StandsFor image records)) c.1 S.images (reads c.0) (reads-image c.0)) N.handed;
+    images = subst (λ d. EachImage d (λ image. StandsFor image records)) (sym same) S.images;
+  })
   | inr stopped ↦ (let c = stopped-at new.disk next.disk S.known.tells S.images stopped in record {
-      known = known-sure new records (firm c.0) next S c.1 (subst (λ bytes. StandsFor bytes records) (sym (reads-firm c.0)) c.2) N.handed;
-      images = subst (λ d. EachImage d (λ image. StandsFor image records)) (sym c.1) (λ image is. subst (λ bytes. StandsFor bytes records) (sym (image-firm c.0 image is)) c.2);
-    })
+    known = known-sure new records (firm c.0) next S c.1 (subst (λ bytes. StandsFor bytes records) (sym (reads-firm c.0)) c.2) N.handed;
+    images = subst (λ d. EachImage d (λ image. StandsFor image records)) (sym c.1) (λ image is. subst (λ bytes. StandsFor bytes records) (sym (image-firm c.0 image is)) c.2);
+  })
 ]
   where
     stopped-at : (a b : Option Cells) → is_some a ≡ true → EachImage a (λ image. StandsFor image records) → Goes Stopped a b → (image : List ℕ) × (b ≡ Some (firm image)) × StandsFor image records

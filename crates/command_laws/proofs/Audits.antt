@@ -24,17 +24,17 @@ use Rattle.hail_machine.specs.Heard.{Entry, entries_of, heard_by_kind}
 use Rattle.hail_machine.specs.States.{State, Append, Doubt, setup_in}
 use Rattle.hail_machine.specs.Appends.{Moves}
 use Rattle.hail_machine.specs.Steps.{next_action, holder_of, Acts, Ends as EndsAs}
-use Rattle.hail_machine.proofs.ActionLists.{Each, each_append, each_get, each_flat}
+use Rattle.hail_machine.proofs.ActionLists.{Each, each_append, each_get, each_map, each_flat}
 use Rattle.hail_machine.proofs.Numbers.{next_by, next_is_by}
 use Rattle.hail_machine.proofs.RecordFacts.{listed_file}
-use Rattle.hail_commands.specs.Audits.{Question, files_by_number, questions, challenge_at, answer_heard, answer_entries, HearsRounds, JudgesOne, no_sums, CountsHeard, audit_records, AuditGives, AuditLeaves}
+use Rattle.hail_commands.specs.Audits.{Question, files_by_number, questions, challenge_at, answer_heard, answer_entries, HearsRounds, JudgesOne, no_sums, CountsHeard, audit_records, AuditIsCut, AuditGives, AuditLeaves}
 use Rattle.hail_commands.specs.JobRuns.{RunsJob}
 use Rattle.hail_commands.specs.Jobs.{Leaves}
 use Rattle.hail_commands.specs.Ran.{Ran, ran_from, IsWhole}
 use Rattle.hail_commands.specs.Truthful.{IsTruthful}
 use Rattle.sound_states.specs.Orders.{moves_made, IsInOrder}
 use Rattle.sound_states.proofs.Given.{valid-shape}
-use Rattle.sound_states.proofs.Orders.{audit_rest, audit-list, appends_in, appends-cons, drop-get, next-listed}
+use Rattle.sound_states.proofs.Orders.{audit_rest, audit-list, audit-first, audit-later, appends_in, appends-cons, drop-get, next-listed}
 use Rattle.sound_states.proofs.Written.{setup-valid}
 use Rattle.lone_laws.specs.Made.{With, Made}
 use Rattle.lone_laws.specs.Walked.{IsOpened, RecordsAre, with_job_of, Walked}
@@ -44,7 +44,8 @@ use Rattle.command_laws.proofs.Runs.{Ends, job-ends}
 use Rattle.command_laws.proofs.Given.{answer-heard}
 use Rattle.command_laws.proofs.Providers.{Called, each-take, each-upto, made-keeps}
 use Rattle.command_laws.proofs.Heard.{AreDistinct, entries-made}
-use Rattle.command_laws.proofs.Lasts.{InDoubt, Faults, move-faults, NoRoom, move-memory, none-moving}
+use Rattle.command_laws.proofs.Lasts.{Faults, move-faults, NoRoom, move-memory, none-moving}
+use Rattle.command_laws.proofs.Moving.{IsMove, IsUnmoved, move-is, moved-first, moved-second}
 use Rattle.command_laws.proofs.Leaving.{counts-rise, others-stay}
 use Rattle.command_laws.proofs.Asked.{pinned-by_number, asks_of, asks-questions, distinct-asks, entries-questions, each-by_number}
 use Rattle.command_laws.proofs.Judged.{sums-one, files-questions}
@@ -150,8 +151,7 @@ module _ (start : State) (O : IsOpened start) (w : State) (job : Job) (W : Walke
 
   abbrev Doubtful : Option Doubt → Type 0
   Doubtful doubt = (undecided : ℕ) × (counts : List ℕ) × ((done : List Record) × (next : Record) × (rest : List Record)
-      × (audit_records start.records undecided counts ≡ done ++ next ∷ rest) × (w.records ≡ reverse done ++ start.records)
-      × ((option_map (λ (d : Doubt). d.entry) doubt ≡ None) ⊎ (option_map (λ (d : Doubt). d.entry) doubt ≡ Some next)))
+      × (audit_records start.records undecided counts ≡ done ++ next ∷ rest) × (w.records ≡ reverse done ++ start.records))
 
   -- where the records stand, of a job with an append left
   data Stand : Type 0 where
@@ -169,17 +169,39 @@ module _ (start : State) (O : IsOpened start) (w : State) (job : Job) (W : Walke
       by_records rs e (RecordsAre.one l is) = Stand.at_second (omega (arith, l, same)) (e ∙ is)
       by_records rs e (RecordsAre.two entry l sec is) = absurd (omega (arith, l, same, left))
 
-  -- what is in doubt after a fault is the very next record
-  in-doubt : (doubt : Option Doubt) → 0 < appends_left (setup_in w) job → InDoubt start O AuditJob w job W doubt → Doubtful doubt
-  in-doubt doubt left (inl none) = elim (stands left) [
-    | Stand.at_first l is ↦ (0, [], ([], AuditStart number, AuditDone number 0 [] ∷ [], refl, is, inl (ap (option_map (λ (d : Doubt). d.entry)) none)))
-    | Stand.at_second l is ↦ (0, [], (AuditStart number ∷ [], AuditDone number 0 [], [], refl, is, inl (ap (option_map (λ (d : Doubt). d.entry)) none)))
+  cut-at : 0 < appends_left (setup_in w) job → Doubtful w.doubt
+  cut-at left = elim (stands left) [
+    | Stand.at_first l is ↦ (0, [], ([], AuditStart number, AuditDone number 0 [] ∷ [], refl, is))
+    | Stand.at_second l is ↦ (0, [], (AuditStart number ∷ [], AuditDone number 0 [], [], refl, is))
   ]
-  in-doubt doubt left (inr (d, in_doubt, writes)) = elim (wrote start O AuditJob w job W d.entry left writes) [
-    | Wrote.first l is entry ↦ (0, [], ([], AuditStart number, AuditDone number 0 [] ∷ [], refl, is, inr (ap (option_map (λ (z : Doubt). z.entry)) in_doubt ∙ ap Some entry)))
-    | Wrote.second l is sec ↦ (let sums : Sums = sec.0 in
-        (sums.undecided, sums.counts, (AuditStart number ∷ [], AuditDone number sums.undecided sums.counts, [], refl, is, inr (ap (option_map (λ (z : Doubt). z.entry)) in_doubt ∙ ap Some sec.2))))
-  ]
+
+  -- ---- an audit at a move of one of its appends
+
+  unmoved-asks : Each IsUnmoved (ask_actions s job)
+  unmoved-asks = each_flat IsUnmoved (λ (f : Pinned). flat_map (λ round. map (λ j. Ask j f.id round) (upto s.n)) (rounds_of s (length f.bytes))) job.pinned
+      (λ f. each_flat IsUnmoved (λ round. map (λ j. Ask j f.id round) (upto s.n)) (rounds_of s (length f.bytes)) (λ round. each_map IsUnmoved (λ j. Ask j f.id round) (upto s.n) (λ j. (λ m. m))))
+
+  module _ (action : Action) (next : next_action w job ≡ Some action) (n : action ≡ End → ⊥) (move : IsMove action) where
+    here : slice_get (append_actions ++ (ask_actions s job ++ (append_actions ++ End ∷ []))) job.place ≡ Some action
+    here = ap (λ xs. slice_get xs job.place) (sym list-is) ∙ subst (λ (t : Setup). slice_get (actions_of t job) job.place ≡ Some action) W.setup (next-listed w job action next n)
+
+    made-so-far : Made x (take job.place (append_actions ++ (ask_actions s job ++ (append_actions ++ End ∷ [])))) start.providers w.providers [] job.given
+    made-so-far = subst (λ xs. Made x (take job.place xs) start.providers w.providers [] job.given) list-is W.made
+
+    heard-none : appends_left (setup_in w) job ≡ 2 → job.given ≡ []
+    heard-none two = elim (cases_lt job.place 4) [
+      | inl l ↦ (moved-first x (ask_actions s job) (End ∷ []) job.place action move unmoved-asks ((λ m. m), tt) start.providers w.providers job.given here made-so-far l).1
+      | inr l ↦ absurd (let c = audit-later (setup_in w) job W.kind_is l in omega (arith, c, two))
+    ]
+
+    second : appends_left (setup_in w) job ≡ 1 → 4 ≤ job.place
+    second one = elim (cases_lt job.place 4) [
+      | inl l ↦ absurd (let c = audit-first (setup_in w) job W.kind_is l in omega (arith, c, one))
+      | inr l ↦ l
+    ]
+
+    asks-at : 4 ≤ job.place → Made x (ask_actions s job) start.providers w.providers [] job.given
+    asks-at l = moved-second x (ask_actions s job) (End ∷ []) job.place action move unmoved-asks ((λ m. m), tt) start.providers w.providers job.given here made-so-far l
 
   -- ---- an audit that came to its end
 
@@ -217,6 +239,9 @@ module _ (start : State) (O : IsOpened start) (w : State) (job : Job) (W : Walke
         (subst (λ h. Made x (ask_actions s job) a.0 w.providers h job.given) first.1
         (subst (λ f. Made x (ask_actions s job) a.0 f a.1 job.given) (sym p) (subst (λ h. Made x (ask_actions s job) a.0 b.0 a.1 h) (sym g) b.2))))
 
+  -- ---- an audit that has made all its asks
+
+  module _ (asks : Made x (ask_actions s job) start.providers w.providers [] job.given) where
     abbrev files : List File
     files = files_of start.records
 
@@ -230,7 +255,7 @@ module _ (start : State) (O : IsOpened start) (w : State) (job : Job) (W : Walke
     asks-are = asks-questions s start job files W.pinned sizes
 
     made-questions : Made x (asks_of s.n asked) start.providers w.providers [] job.given
-    made-questions = subst (λ xs. Made x xs start.providers w.providers [] job.given) asks-are made-asks
+    made-questions = subst (λ xs. Made x xs start.providers w.providers [] job.given) asks-are asks
 
     distinct-questions : AreDistinct (asks_of s.n asked)
     distinct-questions = subst AreDistinct asks-are (distinct-asks s 0 job.pinned (W.sound.jobs job.number job (runs start O AuditJob w job W)).ascending)
@@ -323,17 +348,17 @@ module _ (start : State) (O : IsOpened start) (w : State) (job : Job) (W : Walke
           one q old now h = subst (λ (g : ℕ → Option ℕ). Judges (object_of s q.file.id) (challenge_in s job q.file.id q.file.size q.round) (map g (upto s.n)) old now)
               (λ i j. sym (answer-heard 1 job.given q.file.id q.round j) i) h
 
-      whole : (sums : Sums) → HasSums (setup_in w) job sums → new.records ≡ w.records → new.doubt ≡ w.doubt → IsWhole ran (audit_records start.records sums.undecided sums.counts)
-      whole sums has records doubt = record { after = records ∙ by_records w.records refl W.records; sure = ap (option_map (λ (d : Doubt). d.entry)) (doubt ∙ sure) }
+      whole : next_action w job ≡ Some End → (sums : Sums) → HasSums (setup_in w) job sums → new.records ≡ w.records → new.doubt ≡ w.doubt → IsWhole ran (audit_records start.records sums.undecided sums.counts)
+      whole next sums has records doubt = record { after = records ∙ by_records w.records refl W.records; sure = ap (option_map (λ (d : Doubt). d.entry)) (doubt ∙ sure) }
         where
           by_records : (rs : List Record) → w.records ≡ rs → RecordsAre start AuditJob job rs → w.records ≡ AuditDone number sums.undecided sums.counts ∷ AuditStart number ∷ start.records
-          by_records rs e (RecordsAre.none l is) = absurd (let c = end-count in omega (arith, l, c))
-          by_records rs e (RecordsAre.one l is) = absurd (let c = end-count in omega (arith, l, c))
+          by_records rs e (RecordsAre.none l is) = absurd (let c = end-count next in omega (arith, l, c))
+          by_records rs e (RecordsAre.one l is) = absurd (let c = end-count next in omega (arith, l, c))
           by_records rs e (RecordsAre.two entry l sec is) = e ∙ (is ∙ (ap (λ (r : Record). r ∷ AuditStart number ∷ start.records)
               (sec.2 ∙ ap (λ (t : Sums). AuditDone number t.undecided t.counts) (sums-one s job (valid-shape s (setup-valid 8 start (opened-sound start O) O.opened)) sec.0 sums sec.1 (subst (λ (t : Setup). HasSums t job sums) W.setup has)))))
 
           sure : w.doubt ≡ None
-          sure = (none-moving start O AuditJob w job W (subst (IsInOrder (moves_made w.append job.number)) end-left (W.sound.jobs job.number job (runs start O AuditJob w job W)).order).0).1
+          sure = (none-moving start O AuditJob w job W (subst (IsInOrder (moves_made w.append job.number)) (end-left next) (W.sound.jobs job.number job (runs start O AuditJob w job W)).order).0).1
 
 -- ---- all ends of an audit
 
@@ -368,40 +393,89 @@ module _ (start new : State) (how : Answer) (heard : List Entry) (O : IsOpened s
       providers : new.providers ≡ E.before.providers
       providers = ap (λ (v : State). v.providers) is
 
+      asks : Made (with_job_of start AuditJob E.job) (ask_actions (setup_in start) E.job) start.providers E.before.providers [] E.job.given
+      asks = made-asks start O E.before E.job E.walked next
+
       by_answer : (a : Answer) → EndsAs E.before E.job AuditJob a → Gives a
       by_answer (answer.Audited number undecided counts) (number_is, has) = (
         subst (λ h. AuditGives (ran_from start new h) (answer.Audited number undecided counts)) (sym heard-is) (
           number_is ∙ drawn-number at,
-          whole start O E.before E.job E.walked next new providers (record { counts = counts; undecided = undecided }) has (ap (λ (v : State). v.records) is) (ap (λ (v : State). v.doubt) is),
-          subst (HearsRounds (ran_from start new (entries_of 1 E.job.given))) (sym number_is) (hears start O E.before E.job E.walked next new providers),
-          subst (λ n. CountsHeard (ran_from start new (entries_of 1 E.job.given)) n undecided counts) (sym number_is) (judged start O E.before E.job E.walked next new providers (record { counts = counts; undecided = undecided }) has),
+          whole start O E.before E.job E.walked asks new providers next (record { counts = counts; undecided = undecided }) has (ap (λ (v : State). v.records) is) (ap (λ (v : State). v.doubt) is),
+          subst (HearsRounds (ran_from start new (entries_of 1 E.job.given))) (sym number_is) (hears start O E.before E.job E.walked asks new providers),
+          subst (λ n. CountsHeard (ran_from start new (entries_of 1 E.job.given)) n undecided counts) (sym number_is) (judged start O E.before E.job E.walked asks new providers (record { counts = counts; undecided = undecided }) has),
         ),
         providers,
         (let e = ap (λ (v : State). v.disk_faults) is in omega (arith, e)),
       )
       by_answer a h = absurd h
 
-  faulted : Faults start O AuditJob E.before E.job E.walked new → Gives answer.DiskFault
-  faulted F =
-      (let d = in-doubt start O E.before E.job E.walked new.doubt F.left F.doubt in
-      let c = d.2 in (
-        (
-          rose-before start.disk_faults E.before.disk_faults new.disk_faults E.walked.disk F.low F.rose,
-          (d.0, d.1, record { done = c.0; next = c.1; rest = c.2; parts = c.3; after = F.records ∙ c.4; doubt = c.5 }),
-        ),
-        F.providers,
-        F.low,
-      ))
+  -- a move of an append failed
+  module _ (action : Action) (at : E.action ≡ action) (n : action ≡ End → ⊥) (move : IsMove action) (F : Faults start O AuditJob E.before E.job E.walked new) where
+    next-is : next_action E.before E.job ≡ Some action
+    next-is = E.next ∙ ap Some at
+
+    cut-first : appends_left (setup_in E.before) E.job ≡ 2 → E.before.records ≡ start.records → AuditIsCut (ran_from start new heard)
+    cut-first two is = AuditIsCut.at_start (F.records ∙ is) in-doubt (heard-is ∙ ap (entries_of 1) (heard-none start O E.before E.job E.walked action next-is n move two))
+      where
+        in-doubt : (option_map (λ (d : Doubt). d.entry) new.doubt ≡ None) ⊎ (option_map (λ (d : Doubt). d.entry) new.doubt ≡ Some (AuditStart (next_audit start.records)))
+        in-doubt = elim F.doubt [
+          | inl none ↦ inl (ap (option_map (λ (d : Doubt). d.entry)) none)
+          | inr (d, in_doubt, writes) ↦ elim (wrote start O AuditJob E.before E.job E.walked d.entry F.left writes) [
+            | Wrote.first l is entry ↦ inr (ap (option_map (λ (z : Doubt). z.entry)) in_doubt ∙ ap Some entry)
+            | Wrote.second l is sec ↦ absurd (omega (arith, l, two))
+          ]
+        ]
+
+    module _ (one : appends_left (setup_in E.before) E.job ≡ 1) where
+      asks : Made (with_job_of start AuditJob E.job) (ask_actions (setup_in start) E.job) start.providers E.before.providers [] E.job.given
+      asks = asks-at start O E.before E.job E.walked action next-is n move (second start O E.before E.job E.walked action next-is n move one)
+
+      number-is : E.job.subject ≡ next_audit start.records
+      number-is = E.walked.subject (let l = second start O E.before E.job E.walked action next-is n move one in omega (arith, l))
+
+      heard-all : HearsRounds (ran_from start new heard) (next_audit start.records)
+      heard-all = subst (λ h. HearsRounds (ran_from start new h) (next_audit start.records)) (sym heard-is)
+          (subst (HearsRounds (ran_from start new (entries_of 1 E.job.given))) number-is (hears start O E.before E.job E.walked asks new F.providers))
+
+      counted-all : (sums : Sums) → HasSums (setup_in start) E.job sums → CountsHeard (ran_from start new heard) (next_audit start.records) sums.undecided sums.counts
+      counted-all sums has = subst (λ h. CountsHeard (ran_from start new h) (next_audit start.records) sums.undecided sums.counts) (sym heard-is)
+          (subst (λ k. CountsHeard (ran_from start new (entries_of 1 E.job.given)) k sums.undecided sums.counts) number-is
+          (judged start O E.before E.job E.walked asks new F.providers sums (subst (λ (t : Setup). HasSums t E.job sums) (sym E.walked.setup) has)))
+
+      cut-second : E.before.records ≡ AuditStart (next_audit start.records) ∷ start.records → AuditIsCut (ran_from start new heard)
+      cut-second is = elim F.doubt [
+        | inl none ↦ AuditIsCut.before_done (F.records ∙ is) (ap (option_map (λ (d : Doubt). d.entry)) none) heard-all
+        | inr (d, in_doubt, writes) ↦ elim (wrote start O AuditJob E.before E.job E.walked d.entry F.left writes) [
+          | Wrote.first l same entry ↦ absurd (omega (arith, l, one))
+          | Wrote.second l same sec ↦ (let sums : Sums = sec.0 in
+              AuditIsCut.at_done sums.undecided sums.counts (F.records ∙ is) (ap (option_map (λ (z : Doubt). z.entry)) in_doubt ∙ ap Some sec.2) heard-all (counted-all sums sec.1))
+        ]
+      ]
+
+    faulted : Gives answer.DiskFault
+    faulted = (
+      (
+        rose-before start.disk_faults E.before.disk_faults new.disk_faults E.walked.disk F.low F.rose,
+        elim (stands start O E.before E.job E.walked F.left) [
+          | Stand.at_first l is ↦ cut-first l is
+          | Stand.at_second l is ↦ cut-second l is
+        ],
+      ),
+      F.providers,
+      F.low,
+    )
 
   no-room : NoRoom start O AuditJob E.before E.job E.walked new → Gives answer.Memory
   no-room N =
-      (let d = in-doubt start O E.before E.job E.walked new.doubt N.left (inl N.doubt) in
+      (let d = cut-at start O E.before E.job E.walked N.left in
       let c = d.2 in
       ((d.0, d.1, record { done = c.0; next = c.1; rest = c.2; parts = c.3; after = N.records ∙ c.4; sure = ap (option_map (λ (z : Doubt). z.entry)) N.doubt }), N.providers, N.low))
 
   moved : (action : Action) → E.action ≡ action → holder_of E.before.append action ≡ None → Moves E.before E.job action E.before.append (Ended how) new → Gives how
   moved action at free h = elim (move-answers E.before E.job new action E.before.append how h) [
-    | inl e ↦ subst Gives (sym e) (faulted (move-faults start O AuditJob E.before E.job E.walked action E.before.append new refl (E.next ∙ ap Some at) (subst (λ a. Moves E.before E.job action E.before.append (Ended a) new) e h)))
+    | inl e ↦ (let failed = subst (λ a. Moves E.before E.job action E.before.append (Ended a) new) e h in
+        let move = move-is E.before E.job new action E.before.append failed in
+        subst Gives (sym e) (faulted action at (λ end. subst IsMove end move) move (move-faults start O AuditJob E.before E.job E.walked action E.before.append new refl (E.next ∙ ap Some at) failed)))
     | inr e ↦ subst Gives (sym e) (no-room (move-memory start O AuditJob E.before E.job E.walked action E.before.append new refl free (E.next ∙ ap Some at) (subst (λ a. Moves E.before E.job action E.before.append (Ended a) new) e h)))
   ]
 

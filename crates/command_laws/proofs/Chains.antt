@@ -1,33 +1,43 @@
 -- Commands one after the other.
 use Rattle.std.proofs.Common.{◌≡◌, ◌≢◌, ℕ, ◌+◌, ◌≤◌, ◌⊎◌, Bool, true, false, cond, not, List, [], ◌∷◌, length, Option, None, Some, refl, ap, sym, subst, ◌∙◌, inl, inr, arith}
-use Rattle.std.specs.Prelude.{is_some, ◌&&◌}
+use Rattle.std.specs.Prelude.{is_some, nat_lt, ◌&&◌, ◌||◌}
+use Rattle.std.proofs.lemmas.Bool.{cases_Bool, false≢true}
+use Rattle.std.proofs.lemmas.Bool.Decides.{nat_tests}
 use Rattle.hail_columns.specs.Verdicts.{is_flagged}
+use Rattle.hail_devices.specs.Cells.{Cells}
 use Rattle.hail_devices.specs.Faults.{Rose}
 use Rattle.hail_devices.specs.Told.{told_then}
-use Rattle.hail_records.specs.Records.{Record, SetUp, is_name}
-use Rattle.hail_records.specs.Table.{Due, file_of, due_of}
-use Rattle.hail_machine.specs.Jobs.{Kind, GetJob, DropJob, RepairJob}
+use Rattle.hail_records.specs.Records.{Record, Setup, SetUp, AuditStart, is_name, largest_file, largest_journal}
+use Rattle.hail_records.specs.Table.{Due, next_audit, setup_of, file_of, due_of, exceeds}
+use Rattle.hail_records.specs.Acceptance.{refused}
+use Rattle.hail_machine.specs.Jobs.{PutJob, GetJob, DropJob, AuditJob, RepairJob}
 use Rattle.hail_machine.specs.Refusals as refusal
 use Rattle.hail_machine.specs.Refusals.{Refusal}
-use Rattle.hail_machine.proofs.JobLists.{cond_true, same_value}
+use Rattle.hail_machine.proofs.JobLists.{cond_true, cond_false}
 use Rattle.hail_machine.proofs.RecordFacts.{same_name-refl}
-use Rattle.hail_commands.specs.Forms.{Numbers}
+use Rattle.hail_commands.specs.Forms.{Numbers, AuditAll}
 use Rattle.hail_commands.specs.Keys.{IsKeyForm}
 use Rattle.hail_commands.specs.Seen.{Seen, Ending, provider_at}
+use Rattle.hail_commands.specs.Openings.{IsFree}
 use Rattle.hail_commands.specs.Opens.{setup_at}
+use Rattle.hail_commands.specs.Lines.{ready_line, stored_line, audit_lines}
+use Rattle.hail_commands.specs.Audits.{audit_records}
+use Rattle.hail_commands.specs.Jobs.{IsTold}
 use Rattle.hail_commands.specs.Inits.{AnswersInit, setup_with}
-use Rattle.hail_commands.specs.Refusals.{refusal_of}
-use Rattle.hail_commands.specs.Commands.{AnswersPut, AnswersAlone}
+use Rattle.hail_commands.specs.Refusals.{refusal_of, takes_too_much}
+use Rattle.hail_commands.specs.Commands.{AnswersPut, AnswersAlone, Answers}
 use Rattle.sound_states.proofs.Records.{file-spelled}
-use Rattle.command_laws.specs.Ends.{IsDone, IsKnown, EndsWell, after_put, after_drop, after_repair}
-use Rattle.command_laws.specs.After.{IsSure, IsNext, HasFile, IsUntouched, IsSteady, spoilt_below}
+use Rattle.command_laws.specs.Ends.{IsDone, IsKnown, Gives, EndsWell, after_put, after_drop, after_audit, after_repair}
+use Rattle.command_laws.specs.After.{IsNext, IsThen, HasFile, IsUntouched, IsSteady, spoilt_below, IsFaultless}
+use Rattle.command_laws.specs.Opened.{IsKeyed}
 use Rattle.command_laws.proofs.Known.{known-once, known-always}
 use Rattle.command_laws.proofs.GetEnds.{seen-complete, seen-right}
-use Rattle.command_laws.proofs.JobEnds.{drop-done}
+use Rattle.command_laws.proofs.JobEnds.{put-well, drop-done, repair-done}
+use Rattle.command_laws.proofs.InitEnds.{init-well}
 use Rattle.command_laws.proofs.Afterwards.{sure-next}
-use Rattle.command_laws.proofs.DoneStores.{init-sure, put-sure, drop-sure, repair-sure}
+use Rattle.command_laws.proofs.DoneStores.{init-sure, put-sure, drop-sure, audit-sure, repair-sure}
 use Rattle.command_laws.proofs.FilesStay.{put-has, next-has, bad-few}
-use Rattle.command_laws.proofs.FilesKept.{repair-has}
+use Rattle.command_laws.proofs.FilesKept.{reads-have, repair-has}
 
 -- ---- gets
 
@@ -71,6 +81,39 @@ init-put-get numbers key name bytes spoilt a b c d e f first second last I P G N
     let sure = sure-next records b c (init-sure numbers key a b first I done told text) N in
     put-get name bytes records spoilt c d e f second last P G M sure.known source also tells untouched steady few disk sink)
 
+-- ---- all three with no fault
+
+ends-zero : (text : List ℕ) (old new : Seen) (end : Ending) → EndsWell text old new end → end.status ≢ 70 → Gives text old new end
+ends-zero text old new end (inl gives) some = gives
+ends-zero text old new end (inr (memory, front)) some = absurd (some memory)
+
+short-name : (name : List ℕ) → is_name name ≡ true → length name ≤ 64
+short-name name h = grind (arith, nat_tests, h)
+
+not-less : (a b : ℕ) → b ≤ a → nat_lt a b ≡ false
+not-less a b l = grind (arith, nat_tests, l)
+
+-- over a store that was just set up a put is not refused
+put-begins : (s : Setup) (name bytes : List ℕ) → is_name name ≡ true → length bytes ≤ largest_file → refusal_of (SetUp s ∷ []) (PutJob name bytes) ≡ None
+put-begins s name bytes named short =
+    (let long : nat_lt largest_file (length bytes) ≡ false = not-less largest_file (length bytes) short in
+    let full : nat_lt largest_journal (51 + (11 + (length name + 14))) ≡ false = not-less largest_journal (51 + (11 + (length name + 14))) (let l = short-name name named in omega (arith, l)) in
+    let room : takes_too_much (SetUp s ∷ []) (PutJob name bytes) ≡ false = ap (nat_lt largest_journal) (omega arith) ∙ full in
+    (λ i. cond (not (named i)) (Some refusal.BadName) (cond (long i) (Some refusal.TooLong) (cond (room i || false) (Some refusal.JournalFull) None))))
+
+pub all-whole : (numbers : Numbers) (key name bytes : List ℕ) (spoilt : ℕ → Bool) (cells : Cells) (a b c d e f : Seen) (first second last : Ending) → AnswersInit numbers a b first → AnswersPut name c d second →
+    AnswersAlone (GetJob name) e f last → IsNext b c → IsNext d e → a.disk ≡ Some cells → IsFree cells → IsKeyed numbers key a → c.source ≡ Some bytes → is_name name ≡ true → length bytes ≤ largest_file →
+    ((j : ℕ) → spoilt j ≡ false → is_some (provider_at c.providers j).held ≡ true) → IsUntouched numbers.n spoilt d e → IsSteady numbers.n spoilt e f → spoilt_below numbers.n spoilt ≤ numbers.b →
+    IsFaultless a b → IsFaultless c d → IsFaultless e f → first.status ≢ 70 → second.status ≢ 70 → last.status ≢ 70 → (first.status ≡ 0) × (second.status ≡ 0) × Gives bytes e f last
+all-whole numbers key name bytes spoilt cells a b c d e f first second last I P G N M disk free K source named short tells untouched steady few calm quiet still some more most =
+    (let records : List Record = SetUp (setup_with numbers key) ∷ [] in
+    let zero = (ends-zero ready_line a b first (init-well numbers key cells a b first I K disk free calm.source calm.disk calm.sink) some).0 in
+    let sure = sure-next records b c (init-sure numbers key a b first I (inl zero) (ap is_some disk) (K.bytes, K.source, K.form)) N in
+    let begins = put-begins (setup_with numbers key) name bytes named short in
+    let put = (ends-zero (stored_line name (length bytes)) c d second (put-well name bytes records c d second P sure.known source begins quiet.disk (λ j below. quiet.stores j) quiet.source quiet.sink) more).0 in
+    let got = put-get name bytes records spoilt c d e f second last P G M sure.known source (inl put) tells untouched steady few still.disk still.sink in
+    (zero, put, ends-zero bytes e f last got most))
+
 -- ---- a get after a drop
 
 dropped-none : (records : List Record) (name : List ℕ) → file_of (after_drop records name) name ≡ None
@@ -107,3 +150,49 @@ repair-get name bytes records spoilt later due c d e f second last R G N K is_du
     let mended = repair-has name bytes records due spoilt c d second R done K is_due H steady few tells in
     let file = next-has name bytes after later d e (fewer name bytes after d _ later mended less) untouched in
     get-complete name bytes after later e f last G sure.known file calm also disk sink)
+
+-- ---- a put, an audit, a repair and a get
+
+-- an audit's repair comes due by its own counts
+audit-due : (rs : List Record) (undecided : ℕ) (counts : List ℕ) (due : Due) → due_of rs ≡ None → due_of (after_audit rs undecided counts) ≡ Some due → due.counts ≡ counts
+audit-due rs undecided counts due none is = elim (cases_Bool (exceeds (setup_of rs) counts)) [
+  | inl t ↦ (let e : Some (record { number = next_audit rs; counts = counts }) ≡ Some due = sym (cond_true (exceeds (setup_of rs) counts) _ (due_of rs) t) ∙ is in
+      let f : record { number = next_audit rs; counts = counts } ≡ due = cc in sym (ap (λ (d : Due). d.counts) f))
+  | inr f ↦ absurd (let e : None ≡ Some due = sym none ∙ (sym (cond_false (exceeds (setup_of rs) counts) (Some (record { number = next_audit rs; counts = counts })) (due_of rs) f) ∙ is) in cc)
+]
+
+-- an audit begins only where no repair is due
+none-due : (rs : List Record) (number : ℕ) → refused rs (AuditStart number) ≡ None → due_of rs ≡ None
+none-due rs number h = no-some (due_of rs) (grind (arith, nat_tests, h))
+  where
+    no-some : (o : Option Due) → is_some o ≡ false → o ≡ None
+    no-some None e = refl
+    no-some (Some d) e = absurd (false≢true (sym e))
+
+audit-then : (records : List Record) (undecided : ℕ) (counts : List ℕ) (c d : Seen) → IsThen AuditAll records c d (after_audit records undecided counts)
+audit-then records undecided counts c d = inr (record { kind = AuditJob; of_command = refl; own = audit_records records undecided counts; are_own = (undecided, counts, refl); count = 2; after_is = refl })
+
+pub put-audit-repair-get : (name bytes : List ℕ) (records : List Record) (spoilt : ℕ → Bool) (a b c d e f g h : Seen) (first second third last : Ending) → AnswersPut name a b first → Answers AuditAll c d second →
+    AnswersAlone RepairJob e f third → AnswersAlone (GetJob name) g h last → IsNext b c → IsNext d e → IsNext f g → IsKnown a records → a.source ≡ Some bytes → IsDone first → IsDone second → IsDone third →
+    ((j : ℕ) → spoilt j ≡ false → is_some (provider_at a.providers j).held ≡ true) → ((j : ℕ) → is_some (provider_at e.providers j).held ≡ true) →
+    IsUntouched (setup_at records).n spoilt b c → IsUntouched (setup_at records).n spoilt d e → IsSteady (setup_at records).n spoilt e f → spoilt_below (setup_at records).n spoilt ≤ (setup_at records).b →
+    (undecided : ℕ) × (counts : List ℕ) × IsTold (audit_lines (setup_at records).tolerance (next_audit records) undecided counts) c d second
+    × ((later : ℕ → Bool) → ((j : ℕ) → later j ≡ false → (spoilt j && not (is_flagged (setup_at records).tolerance counts j)) ≡ false) → IsUntouched (setup_at records).n later f g → IsSteady (setup_at records).n later g h →
+    spoilt_below (setup_at records).n later ≤ (setup_at records).b → (Rose g.disk_faults h.disk_faults → ⊥) → (Rose g.sink_faults h.sink_faults → ⊥) → EndsWell bytes g h last)
+put-audit-repair-get name bytes records spoilt a b c d e f g h first second third last P A R G N M L K source put audited repaired told tells one two steady few =
+    (let stored : List Record = after_put records name (length bytes) in
+    let sure-c = sure-next stored b c (put-sure name bytes records a b first P put K source) N in
+    let file-c = next-has name bytes stored spoilt b c (put-has name bytes records spoilt a b first P put K source told) one in
+    let audit = audit-sure stored c d second A.0 audited sure-c.known in
+    let counted : List Record = after_audit stored audit.0 audit.1 in
+    let sure-e = sure-next counted d e audit.2 M in
+    let file-e = next-has name bytes counted spoilt d e (reads-have AuditAll name bytes stored counted spoilt c d second A refl file-c (audit-then stored audit.0 audit.1 c d)) two in
+    let repair = repair-done e f third R repaired in
+    let is_due : due_of counted ≡ Some repair.due = ap due_of (sym (known-once e counted repair.records sure-e.known repair.opened.read)) ∙ repair.is_due in
+    let same : repair.due.counts ≡ audit.1 = audit-due stored audit.0 audit.1 repair.due (none-due stored (next_audit stored) sure-e.known.opened.read.accepted.1.0) is_due in (
+      audit.0,
+      audit.1,
+      audit.3,
+      λ later less untouched calm also disk sink. repair-get name bytes counted spoilt later repair.due e f g h third last R G L sure-e.known is_due file-e repaired steady few (λ j flagged. tells j)
+          (subst (λ (ks : List ℕ). (j : ℕ) → later j ≡ false → (spoilt j && not (is_flagged (setup_at records).tolerance ks j)) ≡ false) (sym same) less) untouched calm also disk sink,
+    ))

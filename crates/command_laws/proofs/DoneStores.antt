@@ -1,6 +1,6 @@
 -- The records of a store after a command that is done, and after any command.
-use Rattle.std.proofs.Common.{◌≡◌, ◌≢◌, ℕ, suc, ◌+◌, ◌<◌, ◌≤◌, ◌⊎◌, Bool, true, false, List, [], ◌∷◌, ◌++◌, length, reverse, take, Option, None, Some, refl, ap, sym, subst, ◌∙◌, inl, inr, arith, append_assoc}
-use Rattle.std.specs.Prelude.{is_some, IfSome, IsTrue}
+use Rattle.std.proofs.Common.{◌≡◌, ◌≢◌, ℕ, suc, ◌+◌, ◌<◌, ◌≤◌, ◌⊎◌, true, List, [], ◌∷◌, ◌++◌, length, Option, None, Some, refl, ap, sym, subst, ◌∙◌, inl, inr, arith, append_assoc}
+use Rattle.std.specs.Prelude.{is_some, IfSome}
 use Rattle.std.specs.List.{list_all}
 use Rattle.std.specs.Option.{option_map}
 use Rattle.std.proofs.lemmas.Bool.{and_from, false≢true}
@@ -10,9 +10,9 @@ use Rattle.hex.specs.Hex.{IsBytes}
 use Rattle.hex.proofs.HexLemmas.{decode_of-ok}
 use Rattle.hail_devices.specs.Cells.{Cells, reads, firm}
 use Rattle.hail_devices.specs.Disks.{synced, Stopped}
-use Rattle.hail_devices.specs.Images.{IsImage, EachImage}
-use Rattle.hail_devices.specs.Told.{Goes, then_told}
-use Rattle.hail_records.specs.Records.{Record, Setup, SetUp, is_byte, is_master, is_in_grammar, is_setup, largest_file, largest_journal}
+use Rattle.hail_devices.specs.Images.{EachImage}
+use Rattle.hail_devices.specs.Told.{Goes}
+use Rattle.hail_records.specs.Records.{Record, Setup, SetUp, is_byte, is_master, is_setup, largest_file, largest_journal}
 use Rattle.hail_records.specs.Journal.{text, before_gate, StandsFor}
 use Rattle.hail_records.specs.Table.{Due, next_audit, due_of}
 use Rattle.journal_core.proofs.Meanings.{one_meaning}
@@ -24,27 +24,26 @@ use Rattle.hail_machine.proofs.JobLists.{same_value}
 use Rattle.hail_commands.specs.Forms.{Command, Numbers, RowOf, InitWith, PutUnder, GetOf, DropOf, ListAll, AuditAll, RepairDue}
 use Rattle.hail_commands.specs.Keys.{IsKeyForm}
 use Rattle.hail_commands.specs.Seen.{Seen, Ending, IsRefused, ReadsUpTo}
-use Rattle.hail_commands.specs.Openings.{journal_read, IsRead, IsSetUpOn}
+use Rattle.hail_commands.specs.Openings.{journal_read, IsSetUpOn}
 use Rattle.hail_commands.specs.Opens.{IsOpened, Unstarted, setup_at}
 use Rattle.hail_commands.specs.Refusals.{status_of}
-use Rattle.hail_commands.specs.Lines.{text_of, audit_lines}
+use Rattle.hail_commands.specs.Lines.{audit_lines}
 use Rattle.hail_commands.specs.Inits.{setup_with, AnswersInit}
 use Rattle.hail_commands.specs.Gets.{GetLeaves}
-use Rattle.hail_commands.specs.Jobs.{AnswersJob, EndsBy, SamePast, past, IsTold}
+use Rattle.hail_commands.specs.Jobs.{AnswersJob, SamePast, past, with_next, IsTold}
 use Rattle.hail_commands.specs.Commands.{AnswersPut, AnswersAlone, AnswersList, Answers}
 use Rattle.sound_states.proofs.Records.{is_some-at}
-use Rattle.command_laws.specs.Ends.{IsDone, IsKnown, IsJobOf, DiskHas, opens_store, after_put, after_drop, after_audit, after_repair, IsPut, IsDropped, IsAudited, IsRepaired}
-use Rattle.command_laws.specs.Kept.{IsAfter, after_start, LosesRepair, FailsToRepair, FailsToPut}
-use Rattle.command_laws.specs.Opened.{IsInit}
-use Rattle.command_laws.specs.After.{IsSure, IsNext, HasGrown, IsThen}
+use Rattle.command_laws.specs.Ends.{IsDone, IsKnown, IsJobOf, DiskHas, opens_store, after_put, after_drop, after_audit, after_repair}
+use Rattle.command_laws.specs.Kept.{IsAfter, after_start}
+use Rattle.command_laws.specs.After.{IsSure, IsNext, IsThen}
 use Rattle.command_laws.proofs.Known.{known-once, alone-known, unstarted-known, refused-not}
-use Rattle.command_laws.proofs.JobEnds.{unstarted-done, put-done, drop-done, audit-done, repair-done}
+use Rattle.command_laws.proofs.JobEnds.{put-done, drop-done, audit-done, repair-done}
 use Rattle.command_laws.proofs.GetEnds.{ran_left}
 use Rattle.command_laws.proofs.InitEnds.{key-once, form-all, init-done, list-done}
 use Rattle.command_laws.proofs.Images.{reads-image, image-firm, stands-front, known-images}
 use Rattle.command_laws.proofs.Failed.{images-same, put-fails, repair-fails, repair-loses}
-use Rattle.command_laws.proofs.Knowing.{IsGood, AreGood, sure-good, known-good, LeavesGood, HasBytes, job-good, ran-good, spelled-kind}
-use Rattle.command_laws.proofs.Afterwards.{known-refused, sure-refused, sure-next, reads-firm}
+use Rattle.command_laws.proofs.Knowing.{IsGood, sure-good, known-good, LeavesGood, HasBytes, ran-good, spelled-kind}
+use Rattle.command_laws.proofs.Afterwards.{sure-refused, sure-next, reads-firm}
 
 -- ---- statuses of a job that came to its end by itself
 
@@ -76,27 +75,16 @@ is_some-map : {A B : Type 0} (f : A → B) (o : Option A) → is_some (option_ma
 is_some-map f None = refl
 is_some-map f (Some x) = refl
 
-tells-past : (kind : Kind) (how : Answer) (before rs : List Record) (a b : Option Cells) → (how ≡ answer.DiskFault → ⊥) → (how ≡ answer.Memory → ⊥) → SamePast kind how before rs a b → is_some b ≡ is_some a
-tells-past kind answer.Put before rs a b d m h = sym (is_some-map (past rs) b) ∙ (ap is_some h ∙ is_some-map (past rs) a)
-tells-past kind (answer.Got bytes) before rs a b d m h = sym (is_some-map (past rs) b) ∙ (ap is_some h ∙ is_some-map (past rs) a)
-tells-past kind answer.Dropped before rs a b d m h = sym (is_some-map (past rs) b) ∙ (ap is_some h ∙ is_some-map (past rs) a)
-tells-past kind (answer.Audited number undecided counts) before rs a b d m h = sym (is_some-map (past rs) b) ∙ (ap is_some h ∙ is_some-map (past rs) a)
-tells-past kind (answer.Repaired number) before rs a b d m h = sym (is_some-map (past rs) b) ∙ (ap is_some h ∙ is_some-map (past rs) a)
-tells-past kind (answer.Lost stripe row) before rs a b d m h = sym (is_some-map (past rs) b) ∙ (ap is_some h ∙ is_some-map (past rs) a)
-tells-past kind (answer.ProviderFault j) before rs a b d m h = sym (is_some-map (past rs) b) ∙ (ap is_some h ∙ is_some-map (past rs) a)
-tells-past kind answer.DiskFault before rs a b d m h = absurd (d refl)
-tells-past kind answer.Memory before rs a b d m h = absurd (m refl)
-
-over-told : (text : List ℕ) (how : Answer) (old new : Seen) (end : Ending) → EndsBy text how old new end → IsOver end.status → (how ≡ answer.DiskFault → ⊥) × (how ≡ answer.Memory → ⊥)
-over-told text answer.DiskFault old new end e over = absurd (over-twelve end.status e.status_is over)
-over-told text answer.Memory old new end e over = absurd (over-memory end.status e.status_is over)
-over-told text answer.Put old new end e over = ((λ k. cc), (λ k. cc))
-over-told text (answer.Got bytes) old new end e over = ((λ k. cc), (λ k. cc))
-over-told text answer.Dropped old new end e over = ((λ k. cc), (λ k. cc))
-over-told text (answer.Audited number undecided counts) old new end e over = ((λ k. cc), (λ k. cc))
-over-told text (answer.Repaired number) old new end e over = ((λ k. cc), (λ k. cc))
-over-told text (answer.Lost stripe row) old new end e over = ((λ k. cc), (λ k. cc))
-over-told text (answer.ProviderFault j) old new end e over = ((λ k. cc), (λ k. cc))
+tells-past : (kind : Kind) (how : Answer) (before rs : List Record) (a b : Option Cells) → SamePast kind how before rs a b → is_some b ≡ is_some a
+tells-past kind answer.Put before rs a b h = sym (is_some-map (past rs) b) ∙ (ap is_some h ∙ is_some-map (past rs) a)
+tells-past kind (answer.Got bytes) before rs a b h = sym (is_some-map (past rs) b) ∙ (ap is_some h ∙ is_some-map (past rs) a)
+tells-past kind answer.Dropped before rs a b h = sym (is_some-map (past rs) b) ∙ (ap is_some h ∙ is_some-map (past rs) a)
+tells-past kind (answer.Audited number undecided counts) before rs a b h = sym (is_some-map (past rs) b) ∙ (ap is_some h ∙ is_some-map (past rs) a)
+tells-past kind (answer.Repaired number) before rs a b h = sym (is_some-map (past rs) b) ∙ (ap is_some h ∙ is_some-map (past rs) a)
+tells-past kind (answer.Lost stripe row) before rs a b h = sym (is_some-map (past rs) b) ∙ (ap is_some h ∙ is_some-map (past rs) a)
+tells-past kind (answer.ProviderFault j) before rs a b h = sym (is_some-map (past rs) b) ∙ (ap is_some h ∙ is_some-map (past rs) a)
+tells-past kind answer.DiskFault before rs a b h = (let all = with_next h.next rs in sym (is_some-map (past all) b) ∙ (ap is_some h.same ∙ is_some-map (past all) a))
+tells-past kind answer.Memory before rs a b h = (let all = with_next h.next rs in sym (is_some-map (past all) b) ∙ (ap is_some h.same ∙ is_some-map (past all) a))
 
 -- ---- what a job leaves that came to its end
 
@@ -108,8 +96,7 @@ left-over : (kind : Kind) (records : List Record) (old new : Seen) (end : Ending
 left-over kind records old new end R are (AnswersJob.refused why is synced r) over = absurd (over-refused why end.status r.status_is over)
 left-over kind records old new end R are (AnswersJob.no_memory synced r) over = absurd (over-memory end.status r.status_is over)
 left-over kind records old new end R are (AnswersJob.ended how none runs left by) over =
-    (let other = over-told _ how old new end by over in
-    (ran-good records kind how old new end.heard R (spelled-kind records kind are none) runs, tells-past kind how records left.after old.disk new.disk other.0 other.1 left.past_text))
+    (ran-good records kind how old new end.heard R (spelled-kind records kind are none) runs, tells-past kind how records left.after old.disk new.disk left.past_text)
 
 alone-over : (kind : Kind) (records : List Record) (old new : Seen) (end : Ending) → IsKnown old records → HasBytes kind → AnswersAlone kind old new end → IsOver end.status → Left records old new
 alone-over kind records old new end K are A over = elim (alone-known kind old new end records K A) [
@@ -161,8 +148,7 @@ pub audit-sure : (records : List Record) (old new : Seen) (end : Ending) → Ans
     × IsTold (audit_lines (setup_at records).tolerance (next_audit records) undecided counts) old new end
 audit-sure records old new end A done K =
     (let P = audit-done old new end A done in
-    let same = known-once old records P.records K P.opened.read in
-    (
+    let same = known-once old records P.records K P.opened.read in (
       P.undecided,
       P.counts,
       sure-left records (after_audit records P.undecided P.counts) old new K (alone-over AuditJob records old new end K tt A (inl done)) (subst (λ rs. DiskHas (after_audit rs P.undecided P.counts) new) same P.disk),
@@ -275,7 +261,13 @@ init-sure numbers key old new end A done tells (bytes, source, form) =
 
 -- a command is refused, or leaves what is good
 abbrev Comes : List Record → Seen → Seen → Ending → Type 0
-Comes records old new end = ((status : ℕ) × (at : ℕ) × IsRefused status at old new end) ⊎ LeavesGood records old new
+Comes records old new end = ((status : ℕ) × (at : ℕ) × IsRefused status at old new end) ⊎ Left records old new
+
+job-comes : (kind : Kind) (records : List Record) (old new : Seen) (end : Ending) → IsOpened old records → HasBytes kind → AnswersJob kind records old new end → Comes records old new end
+job-comes kind records old new end R are (AnswersJob.refused why is synced r) = inl (status_of why, 0, r)
+job-comes kind records old new end R are (AnswersJob.no_memory synced r) = inl (70, 0, r)
+job-comes kind records old new end R are (AnswersJob.ended how none runs left by) =
+    inr (ran-good records kind how old new end.heard R (spelled-kind records kind are none) runs, tells-past kind how records left.after old.disk new.disk left.past_text)
 
 unstarted-comes : (records : List Record) (old new : Seen) (end : Ending) → IsKnown old records → Unstarted old new end → Comes records old new end
 unstarted-comes records old new end K u = elim (unstarted-known old new end records K u) [ inl (rose, r) ↦ inl (12, 0, r) | inr r ↦ inl (70, 0, r) ]
@@ -284,7 +276,7 @@ alone-comes : (kind : Kind) (records : List Record) (old new : Seen) (end : Endi
 alone-comes kind records old new end K are A = elim (alone-known kind old new end records K A) [
   | inl (inl (rose, r)) ↦ inl (12, 0, r)
   | inl (inr r) ↦ inl (70, 0, r)
-  | inr job ↦ job-good kind records old new end K.opened are job
+  | inr job ↦ job-comes kind records old new end K.opened are job
 ]
 
 put-comes : (name : List ℕ) (records : List Record) (old new : Seen) (end : Ending) → IsKnown old records → AnswersPut name old new end → Comes records old new end
@@ -292,7 +284,7 @@ put-comes name records old new end K (AnswersPut.unstarted u same) = unstarted-c
 put-comes name records old new end K (AnswersPut.source_fault other opened rose synced r) = inl (14, 0, r)
 put-comes name records old new end K (AnswersPut.no_memory r) = inl (70, 0, r)
 put-comes name records old new end K (AnswersPut.begun other bytes opened read A) =
-    subst (λ rs. Comes rs old new end) (known-once old records other K opened.read) (job-good (PutJob name bytes) other old new end opened read.are_bytes A)
+    subst (λ rs. Comes rs old new end) (known-once old records other K opened.read) (job-comes (PutJob name bytes) other old new end opened read.are_bytes A)
 
 list-comes : (records : List Record) (old new : Seen) (end : Ending) → IsKnown old records → AnswersList old new end → IsSure new records ⊎ Comes records old new end
 list-comes records old new end K (AnswersList.unstarted u) = inr (unstarted-comes records old new end K u)
@@ -316,17 +308,21 @@ Told command records old new image = (rs : List Record) × IsGood (setup_at reco
 image-told : (command : Command) (records : List Record) (old new : Seen) (image : List ℕ) (rs : List Record) → IsGood (setup_at records) image rs →
     StandsFor image records ⊎ ((kind : Kind) × IsJobOf command old new kind × IsAfter records kind image) → Told command records old new image
 image-told command records old new image rs G (inl stands) = (rs, G, inl (one_meaning image rs records G.stands stands))
-image-told command records old new image rs G (inr (kind, is, after)) = (rs, G, inr (record {
-  kind = kind;
-  of_command = is;
-  own = after.own;
-  are_own = after.are_own;
-  count = after.count;
-  after_is = one_meaning image rs _ G.stands after.stands;
-}))
+image-told command records old new image rs G (inr (kind, is, after)) = (
+  rs,
+  G,
+  inr (record {
+    kind = kind;
+    of_command = is;
+    own = after.own;
+    are_own = after.are_own;
+    count = after.count;
+    after_is = one_meaning image rs _ G.stands after.stands;
+  }),
+)
 
 -- the next command finds an image of the disk
-next-image : (new next : Seen) → is_some new.disk ≡ true → IsNext new next → (cells : Cells) × (next.disk ≡ Some cells) × ((P : List ℕ → Type 0) → EachImage new.disk P → P (reads cells))
+pub next-image : (new next : Seen) → is_some new.disk ≡ true → IsNext new next → (cells : Cells) × (next.disk ≡ Some cells) × ((P : List ℕ → Type 0) → EachImage new.disk P → P (reads cells))
 next-image new next tells N = elim N.disk [
   | inl same ↦ (let c = is_some-at new.disk tells in (c.0, same ∙ c.1, λ P h. subst (λ d. EachImage d P) c.1 h (reads c.0) (reads-image c.0)))
   | inr stopped ↦ stopped-at new.disk next.disk tells stopped
@@ -338,13 +334,13 @@ next-image new next tells N = elim N.disk [
     stopped-at (Some a) (Some b) tells (image, of, is) = (firm image, ap Some is, λ P h. subst P (sym (reads-firm image)) (h image of))
 
 pub known-always : (command : Command) (records : List Record) (old new next : Seen) (end : Ending) → Answers command old new end → opens_store command ≡ true → IsSure old records →
-    is_some new.disk ≡ is_some old.disk → IsNext new next → (after : List Record) × IsKnown next after × IsThen command records old new after
-known-always command records old new next end A opens S tells N = elim (command-comes command records old new end S.known A opens) [
+    IsNext new next → (after : List Record) × IsKnown next after × IsThen command records old new after
+known-always command records old new next end A opens S N = elim (command-comes command records old new end S.known A opens) [
   | inl sure ↦ (records, (sure-next records new next sure N).known, inl refl)
   | inr (inl (status, at, r)) ↦ (records, (sure-next records new next (sure-refused status at records old new end r S) N).known, inl refl)
-  | inr (inr good) ↦ (let c = next-image new next (tells ∙ S.known.tells) N in
-      let g = c.2 (λ image. (rs : List Record) × IsGood (setup_at records) image rs) good.0 in
+  | inr (inr good) ↦ (let c = next-image new next (good.1 ∙ S.known.tells) N in
+      let g = c.2 (λ image. (rs : List Record) × IsGood (setup_at records) image rs) good.0.0 in
       let stands = c.2 _ (known-images command records old new end A opens S.known S.images) in
       let told = image-told command records old new (reads c.0) g.0 g.1 stands in
-      (told.0, known-good (setup_at records) next c.0 told.0 c.1 told.1 (let e = good.1 in let h = N.handed in omega (arith, e, h)), told.2))
+      (told.0, known-good (setup_at records) next c.0 told.0 c.1 told.1 (let e = good.0.1 in let h = N.handed in omega (arith, e, h)), told.2))
 ]

@@ -1,7 +1,7 @@
 -- A file that is in effect stays right over the commands that do not touch it, and over a repair.
-use Rattle.std.proofs.Common.{◌≡◌, ◌≢◌, ℕ, zero, suc, ◌+◌, ◌<◌, ◌≤◌, ◌==◌, ◌⊎◌, ◌&&◌, Bool, true, false, cond, not, List, [], ◌∷◌, ◌++◌, length, reverse, take, Option, None, Some, refl, ap, sym, subst, ◌∙◌, inl, inr, arith}
+use Rattle.std.proofs.Common.{◌≡◌, ◌≢◌, ℕ, zero, suc, ◌<◌, ◌≤◌, ◌==◌, ◌&&◌, Bool, true, false, not, List, [], ◌∷◌, ◌++◌, length, reverse, take, Option, None, Some, refl, ap, sym, subst, ◌∙◌, inl, inr, arith}
 use Rattle.std.specs.Prelude.{is_some, IfSome}
-use Rattle.std.proofs.lemmas.Bool.{cases_Bool, cases_lt, false≢true, eq-eqb}
+use Rattle.std.proofs.lemmas.Bool.{cases_Bool, false≢true, eq-eqb}
 use Rattle.hail_columns.specs.Objects.{Object}
 use Rattle.hail_columns.specs.Columns.{columns, is_wrong_block}
 use Rattle.hail_columns.specs.Verdicts.{is_flagged}
@@ -10,22 +10,22 @@ use Rattle.hail_devices.specs.Told.{Goes}
 use Rattle.hail_records.specs.Records.{Record, Setup, PutStart, PutDone, Drop, AuditStart, AuditDone}
 use Rattle.hail_records.specs.Table.{File, Due, next_id, next_audit, file_of, due_of, started_as, is_start_of}
 use Rattle.hail_machine.specs.Setups.{object_of, stripes_of}
-use Rattle.hail_machine.specs.Jobs.{Kind, PutJob, GetJob, DropJob, AuditJob, RepairJob}
+use Rattle.hail_machine.specs.Jobs.{PutJob, DropJob, RepairJob}
 use Rattle.hail_machine.specs.Answers as answer
 use Rattle.hail_machine.specs.Answers.{Answer}
 use Rattle.hail_machine.proofs.JobLists.{cond_true, cond_false, same_value}
 use Rattle.hail_machine.proofs.RecordFacts.{AreSound, other_name}
 use Rattle.hail_commands.specs.Forms.{Command, RowOf, InitWith, PutUnder, GetOf, DropOf, ListAll, AuditAll, RepairDue}
 use Rattle.hail_commands.specs.Seen.{Seen, Ending, IsRefused, provider_at}
-use Rattle.hail_commands.specs.Opens.{IsOpened, setup_at}
+use Rattle.hail_commands.specs.Opens.{setup_at}
 use Rattle.hail_commands.specs.Blocks.{StoredOn, PartlyStored, DroppedFrom}
-use Rattle.hail_commands.specs.Puts.{PutLeaves}
+use Rattle.hail_commands.specs.Puts.{PutIsCut, PutLeaves}
 use Rattle.hail_commands.specs.Drops.{DropLeaves}
 use Rattle.hail_commands.specs.Repairs.{IfFlagged}
 use Rattle.hail_commands.specs.Jobs.{AnswersJob, LeftAlone}
 use Rattle.hail_commands.specs.Commands.{AnswersPut, AnswersAlone, Answers}
 use Rattle.sound_states.proofs.Records.{sound-accepted}
-use Rattle.command_laws.specs.Ends.{IsDone, IsKnown, IsJobOf, HoldsFile, SameHolds, after_repair, IsRepaired}
+use Rattle.command_laws.specs.Ends.{IsDone, IsKnown, SameHolds, after_repair, IsRepaired}
 use Rattle.command_laws.specs.Kept.{AreAppended}
 use Rattle.command_laws.specs.After.{is_wrong_told, HasFile, IsThen, HasGrown, IsSteady, spoilt_below, keeps_blocks, IsOther}
 use Rattle.command_laws.proofs.Complete.{each-not-wrong, not-wrong-each}
@@ -52,7 +52,7 @@ same-told id a b same = subst (SameAt id a) (sym same) (none a)
     none None = tt
     none (Some held) = λ stripe. refl
 
-wrong-same : (o : Object) (bytes : List ℕ) (j : ℕ) (a b : Option Held) → SameAt o.id a b → is_wrong_told o bytes j a ≡ false → is_wrong_told o bytes j b ≡ false
+pub wrong-same : (o : Object) (bytes : List ℕ) (j : ℕ) (a b : Option Held) → SameAt o.id a b → is_wrong_told o bytes j a ≡ false → is_wrong_told o bytes j b ≡ false
 wrong-same o bytes j None None same right = right
 wrong-same o bytes j None (Some b) same right = absurd same
 wrong-same o bytes j (Some a) None same right = absurd same
@@ -104,8 +104,11 @@ audit-grown name records after old new G =
     (first-two (Stays name records) (AuditStart (next_audit records)) (AuditDone (next_audit records) own.0 own.1) records (refl, refl) (refl, refl) (refl, refl) G.count))
 
 put-stays : (name other : List ℕ) (records : List Record) (size : ℕ) → other ≢ name → Stays name records (PutDone (next_id records) size ∷ PutStart (next_id records) other ∷ records)
-put-stays name other records size differ = (cond_false (is_start_of name (started_as (PutStart (next_id records) other ∷ records) (next_id records))) _ _
-    (ap (is_start_of name) (cond_true (next_id records == next_id records) (Some other) (started_as records (next_id records)) (eq-eqb (next_id records) (next_id records) refl)) ∙ other_name other name differ), refl)
+put-stays name other records size differ = (
+  cond_false (is_start_of name (started_as (PutStart (next_id records) other ∷ records) (next_id records))) _ _
+      (ap (is_start_of name) (cond_true (next_id records == next_id records) (Some other) (started_as records (next_id records)) (eq-eqb (next_id records) (next_id records) refl)) ∙ other_name other name differ),
+  refl,
+)
 
 put-grown : (name other : List ℕ) (records after : List Record) (old new : Seen) → other ≢ name → HasGrown (PutUnder other) records old new after → Stays name records after
 put-grown name other records after old new differ G =
@@ -178,13 +181,20 @@ module _ (name other : List ℕ) (records : List Record) (file : File) (sound : 
       stored : (rose : Type 0) (j : ℕ) (a b : Held) → StoredOn (object_of (setup_at records) (next_id records)) bytes (file_of records other) rose j a b → SameOf file.id a b
       stored rose j a b S stripe = S.others file.id stripe (record { stored = λ e. absurd (not-next e); removed = not-older })
 
+      all : (j : ℕ) (a b : Held) → StoredOn (object_of (setup_at records) (next_id records)) bytes None ⊥ j a b → SameOf file.id a b
+      all j a b S stripe = S.others file.id stripe (record { stored = λ e. absurd (not-next e); removed = tt })
+
+      cut : PutIsCut (ran_left records (PutJob other bytes) how old new end.heard left) other bytes → KeepsObject records file.id old new
+      cut (PutIsCut.at_start after doubt held) = λ j below. same-told file.id (provider_at old.providers j).held (provider_at new.providers j).held (held j below)
+      cut (PutIsCut.at_done after doubt stored) = λ j below. same-goes file.id _ (all j) (provider_at old.providers j).held (provider_at new.providers j).held (stored j below)
+
       partly : (j : ℕ) (a b : Held) → PartlyStored (object_of (setup_at records) (next_id records)) bytes j a b → SameOf file.id a b
       partly j a b S stripe = S.others file.id stripe not-next
 
       by_answer : (h : Answer) → PutLeaves (ran_left records (PutJob other bytes) how old new end.heard left) other bytes h → KeepsObject records file.id old new
       by_answer answer.Put L = λ j below. same-goes file.id _ (stored _ j) (provider_at old.providers j).held (provider_at new.providers j).held (L.1 j below)
       by_answer (answer.ProviderFault k) L = λ j below. same-goes file.id _ (partly j) (provider_at old.providers j).held (provider_at new.providers j).held (L.3 j below)
-      by_answer answer.DiskFault L = λ j below. same-goes file.id _ (partly j) (provider_at old.providers j).held (provider_at new.providers j).held (L.2 j below)
+      by_answer answer.DiskFault L = cut L.1
       by_answer answer.Memory L = λ j below. same-goes file.id _ (partly j) (provider_at old.providers j).held (provider_at new.providers j).held (L.1 j below)
       by_answer h L = absurd L
 
@@ -240,25 +250,25 @@ others-have RepairDue name bytes records after spoilt old new end A differ K H T
 
 -- ---- a repair that is done
 
-flag-off : (id : ℕ) (flag : Bool) (change : Held → Held → Type 0) (a b : Option Held) → flag ≡ false → Goes (IfFlagged flag change) a b → SameAt id a b
+pub flag-off : (id : ℕ) (flag : Bool) (change : Held → Held → Type 0) (a b : Option Held) → flag ≡ false → Goes (IfFlagged flag change) a b → SameAt id a b
 flag-off id false change None None off g = tt
 flag-off id false change (Some a) (Some b) off g = λ stripe. g id stripe
 flag-off id false change None (Some b) off g = absurd g
 flag-off id false change (Some a) None off g = absurd g
 flag-off id true change a b off g = absurd (false≢true (sym off))
 
-goes-tells : (change : Held → Held → Type 0) (a b : Option Held) → is_some a ≡ true → Goes change a b → is_some b ≡ true
+pub goes-tells : (change : Held → Held → Type 0) (a b : Option Held) → is_some a ≡ true → Goes change a b → is_some b ≡ true
 goes-tells change None b tells g = absurd (false≢true tells)
 goes-tells change (Some a) None tells g = absurd g
 goes-tells change (Some a) (Some b) tells g = refl
 
-columns-right : (s : Setup) (file : File) (bytes : List ℕ) (j : ℕ) (told : Option Held) → length bytes ≡ file.size → is_some told ≡ true →
+pub columns-right : (s : Setup) (file : File) (bytes : List ℕ) (j : ℕ) (told : Option Held) → length bytes ≡ file.size → is_some told ≡ true →
     ((stripe : ℕ) → stripe < stripes_of s file.size → IfSome told (λ held. held file.id stripe ≡ Some (columns (object_of s file.id) bytes j stripe))) → is_wrong_told (object_of s file.id) bytes j told ≡ false
 columns-right s file bytes j None size tells h = absurd (false≢true tells)
 columns-right s file bytes j (Some held) size tells h =
     each-not-wrong (object_of s file.id) bytes j (held file.id) (λ t l. ap (is_wrong_block (object_of s file.id) bytes j t) (h t (subst (λ n. t < stripes_of s n) size l)) ∙ own-right (object_of s file.id) bytes j t)
 
-and-off : (b c : Bool) → (b && not c) ≡ false → c ≡ false → b ≡ false
+pub and-off : (b c : Bool) → (b && not c) ≡ false → c ≡ false → b ≡ false
 and-off true true h off = absurd (false≢true (sym off))
 and-off true false h off = absurd (false≢true (sym h))
 and-off false c h off = refl

@@ -1,12 +1,12 @@
 -- A file that is in effect and right on most providers, between two commands.
-use Rattle.std.proofs.Common.{◌≡◌, ◌≢◌, ℕ, ◌+◌, ◌<◌, ◌≤◌, ◌==◌, ◌⊎◌, ◌||◌, Bool, true, false, cond, not, List, [], ◌∷◌, length, Option, None, Some, refl, ap, sym, subst, ◌∙◌, inl, inr, arith}
+use Rattle.std.proofs.Common.{◌≡◌, ℕ, ◌+◌, ◌<◌, ◌≤◌, ◌==◌, ◌||◌, Bool, true, false, not, List, length, Option, None, Some, refl, ap, sym, subst, ◌∙◌, inl, inr, arith}
 use Rattle.std.specs.Prelude.{is_some, nat_lt, nat_le}
 use Rattle.std.proofs.lemmas.Bool.{cases_Bool, cases_lt, false≢true}
 use Rattle.std.proofs.lemmas.Bool.Decides.{nat_tests}
 use Rattle.hail_codes.specs.ServerCode.{differences}
 use Rattle.hail_codes.proofs.Codewords.{differences-same}
 use Rattle.hail_columns.specs.Objects.{Object, symbols_in}
-use Rattle.hail_columns.specs.Columns.{columns, is_wrong, is_wrong_block}
+use Rattle.hail_columns.specs.Columns.{columns, is_wrong_block}
 use Rattle.hail_columns.proofs.ColumnLaws.{length-column_of_symbols}
 use Rattle.column_laws.proofs.Counts.{count_of-within}
 use Rattle.hail_devices.specs.Faults.{Rose, last_count}
@@ -21,7 +21,7 @@ use Rattle.hail_commands.specs.Blocks.{StoredOn}
 use Rattle.hail_commands.specs.Commands.{AnswersPut}
 use Rattle.command_laws.specs.Failing.{has_risen, is_bad_with, is_bad_for, bad_seen}
 use Rattle.command_laws.specs.Ends.{IsDone, IsKnown, after_put, IsPut}
-use Rattle.command_laws.specs.After.{is_wrong_told, is_wrong_at, HasFile, IsUntouched, IsSteady, spoilt_below}
+use Rattle.command_laws.specs.After.{is_wrong_told, HasFile, IsUntouched, IsSteady, spoilt_below}
 use Rattle.command_laws.proofs.Complete.{each-not-wrong}
 use Rattle.command_laws.proofs.Known.{known-once}
 use Rattle.command_laws.proofs.JobEnds.{put-done}
@@ -36,7 +36,7 @@ own-right o bytes j stripe = not-wrong (length (columns o bytes j stripe)) o.pro
     not-wrong : (n size fix d : ℕ) → n ≡ size → d ≡ 0 → not (n == size) || nat_lt fix d ≡ false
     not-wrong n size fix d a b = grind (arith, a, b)
 
-stored-right : (o : Object) (bytes : List ℕ) (older : Option File) (rose : Type 0) (j : ℕ) (a b : Option Held) → is_some a ≡ true → Goes (StoredOn o bytes older rose j) a b → is_wrong_told o bytes j b ≡ false
+pub stored-right : (o : Object) (bytes : List ℕ) (older : Option File) (rose : Type 0) (j : ℕ) (a b : Option Held) → is_some a ≡ true → Goes (StoredOn o bytes older rose j) a b → is_wrong_told o bytes j b ≡ false
 stored-right o bytes older rose j None b tells g = absurd (false≢true tells)
 stored-right o bytes older rose j (Some a) None tells g = absurd g
 stored-right o bytes older rose j (Some a) (Some b) tells g = each-not-wrong o bytes j (b o.id) (λ t l. ap (is_wrong_block o bytes j t) (g.stored t l) ∙ own-right o bytes j t)

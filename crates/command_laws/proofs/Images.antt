@@ -9,9 +9,10 @@ use Rattle.hail_devices.specs.Cells.{Cells, reads, firm}
 use Rattle.hail_devices.specs.Disks.{synced}
 use Rattle.hail_devices.specs.Images.{IsImage, EachImage}
 use Rattle.hail_devices.specs.Told.{Goes}
-use Rattle.hail_records.specs.Records.{Record, largest_journal}
+use Rattle.hail_records.specs.Records.{Record, PutStart, PutDone, AuditStart, AuditDone, largest_journal}
 use Rattle.hail_records.specs.Spellings.{spelling}
 use Rattle.hail_records.specs.Journal.{before_gate, StandsFor, StandsOrIsEmpty}
+use Rattle.hail_records.specs.Table.{next_id, next_audit}
 use Rattle.journal_core.proofs.Meanings.{one_meaning}
 use Rattle.hail_machine.specs.Jobs.{Kind, PutJob, GetJob, DropJob, AuditJob, RepairJob}
 use Rattle.hail_machine.specs.Answers as answer
@@ -21,8 +22,8 @@ use Rattle.hail_commands.specs.Seen.{Seen, Ending, IsRefused, IsResynced}
 use Rattle.hail_commands.specs.Openings.{IsFree, IsSetUpOn, MayBeLeft}
 use Rattle.hail_commands.specs.Opens.{IsOpened, Unstarted}
 use Rattle.hail_commands.specs.Ran.{Ran, IsWhole, IsCut, IsCutInDoubt}
-use Rattle.hail_commands.specs.Puts.{put_records}
-use Rattle.hail_commands.specs.Audits.{audit_records}
+use Rattle.hail_commands.specs.Puts.{put_records, PutIsCut}
+use Rattle.hail_commands.specs.Audits.{audit_records, AuditIsCut}
 use Rattle.hail_commands.specs.Jobs.{AnswersJob, LeavesBy}
 use Rattle.hail_commands.specs.Inits.{setup_with, AnswersInit, InitsDisk}
 use Rattle.hail_commands.specs.Commands.{AnswersPut, AnswersAlone, AnswersList, Answers}
@@ -111,6 +112,18 @@ came-doubt x own C = record {
     more : C.next ∷ x.after ≡ reverse (take (suc (length C.done)) own) ++ x.records
     more = ap (λ (l : List Record). C.next ∷ l) C.after ∙ (ap (λ (l : List Record). l ++ x.records) (sym (reverse-append C.done (C.next ∷ []))) ∙ ap (λ (l : List Record). reverse l ++ x.records) (sym one))
 
+came-put : (x : Ran) (name bytes : List ℕ) → PutIsCut x name bytes → Came x (put_records x.records name (length bytes))
+came-put x name bytes (PutIsCut.at_start after doubt held) = record {
+  count = 0;
+  after = after;
+  doubt = elim doubt [ inl sure ↦ inl sure | inr is ↦ inr (_, is, ap (λ (l : List Record). PutStart (next_id x.records) name ∷ l) after) ];
+}
+came-put x name bytes (PutIsCut.at_done after doubt stored) = record {
+  count = 1;
+  after = after;
+  doubt = elim doubt [ inl sure ↦ inl sure | inr is ↦ inr (_, is, ap (λ (l : List Record). PutDone (next_id x.records) (length bytes) ∷ l) after) ];
+}
+
 -- those of its kind
 abbrev Wrote : Ran → Kind → Type 0
 Wrote x kind = (own : List Record) × AreAppended x.records kind own × Came x own
@@ -118,10 +131,20 @@ Wrote x kind = (own : List Record) × AreAppended x.records kind own × Came x o
 audit-wrote : (x : Ran) (undecided : ℕ) (counts : List ℕ) → Came x (audit_records x.records undecided counts) → Wrote x AuditJob
 audit-wrote x undecided counts C = (audit_records x.records undecided counts, (undecided, counts, refl), C)
 
+cut-wrote : (x : Ran) → AuditIsCut x → Wrote x AuditJob
+cut-wrote x (AuditIsCut.at_start after doubt none) = audit-wrote x 0 [] (record {
+  count = 0;
+  after = after;
+  doubt = elim doubt [ inl sure ↦ inl sure | inr is ↦ inr (_, is, ap (λ (l : List Record). AuditStart (next_audit x.records) ∷ l) after) ];
+})
+cut-wrote x (AuditIsCut.before_done after sure hears) = audit-wrote x 0 [] (record { count = 1; after = after; doubt = inl sure })
+cut-wrote x (AuditIsCut.at_done undecided counts after is hears counted) =
+    audit-wrote x undecided counts (record { count = 1; after = after; doubt = inr (_, is, ap (λ (l : List Record). AuditDone (next_audit x.records) undecided counts ∷ l) after) })
+
 wrote-by : (x : Ran) (kind : Kind) (how : Answer) → LeavesBy x kind how → Wrote x kind
 wrote-by x (PutJob name bytes) answer.Put L = (put_records x.records name (length bytes), refl, came-whole x _ L.0.0)
 wrote-by x (PutJob name bytes) (answer.ProviderFault j) L = (put_records x.records name (length bytes), refl, came-some x _ 1 L.0.2)
-wrote-by x (PutJob name bytes) answer.DiskFault L = (put_records x.records name (length bytes), refl, came-doubt x _ L.0.1)
+wrote-by x (PutJob name bytes) answer.DiskFault L = (put_records x.records name (length bytes), refl, came-put x name bytes L.0.1)
 wrote-by x (PutJob name bytes) answer.Memory L = (put_records x.records name (length bytes), refl, came-cut x _ L.0.0)
 wrote-by x (PutJob name bytes) how L = absurd L.0
 wrote-by x (GetJob name) how L = ([], refl, record { count = 0; after = L.records; doubt = inl L.sure })
@@ -130,7 +153,7 @@ wrote-by x (DropJob name) answer.DiskFault L = (_, refl, came-doubt x _ L.0.1)
 wrote-by x (DropJob name) answer.Memory L = (_, refl, came-cut x _ L.0.0)
 wrote-by x (DropJob name) how L = absurd L.0
 wrote-by x AuditJob (answer.Audited number undecided counts) L = audit-wrote x undecided counts (came-whole x _ L.gives.1)
-wrote-by x AuditJob answer.DiskFault L = audit-wrote x L.gives.1.0 L.gives.1.1 (came-doubt x _ L.gives.1.2)
+wrote-by x AuditJob answer.DiskFault L = cut-wrote x L.gives.1
 wrote-by x AuditJob answer.Memory L = audit-wrote x L.gives.0 L.gives.1 (came-cut x _ L.gives.2)
 wrote-by x AuditJob how L = absurd L.gives
 wrote-by x RepairJob (answer.Repaired number) L = (_, (L.0.due, L.0.is_due, refl), came-whole x _ L.0.gives.1)

@@ -94,13 +94,13 @@ second-off true c x y rest h = absurd (let e : Some x ≡ None = h in cc)
 second-off false true x y rest h = absurd (let e : Some y ≡ None = h in cc)
 second-off false false x y rest h = refl
 
-not-long : (records : List Record) (name bytes : List ℕ) → refusal_of records (PutJob name bytes) ≡ None → length bytes ≤ largest_file
+pub not-long : (records : List Record) (name bytes : List ℕ) → refusal_of records (PutJob name bytes) ≡ None → length bytes ≤ largest_file
 not-long records name bytes none = at-most largest_file (length bytes) (second-off _ (nat_lt largest_file (length bytes)) _ _ _ none)
   where
     at-most : (a b : ℕ) → nat_lt a b ≡ false → b ≤ a
     at-most a b e = grind (arith, e)
 
-put-in_effect : (records : List Record) (name : List ℕ) (size : ℕ) → file_of (after_put records name size) name ≡ Some (record { name = name; id = next_id records; size = size })
+pub put-in_effect : (records : List Record) (name : List ℕ) (size : ℕ) → file_of (after_put records name size) name ≡ Some (record { name = name; id = next_id records; size = size })
 put-in_effect records name size = cond_true (is_start_of name (started_as (PutStart (next_id records) name ∷ records) (next_id records))) _ _
     (ap (is_start_of name) (cond_true (next_id records == next_id records) (Some name) (started_as records (next_id records)) (eq-eqb (next_id records) (next_id records) refl)) ∙ same_name-refl name)
 

@@ -2,12 +2,11 @@
 use Rattle.std.proofs.Common.{◌≡◌, ◌≢◌, ℕ, suc, ◌+◌, ◌-◌, ◌<◌, ◌≤◌, ◌⊎◌, Bool, true, false, cond, not, List, [], ◌∷◌, ◌++◌, length, take, Option, None, Some, refl, ap, sym, subst, ◌∙◌, inl, inr, arith, length-append}
 use Rattle.std.specs.Prelude.{IsTrue, is_some, IfSome}
 use Rattle.std.specs.List.{list_all}
-use Rattle.std.specs.Option.{option_map}
 use Rattle.std.proofs.Math.Seq.{take-append-add}
-use Rattle.std.proofs.lemmas.Bool.{cases_Bool, false≢true}
+use Rattle.std.proofs.lemmas.Bool.{false≢true}
 use Rattle.std.proofs.lemmas.Bool.Decides.{nat_tests}
 use Rattle.hail_devices.specs.Cells.{Cells, reads}
-use Rattle.hail_devices.specs.Images.{IsImage, EachImage}
+use Rattle.hail_devices.specs.Images.{EachImage}
 use Rattle.hail_records.specs.Records.{Record, Setup, is_byte, is_name_byte, is_name, is_in_grammar, largest_journal}
 use Rattle.hail_records.specs.Journal.{before_gate, text_size, StandsFor, StandsOrIsEmpty}
 use Rattle.hail_records.specs.Table.{setup_of}
@@ -18,17 +17,16 @@ use Rattle.hail_machine.specs.Jobs.{Kind, PutJob, GetJob, DropJob, AuditJob, Rep
 use Rattle.hail_machine.specs.Answers.{Answer}
 use Rattle.hail_machine.specs.Events.{AreBytes, IsSpelledKind}
 use Rattle.hail_machine.specs.Heard.{Entry}
-use Rattle.hail_machine.specs.Refusals as refusal
 use Rattle.hail_machine.specs.Refusals.{Refusal}
 use Rattle.hail_machine.specs.Setups.{setup_or_none}
 use Rattle.hail_machine.specs.States.{State, setup_in}
 use Rattle.hail_machine.specs.Stands.{StandsWithDoubt, StandsForState}
-use Rattle.hail_commands.specs.Seen.{Seen, Ending, IsRefused}
+use Rattle.hail_commands.specs.Seen.{Seen}
 use Rattle.hail_commands.specs.Openings.{journal_read, IsRead}
 use Rattle.hail_commands.specs.Opens.{IsOpened, setup_at}
-use Rattle.hail_commands.specs.Refusals.{refusal_of, status_of}
-use Rattle.hail_commands.specs.Jobs.{AnswersJob, RunsAlone}
-use Rattle.sound_states.proofs.Records.{is_some-at, setup-more}
+use Rattle.hail_commands.specs.Refusals.{refusal_of}
+use Rattle.hail_commands.specs.Jobs.{RunsAlone}
+use Rattle.sound_states.proofs.Records.{setup-more}
 use Rattle.command_laws.specs.Ends.{IsKnown, DiskHas}
 use Rattle.command_laws.specs.After.{IsSure}
 use Rattle.command_laws.proofs.Telling.{over-opened, opened_state, state-over}
@@ -118,21 +116,27 @@ none-up rs up none = false≢true (let e : false ≡ true = sym (ap (λ l. is_so
 
 last-good : (start last : State) → IsLast start last → (image : List ℕ) → StandsOrIsEmpty image last.records ⊎ StandsWithDoubt last image → (rs : List Record) × IsGood (setup_in start) image rs
 unfolding setup_in
-last-good start last L image (inl (inl stands)) = (last.records, record {
-  some = none-up last.records L.up;
-  accepted = L.sound.accepted;
-  room = (let r = L.sound.room in omega (arith, r));
-  setup = L.setup;
-  stands = stands;
-})
+last-good start last L image (inl (inl stands)) = (
+  last.records,
+  record {
+    some = none-up last.records L.up;
+    accepted = L.sound.accepted;
+    room = (let r = L.sound.room in omega (arith, r));
+    setup = L.setup;
+    stands = stands;
+  },
+)
 last-good start last L image (inl (inr empty)) = absurd (none-up last.records L.up empty.0)
-last-good start last L image (inr D) = (let F = L.sound.doubt D.doubt D.in_doubt in (D.doubt.entry ∷ last.records, record {
-  some = λ e. cc;
-  accepted = (F.accepted, L.sound.accepted);
-  room = F.room;
-  setup = ap setup_or_none (setup-more D.doubt.entry last.records L.up F.accepted) ∙ L.setup;
-  stands = D.stands;
-}))
+last-good start last L image (inr D) = (let F = L.sound.doubt D.doubt D.in_doubt in (
+  D.doubt.entry ∷ last.records,
+  record {
+    some = λ e. cc;
+    accepted = (F.accepted, L.sound.accepted);
+    room = F.room;
+    setup = ap setup_or_none (setup-more D.doubt.entry last.records L.up F.accepted) ∙ L.setup;
+    stands = D.stands;
+  },
+))
 
 images-good : (start last : State) (told : Option Cells) → IsLast start last → StandsForState told last → AreGood (setup_in start) told
 images-good start last None L h = tt
@@ -182,10 +186,3 @@ ran-good records kind how old new heard R spelled A =
     let ran = A.ran w over in
     let L = last-state w ran.last kind how heard (over-opened w old records A.faults R over) spelled ran.runs in
     (images-good w ran.last new.disk L ran.images, (let a = L.handed in let b = ran.handed.count in let c = over.handed.count in let e = R.enough in omega (arith, a, b, c, e))))
-
--- a job is refused, or leaves what is good
-pub job-good : (kind : Kind) (records : List Record) (old new : Seen) (end : Ending) → IsOpened old records → HasBytes kind → AnswersJob kind records old new end →
-    ((status : ℕ) × (at : ℕ) × IsRefused status at old new end) ⊎ LeavesGood records old new
-job-good kind records old new end R are (AnswersJob.refused why is synced r) = inl (status_of why, 0, r)
-job-good kind records old new end R are (AnswersJob.no_memory synced r) = inl (70, 0, r)
-job-good kind records old new end R are (AnswersJob.ended how none runs left by) = inr (ran-good records kind how old new end.heard R (spelled-kind records kind are none) runs)

@@ -3,6 +3,7 @@ pub mod Given
 pub mod Providers
 pub mod Heard
 pub mod Lasts
+pub mod Moving
 pub mod Asked
 pub mod Judged
 pub mod Truth
@@ -39,4 +40,6 @@ pub mod Afterwards
 pub mod DoneStores
 pub mod FilesStay
 pub mod FilesKept
+pub mod PutInEffect
+pub mod RepairInEffect
 pub mod Chains

@@ -3,7 +3,7 @@ use Rattle.std.proofs.Common.{◌≡◌, ℕ, zero, suc, ◌+◌, ◌-◌, ◌<�
 use Rattle.std.specs.Prelude.{slice_get}
 use Rattle.std.specs.Option.{option_map}
 use Rattle.std.specs.List.{flat_map, range_with_len}
-use Rattle.std.proofs.lemmas.Bool.{cases_Bool, cases_eq, eq-eqb, eqb-true, and_parts, and_from}
+use Rattle.std.proofs.lemmas.Bool.{cases_Bool, cases_eq, cases_lt, eq-eqb, eqb-true, and_parts, and_from}
 use Rattle.std.proofs.lemmas.List.{append_assoc, take-append-drop}
 use Rattle.hail_codes.specs.Points.{upto}
 use Rattle.hail_columns.specs.Columns.{columns}
@@ -29,11 +29,11 @@ use Rattle.hail_machine.proofs.JobLists.{cond_true, cond_false}
 use Rattle.hail_machine.proofs.ActionLists.{Each, each_append, each_get, each_map, each_flat, split_get}
 use Rattle.hail_machine.proofs.Numbers.{next_by, next_is_by}
 use Rattle.hail_commands.specs.Blocks.{StoredOn, PartlyStored, DroppedFrom}
-use Rattle.hail_commands.specs.Puts.{put_records, StoresFile, StoresPart, PutLeaves}
+use Rattle.hail_commands.specs.Puts.{put_records, StoresFile, StoresAll, PutIsCut, StoresPart, PutLeaves}
 use Rattle.hail_commands.specs.Jobs.{Leaves}
 use Rattle.hail_commands.specs.Ran.{Ran, ran_from, NoFetches}
 use Rattle.sound_states.specs.Orders.{moves_made, IsInOrder}
-use Rattle.sound_states.proofs.Orders.{put_rest, put-list, put-later, appends_in, appends-append, appends-cons, drop-get, next-listed, moves-first}
+use Rattle.sound_states.proofs.Orders.{put_rest, put-list, put-first, put-later, appends_in, appends-append, appends-cons, drop-get, next-listed, moves-first}
 use Rattle.sound_states.proofs.Records.{sound-accepted}
 use Rattle.lone_laws.specs.Made.{With, Made}
 use Rattle.lone_laws.specs.Walked.{IsOpened, RecordsAre, with_job_of}
@@ -42,7 +42,8 @@ use Rattle.lone_laws.proofs.Walk.{Wrote, wrote, runs, left-start, first-body}
 use Rattle.command_laws.proofs.Runs.{Ends}
 use Rattle.command_laws.proofs.Providers.{Called, IsBelow, made-keeps, each-take}
 use Rattle.command_laws.proofs.Truth.{made-rises}
-use Rattle.command_laws.proofs.Lasts.{InDoubt, Faults, move-faults, NoRoom, move-memory, none-moving}
+use Rattle.command_laws.proofs.Lasts.{Faults, move-faults, NoRoom, move-memory, none-moving}
+use Rattle.command_laws.proofs.Moving.{IsMove, IsUnmoved, move-is, moved-first, moved-second}
 use Rattle.command_laws.proofs.Leaving.{below, LastCall, last-call, counts-rise, others-stay}
 use Rattle.command_laws.proofs.Audits.{move-answers}
 use Rattle.command_laws.proofs.Gets.{take-within}
@@ -340,37 +341,98 @@ module _ (start new : State) (name bytes : List ℕ) (how : Answer) (heard : Lis
   abbrev Doubtful : Option Doubt → Type 0
   Doubtful doubt = (done : List Record) × (next : Record) × (rest : List Record)
       × (put_records start.records name (length bytes) ≡ done ++ next ∷ rest) × (E.before.records ≡ reverse done ++ start.records)
-      × ((option_map (λ (d : Doubt). d.entry) doubt ≡ None) ⊎ (option_map (λ (d : Doubt). d.entry) doubt ≡ Some next))
+      × (option_map (λ (d : Doubt). d.entry) doubt ≡ None)
 
-  in-doubt : (doubt : Option Doubt) → 0 < appends_left (setup_in E.before) E.job → InDoubt start O (PutJob name bytes) E.before E.job E.walked doubt → Doubtful doubt
-  in-doubt doubt left (inl none) = elim (stands left) [
-    | Stand.at_first l is ↦ ([], PutStart (next_id start.records) name, PutDone (next_id start.records) (length bytes) ∷ [], refl, is, inl (ap (option_map (λ (d : Doubt). d.entry)) none))
-    | Stand.at_second l is ↦ (PutStart (next_id start.records) name ∷ [], PutDone (next_id start.records) (length bytes), [], refl, is, inl (ap (option_map (λ (d : Doubt). d.entry)) none))
-  ]
-  in-doubt doubt left (inr (d, in_doubt, writes)) = elim (wrote start O (PutJob name bytes) E.before E.job E.walked d.entry left writes) [
-    | Wrote.first l is entry ↦ ([], PutStart (next_id start.records) name, PutDone (next_id start.records) (length bytes) ∷ [], refl, is, inr (ap (option_map (λ (z : Doubt). z.entry)) in_doubt ∙ ap Some entry))
-    | Wrote.second l is sec ↦ (PutStart (next_id start.records) name ∷ [], PutDone (next_id start.records) (length bytes), [], refl, is, inr (ap (option_map (λ (z : Doubt). z.entry)) in_doubt ∙ ap Some sec))
+  cut-at : (doubt : Option Doubt) → 0 < appends_left (setup_in E.before) E.job → doubt ≡ None → Doubtful doubt
+  cut-at doubt left none = elim (stands left) [
+    | Stand.at_first l is ↦ ([], PutStart (next_id start.records) name, PutDone (next_id start.records) (length bytes) ∷ [], refl, is, ap (option_map (λ (d : Doubt). d.entry)) none)
+    | Stand.at_second l is ↦ (PutStart (next_id start.records) name ∷ [], PutDone (next_id start.records) (length bytes), [], refl, is, ap (option_map (λ (d : Doubt). d.entry)) none)
   ]
 
   abbrev Gives : Answer → Type 0
   Gives a = PutLeaves ran name bytes a
 
-  faulted : StoresPart ran bytes → Faults start O (PutJob name bytes) E.before E.job E.walked new → Gives answer.DiskFault
-  faulted part F =
-      (let d = in-doubt new.doubt F.left F.doubt in (
-        rose-from start.disk_faults E.before.disk_faults new.disk_faults E.walked.disk F.low F.rose,
-        record { done = d.0; next = d.1; rest = d.2; parts = d.3; after = F.records ∙ d.4; doubt = d.5 },
-        part,
-      ))
+  -- ---- a move of an append that failed
+
+  unmoved-stores : Each IsUnmoved (store_actions (setup_in start) E.job bytes)
+  unmoved-stores = each_flat IsUnmoved (λ t. on_each_provider (setup_in start) (λ k. Store k E.job.subject t)) (upto (stripes_of (setup_in start) (length bytes)))
+      (λ t. each_map IsUnmoved (λ k. Store k E.job.subject t) (upto (setup_in start).n) (λ k. (λ m. m)))
+
+  unmoved-tail : Each IsUnmoved (remove_actions (setup_in start) E.job ++ End ∷ [])
+  unmoved-tail = each_append IsUnmoved (remove_actions (setup_in start) E.job) (End ∷ [])
+      (each_flat IsUnmoved (λ object. on_each_provider (setup_in start) (λ k. Remove k object)) E.job.older (λ object. each_map IsUnmoved (λ k. Remove k object) (upto (setup_in start).n) (λ k. (λ m. m)))) ((λ m. m), tt)
+
+  module _ (action : Action) (at : E.action ≡ action) (n : action ≡ End → ⊥) (move : IsMove action) where
+    list : actions_of (setup_in start) E.job ≡ append_actions ++ (store_actions (setup_in start) E.job bytes ++ (append_actions ++ (remove_actions (setup_in start) E.job ++ End ∷ [])))
+    list = put-list (setup_in start) E.job name bytes E.walked.kind_is
+
+    here : slice_get (append_actions ++ (store_actions (setup_in start) E.job bytes ++ (append_actions ++ (remove_actions (setup_in start) E.job ++ End ∷ [])))) E.job.place ≡ Some action
+    here = ap (λ xs. slice_get xs E.job.place) (sym list) ∙ listed action at n
+
+    made-so-far : Made put_with (take E.job.place (append_actions ++ (store_actions (setup_in start) E.job bytes ++ (append_actions ++ (remove_actions (setup_in start) E.job ++ End ∷ []))))) start.providers E.before.providers [] E.job.given
+    made-so-far = subst (λ xs. Made put_with (take E.job.place xs) start.providers E.before.providers [] E.job.given) list E.walked.made
+
+    untouched : appends_left (setup_in E.before) E.job ≡ 2 → E.before.providers ≡ start.providers
+    untouched two = elim (cases_lt E.job.place 4) [
+      | inl l ↦ (moved-first put_with (store_actions (setup_in start) E.job bytes) (remove_actions (setup_in start) E.job ++ End ∷ []) E.job.place action move unmoved-stores unmoved-tail start.providers E.before.providers E.job.given here made-so-far l).0
+      | inr l ↦ absurd (let c = put-later (setup_in E.before) E.job name bytes E.walked.kind_is l in omega (arith, c, two))
+    ]
+
+    second : appends_left (setup_in E.before) E.job ≡ 1 → 4 ≤ E.job.place
+    second one = elim (cases_lt E.job.place 4) [
+      | inl l ↦ absurd (let c = put-first (setup_in E.before) E.job name bytes E.walked.kind_is l in omega (arith, c, one))
+      | inr l ↦ l
+    ]
+
+    stores-made : 4 ≤ E.job.place → Made put_with (store_actions (setup_in start) E.job bytes) start.providers E.before.providers [] E.job.given
+    stores-made l = moved-second put_with (store_actions (setup_in start) E.job bytes) (remove_actions (setup_in start) E.job ++ End ∷ []) E.job.place action move unmoved-stores unmoved-tail start.providers E.before.providers E.job.given here made-so-far l
+
+    all-goes : 4 ≤ E.job.place → (j : ℕ) → j < (setup_in start).n → Goes (StoredOn (object_of (setup_in start) (next_id start.records)) bytes None ⊥ j) (start.providers j).held (E.before.providers j).held
+    all-goes l j below = goes-mono (StoresRange (setup_in start) name bytes E.job.subject (next_id start.records) [] j 0 (stripes_of (setup_in start) (length bytes))) (StoredOn (object_of (setup_in start) (next_id start.records)) bytes None ⊥ j)
+        (λ h k R. whole-none (setup_in start) name bytes E.job.subject (next_id start.records) (stripes_of (setup_in start) (length bytes)) [] j ⊥ h k k refl R refl) (start.providers j).held (E.before.providers j).held
+        (stores-go (setup_in start) name bytes E.job.subject (next_id start.records) [] j (stripes_of (setup_in start) (length bytes)) 0 start.providers E.before.providers [] E.job.given below
+        (subst (λ i. Made put_with (flat_map (λ t. on_each_provider (setup_in start) (λ k. Store k i t)) (upto (stripes_of (setup_in start) (length bytes)))) start.providers E.before.providers [] E.job.given) (subject-is (omega (arith, l))) (stores-made l)))
+
+    stores-all : 4 ≤ E.job.place → new.providers ≡ E.before.providers → StoresAll ran bytes
+    unfolding setup_in
+    stores-all l same j below = subst (λ (f : ℕ → Provider). Goes (StoredOn (object_of (setup_in start) (next_id start.records)) bytes None ⊥ j) (start.providers j).held (f j).held) (sym same) (all-goes l j below)
+
+    doubt-first : appends_left (setup_in E.before) E.job ≡ 2 → (F : Faults start O (PutJob name bytes) E.before E.job E.walked new) → (ran.doubt ≡ None) ⊎ (ran.doubt ≡ Some (PutStart (next_id start.records) name))
+    doubt-first two F = elim F.doubt [
+      | inl none ↦ inl (ap (option_map (λ (d : Doubt). d.entry)) none)
+      | inr (d, in_doubt, writes) ↦ elim (wrote start O (PutJob name bytes) E.before E.job E.walked d.entry F.left writes) [
+        | Wrote.first l is entry ↦ inr (ap (option_map (λ (z : Doubt). z.entry)) in_doubt ∙ ap Some entry)
+        | Wrote.second l is sec ↦ absurd (omega (arith, l, two))
+      ]
+    ]
+
+    doubt-second : appends_left (setup_in E.before) E.job ≡ 1 → (F : Faults start O (PutJob name bytes) E.before E.job E.walked new) → (ran.doubt ≡ None) ⊎ (ran.doubt ≡ Some (PutDone (next_id start.records) (length bytes)))
+    doubt-second one F = elim F.doubt [
+      | inl none ↦ inl (ap (option_map (λ (d : Doubt). d.entry)) none)
+      | inr (d, in_doubt, writes) ↦ elim (wrote start O (PutJob name bytes) E.before E.job E.walked d.entry F.left writes) [
+        | Wrote.first l is entry ↦ absurd (omega (arith, l, one))
+        | Wrote.second l is sec ↦ inr (ap (option_map (λ (z : Doubt). z.entry)) in_doubt ∙ ap Some sec)
+      ]
+    ]
+
+    faulted : Faults start O (PutJob name bytes) E.before E.job E.walked new → Gives answer.DiskFault
+    faulted F = (
+      rose-from start.disk_faults E.before.disk_faults new.disk_faults E.walked.disk F.low F.rose,
+      elim (stands F.left) [
+        | Stand.at_first l is ↦ PutIsCut.at_start (F.records ∙ is) (doubt-first l F) (λ j below. ap (λ (f : ℕ → Provider). (f j).held) (F.providers ∙ untouched l))
+        | Stand.at_second l is ↦ PutIsCut.at_done (F.records ∙ is) (doubt-second l F) (stores-all (second l) F.providers)
+      ],
+    )
 
   no-room : StoresPart ran bytes → NoRoom start O (PutJob name bytes) E.before E.job E.walked new → Gives answer.Memory
   no-room part N =
-      (let d = in-doubt new.doubt N.left (inl N.doubt) in
-      (record { done = d.0; next = d.1; rest = d.2; parts = d.3; after = N.records ∙ d.4; sure = ap (option_map (λ (z : Doubt). z.entry)) N.doubt }, part))
+      (let d = cut-at new.doubt N.left N.doubt in
+      (record { done = d.0; next = d.1; rest = d.2; parts = d.3; after = N.records ∙ d.4; sure = d.5 }, part))
 
   moved : (action : Action) → E.action ≡ action → (action ≡ End → ⊥) → (IsTail action → ⊥) → Moves E.before E.job action E.before.append (Ended how) new → Gives how
   moved action at n m h = elim (move-answers E.before E.job new action E.before.append how h) [
-    | inl e ↦ subst Gives (sym e) (faulted (stores-part action at n m) (move-faults start O (PutJob name bytes) E.before E.job E.walked action E.before.append new refl (E.next ∙ ap Some at) (subst (λ a. Moves E.before E.job action E.before.append (Ended a) new) e h)))
+    | inl e ↦ (let failed = subst (λ a. Moves E.before E.job action E.before.append (Ended a) new) e h in
+        subst Gives (sym e) (faulted action at n (move-is E.before E.job new action E.before.append failed) (move-faults start O (PutJob name bytes) E.before E.job E.walked action E.before.append new refl (E.next ∙ ap Some at) failed)))
     | inr e ↦ subst Gives (sym e) (no-room (stores-part action at n m) (move-memory start O (PutJob name bytes) E.before E.job E.walked action E.before.append new refl (subst (λ z. holder_of E.before.append z ≡ None) at E.free) (E.next ∙ ap Some at)
         (subst (λ a. Moves E.before E.job action E.before.append (Ended a) new) e h)))
   ]

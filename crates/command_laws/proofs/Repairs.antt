@@ -458,11 +458,15 @@ module _ (start new : State) (how : Answer) (heard : List Entry) (O : IsOpened s
       some : new.providers ≡ E.before.providers → RewritesSome (ran_from start new heard) due
       some e = all-some (same-held e) (same-count e) action (listed action at not_end) n
 
+      whole : new.providers ≡ E.before.providers → RewritesAll (ran_from start new heard) due
+      whole e = (let b = behind-all action (listed action at not_end) n in
+          all-part start O E.before E.job E.walked new heard (same-held e) (same-count e) due is-due (take b.0 (append_actions ++ End ∷ [])) b.1 (quiet-tail b.0))
+
       faulted : Faults start O RepairJob E.before E.job E.walked new → Gives answer.DiskFault
       faulted F = (
         rose-before start.disk_faults E.before.disk_faults new.disk_faults E.walked.disk F.low F.rose,
         record { done = []; next = RepairDone due.number; rest = []; parts = refl; after = none-done F.records F.left; doubt = in-doubt F.doubt },
-        some F.providers,
+        whole F.providers,
       )
         where
           in-doubt : InDoubt start O RepairJob E.before E.job E.walked new.doubt → (option_map (λ (d : Doubt). d.entry) new.doubt ≡ None) ⊎ (option_map (λ (d : Doubt). d.entry) new.doubt ≡ Some (RepairDone due.number))

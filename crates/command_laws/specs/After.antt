@@ -9,6 +9,7 @@
 --   IsUntouched n spoilt new next == each of n providers that is not spoilt holds what it held
 --   IsSteady n spoilt old new  == of none of n providers that is not spoilt the count of failed calls rose
 --   spoilt_below n spoilt      == how many of n providers are spoilt
+--   IsFaultless old new        == no count rose that could end a command: the disk's, of a provider's stores, the source's, the sink's
 --   keeps_blocks command       == a get, a list and an audit
 --   IsOther name command       == a put or a drop of another name
 use Rattle.std.specs.Prelude.{◌≡◌, ◌≢◌, ◌⊎◌, ℕ, ◌<◌, ◌==◌, ◌||◌, Bool, true, false, List, ◌++◌, length, reverse, take, Option, None, Some}
@@ -90,6 +91,13 @@ IsSteady n spoilt old new =
 -- how many of n providers are spoilt
 abbrev pub spoilt_below : ℕ → (ℕ → Bool) → ℕ
 spoilt_below n spoilt = count_of spoilt (upto n)
+
+-- no count rose that could end a command
+pub record IsFaultless (old new : Seen) : Type 0 where
+  pub disk : Rose old.disk_faults new.disk_faults → ⊥
+  pub stores : (j : ℕ) → Rose (provider_at old.providers j).store_faults (provider_at new.providers j).store_faults → ⊥
+  pub source : Rose old.source_faults new.source_faults → ⊥
+  pub sink : Rose old.sink_faults new.sink_faults → ⊥
 
 -- a get, a list and an audit
 abbrev pub keeps_blocks : Command → Bool

@@ -1,28 +1,31 @@
 //! What a user may believe between two commands: the store is known again, by the status of the last one, and so the next one is
 //! spoken of. No run of a job and no state stands in these clauses.
-ghost use Rattle.std.specs.Prelude.{◌≡◌, ◌⊎◌, ℕ, ◌+◌, ◌≤◌, ◌&&◌, true, false, Bool, not, List, [], ◌∷◌, length, Some, None, is_some};
+ghost use Rattle.std.specs.Prelude.{◌≡◌, ◌≢◌, ◌⊎◌, ℕ, ◌+◌, ◌≤◌, ◌&&◌, true, false, Bool, not, List, [], ◌∷◌, length, Some, None, is_some};
 ghost use Rattle.hail_columns.specs.Verdicts.{is_flagged};
+ghost use Rattle.hail_devices.specs.Cells.{Cells};
 ghost use Rattle.hail_devices.specs.Faults.{Rose};
 ghost use Rattle.hail_devices.specs.Told.{told_then};
-ghost use Rattle.hail_records.specs.Records.{Record, SetUp, is_name};
+ghost use Rattle.hail_records.specs.Records.{Record, SetUp, is_name, largest_file};
 ghost use Rattle.hail_records.specs.Table.{Due, next_audit, file_of, due_of};
 ghost use Rattle.hail_commands.specs.Forms.{Command, Numbers, InitWith, PutUnder, GetOf, DropOf, ListAll, AuditAll, RepairDue};
 ghost use Rattle.hail_commands.specs.Keys.{IsKeyForm};
 ghost use Rattle.hail_commands.specs.Seen.{Seen, Ending, IsRefused, provider_at};
+ghost use Rattle.hail_commands.specs.Openings.{IsFree};
 ghost use Rattle.hail_commands.specs.Opens.{setup_at};
 ghost use Rattle.hail_commands.specs.Inits.{setup_with};
 ghost use Rattle.hail_commands.specs.Lines.{audit_lines};
 ghost use Rattle.hail_commands.specs.Jobs.{IsTold};
 ghost use Rattle.hail_commands.specs.Commands.{Answers};
-ghost use Rattle.command_laws.specs.Ends.{IsDone, IsKnown, EndsWell, opens_store, after_put, after_drop, after_audit, after_repair};
-ghost use Rattle.command_laws.specs.After.{IsSure, IsNext, IsThen, is_refusal, HasFile, IsUntouched, IsSteady, spoilt_below, keeps_blocks, IsOther};
+ghost use Rattle.command_laws.specs.Ends.{IsDone, IsKnown, Gives, EndsWell, opens_store, after_put, after_drop, after_audit, after_repair};
+ghost use Rattle.command_laws.specs.After.{IsSure, IsNext, IsThen, is_refusal, HasFile, IsUntouched, IsSteady, spoilt_below, IsFaultless, keeps_blocks, IsOther};
 ghost use Rattle.command_laws.specs.Kept.{after_start};
+ghost use Rattle.command_laws.specs.Opened.{IsKeyed};
 
 /// A store that is known stays known, whatever comes of a command, and a stop after it: its records are those before, or these with the
 /// first few of those that the job of the command appends. After a refusal they are those before, and nothing has changed.
 pub fn stores_stay_known()
     ensures always { (command : Command) (records : List Record) (old new next : Seen) (end : Ending) → Answers command old new end →
-        opens_store command ≡ true → IsSure old records → is_some new.disk ≡ is_some old.disk → IsNext new next →
+        opens_store command ≡ true → IsSure old records → IsNext new next →
         (after : List Record) × IsKnown next after × IsThen command records old new after }
     ensures refusal { (command : Command) (old new : Seen) (end : Ending) → Answers command old new end → is_refusal end.status ≡ true →
         IsRefused end.status end.at old new end }
@@ -57,12 +60,19 @@ pub fn done_commands_leave_known_stores()
         (end.status ≡ 4) ⊎ (end.status ≡ 13) → IsKnown old records → IsSure new records }
 {}
 
-/// A put that is done leaves its file, right on every provider that tells what it holds; between two commands it stays so on each provider
+/// A put that is done leaves its file, right on every provider that tells what it holds, and so does one that was cut off or found no memory,
+/// where the next command finds it in effect. Between two commands it stays so on each provider
 /// that nobody touches. A get, a list, an audit, a put and a drop of another name leave it as it is, whatever comes of them, and so does a
-/// refusal. A repair that is done makes each flagged provider right for it, where at most b providers are spoilt or fail.
+/// refusal. A repair that is done makes each flagged provider right for it, where at most b providers are spoilt or fail; so does
+/// one that was cut off, where the next command finds its end in effect.
 pub fn files_stay()
     ensures put { (name bytes : List ℕ) (records : List Record) (spoilt : ℕ → Bool) (old new : Seen) (end : Ending) →
         Answers (PutUnder name) old new end → IsDone end → IsKnown old records → old.source ≡ Some bytes →
+        ((j : ℕ) → spoilt j ≡ false → is_some (provider_at old.providers j).held ≡ true) →
+        HasFile new (after_put records name (length bytes)) name bytes spoilt }
+    ensures put_in_effect { (name bytes : List ℕ) (records : List Record) (spoilt : ℕ → Bool) (old new next : Seen) (end : Ending) →
+        Answers (PutUnder name) old new end → IsSure old records → old.source ≡ Some bytes → IsNext new next →
+        IsKnown next (after_put records name (length bytes)) →
         ((j : ℕ) → spoilt j ≡ false → is_some (provider_at old.providers j).held ≡ true) →
         HasFile new (after_put records name (length bytes)) name bytes spoilt }
     ensures next { (name bytes : List ℕ) (records : List Record) (spoilt : ℕ → Bool) (new next : Seen) → HasFile new records name bytes spoilt →
@@ -77,6 +87,12 @@ pub fn files_stay()
         IsThen command records old new after → HasFile new after name bytes spoilt }
     ensures repair { (name bytes : List ℕ) (records : List Record) (due : Due) (spoilt : ℕ → Bool) (old new : Seen) (end : Ending) →
         Answers RepairDue old new end → IsDone end → IsKnown old records → due_of records ≡ Some due → HasFile old records name bytes spoilt →
+        IsSteady (setup_at records).n spoilt old new → spoilt_below (setup_at records).n spoilt ≤ (setup_at records).b →
+        ((j : ℕ) → is_flagged (setup_at records).tolerance due.counts j ≡ true → is_some (provider_at old.providers j).held ≡ true) →
+        HasFile new (after_repair records due) name bytes (λ j. spoilt j && not (is_flagged (setup_at records).tolerance due.counts j)) }
+    ensures repair_in_effect { (name bytes : List ℕ) (records : List Record) (due : Due) (spoilt : ℕ → Bool) (old new next : Seen) (end : Ending) →
+        Answers RepairDue old new end → IsSure old records → due_of records ≡ Some due → IsNext new next →
+        IsKnown next (after_repair records due) → HasFile old records name bytes spoilt →
         IsSteady (setup_at records).n spoilt old new → spoilt_below (setup_at records).n spoilt ≤ (setup_at records).b →
         ((j : ℕ) → is_flagged (setup_at records).tolerance due.counts j ≡ true → is_some (provider_at old.providers j).held ≡ true) →
         HasFile new (after_repair records due) name bytes (λ j. spoilt j && not (is_flagged (setup_at records).tolerance due.counts j)) }
@@ -100,9 +116,17 @@ pub fn gets_tell_what_stands()
 {}
 
 /// An init, a put and a get over the same devices, where at most b providers are spoilt since the put or fail in the get: the get gives the
-/// bytes of the put, unless the disk or the sink fails in it, or no memory is found. Stops between the commands do no harm. A get after the
-/// put and a drop ends with 3.
+/// bytes of the put, unless the disk or the sink fails in it, or no memory is found. Stops between the commands do no harm. Over a fresh disk
+/// with a good key, name and length, all three end with 0, unless a device fails or no memory is found. A get after a drop ends with 3, and
+/// after a put, an audit and a repair it gives the bytes of the put though others are spoilt by then than those that were flagged.
 pub fn put_files_are_got()
+    ensures whole { (numbers : Numbers) (key name bytes : List ℕ) (spoilt : ℕ → Bool) (cells : Cells) (a b c d e f : Seen) (first second last : Ending) →
+        Answers (InitWith numbers) a b first → Answers (PutUnder name) c d second → Answers (GetOf name) e f last → IsNext b c → IsNext d e →
+        a.disk ≡ Some cells → IsFree cells → IsKeyed numbers key a → c.source ≡ Some bytes → is_name name ≡ true → length bytes ≤ largest_file →
+        ((j : ℕ) → spoilt j ≡ false → is_some (provider_at c.providers j).held ≡ true) →
+        IsUntouched numbers.n spoilt d e → IsSteady numbers.n spoilt e f → spoilt_below numbers.n spoilt ≤ numbers.b →
+        IsFaultless a b → IsFaultless c d → IsFaultless e f → first.status ≢ 70 → second.status ≢ 70 → last.status ≢ 70 →
+        (first.status ≡ 0) × (second.status ≡ 0) × Gives bytes e f last }
     ensures got { (numbers : Numbers) (key name bytes : List ℕ) (spoilt : ℕ → Bool) (a b c d e f : Seen) (first second last : Ending) →
         Answers (InitWith numbers) a b first → Answers (PutUnder name) c d second → Answers (GetOf name) e f last → IsNext b c → IsNext d e →
         is_some a.disk ≡ true → ((text : List ℕ) × (a.source ≡ Some text) × IsKeyForm text key) → c.source ≡ Some bytes →
@@ -127,4 +151,17 @@ pub fn put_files_are_got()
         IsUntouched (setup_at records).n later d e → IsSteady (setup_at records).n later e f →
         spoilt_below (setup_at records).n later ≤ (setup_at records).b →
         (Rose e.disk_faults f.disk_faults → ⊥) → (Rose e.sink_faults f.sink_faults → ⊥) → EndsWell bytes e f last }
+    ensures mended { (name bytes : List ℕ) (records : List Record) (spoilt : ℕ → Bool) (a b c d e f g h : Seen) (first second third last : Ending) →
+        Answers (PutUnder name) a b first → Answers AuditAll c d second → Answers RepairDue e f third → Answers (GetOf name) g h last →
+        IsNext b c → IsNext d e → IsNext f g → IsKnown a records → a.source ≡ Some bytes → IsDone first → IsDone second → IsDone third →
+        ((j : ℕ) → spoilt j ≡ false → is_some (provider_at a.providers j).held ≡ true) →
+        ((j : ℕ) → is_some (provider_at e.providers j).held ≡ true) →
+        IsUntouched (setup_at records).n spoilt b c → IsUntouched (setup_at records).n spoilt d e → IsSteady (setup_at records).n spoilt e f →
+        spoilt_below (setup_at records).n spoilt ≤ (setup_at records).b →
+        (undecided : ℕ) × (counts : List ℕ) × IsTold (audit_lines (setup_at records).tolerance (next_audit records) undecided counts) c d second
+        × ((later : ℕ → Bool) →
+        ((j : ℕ) → later j ≡ false → (spoilt j && not (is_flagged (setup_at records).tolerance counts j)) ≡ false) →
+        IsUntouched (setup_at records).n later f g → IsSteady (setup_at records).n later g h →
+        spoilt_below (setup_at records).n later ≤ (setup_at records).b →
+        (Rose g.disk_faults h.disk_faults → ⊥) → (Rose g.sink_faults h.sink_faults → ⊥) → EndsWell bytes g h last) }
 {}

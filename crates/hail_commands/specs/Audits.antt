@@ -7,8 +7,9 @@
 --   HearsRounds x number         == these entries were heard, and each provider that tells gave its honest answer to the challenge,
 --                                   or none where its count rose
 --   JudgesAll x number asked old new  == the rounds of these questions, one after the other, turn these sums into those
+--   AuditIsCut x                 == an audit that a fault of the disk cut off, at its first record or at its last one
 --   AuditLeaves x answer         == what an audit leaves where it ended with this answer
-use Rattle.std.specs.Prelude.{◌≡◌, ℕ, ◌<◌, List, [], ◌∷◌, map, replicate, nat_lt, Option, IfSome, if◌then◌else◌}
+use Rattle.std.specs.Prelude.{◌≡◌, ◌⊎◌, ℕ, ◌<◌, List, [], ◌∷◌, map, replicate, nat_lt, Option, None, Some, IfSome, if◌then◌else◌}
 use Rattle.std.specs.List.{flat_map}
 use Rattle.hail_codes.specs.Points.{upto}
 use Rattle.hail_columns.specs.Challenges.{Challenge, challenge_of, honest_answer}
@@ -22,7 +23,7 @@ use Rattle.hail_machine.specs.Actions.{rounds_of}
 use Rattle.hail_machine.specs.Given.{answer_given, answers_given}
 use Rattle.hail_machine.specs.Heard.{Entry, given_to}
 use Rattle.hail_machine.specs.Answers.{Answer, Audited, DiskFault, Memory}
-use Rattle.hail_commands.specs.Ran.{Ran, setup_at_begin, job_number, SameHeld, NoFetches, IsWhole, IsCut, IsCutInDoubt}
+use Rattle.hail_commands.specs.Ran.{Ran, setup_at_begin, job_number, SameHeld, NoFetches, IsWhole, IsCut}
 use Rattle.hail_commands.specs.Truthful.{IsTruthful}
 
 -- a file among others in ascending order of their numbers
@@ -93,12 +94,20 @@ CountsHeard x number undecided counts = JudgesAll x number (questions_of x) (no_
 abbrev pub audit_records : List Record → ℕ → List ℕ → List Record
 audit_records records undecided counts = AuditStart (next_audit records) ∷ AuditDone (next_audit records) undecided counts ∷ []
 
+-- an audit that a fault of the disk cut off: at its first record it has heard nothing, at its last one it has heard all. The record in
+-- doubt is the very one that was being written, and an end in doubt has the verdicts on what was heard
+pub data AuditIsCut (x : Ran) : Type 0 where
+  at_start : x.after ≡ x.records → (x.doubt ≡ None) ⊎ (x.doubt ≡ Some (AuditStart (next_audit x.records))) → x.heard ≡ [] → AuditIsCut x
+  before_done : x.after ≡ AuditStart (next_audit x.records) ∷ x.records → x.doubt ≡ None → HearsRounds x (next_audit x.records) → AuditIsCut x
+  at_done : (undecided : ℕ) (counts : List ℕ) → x.after ≡ AuditStart (next_audit x.records) ∷ x.records →
+      x.doubt ≡ Some (AuditDone (next_audit x.records) undecided counts) → HearsRounds x (next_audit x.records) →
+      CountsHeard x (next_audit x.records) undecided counts → AuditIsCut x
+
 -- what an audit leaves of its own
 abbrev pub AuditGives : Ran → Answer → Type 0
 AuditGives x (Audited number undecided counts) =
     (number ≡ next_audit x.records) × IsWhole x (audit_records x.records undecided counts) × HearsRounds x number × CountsHeard x number undecided counts
-AuditGives x DiskFault =
-    Rose x.disk_before x.disk_after × ((undecided : ℕ) × (counts : List ℕ) × IsCutInDoubt x (audit_records x.records undecided counts))
+AuditGives x DiskFault = Rose x.disk_before x.disk_after × AuditIsCut x
 AuditGives x Memory = (undecided : ℕ) × (counts : List ℕ) × IsCut x (audit_records x.records undecided counts)
 AuditGives x answer = ⊥
 

@@ -121,7 +121,7 @@ RepairGives x due (Repaired number) = (number ≡ due.number) × IsWhole x (Repa
 RepairGives x due (Lost stripe row) = IsWhole x [] × LosesPlace x due stripe row
 RepairGives x due (ProviderFault j) =
     (j < (setup_at_begin x).n) × (flags x due j ≡ true) × Rose (x.old j).store_faults (x.new j).store_faults × IsWhole x [] × RewritesSome x due
-RepairGives x due DiskFault = Rose x.disk_before x.disk_after × IsCutInDoubt x (RepairDone due.number ∷ []) × RewritesSome x due
+RepairGives x due DiskFault = Rose x.disk_before x.disk_after × IsCutInDoubt x (RepairDone due.number ∷ []) × RewritesAll x due
 RepairGives x due Memory = IsCut x (RepairDone due.number ∷ []) × RewritesSome x due
 RepairGives x due answer = ⊥
 

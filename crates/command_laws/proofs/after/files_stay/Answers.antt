@@ -1,9 +1,14 @@
 use Rattle.command_laws.proofs.FilesStay.{put-has, next-has}
 use Rattle.command_laws.proofs.FilesKept.{reads-have, refused-has, others-have, repair-has}
+use Rattle.command_laws.proofs.PutInEffect.{put-in-effect}
+use Rattle.command_laws.proofs.RepairInEffect.{repair-in-effect}
 use Rattle.command_laws.proofs.after.files_stay.Goals as goal
 
 pub returns-clause-put : goal.returns-clause-put
 returns-clause-put c = put-has
+
+pub returns-clause-put_in_effect : goal.returns-clause-put_in_effect
+returns-clause-put_in_effect c = put-in-effect
 
 pub returns-clause-next : goal.returns-clause-next
 returns-clause-next c = next-has
@@ -20,3 +25,7 @@ returns-clause-others c = others-have
 pub returns-clause-repair : goal.returns-clause-repair
 returns-clause-repair c name bytes records due spoilt old new end A done K is_due H steady few tells =
     repair-has name bytes records due spoilt old new end A.0 done K is_due H steady few tells
+
+pub returns-clause-repair_in_effect : goal.returns-clause-repair_in_effect
+returns-clause-repair_in_effect c name bytes records due spoilt old new next end A S is_due N F H steady few tells =
+    repair-in-effect name bytes records due spoilt old new next end S is_due N F H steady few tells A.0

@@ -1,0 +1,122 @@
+-- However a repair ended: where the next command finds its end in effect, each flagged provider that tells is right for a file that stood.
+use Rattle.std.proofs.Common.{◌≡◌, ℕ, ◌<◌, ◌≤◌, ◌⊎◌, ◌&&◌, Bool, true, false, not, List, [], ◌∷◌, ◌++◌, length, reverse, Option, None, Some, ap, sym, subst, ◌∙◌, inl, inr, arith, length-append}
+use Rattle.std.specs.Prelude.{is_some, IfSome, IsSomeAnd}
+use Rattle.std.proofs.lemmas.Bool.{cases_Bool}
+use Rattle.hail_columns.specs.Verdicts.{is_flagged}
+use Rattle.hail_devices.specs.Cells.{Cells, reads}
+use Rattle.hail_devices.specs.Images.{EachImage}
+use Rattle.hail_records.specs.Records.{Record, RepairDone, largest_journal}
+use Rattle.hail_records.specs.Journal.{StandsFor, StandsOrIsEmpty}
+use Rattle.hail_records.specs.Table.{Due, due_of}
+use Rattle.journal_core.proofs.Meanings.{one_meaning}
+use Rattle.hail_machine.specs.Setups.{object_of}
+use Rattle.hail_machine.specs.Jobs.{RepairJob}
+use Rattle.hail_machine.specs.Answers as answer
+use Rattle.hail_machine.specs.Answers.{Answer}
+use Rattle.hail_machine.proofs.JobLists.{same_value}
+use Rattle.hail_commands.specs.Seen.{Seen, Ending, IsRefused, provider_at}
+use Rattle.hail_commands.specs.Openings.{journal_read}
+use Rattle.hail_commands.specs.Opens.{setup_at}
+use Rattle.hail_commands.specs.Ran.{Ran}
+use Rattle.hail_commands.specs.Repairs.{RewritesAll, RepairGives}
+use Rattle.hail_commands.specs.Jobs.{AnswersJob, LeftAlone}
+use Rattle.hail_commands.specs.Commands.{AnswersAlone}
+use Rattle.command_laws.specs.Failing.{bad_seen}
+use Rattle.command_laws.specs.Ends.{IsKnown, after_repair}
+use Rattle.command_laws.specs.After.{is_wrong_told, IsSure, IsNext, HasFile, IsSteady, spoilt_below}
+use Rattle.command_laws.proofs.Known.{known-once}
+use Rattle.command_laws.proofs.GetEnds.{shape-at, ran_left}
+use Rattle.command_laws.proofs.JobEnds.{unstarted-refused}
+use Rattle.command_laws.proofs.Anew.{holds-right}
+use Rattle.command_laws.proofs.Images.{stands-front}
+use Rattle.command_laws.proofs.Afterwards.{sure-refused}
+use Rattle.command_laws.proofs.DoneStores.{next-image}
+use Rattle.command_laws.proofs.FilesStay.{bad-few}
+use Rattle.command_laws.proofs.FilesKept.{wrong-same, flag-off, goes-tells, columns-right, and-off}
+use Rattle.command_laws.proofs.PutInEffect.{tells-back}
+
+module _ (name bytes : List ℕ) (records : List Record) (due : Due) (spoilt : ℕ → Bool) (old new next : Seen) (end : Ending) (S : IsSure old records) (is_due : due_of records ≡ Some due) (N : IsNext new next)
+    (F : IsKnown next (after_repair records due)) (H : HasFile old records name bytes spoilt) (steady : IsSteady (setup_at records).n spoilt old new) (few : spoilt_below (setup_at records).n spoilt ≤ (setup_at records).b)
+    (tells : (j : ℕ) → is_flagged (setup_at records).tolerance due.counts j ≡ true → is_some (provider_at old.providers j).held ≡ true) where
+  -- the file, right also on each flagged provider
+  abbrev Mended : Type 0
+  Mended = HasFile new (after_repair records due) name bytes (λ j. spoilt j && not (is_flagged (setup_at records).tolerance due.counts j))
+
+  -- an image stands for the records before
+  abbrev Before : List ℕ → Type 0
+  Before image = StandsFor image records
+
+  not-before : EachImage new.disk Before → ⊥
+  not-before h =
+      (let c = next-image new next (tells-back new next N F.tells) N in
+      let g : StandsFor (reads c.0) records = c.2 Before h in
+      let looked : (9 < length (reads c.0)) × StandsFor (journal_read c.0) (after_repair records due) =
+      subst (λ d. IfSome d (λ cells. (9 < length (reads cells)) × StandsFor (journal_read cells) (after_repair records due))) c.1 F.opened.read.reads_are in
+      let same = one_meaning (reads c.0) records (after_repair records due) g (stands-front largest_journal (reads c.0) (after_repair records due) looked.1) in
+      let size = ap length same in
+      omega (arith, size))
+
+  refused-not : (status at : ℕ) → IsRefused status at old new end → ⊥
+  refused-not status at r = not-before (sure-refused status at records old new end r S).images
+
+  image-before : (image : List ℕ) (after : List Record) (doubt : Option Record) → after ≡ records → doubt ≡ None → StandsOrIsEmpty image after ⊎ IsSomeAnd doubt (λ entry. StandsFor image (entry ∷ after)) → Before image
+  image-before image after doubt is sure (inl (inl stands)) = subst (StandsFor image) is stands
+  image-before image after doubt is sure (inl (inr empty)) = absurd (S.known.opened.read.some (sym is ∙ empty.0))
+  image-before image after doubt is sure (inr h) = absurd (subst (λ d. IsSomeAnd d (λ entry. StandsFor image (entry ∷ after))) sure h)
+
+  images-before : (told : Option Cells) (after : List Record) (doubt : Option Record) → after ≡ records → doubt ≡ None →
+      EachImage told (λ image. StandsOrIsEmpty image after ⊎ IsSomeAnd doubt (λ entry. StandsFor image (entry ∷ after))) → EachImage told Before
+  images-before None after doubt is sure h = tt
+  images-before (Some cells) after doubt is sure h = λ image of. image-before image after doubt is sure (h image of)
+
+  module _ (how : Answer) (left : LeftAlone records RepairJob how old new end.heard) where
+    abbrev x : Ran
+    x = ran_left records RepairJob how old new end.heard left
+
+    none-more : x.after ≡ records → x.doubt ≡ None → ⊥
+    none-more is sure = not-before (images-before new.disk x.after x.doubt is sure left.images)
+
+    -- where the flagged providers are rewritten
+    whole : RewritesAll x due → Mended
+    whole W = record {
+      file = H.file;
+      in_effect = H.in_effect;
+      are_bytes = H.are_bytes;
+      size = H.size;
+      right = right;
+    }
+      where
+        fewer : bad_seen records old new H.file.id bytes ≤ (setup_at records).b
+        fewer = (let b = bad-few name bytes records spoilt old new H steady in omega (arith, b, few))
+
+        right : (j : ℕ) → j < (setup_at records).n → (spoilt j && not (is_flagged (setup_at records).tolerance due.counts j)) ≡ false →
+            is_wrong_told (object_of (setup_at records) H.file.id) bytes j (provider_at new.providers j).held ≡ false
+        right j below clean = elim (cases_Bool (is_flagged (setup_at records).tolerance due.counts j)) [
+          | inl flagged ↦ columns-right (setup_at records) H.file bytes j (provider_at new.providers j).held H.size (goes-tells _ (provider_at old.providers j).held (provider_at new.providers j).held (tells j flagged) (W.held j below))
+              (λ stripe within. holds-right x (shape-at old records S.known.opened) due W name H.file bytes H.in_effect H.size fewer stripe within j below flagged)
+          | inr free ↦ wrong-same (object_of (setup_at records) H.file.id) bytes j (provider_at old.providers j).held (provider_at new.providers j).held
+              (flag-off H.file.id (is_flagged (setup_at records).tolerance due.counts j) _ (provider_at old.providers j).held (provider_at new.providers j).held free (W.held j below))
+              (H.right j below (and-off (spoilt j) (is_flagged (setup_at records).tolerance due.counts j) clean free))
+        ]
+
+    none-done : (done : List Record) (entry : Record) (rest : List Record) → RepairDone due.number ∷ [] ≡ done ++ entry ∷ rest → x.after ≡ reverse done ++ records → x.after ≡ records
+    none-done [] entry rest parts after = after
+    none-done (r ∷ done) entry rest parts after = absurd (let e = ap length parts in let a = length-append done (entry ∷ rest) in omega (arith, e, a))
+
+    by-answer : (h : Answer) → RepairGives x due h → Mended
+    by-answer (answer.Repaired number) L = whole L.2
+    by-answer (answer.Lost stripe row) L = absurd (none-more L.0.after L.0.sure)
+    by-answer (answer.ProviderFault k) L = absurd (none-more L.3.after L.3.sure)
+    by-answer answer.DiskFault L = whole L.2
+    by-answer answer.Memory L = absurd (let C = L.0 in none-more (none-done C.done C.next C.rest C.parts C.after) C.sure)
+    by-answer h L = absurd L
+
+  by-job : AnswersJob RepairJob records old new end → Mended
+  by-job (AnswersJob.refused why is synced r) = absurd (refused-not _ 0 r)
+  by-job (AnswersJob.no_memory synced r) = absurd (refused-not 70 0 r)
+  by-job (AnswersJob.ended how none runs left by) = (let L = left.leaves.by_kind.0 in
+      by-answer how left how (subst (λ (d : Due). RepairGives (ran_left records RepairJob how old new end.heard left) d how) (same_value (due_of records) L.due due L.is_due is_due) L.gives))
+
+  pub repair-in-effect : AnswersAlone RepairJob old new end → Mended
+  repair-in-effect (AnswersAlone.unstarted u) = absurd (let r = unstarted-refused old new end u in refused-not r.0 r.1 r.3)
+  repair-in-effect (AnswersAlone.begun rs opened A) = by-job (subst (λ l. AnswersJob RepairJob l old new end) (known-once old records rs S.known opened.read) A)
