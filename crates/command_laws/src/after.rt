@@ -1,28 +1,30 @@
 //! What a user may believe between two commands: the store is known again, by the status of the last one, and so the next one is
 //! spoken of. No run of a job and no state stands in these clauses.
-ghost use Rattle.std.specs.Prelude.{◌≡◌, ◌≢◌, ◌⊎◌, ℕ, ◌+◌, ◌≤◌, ◌&&◌, true, false, Bool, not, List, [], ◌∷◌, length, Some, None, is_some};
+ghost use Rattle.std.specs.Prelude.{◌≡◌, ◌≢◌, ◌⊎◌, ℕ, ◌+◌, ◌≤◌, ◌&&◌, true, false, Bool, not, List, [], ◌∷◌, length, Option, Some, None, is_some};
 ghost use Rattle.hail_columns.specs.Verdicts.{is_flagged};
 ghost use Rattle.hail_devices.specs.Cells.{Cells};
 ghost use Rattle.hail_devices.specs.Faults.{Rose};
 ghost use Rattle.hail_devices.specs.Told.{told_then};
 ghost use Rattle.hail_records.specs.Records.{Record, SetUp, is_name, largest_file};
-ghost use Rattle.hail_records.specs.Table.{Due, next_audit, file_of, due_of};
-ghost use Rattle.hail_commands.specs.Forms.{Command, Numbers, InitWith, PutUnder, GetOf, DropOf, ListAll, AuditAll, RepairDue};
+ghost use Rattle.hail_records.specs.Table.{File, Due, next_audit, file_of, due_of};
+ghost use Rattle.hail_commands.specs.Forms.{Command, Numbers, RowOf, InitWith, PutUnder, GetOf, DropOf, ListAll, AuditAll, RepairDue};
 ghost use Rattle.hail_commands.specs.Keys.{IsKeyForm};
 ghost use Rattle.hail_commands.specs.Seen.{Seen, Ending, IsRefused, provider_at};
 ghost use Rattle.hail_commands.specs.Openings.{IsFree};
 ghost use Rattle.hail_commands.specs.Opens.{setup_at};
 ghost use Rattle.hail_commands.specs.Inits.{setup_with};
 ghost use Rattle.hail_commands.specs.Lines.{audit_lines};
+ghost use Rattle.hail_commands.specs.Audits.{HearsRounds, CountsHeard};
 ghost use Rattle.hail_commands.specs.Jobs.{IsTold};
-ghost use Rattle.hail_commands.specs.Commands.{Answers};
-ghost use Rattle.command_laws.specs.Ends.{IsDone, IsKnown, Gives, EndsWell, opens_store, after_put, after_drop, after_audit, after_repair};
+ghost use Rattle.hail_commands.specs.Commands.{Answers, IsUsage};
+ghost use Rattle.command_laws.specs.Ends.{IsDone, IsKnown, Gives, EndsWell, opens_store, after_put, after_drop, after_audit, after_repair, ran_to};
 ghost use Rattle.command_laws.specs.After.{IsSure, IsNext, IsThen, is_refusal, HasFile, IsUntouched, IsSteady, spoilt_below, IsFaultless, keeps_blocks, IsOther};
 ghost use Rattle.command_laws.specs.Kept.{after_start};
 ghost use Rattle.command_laws.specs.Opened.{IsKeyed};
 
 /// A store that is known stays known, whatever comes of a command, and a stop after it: its records are those before, or these with the
-/// first few of those that the job of the command appends. After a refusal they are those before, and nothing has changed.
+/// first few of those that the job of the command appends. After a refusal they are those before, and nothing has changed;
+/// nor has it after a row, after words that are no command, and after an init, whatever comes of it.
 pub fn stores_stay_known()
     ensures always { (command : Command) (records : List Record) (old new next : Seen) (end : Ending) → Answers command old new end →
         opens_store command ≡ true → IsSure old records → IsNext new next →
@@ -34,6 +36,11 @@ pub fn stores_stay_known()
     ensures refused_sure { (status at : ℕ) (records : List Record) (old new : Seen) (end : Ending) → IsRefused status at old new end →
         IsSure old records → IsSure new records }
     ensures next { (records : List Record) (new next : Seen) → IsSure new records → IsNext new next → IsSure next records }
+    ensures init { (numbers : Numbers) (records : List Record) (old new : Seen) (end : Ending) → Answers (InitWith numbers) old new end →
+        IsSure old records → is_some new.disk ≡ is_some old.disk → IsSure new records }
+    ensures row { (n l b : ℕ) (seen : List (Option ℕ)) (records : List Record) (old new : Seen) (end : Ending) →
+        Answers (RowOf n l b seen) old new end → IsSure old records → IsSure new records }
+    ensures usage { (records : List Record) (old new : Seen) (end : Ending) → IsUsage old new end → IsSure old records → IsSure new records }
 {}
 
 /// After a command that is done, and after 4 or 13, the store is known, with the records that are said; and no stop harms it.
@@ -98,9 +105,18 @@ pub fn files_stay()
         HasFile new (after_repair records due) name bytes (λ j. spoilt j && not (is_flagged (setup_at records).tolerance due.counts j)) }
 {}
 
+/// However an audit ended, where the next command finds its end in effect, it has asked each question of each provider, and its counts are the
+/// verdicts on what it heard.
+pub fn audits_in_effect_count_what_they_heard()
+    ensures { (records : List Record) (undecided : ℕ) (counts : List ℕ) (old new next : Seen) (end : Ending) → Answers AuditAll old new end →
+        IsSure old records → IsNext new next → IsKnown next (after_audit records undecided counts) →
+        HearsRounds (ran_to (after_audit records undecided counts) records old new end.heard) (next_audit records)
+        × CountsHeard (ran_to (after_audit records undecided counts) records old new end.heard) (next_audit records) undecided counts }
+{}
+
 /// A get of such a file gives its bytes, or finds no memory, where at most b providers are spoilt or fail in it, unless the disk or the sink
 /// failed; with at most b + 1 of them status 0 means that it gave its bytes. A get of a name that has no file ends with 3, or finds no
-/// memory, unless the disk failed.
+/// memory, unless the disk failed. A get of an empty file never ends in a fault of the sink.
 pub fn gets_tell_what_stands()
     ensures complete { (name bytes : List ℕ) (records : List Record) (spoilt : ℕ → Bool) (old new : Seen) (end : Ending) →
         Answers (GetOf name) old new end → IsKnown old records → HasFile old records name bytes spoilt →
@@ -113,6 +129,8 @@ pub fn gets_tell_what_stands()
     ensures missing { (name : List ℕ) (records : List Record) (old new : Seen) (end : Ending) → Answers (GetOf name) old new end →
         IsKnown old records → is_name name ≡ true → file_of records name ≡ None → (Rose old.disk_faults new.disk_faults → ⊥) →
         (end.status ≡ 3) ⊎ (end.status ≡ 70) }
+    ensures empty { (name : List ℕ) (records : List Record) (file : File) (old new : Seen) (end : Ending) → Answers (GetOf name) old new end →
+        IsKnown old records → file_of records name ≡ Some file → file.size ≡ 0 → end.status ≢ 15 }
 {}
 
 /// An init, a put and a get over the same devices, where at most b providers are spoilt since the put or fail in the get: the get gives the
