@@ -6,13 +6,9 @@ mod audits;
 #[cfg(test)]
 mod damage;
 #[cfg(test)]
-mod disk_faults;
-#[cfg(test)]
 mod files;
 #[cfg(test)]
 mod journals;
-#[cfg(test)]
-mod other_faults;
 #[cfg(test)]
 mod set_up;
 #[cfg(test)]

@@ -1,7 +1,7 @@
-use disk_model::{Disk, MemDisk, SureDisk};
+use disk_model::{Disk, SureDisk};
 use hail_field::Symbol;
 use hail_top::{Report, hail};
-use provider_model::{MemProvider, SureProvider, Tamper};
+use provider_model::{SureProvider, Tamper};
 use std::alloc::Global;
 use stream_model::{Sink, Source, SureSink, SureSource};
 use vault::Heard;
@@ -167,17 +167,6 @@ fn sure_providers(alloc: Global, count: u8) -> Option<Vec<SureProvider>> {
     Some(providers)
 }
 
-/// Sixteen providers that hold nothing, of which one fails at these of its calls.
-fn failing_providers(alloc: Global, failing: u8, fails: &[u64]) -> Option<Vec<MemProvider>> {
-    let mut providers = Vec::new(alloc);
-    for place in 0..16u8 {
-        let fails = if place == failing { fails } else { &[] };
-        let provider = MemProvider::new(alloc, fails).ok()?;
-        providers.push(provider).ok()?;
-    }
-    Some(providers)
-}
-
 /// A disk that reads these bytes, and sixteen providers that hold nothing.
 pub fn over_bytes(alloc: Global, bytes: &[u8]) -> Option<SureStore> {
     let disk = SureDisk::new(alloc, bytes).ok()?;
@@ -196,51 +185,6 @@ pub fn after(alloc: Global, rows: &[Row]) -> Option<SureStore> {
         "none" => Some(store),
         _ => None,
     }
-}
-
-/// A disk that reads what that of a store reads and fails at one of its calls, and the providers of the store.
-pub fn with_failing_disk(store: SureStore, call: u64) -> Option<Store<MemDisk, SureProvider>> {
-    let Store {
-        alloc,
-        disk,
-        providers,
-    } = store;
-    let disk = MemDisk::new(alloc, disk.bytes(), &[call]).ok()?;
-    Some(Store {
-        alloc,
-        disk,
-        providers,
-    })
-}
-
-/// A disk without faults that reads what that of a store reads, and the providers of the store.
-pub fn with_sure_disk(store: Store<MemDisk, SureProvider>) -> Option<SureStore> {
-    let Store {
-        alloc,
-        disk,
-        providers,
-    } = store;
-    let disk = SureDisk::new(alloc, disk.bytes()).ok()?;
-    Some(Store {
-        alloc,
-        disk,
-        providers,
-    })
-}
-
-/// An empty disk and sixteen providers, of which one fails at these of its calls.
-pub fn with_failing_provider(
-    alloc: Global,
-    failing: u8,
-    fails: &[u64],
-) -> Option<Store<SureDisk, MemProvider>> {
-    let disk = SureDisk::new(alloc, b"").ok()?;
-    let providers = failing_providers(alloc, failing, fails)?;
-    Some(Store {
-        alloc,
-        disk,
-        providers,
-    })
 }
 
 /// Which provider was fetched from at a place of what was heard, and the first symbol of the block that it gave.

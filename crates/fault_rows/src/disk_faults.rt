@@ -1,0 +1,92 @@
+use crate::case::Case;
+use crate::row::{done, refused};
+use crate::store::{KEY, four, three};
+use std::test::Fail;
+
+// Setting up syncs, asks the length, writes the empty journal and syncs, and appends one record in four calls.
+#[test]
+fn a_set_up_stands_from_its_last_sync_on(rt: HostRuntime) -> Result<(), Fail> {
+    let case = Case {
+        before: &[],
+        loses: false,
+        found: &[],
+        row: four(),
+        calls: 8,
+        stands: 7,
+        without: &[refused("list", b"", 9, 0), four()],
+        with: &[
+            refused("init 4 1 1 0 1 1 0", KEY, 10, 0),
+            done("list", b"", b""),
+        ],
+    };
+    assert_eq!(rt; case.first_wrong_call(rt.alloc()), None);
+    Ok(())
+}
+
+// Opening makes the calls 0 to 2, and each of the two records four; the last one opens the gate of the second record at 9.
+#[test]
+fn a_put_stands_from_its_last_sync_on(rt: HostRuntime) -> Result<(), Fail> {
+    let case = Case {
+        before: &[four()],
+        loses: false,
+        found: &[],
+        row: three(),
+        calls: 11,
+        stands: 10,
+        without: &[refused("get a", b"", 3, 0), done("list", b"", b"")],
+        with: &[done("get a", b"", b"abc"), done("list", b"", b"a 3\n")],
+    };
+    assert_eq!(rt; case.first_wrong_call(rt.alloc()), None);
+    Ok(())
+}
+
+#[test]
+fn a_file_stands_until_the_put_of_another_does(rt: HostRuntime) -> Result<(), Fail> {
+    let case = Case {
+        before: &[four(), three()],
+        loses: false,
+        found: &[],
+        row: done("put a", b"other", b"stored a 5\n"),
+        calls: 11,
+        stands: 10,
+        without: &[done("get a", b"", b"abc")],
+        with: &[done("get a", b"", b"other")],
+    };
+    assert_eq!(rt; case.first_wrong_call(rt.alloc()), None);
+    Ok(())
+}
+
+#[test]
+fn a_drop_stands_from_its_last_sync_on(rt: HostRuntime) -> Result<(), Fail> {
+    let case = Case {
+        before: &[four(), three()],
+        loses: false,
+        found: &[],
+        row: done("drop a", b"", b"dropped a\n"),
+        calls: 7,
+        stands: 6,
+        without: &[done("get a", b"", b"abc")],
+        with: &[refused("get a", b"", 3, 0)],
+    };
+    assert_eq!(rt; case.first_wrong_call(rt.alloc()), None);
+    Ok(())
+}
+
+#[test]
+fn a_get_and_a_list_call_the_disk_to_open_alone(rt: HostRuntime) -> Result<(), Fail> {
+    let rows = [done("get a", b"", b"abc"), done("list", b"", b"a 3\n")];
+    for row in rows {
+        let case = Case {
+            before: &[four(), three()],
+            loses: false,
+            found: &[],
+            row,
+            calls: 3,
+            stands: 0,
+            without: &[],
+            with: &rows,
+        };
+        assert_eq!(rt; case.first_wrong_call(rt.alloc()), None, "{}", row.line);
+    }
+    Ok(())
+}
