@@ -1,10 +1,10 @@
 -- However an audit ended: where the next command finds its end in effect, its counts are the verdicts on what it heard.
-use Rattle.std.proofs.Common.{◌≡◌, ◌≢◌, ℕ, ◌+◌, ◌<◌, ◌≤◌, ◌⊎◌, List, [], ◌∷◌, ◌++◌, length, reverse, Option, None, Some, refl, ap, sym, subst, ◌∙◌, inl, inr, arith, length-append}
+use Rattle.std.proofs.Common.{◌≡◌, ◌≢◌, ℕ, ◌+◌, ◌<◌, ◌≤◌, ◌⊎◌, List, [], ◌∷◌, length, reverse, Option, None, Some, refl, ap, sym, subst, ◌∙◌, inl, inr, arith, length-append}
 use Rattle.std.specs.Prelude.{IfSome, IsSomeAnd}
 use Rattle.std.proofs.lemmas.List.{length-reverse}
 use Rattle.hail_devices.specs.Cells.{Cells, reads}
 use Rattle.hail_devices.specs.Images.{EachImage}
-use Rattle.hail_records.specs.Records.{Record, AuditStart, AuditDone, largest_journal}
+use Rattle.hail_records.specs.Records.{Record, AuditDone, largest_journal}
 use Rattle.hail_records.specs.Journal.{StandsFor, StandsOrIsEmpty}
 use Rattle.hail_records.specs.Table.{next_audit}
 use Rattle.journal_core.proofs.Meanings.{one_meaning}
@@ -15,7 +15,7 @@ use Rattle.hail_machine.proofs.JobLists.{same_value}
 use Rattle.hail_commands.specs.Seen.{Seen, Ending, IsRefused}
 use Rattle.hail_commands.specs.Openings.{journal_read}
 use Rattle.hail_commands.specs.Ran.{Ran}
-use Rattle.hail_commands.specs.Audits.{HearsRounds, CountsHeard, AuditIsCut, AuditGives, audit_records}
+use Rattle.hail_commands.specs.Audits.{HearsRounds, CountsHeard, AuditIsCut, AuditGives}
 use Rattle.hail_commands.specs.Jobs.{AnswersJob, LeftAlone}
 use Rattle.hail_commands.specs.Commands.{AnswersAlone}
 use Rattle.command_laws.specs.Ends.{IsKnown, after_audit, ran_to}

@@ -1,5 +1,5 @@
 -- An empty text makes no call of the sink, so its fault ends neither a list without a file nor a get of an empty file.
-use Rattle.std.proofs.Common.{◌≡◌, ◌≢◌, ℕ, List, [], ◌∷◌, take, Option, None, Some, refl, ap, sym, subst, ◌∙◌, inl, inr, arith}
+use Rattle.std.proofs.Common.{◌≡◌, ◌≢◌, ℕ, List, [], ◌∷◌, take, Some, refl, ap, sym, ◌∙◌, inl, inr, arith}
 use Rattle.hail_records.specs.Records.{Record}
 use Rattle.hail_records.specs.Table.{File, file_of, files_of}
 use Rattle.hail_machine.specs.Jobs.{GetJob}
