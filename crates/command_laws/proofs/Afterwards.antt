@@ -20,7 +20,7 @@ use Rattle.hail_commands.specs.Jobs.{AnswersJob}
 use Rattle.hail_commands.specs.Commands.{AnswersPut, AnswersAlone, AnswersList, Answers}
 use Rattle.sound_states.proofs.Records.{is_some-at}
 use Rattle.command_laws.specs.Ends.{IsKnown}
-use Rattle.command_laws.specs.After.{IsSure, IsNext, is_refusal}
+use Rattle.command_laws.specs.After.{IsSure, Follows, is_refusal}
 use Rattle.command_laws.proofs.Known.{EndStatus, status-ended}
 use Rattle.command_laws.proofs.JobEnds.{unstarted-refused}
 use Rattle.command_laws.proofs.Images.{init-kept, reads-image, image-firm, refused-keeps}
@@ -168,7 +168,7 @@ known-sure s records cells told S is stands handed = (let R = S.known.opened.rea
     (record { some = R.some; accepted = R.accepted; room = R.room; setup = refl; stands = stands })
     (let e = S.known.opened.enough in omega (arith, e, handed)))
 
-pub sure-next : (records : List Record) (new next : Seen) → IsSure new records → IsNext new next → IsSure next records
+pub sure-next : (records : List Record) (new next : Seen) → IsSure new records → Follows new next → IsSure next records
 sure-next records new next S N = elim N.disk [
   | inl same ↦ (let c = is_some-at new.disk S.known.tells in record {
     known = known-sure new records c.0 next S (same ∙ c.1)

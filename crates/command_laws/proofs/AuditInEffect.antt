@@ -19,7 +19,7 @@ use Rattle.hail_commands.specs.Audits.{HearsRounds, CountsHeard, AuditIsCut, Aud
 use Rattle.hail_commands.specs.Jobs.{AnswersJob, LeftAlone}
 use Rattle.hail_commands.specs.Commands.{AnswersAlone}
 use Rattle.command_laws.specs.Ends.{IsKnown, after_audit, ran_to}
-use Rattle.command_laws.specs.After.{IsSure, IsNext}
+use Rattle.command_laws.specs.After.{IsSure, Follows}
 use Rattle.command_laws.proofs.Known.{known-once}
 use Rattle.command_laws.proofs.GetEnds.{ran_left}
 use Rattle.command_laws.proofs.JobEnds.{unstarted-refused}
@@ -37,7 +37,7 @@ abbrev counts_in : List Record → List ℕ
 counts_in (AuditDone number undecided counts ∷ rs) = counts
 counts_in rs = []
 
-module _ (records : List Record) (undecided : ℕ) (counts : List ℕ) (old new next : Seen) (end : Ending) (S : IsSure old records) (N : IsNext new next) (F : IsKnown next (after_audit records undecided counts)) where
+module _ (records : List Record) (undecided : ℕ) (counts : List ℕ) (old new next : Seen) (end : Ending) (S : IsSure old records) (N : Follows new next) (F : IsKnown next (after_audit records undecided counts)) where
   -- what was heard, and the verdicts on it
   abbrev Heard : ℕ → List ℕ → Type 0
   Heard u c = HearsRounds (ran_to (after_audit records u c) records old new end.heard) (next_audit records)

@@ -18,16 +18,16 @@ ghost use Rattle.hail_commands.specs.Audits.{HearsRounds, CountsHeard};
 ghost use Rattle.hail_commands.specs.Jobs.{IsTold};
 ghost use Rattle.hail_commands.specs.Commands.{Answers, IsUsage};
 ghost use Rattle.command_laws.specs.Ends.{IsDone, IsKnown, Gives, EndsWell, opens_store, after_put, after_drop, after_audit, after_repair, ran_to};
-ghost use Rattle.command_laws.specs.After.{IsSure, IsNext, IsThen, is_refusal, HasFile, IsUntouched, IsSteady, spoilt_below, IsFaultless, keeps_blocks, IsOther};
+ghost use Rattle.command_laws.specs.After.{IsSure, Follows, IsThen, is_refusal, HasFile, IsUntouched, IsSteady, spoilt_below, IsFaultless, keeps_blocks, IsOther};
 ghost use Rattle.command_laws.specs.Kept.{after_start};
 ghost use Rattle.command_laws.specs.Opened.{IsKeyed};
 
 /// A store that is known stays known, whatever comes of a command, and a stop after it: its records are those before, or these with the
-/// first few of those that the job of the command appends. After a refusal they are those before, and nothing has changed;
-/// nor has it after a row, after words that are no command, and after an init, whatever comes of it.
+/// first few of those that the job of the command appends. After a refusal they are those before, and nothing has changed; nor has it after a
+/// row, after words that are no command, and after an init, whatever comes of it.
 pub fn stores_stay_known()
     ensures always { (command : Command) (records : List Record) (old new next : Seen) (end : Ending) → Answers command old new end →
-        opens_store command ≡ true → IsSure old records → IsNext new next →
+        opens_store command ≡ true → IsSure old records → Follows new next →
         (after : List Record) × IsKnown next after × IsThen command records old new after }
     ensures refusal { (command : Command) (old new : Seen) (end : Ending) → Answers command old new end → is_refusal end.status ≡ true →
         IsRefused end.status end.at old new end }
@@ -35,7 +35,7 @@ pub fn stores_stay_known()
         IsKnown old records → IsKnown new records }
     ensures refused_sure { (status at : ℕ) (records : List Record) (old new : Seen) (end : Ending) → IsRefused status at old new end →
         IsSure old records → IsSure new records }
-    ensures next { (records : List Record) (new next : Seen) → IsSure new records → IsNext new next → IsSure next records }
+    ensures next { (records : List Record) (new next : Seen) → IsSure new records → Follows new next → IsSure next records }
     ensures init { (numbers : Numbers) (records : List Record) (old new : Seen) (end : Ending) → Answers (InitWith numbers) old new end →
         IsSure old records → is_some new.disk ≡ is_some old.disk → IsSure new records }
     ensures row { (n l b : ℕ) (seen : List (Option ℕ)) (records : List Record) (old new : Seen) (end : Ending) →
@@ -67,18 +67,18 @@ pub fn done_commands_leave_known_stores()
         (end.status ≡ 4) ⊎ (end.status ≡ 13) → IsKnown old records → IsSure new records }
 {}
 
-/// A put that is done leaves its file, right on every provider that tells what it holds, and so does one that was cut off or found no memory,
-/// where the next command finds it in effect. Between two commands it stays so on each provider
-/// that nobody touches. A get, a list, an audit, a put and a drop of another name leave it as it is, whatever comes of them, and so does a
-/// refusal. A repair that is done makes each flagged provider right for it, where at most b providers are spoilt or fail; so does
-/// one that was cut off, where the next command finds its end in effect.
+/// A put that is done leaves its file, right on every provider that tells what it holds, and so does one that was cut off or found no
+/// memory, where the next command finds its end in effect. Between two commands the file stays so on each provider that nobody touches. A
+/// get, a list, an audit, a put and a drop of another name leave it as it is, whatever comes of them, and so does a refusal. A repair that is
+/// done makes each flagged provider right for it, where at most b providers are spoilt or fail; so does one that was cut off, where the next
+/// command finds its end in effect.
 pub fn files_stay()
     ensures put { (name bytes : List ℕ) (records : List Record) (spoilt : ℕ → Bool) (old new : Seen) (end : Ending) →
         Answers (PutUnder name) old new end → IsDone end → IsKnown old records → old.source ≡ Some bytes →
         ((j : ℕ) → spoilt j ≡ false → is_some (provider_at old.providers j).held ≡ true) →
         HasFile new (after_put records name (length bytes)) name bytes spoilt }
     ensures put_in_effect { (name bytes : List ℕ) (records : List Record) (spoilt : ℕ → Bool) (old new next : Seen) (end : Ending) →
-        Answers (PutUnder name) old new end → IsSure old records → old.source ≡ Some bytes → IsNext new next →
+        Answers (PutUnder name) old new end → IsSure old records → old.source ≡ Some bytes → Follows new next →
         IsKnown next (after_put records name (length bytes)) →
         ((j : ℕ) → spoilt j ≡ false → is_some (provider_at old.providers j).held ≡ true) →
         HasFile new (after_put records name (length bytes)) name bytes spoilt }
@@ -98,7 +98,7 @@ pub fn files_stay()
         ((j : ℕ) → is_flagged (setup_at records).tolerance due.counts j ≡ true → is_some (provider_at old.providers j).held ≡ true) →
         HasFile new (after_repair records due) name bytes (λ j. spoilt j && not (is_flagged (setup_at records).tolerance due.counts j)) }
     ensures repair_in_effect { (name bytes : List ℕ) (records : List Record) (due : Due) (spoilt : ℕ → Bool) (old new next : Seen) (end : Ending) →
-        Answers RepairDue old new end → IsSure old records → due_of records ≡ Some due → IsNext new next →
+        Answers RepairDue old new end → IsSure old records → due_of records ≡ Some due → Follows new next →
         IsKnown next (after_repair records due) → HasFile old records name bytes spoilt →
         IsSteady (setup_at records).n spoilt old new → spoilt_below (setup_at records).n spoilt ≤ (setup_at records).b →
         ((j : ℕ) → is_flagged (setup_at records).tolerance due.counts j ≡ true → is_some (provider_at old.providers j).held ≡ true) →
@@ -109,7 +109,7 @@ pub fn files_stay()
 /// verdicts on what it heard.
 pub fn audits_in_effect_count_what_they_heard()
     ensures { (records : List Record) (undecided : ℕ) (counts : List ℕ) (old new next : Seen) (end : Ending) → Answers AuditAll old new end →
-        IsSure old records → IsNext new next → IsKnown next (after_audit records undecided counts) →
+        IsSure old records → Follows new next → IsKnown next (after_audit records undecided counts) →
         HearsRounds (ran_to (after_audit records undecided counts) records old new end.heard) (next_audit records)
         × CountsHeard (ran_to (after_audit records undecided counts) records old new end.heard) (next_audit records) undecided counts }
 {}
@@ -139,29 +139,29 @@ pub fn gets_tell_what_stands()
 /// after a put, an audit and a repair it gives the bytes of the put though others are spoilt by then than those that were flagged.
 pub fn put_files_are_got()
     ensures whole { (numbers : Numbers) (key name bytes : List ℕ) (spoilt : ℕ → Bool) (cells : Cells) (a b c d e f : Seen) (first second last : Ending) →
-        Answers (InitWith numbers) a b first → Answers (PutUnder name) c d second → Answers (GetOf name) e f last → IsNext b c → IsNext d e →
+        Answers (InitWith numbers) a b first → Answers (PutUnder name) c d second → Answers (GetOf name) e f last → Follows b c → Follows d e →
         a.disk ≡ Some cells → IsFree cells → IsKeyed numbers key a → c.source ≡ Some bytes → is_name name ≡ true → length bytes ≤ largest_file →
         ((j : ℕ) → spoilt j ≡ false → is_some (provider_at c.providers j).held ≡ true) →
         IsUntouched numbers.n spoilt d e → IsSteady numbers.n spoilt e f → spoilt_below numbers.n spoilt ≤ numbers.b →
         IsFaultless a b → IsFaultless c d → IsFaultless e f → first.status ≢ 70 → second.status ≢ 70 → last.status ≢ 70 →
         (first.status ≡ 0) × (second.status ≡ 0) × Gives bytes e f last }
     ensures got { (numbers : Numbers) (key name bytes : List ℕ) (spoilt : ℕ → Bool) (a b c d e f : Seen) (first second last : Ending) →
-        Answers (InitWith numbers) a b first → Answers (PutUnder name) c d second → Answers (GetOf name) e f last → IsNext b c → IsNext d e →
+        Answers (InitWith numbers) a b first → Answers (PutUnder name) c d second → Answers (GetOf name) e f last → Follows b c → Follows d e →
         is_some a.disk ≡ true → ((text : List ℕ) × (a.source ≡ Some text) × IsKeyForm text key) → c.source ≡ Some bytes →
         IsDone first → IsDone second → ((j : ℕ) → spoilt j ≡ false → is_some (provider_at c.providers j).held ≡ true) →
         IsUntouched numbers.n spoilt d e → IsSteady numbers.n spoilt e f → spoilt_below numbers.n spoilt ≤ numbers.b →
         (Rose e.disk_faults f.disk_faults → ⊥) → (Rose e.sink_faults f.sink_faults → ⊥) → EndsWell bytes e f last }
     ensures again { (name bytes : List ℕ) (records : List Record) (spoilt : ℕ → Bool) (c d e f : Seen) (second last : Ending) →
-        Answers (PutUnder name) c d second → Answers (GetOf name) e f last → IsNext d e → IsKnown c records → c.source ≡ Some bytes →
+        Answers (PutUnder name) c d second → Answers (GetOf name) e f last → Follows d e → IsKnown c records → c.source ≡ Some bytes →
         IsDone second → ((j : ℕ) → spoilt j ≡ false → is_some (provider_at c.providers j).held ≡ true) →
         IsUntouched (setup_at records).n spoilt d e → IsSteady (setup_at records).n spoilt e f →
         spoilt_below (setup_at records).n spoilt ≤ (setup_at records).b →
         (Rose e.disk_faults f.disk_faults → ⊥) → (Rose e.sink_faults f.sink_faults → ⊥) → EndsWell bytes e f last }
     ensures dropped { (name : List ℕ) (records : List Record) (c d e f : Seen) (second last : Ending) → Answers (DropOf name) c d second →
-        Answers (GetOf name) e f last → IsNext d e → IsKnown c records → IsDone second → (Rose e.disk_faults f.disk_faults → ⊥) →
+        Answers (GetOf name) e f last → Follows d e → IsKnown c records → IsDone second → (Rose e.disk_faults f.disk_faults → ⊥) →
         (last.status ≡ 3) ⊎ (last.status ≡ 70) }
     ensures repaired { (name bytes : List ℕ) (records : List Record) (spoilt later : ℕ → Bool) (due : Due) (c d e f : Seen) (second last : Ending) →
-        Answers RepairDue c d second → Answers (GetOf name) e f last → IsNext d e → IsKnown c records → due_of records ≡ Some due →
+        Answers RepairDue c d second → Answers (GetOf name) e f last → Follows d e → IsKnown c records → due_of records ≡ Some due →
         HasFile c records name bytes spoilt → IsDone second → IsSteady (setup_at records).n spoilt c d →
         spoilt_below (setup_at records).n spoilt ≤ (setup_at records).b →
         ((j : ℕ) → is_flagged (setup_at records).tolerance due.counts j ≡ true → is_some (provider_at c.providers j).held ≡ true) →
@@ -171,7 +171,7 @@ pub fn put_files_are_got()
         (Rose e.disk_faults f.disk_faults → ⊥) → (Rose e.sink_faults f.sink_faults → ⊥) → EndsWell bytes e f last }
     ensures mended { (name bytes : List ℕ) (records : List Record) (spoilt : ℕ → Bool) (a b c d e f g h : Seen) (first second third last : Ending) →
         Answers (PutUnder name) a b first → Answers AuditAll c d second → Answers RepairDue e f third → Answers (GetOf name) g h last →
-        IsNext b c → IsNext d e → IsNext f g → IsKnown a records → a.source ≡ Some bytes → IsDone first → IsDone second → IsDone third →
+        Follows b c → Follows d e → Follows f g → IsKnown a records → a.source ≡ Some bytes → IsDone first → IsDone second → IsDone third →
         ((j : ℕ) → spoilt j ≡ false → is_some (provider_at a.providers j).held ≡ true) →
         ((j : ℕ) → is_some (provider_at e.providers j).held ≡ true) →
         IsUntouched (setup_at records).n spoilt b c → IsUntouched (setup_at records).n spoilt d e → IsSteady (setup_at records).n spoilt e f →
