@@ -20,10 +20,10 @@ use Rattle.hail_commands.specs.Jobs.{AnswersJob}
 use Rattle.hail_commands.specs.Commands.{AnswersPut, AnswersAlone, AnswersList, Answers}
 use Rattle.sound_states.proofs.Records.{is_some-at}
 use Rattle.command_laws.specs.Ends.{IsKnown}
-use Rattle.command_laws.specs.After.{IsSure, IsNext, is_refusal}
+use Rattle.command_laws.specs.After.{IsSure, Follows, is_refusal}
 use Rattle.command_laws.proofs.Known.{EndStatus, status-ended}
 use Rattle.command_laws.proofs.JobEnds.{unstarted-refused}
-use Rattle.command_laws.proofs.Images.{reads-image, image-firm, refused-keeps}
+use Rattle.command_laws.proofs.Images.{init-kept, reads-image, image-firm, refused-keeps}
 use Rattle.command_laws.proofs.Knowing.{known-good}
 
 -- ---- refusals
@@ -168,7 +168,7 @@ known-sure s records cells told S is stands handed = (let R = S.known.opened.rea
     (record { some = R.some; accepted = R.accepted; room = R.room; setup = refl; stands = stands })
     (let e = S.known.opened.enough in omega (arith, e, handed)))
 
-pub sure-next : (records : List Record) (new next : Seen) → IsSure new records → IsNext new next → IsSure next records
+pub sure-next : (records : List Record) (new next : Seen) → IsSure new records → Follows new next → IsSure next records
 sure-next records new next S N = elim N.disk [
   | inl same ↦ (let c = is_some-at new.disk S.known.tells in record {
     known = known-sure new records c.0 next S (same ∙ c.1)
@@ -185,3 +185,34 @@ sure-next records new next S N = elim N.disk [
     stopped-at None b tells stand g = absurd (false≢true tells)
     stopped-at (Some a) None tells stand g = absurd g
     stopped-at (Some a) (Some b) tells stand (image, of, is) = (image, ap Some is, stand image of)
+
+-- ---- commands that leave the store alone
+
+pub sure-same : (records : List Record) (old new : Seen) → new.disk ≡ old.disk → new.providers ≡ old.providers → IsSure old records → IsSure new records
+sure-same records old new same providers S = record {
+  known = record {
+    tells = ap is_some same ∙ S.known.tells;
+    opened = record { read = subst (λ d. IsRead d records) (sym same) S.known.opened.read; enough = subst (λ ps. (setup_at records).n ≤ length ps) (sym providers) S.known.opened.enough };
+  };
+  images = subst (λ d. EachImage d (λ image. StandsFor image records)) (sym same) S.images;
+}
+
+init-providers : (numbers : Numbers) (old new : Seen) (end : Ending) → AnswersInit numbers old new end → new.providers ≡ old.providers
+init-providers numbers old new end (AnswersInit.bad_setup bad same r) = r.providers
+init-providers numbers old new end (AnswersInit.too_few_providers good few same r) = r.providers
+init-providers numbers old new end (AnswersInit.source_fault good enough rose r) = r.providers
+init-providers numbers old new end (AnswersInit.bad_key bytes good enough read bad r) = r.providers
+init-providers numbers old new end (AnswersInit.no_memory r) = r.providers
+init-providers numbers old new end (AnswersInit.keyed bytes key good enough read form (InitsDisk.disk_fault rose F)) = F.providers
+init-providers numbers old new end (AnswersInit.keyed bytes key good enough read form (InitsDisk.no_memory F)) = F.providers
+init-providers numbers old new end (AnswersInit.keyed bytes key good enough read form (InitsDisk.bad_journal at is r)) = r.providers
+init-providers numbers old new end (AnswersInit.keyed bytes key good enough read form (InitsDisk.already is r)) = r.providers
+init-providers numbers old new end (AnswersInit.keyed bytes key good enough read form (InitsDisk.ready R)) = R.providers
+
+-- an init leaves a store that is set up
+pub sure-init : (numbers : Numbers) (records : List Record) (old new : Seen) (end : Ending) → AnswersInit numbers old new end → IsSure old records → is_some new.disk ≡ is_some old.disk → IsSure new records
+sure-init numbers records old new end A S tells =
+    (let images = images-kept old.disk new.disk records (init-kept numbers records old new end A S.known.opened.read.some S.images) S.known.tells S.images in
+    let c = is_some-at new.disk (tells ∙ S.known.tells) in
+    let stands : StandsFor (reads c.0) records = subst (λ d. EachImage d (λ image. StandsFor image records)) c.1 images (reads c.0) (reads-image c.0) in
+    record { known = known-sure old records c.0 new S c.1 stands (ap length (init-providers numbers old new end A)); images = images })

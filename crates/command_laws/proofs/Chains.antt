@@ -28,7 +28,7 @@ use Rattle.hail_commands.specs.Refusals.{refusal_of, takes_too_much}
 use Rattle.hail_commands.specs.Commands.{AnswersPut, AnswersAlone, Answers}
 use Rattle.sound_states.proofs.Records.{file-spelled}
 use Rattle.command_laws.specs.Ends.{IsDone, IsKnown, Gives, EndsWell, after_put, after_drop, after_audit, after_repair}
-use Rattle.command_laws.specs.After.{IsNext, IsThen, HasFile, IsUntouched, IsSteady, spoilt_below, IsFaultless}
+use Rattle.command_laws.specs.After.{Follows, IsThen, HasFile, IsUntouched, IsSteady, spoilt_below, IsFaultless}
 use Rattle.command_laws.specs.Opened.{IsKeyed}
 use Rattle.command_laws.proofs.Known.{known-once, known-always}
 use Rattle.command_laws.proofs.GetEnds.{seen-complete, seen-right}
@@ -63,7 +63,7 @@ get-missing name records old new end A K named none disk = elim (known-always (G
 
 -- ---- a get after a put
 
-pub put-get : (name bytes : List ℕ) (records : List Record) (spoilt : ℕ → Bool) (c d e f : Seen) (second last : Ending) → AnswersPut name c d second → AnswersAlone (GetJob name) e f last → IsNext d e → IsKnown c records →
+pub put-get : (name bytes : List ℕ) (records : List Record) (spoilt : ℕ → Bool) (c d e f : Seen) (second last : Ending) → AnswersPut name c d second → AnswersAlone (GetJob name) e f last → Follows d e → IsKnown c records →
     c.source ≡ Some bytes → IsDone second → ((j : ℕ) → spoilt j ≡ false → is_some (provider_at c.providers j).held ≡ true) → IsUntouched (setup_at records).n spoilt d e → IsSteady (setup_at records).n spoilt e f →
     spoilt_below (setup_at records).n spoilt ≤ (setup_at records).b → (Rose e.disk_faults f.disk_faults → ⊥) → (Rose e.sink_faults f.sink_faults → ⊥) → EndsWell bytes e f last
 put-get name bytes records spoilt c d e f second last P G N K source done tells untouched steady few disk sink =
@@ -73,7 +73,7 @@ put-get name bytes records spoilt c d e f second last P G N K source done tells 
     get-complete name bytes after spoilt e f last G sure.known file steady few disk sink)
 
 pub init-put-get : (numbers : Numbers) (key name bytes : List ℕ) (spoilt : ℕ → Bool) (a b c d e f : Seen) (first second last : Ending) → AnswersInit numbers a b first → AnswersPut name c d second → AnswersAlone (GetJob name) e f last →
-    IsNext b c → IsNext d e → is_some a.disk ≡ true → ((text : List ℕ) × (a.source ≡ Some text) × IsKeyForm text key) → c.source ≡ Some bytes → IsDone first → IsDone second →
+    Follows b c → Follows d e → is_some a.disk ≡ true → ((text : List ℕ) × (a.source ≡ Some text) × IsKeyForm text key) → c.source ≡ Some bytes → IsDone first → IsDone second →
     ((j : ℕ) → spoilt j ≡ false → is_some (provider_at c.providers j).held ≡ true) → IsUntouched numbers.n spoilt d e → IsSteady numbers.n spoilt e f → spoilt_below numbers.n spoilt ≤ numbers.b →
     (Rose e.disk_faults f.disk_faults → ⊥) → (Rose e.sink_faults f.sink_faults → ⊥) → EndsWell bytes e f last
 init-put-get numbers key name bytes spoilt a b c d e f first second last I P G N M told text source done also tells untouched steady few disk sink =
@@ -102,7 +102,7 @@ put-begins s name bytes named short =
     (λ i. cond (not (named i)) (Some refusal.BadName) (cond (long i) (Some refusal.TooLong) (cond (room i || false) (Some refusal.JournalFull) None))))
 
 pub all-whole : (numbers : Numbers) (key name bytes : List ℕ) (spoilt : ℕ → Bool) (cells : Cells) (a b c d e f : Seen) (first second last : Ending) → AnswersInit numbers a b first → AnswersPut name c d second →
-    AnswersAlone (GetJob name) e f last → IsNext b c → IsNext d e → a.disk ≡ Some cells → IsFree cells → IsKeyed numbers key a → c.source ≡ Some bytes → is_name name ≡ true → length bytes ≤ largest_file →
+    AnswersAlone (GetJob name) e f last → Follows b c → Follows d e → a.disk ≡ Some cells → IsFree cells → IsKeyed numbers key a → c.source ≡ Some bytes → is_name name ≡ true → length bytes ≤ largest_file →
     ((j : ℕ) → spoilt j ≡ false → is_some (provider_at c.providers j).held ≡ true) → IsUntouched numbers.n spoilt d e → IsSteady numbers.n spoilt e f → spoilt_below numbers.n spoilt ≤ numbers.b →
     IsFaultless a b → IsFaultless c d → IsFaultless e f → first.status ≢ 70 → second.status ≢ 70 → last.status ≢ 70 → (first.status ≡ 0) × (second.status ≡ 0) × Gives bytes e f last
 all-whole numbers key name bytes spoilt cells a b c d e f first second last I P G N M disk free K source named short tells untouched steady few calm quiet still some more most =
@@ -119,7 +119,7 @@ all-whole numbers key name bytes spoilt cells a b c d e f first second last I P 
 dropped-none : (records : List Record) (name : List ℕ) → file_of (after_drop records name) name ≡ None
 dropped-none records name = cond_true _ None (file_of records name) (same_name-refl name)
 
-pub drop-get : (name : List ℕ) (records : List Record) (c d e f : Seen) (second last : Ending) → AnswersAlone (DropJob name) c d second → AnswersAlone (GetJob name) e f last → IsNext d e → IsKnown c records → IsDone second →
+pub drop-get : (name : List ℕ) (records : List Record) (c d e f : Seen) (second last : Ending) → AnswersAlone (DropJob name) c d second → AnswersAlone (GetJob name) e f last → Follows d e → IsKnown c records → IsDone second →
     (Rose e.disk_faults f.disk_faults → ⊥) → (last.status ≡ 3) ⊎ (last.status ≡ 70)
 drop-get name records c d e f second last D G N K done disk =
     (let P = drop-done name c d second D done in
@@ -138,7 +138,7 @@ fewer name bytes records s spoilt later H less = record {
   right = λ j below clean. H.right j below (less j clean);
 }
 
-pub repair-get : (name bytes : List ℕ) (records : List Record) (spoilt later : ℕ → Bool) (due : Due) (c d e f : Seen) (second last : Ending) → AnswersAlone RepairJob c d second → AnswersAlone (GetJob name) e f last → IsNext d e →
+pub repair-get : (name bytes : List ℕ) (records : List Record) (spoilt later : ℕ → Bool) (due : Due) (c d e f : Seen) (second last : Ending) → AnswersAlone RepairJob c d second → AnswersAlone (GetJob name) e f last → Follows d e →
     IsKnown c records → due_of records ≡ Some due → HasFile c records name bytes spoilt → IsDone second → IsSteady (setup_at records).n spoilt c d → spoilt_below (setup_at records).n spoilt ≤ (setup_at records).b →
     ((j : ℕ) → is_flagged (setup_at records).tolerance due.counts j ≡ true → is_some (provider_at c.providers j).held ≡ true) →
     ((j : ℕ) → later j ≡ false → (spoilt j && not (is_flagged (setup_at records).tolerance due.counts j)) ≡ false) →
@@ -173,7 +173,7 @@ audit-then : (records : List Record) (undecided : ℕ) (counts : List ℕ) (c d 
 audit-then records undecided counts c d = inr (record { kind = AuditJob; of_command = refl; own = audit_records records undecided counts; are_own = (undecided, counts, refl); count = 2; after_is = refl })
 
 pub put-audit-repair-get : (name bytes : List ℕ) (records : List Record) (spoilt : ℕ → Bool) (a b c d e f g h : Seen) (first second third last : Ending) → AnswersPut name a b first → Answers AuditAll c d second →
-    AnswersAlone RepairJob e f third → AnswersAlone (GetJob name) g h last → IsNext b c → IsNext d e → IsNext f g → IsKnown a records → a.source ≡ Some bytes → IsDone first → IsDone second → IsDone third →
+    AnswersAlone RepairJob e f third → AnswersAlone (GetJob name) g h last → Follows b c → Follows d e → Follows f g → IsKnown a records → a.source ≡ Some bytes → IsDone first → IsDone second → IsDone third →
     ((j : ℕ) → spoilt j ≡ false → is_some (provider_at a.providers j).held ≡ true) → ((j : ℕ) → is_some (provider_at e.providers j).held ≡ true) →
     IsUntouched (setup_at records).n spoilt b c → IsUntouched (setup_at records).n spoilt d e → IsSteady (setup_at records).n spoilt e f → spoilt_below (setup_at records).n spoilt ≤ (setup_at records).b →
     (undecided : ℕ) × (counts : List ℕ) × IsTold (audit_lines (setup_at records).tolerance (next_audit records) undecided counts) c d second

@@ -35,7 +35,7 @@ use Rattle.hail_commands.specs.Commands.{AnswersPut, AnswersAlone, AnswersList, 
 use Rattle.sound_states.proofs.Records.{is_some-at}
 use Rattle.command_laws.specs.Ends.{IsDone, IsKnown, IsJobOf, DiskHas, opens_store, after_put, after_drop, after_audit, after_repair}
 use Rattle.command_laws.specs.Kept.{IsAfter, after_start}
-use Rattle.command_laws.specs.After.{IsSure, IsNext, IsThen}
+use Rattle.command_laws.specs.After.{IsSure, Follows, IsThen}
 use Rattle.command_laws.proofs.Known.{known-once, alone-known, unstarted-known, refused-not}
 use Rattle.command_laws.proofs.JobEnds.{put-done, drop-done, audit-done, repair-done}
 use Rattle.command_laws.proofs.GetEnds.{ran_left}
@@ -322,7 +322,7 @@ image-told command records old new image rs G (inr (kind, is, after)) = (
 )
 
 -- the next command finds an image of the disk
-pub next-image : (new next : Seen) → is_some new.disk ≡ true → IsNext new next → (cells : Cells) × (next.disk ≡ Some cells) × ((P : List ℕ → Type 0) → EachImage new.disk P → P (reads cells))
+pub next-image : (new next : Seen) → is_some new.disk ≡ true → Follows new next → (cells : Cells) × (next.disk ≡ Some cells) × ((P : List ℕ → Type 0) → EachImage new.disk P → P (reads cells))
 next-image new next tells N = elim N.disk [
   | inl same ↦ (let c = is_some-at new.disk tells in (c.0, same ∙ c.1, λ P h. subst (λ d. EachImage d P) c.1 h (reads c.0) (reads-image c.0)))
   | inr stopped ↦ stopped-at new.disk next.disk tells stopped
@@ -334,7 +334,7 @@ next-image new next tells N = elim N.disk [
     stopped-at (Some a) (Some b) tells (image, of, is) = (firm image, ap Some is, λ P h. subst P (sym (reads-firm image)) (h image of))
 
 pub known-always : (command : Command) (records : List Record) (old new next : Seen) (end : Ending) → Answers command old new end → opens_store command ≡ true → IsSure old records →
-    IsNext new next → (after : List Record) × IsKnown next after × IsThen command records old new after
+    Follows new next → (after : List Record) × IsKnown next after × IsThen command records old new after
 known-always command records old new next end A opens S N = elim (command-comes command records old new end S.known A opens) [
   | inl sure ↦ (records, (sure-next records new next sure N).known, inl refl)
   | inr (inl (status, at, r)) ↦ (records, (sure-next records new next (sure-refused status at records old new end r S) N).known, inl refl)

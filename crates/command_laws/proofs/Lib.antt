@@ -42,4 +42,6 @@ pub mod FilesStay
 pub mod FilesKept
 pub mod PutInEffect
 pub mod RepairInEffect
+pub mod AuditInEffect
 pub mod Chains
+pub mod Emptied

@@ -25,7 +25,7 @@ use Rattle.hail_commands.specs.Puts.{put_records, PutIsCut, PutLeaves}
 use Rattle.hail_commands.specs.Jobs.{AnswersJob, LeftAlone}
 use Rattle.hail_commands.specs.Commands.{AnswersPut}
 use Rattle.command_laws.specs.Ends.{IsKnown, after_put}
-use Rattle.command_laws.specs.After.{IsSure, IsNext, HasFile}
+use Rattle.command_laws.specs.After.{IsSure, Follows, HasFile}
 use Rattle.command_laws.proofs.Known.{known-once}
 use Rattle.command_laws.proofs.GetEnds.{ran_left}
 use Rattle.command_laws.proofs.JobEnds.{unstarted-refused, not-long, put-in_effect}
@@ -35,7 +35,7 @@ use Rattle.command_laws.proofs.DoneStores.{next-image, whole-read}
 use Rattle.command_laws.proofs.FilesStay.{stored-right}
 
 -- a disk that the next command finds told before
-pub tells-back : (new next : Seen) → IsNext new next → is_some next.disk ≡ true → is_some new.disk ≡ true
+pub tells-back : (new next : Seen) → Follows new next → is_some next.disk ≡ true → is_some new.disk ≡ true
 tells-back new next N tells = elim N.disk [
   | inl same ↦ ap is_some (sym same) ∙ tells
   | inr stopped ↦ stopped-at new.disk next.disk tells stopped
@@ -46,7 +46,7 @@ tells-back new next N tells = elim N.disk [
     stopped-at None (Some b) told g = absurd g
     stopped-at (Some a) b told g = refl
 
-module _ (name bytes : List ℕ) (records : List Record) (spoilt : ℕ → Bool) (old new next : Seen) (end : Ending) (S : IsSure old records) (N : IsNext new next)
+module _ (name bytes : List ℕ) (records : List Record) (spoilt : ℕ → Bool) (old new next : Seen) (end : Ending) (S : IsSure old records) (N : Follows new next)
     (F : IsKnown next (after_put records name (length bytes))) (tells : (j : ℕ) → spoilt j ≡ false → is_some (provider_at old.providers j).held ≡ true) where
   -- an image stands for fewer records than those with both of the put
   abbrev Fewer : List ℕ → Type 0
@@ -129,7 +129,7 @@ module _ (name bytes : List ℕ) (records : List Record) (spoilt : ℕ → Bool)
 -- ---- the command
 
 pub put-in-effect : (name bytes : List ℕ) (records : List Record) (spoilt : ℕ → Bool) (old new next : Seen) (end : Ending) → AnswersPut name old new end → IsSure old records → old.source ≡ Some bytes →
-    IsNext new next → IsKnown next (after_put records name (length bytes)) → ((j : ℕ) → spoilt j ≡ false → is_some (provider_at old.providers j).held ≡ true) → HasFile new (after_put records name (length bytes)) name bytes spoilt
+    Follows new next → IsKnown next (after_put records name (length bytes)) → ((j : ℕ) → spoilt j ≡ false → is_some (provider_at old.providers j).held ≡ true) → HasFile new (after_put records name (length bytes)) name bytes spoilt
 put-in-effect name bytes records spoilt old new next end (AnswersPut.unstarted u same) S source N F tells = absurd (let r = unstarted-refused old new end u in refused-not name bytes records spoilt old new next end S N F tells r.0 r.1 r.3)
 put-in-effect name bytes records spoilt old new next end (AnswersPut.source_fault rs opened rose synced r) S source N F tells = absurd (refused-not name bytes records spoilt old new next end S N F tells 14 0 r)
 put-in-effect name bytes records spoilt old new next end (AnswersPut.no_memory r) S source N F tells = absurd (refused-not name bytes records spoilt old new next end S N F tells 70 0 r)

@@ -23,7 +23,7 @@ use Rattle.hail_commands.specs.Jobs.{AnswersJob, LeftAlone}
 use Rattle.hail_commands.specs.Commands.{AnswersAlone}
 use Rattle.command_laws.specs.Failing.{bad_seen}
 use Rattle.command_laws.specs.Ends.{IsKnown, after_repair}
-use Rattle.command_laws.specs.After.{is_wrong_told, IsSure, IsNext, HasFile, IsSteady, spoilt_below}
+use Rattle.command_laws.specs.After.{is_wrong_told, IsSure, Follows, HasFile, IsSteady, spoilt_below}
 use Rattle.command_laws.proofs.Known.{known-once}
 use Rattle.command_laws.proofs.GetEnds.{shape-at, ran_left}
 use Rattle.command_laws.proofs.JobEnds.{unstarted-refused}
@@ -35,7 +35,7 @@ use Rattle.command_laws.proofs.FilesStay.{bad-few}
 use Rattle.command_laws.proofs.FilesKept.{wrong-same, flag-off, goes-tells, columns-right, and-off}
 use Rattle.command_laws.proofs.PutInEffect.{tells-back}
 
-module _ (name bytes : List ℕ) (records : List Record) (due : Due) (spoilt : ℕ → Bool) (old new next : Seen) (end : Ending) (S : IsSure old records) (is_due : due_of records ≡ Some due) (N : IsNext new next)
+module _ (name bytes : List ℕ) (records : List Record) (due : Due) (spoilt : ℕ → Bool) (old new next : Seen) (end : Ending) (S : IsSure old records) (is_due : due_of records ≡ Some due) (N : Follows new next)
     (F : IsKnown next (after_repair records due)) (H : HasFile old records name bytes spoilt) (steady : IsSteady (setup_at records).n spoilt old new) (few : spoilt_below (setup_at records).n spoilt ≤ (setup_at records).b)
     (tells : (j : ℕ) → is_flagged (setup_at records).tolerance due.counts j ≡ true → is_some (provider_at old.providers j).held ≡ true) where
   -- the file, right also on each flagged provider

@@ -1,7 +1,7 @@
 -- What stands between two commands: which records the store has, and which providers are right for a file.
 --
 --   IsSure s records           == the store is known, and whatever a stop leaves of its disk stands for these records
---   IsNext new next            == the next command finds the disk as the last one left it, or as a stop then left it, and as many providers
+--   Follows new next           == the next command finds the disk as the last one left it, or as a stop then left it, and as many providers
 --   IsThen command records old new after == the records after a command: those before it, or these with the first few of its job's
 --   is_refusal status          == the status tells that a command was refused, or that its source failed
 --   is_wrong_at records s id bytes j == provider j is wrong for an object of these bytes, or does not tell what it holds
@@ -38,7 +38,7 @@ pub record IsSure (s : Seen) (records : List Record) : Type 0 where
   pub images : DiskHas records s
 
 -- the next command finds the disk as the last one left it, or as a stop then left it, and as many providers
-pub record IsNext (new next : Seen) : Type 0 where
+pub record Follows (new next : Seen) : Type 0 where
   pub disk : (next.disk ≡ new.disk) ⊎ Goes Stopped new.disk next.disk
   pub handed : length next.providers ≡ length new.providers
 

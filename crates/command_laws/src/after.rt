@@ -1,31 +1,33 @@
 //! What a user may believe between two commands: the store is known again, by the status of the last one, and so the next one is
 //! spoken of. No run of a job and no state stands in these clauses.
-ghost use Rattle.std.specs.Prelude.{◌≡◌, ◌≢◌, ◌⊎◌, ℕ, ◌+◌, ◌≤◌, ◌&&◌, true, false, Bool, not, List, [], ◌∷◌, length, Some, None, is_some};
+ghost use Rattle.std.specs.Prelude.{◌≡◌, ◌≢◌, ◌⊎◌, ℕ, ◌+◌, ◌≤◌, ◌&&◌, true, false, Bool, not, List, [], ◌∷◌, length, Option, Some, None, is_some};
 ghost use Rattle.hail_columns.specs.Verdicts.{is_flagged};
 ghost use Rattle.hail_devices.specs.Cells.{Cells};
 ghost use Rattle.hail_devices.specs.Faults.{Rose};
 ghost use Rattle.hail_devices.specs.Told.{told_then};
 ghost use Rattle.hail_records.specs.Records.{Record, SetUp, is_name, largest_file};
-ghost use Rattle.hail_records.specs.Table.{Due, next_audit, file_of, due_of};
-ghost use Rattle.hail_commands.specs.Forms.{Command, Numbers, InitWith, PutUnder, GetOf, DropOf, ListAll, AuditAll, RepairDue};
+ghost use Rattle.hail_records.specs.Table.{File, Due, next_audit, file_of, due_of};
+ghost use Rattle.hail_commands.specs.Forms.{Command, Numbers, RowOf, InitWith, PutUnder, GetOf, DropOf, ListAll, AuditAll, RepairDue};
 ghost use Rattle.hail_commands.specs.Keys.{IsKeyForm};
 ghost use Rattle.hail_commands.specs.Seen.{Seen, Ending, IsRefused, provider_at};
 ghost use Rattle.hail_commands.specs.Openings.{IsFree};
 ghost use Rattle.hail_commands.specs.Opens.{setup_at};
 ghost use Rattle.hail_commands.specs.Inits.{setup_with};
 ghost use Rattle.hail_commands.specs.Lines.{audit_lines};
+ghost use Rattle.hail_commands.specs.Audits.{HearsRounds, CountsHeard};
 ghost use Rattle.hail_commands.specs.Jobs.{IsTold};
-ghost use Rattle.hail_commands.specs.Commands.{Answers};
-ghost use Rattle.command_laws.specs.Ends.{IsDone, IsKnown, Gives, EndsWell, opens_store, after_put, after_drop, after_audit, after_repair};
-ghost use Rattle.command_laws.specs.After.{IsSure, IsNext, IsThen, is_refusal, HasFile, IsUntouched, IsSteady, spoilt_below, IsFaultless, keeps_blocks, IsOther};
+ghost use Rattle.hail_commands.specs.Commands.{Answers, IsUsage};
+ghost use Rattle.command_laws.specs.Ends.{IsDone, IsKnown, Gives, EndsWell, opens_store, after_put, after_drop, after_audit, after_repair, ran_to};
+ghost use Rattle.command_laws.specs.After.{IsSure, Follows, IsThen, is_refusal, HasFile, IsUntouched, IsSteady, spoilt_below, IsFaultless, keeps_blocks, IsOther};
 ghost use Rattle.command_laws.specs.Kept.{after_start};
 ghost use Rattle.command_laws.specs.Opened.{IsKeyed};
 
 /// A store that is known stays known, whatever comes of a command, and a stop after it: its records are those before, or these with the
-/// first few of those that the job of the command appends. After a refusal they are those before, and nothing has changed.
+/// first few of those that the job of the command appends. After a refusal they are those before, and nothing has changed; nor has it after a
+/// row, after words that are no command, and after an init, whatever comes of it.
 pub fn stores_stay_known()
     ensures always { (command : Command) (records : List Record) (old new next : Seen) (end : Ending) → Answers command old new end →
-        opens_store command ≡ true → IsSure old records → IsNext new next →
+        opens_store command ≡ true → IsSure old records → Follows new next →
         (after : List Record) × IsKnown next after × IsThen command records old new after }
     ensures refusal { (command : Command) (old new : Seen) (end : Ending) → Answers command old new end → is_refusal end.status ≡ true →
         IsRefused end.status end.at old new end }
@@ -33,7 +35,12 @@ pub fn stores_stay_known()
         IsKnown old records → IsKnown new records }
     ensures refused_sure { (status at : ℕ) (records : List Record) (old new : Seen) (end : Ending) → IsRefused status at old new end →
         IsSure old records → IsSure new records }
-    ensures next { (records : List Record) (new next : Seen) → IsSure new records → IsNext new next → IsSure next records }
+    ensures next { (records : List Record) (new next : Seen) → IsSure new records → Follows new next → IsSure next records }
+    ensures init { (numbers : Numbers) (records : List Record) (old new : Seen) (end : Ending) → Answers (InitWith numbers) old new end →
+        IsSure old records → is_some new.disk ≡ is_some old.disk → IsSure new records }
+    ensures row { (n l b : ℕ) (seen : List (Option ℕ)) (records : List Record) (old new : Seen) (end : Ending) →
+        Answers (RowOf n l b seen) old new end → IsSure old records → IsSure new records }
+    ensures usage { (records : List Record) (old new : Seen) (end : Ending) → IsUsage old new end → IsSure old records → IsSure new records }
 {}
 
 /// After a command that is done, and after 4 or 13, the store is known, with the records that are said; and no stop harms it.
@@ -60,18 +67,18 @@ pub fn done_commands_leave_known_stores()
         (end.status ≡ 4) ⊎ (end.status ≡ 13) → IsKnown old records → IsSure new records }
 {}
 
-/// A put that is done leaves its file, right on every provider that tells what it holds, and so does one that was cut off or found no memory,
-/// where the next command finds it in effect. Between two commands it stays so on each provider
-/// that nobody touches. A get, a list, an audit, a put and a drop of another name leave it as it is, whatever comes of them, and so does a
-/// refusal. A repair that is done makes each flagged provider right for it, where at most b providers are spoilt or fail; so does
-/// one that was cut off, where the next command finds its end in effect.
+/// A put that is done leaves its file, right on every provider that tells what it holds, and so does one that was cut off or found no
+/// memory, where the next command finds its end in effect. Between two commands the file stays so on each provider that nobody touches. A
+/// get, a list, an audit, a put and a drop of another name leave it as it is, whatever comes of them, and so does a refusal. A repair that is
+/// done makes each flagged provider right for it, where at most b providers are spoilt or fail; so does one that was cut off, where the next
+/// command finds its end in effect.
 pub fn files_stay()
     ensures put { (name bytes : List ℕ) (records : List Record) (spoilt : ℕ → Bool) (old new : Seen) (end : Ending) →
         Answers (PutUnder name) old new end → IsDone end → IsKnown old records → old.source ≡ Some bytes →
         ((j : ℕ) → spoilt j ≡ false → is_some (provider_at old.providers j).held ≡ true) →
         HasFile new (after_put records name (length bytes)) name bytes spoilt }
     ensures put_in_effect { (name bytes : List ℕ) (records : List Record) (spoilt : ℕ → Bool) (old new next : Seen) (end : Ending) →
-        Answers (PutUnder name) old new end → IsSure old records → old.source ≡ Some bytes → IsNext new next →
+        Answers (PutUnder name) old new end → IsSure old records → old.source ≡ Some bytes → Follows new next →
         IsKnown next (after_put records name (length bytes)) →
         ((j : ℕ) → spoilt j ≡ false → is_some (provider_at old.providers j).held ≡ true) →
         HasFile new (after_put records name (length bytes)) name bytes spoilt }
@@ -91,16 +98,25 @@ pub fn files_stay()
         ((j : ℕ) → is_flagged (setup_at records).tolerance due.counts j ≡ true → is_some (provider_at old.providers j).held ≡ true) →
         HasFile new (after_repair records due) name bytes (λ j. spoilt j && not (is_flagged (setup_at records).tolerance due.counts j)) }
     ensures repair_in_effect { (name bytes : List ℕ) (records : List Record) (due : Due) (spoilt : ℕ → Bool) (old new next : Seen) (end : Ending) →
-        Answers RepairDue old new end → IsSure old records → due_of records ≡ Some due → IsNext new next →
+        Answers RepairDue old new end → IsSure old records → due_of records ≡ Some due → Follows new next →
         IsKnown next (after_repair records due) → HasFile old records name bytes spoilt →
         IsSteady (setup_at records).n spoilt old new → spoilt_below (setup_at records).n spoilt ≤ (setup_at records).b →
         ((j : ℕ) → is_flagged (setup_at records).tolerance due.counts j ≡ true → is_some (provider_at old.providers j).held ≡ true) →
         HasFile new (after_repair records due) name bytes (λ j. spoilt j && not (is_flagged (setup_at records).tolerance due.counts j)) }
 {}
 
+/// However an audit ended, where the next command finds its end in effect, it has asked each question of each provider, and its counts are the
+/// verdicts on what it heard.
+pub fn audits_in_effect_count_what_they_heard()
+    ensures { (records : List Record) (undecided : ℕ) (counts : List ℕ) (old new next : Seen) (end : Ending) → Answers AuditAll old new end →
+        IsSure old records → Follows new next → IsKnown next (after_audit records undecided counts) →
+        HearsRounds (ran_to (after_audit records undecided counts) records old new end.heard) (next_audit records)
+        × CountsHeard (ran_to (after_audit records undecided counts) records old new end.heard) (next_audit records) undecided counts }
+{}
+
 /// A get of such a file gives its bytes, or finds no memory, where at most b providers are spoilt or fail in it, unless the disk or the sink
 /// failed; with at most b + 1 of them status 0 means that it gave its bytes. A get of a name that has no file ends with 3, or finds no
-/// memory, unless the disk failed.
+/// memory, unless the disk failed. A get of an empty file never ends in a fault of the sink.
 pub fn gets_tell_what_stands()
     ensures complete { (name bytes : List ℕ) (records : List Record) (spoilt : ℕ → Bool) (old new : Seen) (end : Ending) →
         Answers (GetOf name) old new end → IsKnown old records → HasFile old records name bytes spoilt →
@@ -113,6 +129,8 @@ pub fn gets_tell_what_stands()
     ensures missing { (name : List ℕ) (records : List Record) (old new : Seen) (end : Ending) → Answers (GetOf name) old new end →
         IsKnown old records → is_name name ≡ true → file_of records name ≡ None → (Rose old.disk_faults new.disk_faults → ⊥) →
         (end.status ≡ 3) ⊎ (end.status ≡ 70) }
+    ensures empty { (name : List ℕ) (records : List Record) (file : File) (old new : Seen) (end : Ending) → Answers (GetOf name) old new end →
+        IsKnown old records → file_of records name ≡ Some file → file.size ≡ 0 → end.status ≢ 15 }
 {}
 
 /// An init, a put and a get over the same devices, where at most b providers are spoilt since the put or fail in the get: the get gives the
@@ -121,29 +139,29 @@ pub fn gets_tell_what_stands()
 /// after a put, an audit and a repair it gives the bytes of the put though others are spoilt by then than those that were flagged.
 pub fn put_files_are_got()
     ensures whole { (numbers : Numbers) (key name bytes : List ℕ) (spoilt : ℕ → Bool) (cells : Cells) (a b c d e f : Seen) (first second last : Ending) →
-        Answers (InitWith numbers) a b first → Answers (PutUnder name) c d second → Answers (GetOf name) e f last → IsNext b c → IsNext d e →
+        Answers (InitWith numbers) a b first → Answers (PutUnder name) c d second → Answers (GetOf name) e f last → Follows b c → Follows d e →
         a.disk ≡ Some cells → IsFree cells → IsKeyed numbers key a → c.source ≡ Some bytes → is_name name ≡ true → length bytes ≤ largest_file →
         ((j : ℕ) → spoilt j ≡ false → is_some (provider_at c.providers j).held ≡ true) →
         IsUntouched numbers.n spoilt d e → IsSteady numbers.n spoilt e f → spoilt_below numbers.n spoilt ≤ numbers.b →
         IsFaultless a b → IsFaultless c d → IsFaultless e f → first.status ≢ 70 → second.status ≢ 70 → last.status ≢ 70 →
         (first.status ≡ 0) × (second.status ≡ 0) × Gives bytes e f last }
     ensures got { (numbers : Numbers) (key name bytes : List ℕ) (spoilt : ℕ → Bool) (a b c d e f : Seen) (first second last : Ending) →
-        Answers (InitWith numbers) a b first → Answers (PutUnder name) c d second → Answers (GetOf name) e f last → IsNext b c → IsNext d e →
+        Answers (InitWith numbers) a b first → Answers (PutUnder name) c d second → Answers (GetOf name) e f last → Follows b c → Follows d e →
         is_some a.disk ≡ true → ((text : List ℕ) × (a.source ≡ Some text) × IsKeyForm text key) → c.source ≡ Some bytes →
         IsDone first → IsDone second → ((j : ℕ) → spoilt j ≡ false → is_some (provider_at c.providers j).held ≡ true) →
         IsUntouched numbers.n spoilt d e → IsSteady numbers.n spoilt e f → spoilt_below numbers.n spoilt ≤ numbers.b →
         (Rose e.disk_faults f.disk_faults → ⊥) → (Rose e.sink_faults f.sink_faults → ⊥) → EndsWell bytes e f last }
     ensures again { (name bytes : List ℕ) (records : List Record) (spoilt : ℕ → Bool) (c d e f : Seen) (second last : Ending) →
-        Answers (PutUnder name) c d second → Answers (GetOf name) e f last → IsNext d e → IsKnown c records → c.source ≡ Some bytes →
+        Answers (PutUnder name) c d second → Answers (GetOf name) e f last → Follows d e → IsKnown c records → c.source ≡ Some bytes →
         IsDone second → ((j : ℕ) → spoilt j ≡ false → is_some (provider_at c.providers j).held ≡ true) →
         IsUntouched (setup_at records).n spoilt d e → IsSteady (setup_at records).n spoilt e f →
         spoilt_below (setup_at records).n spoilt ≤ (setup_at records).b →
         (Rose e.disk_faults f.disk_faults → ⊥) → (Rose e.sink_faults f.sink_faults → ⊥) → EndsWell bytes e f last }
     ensures dropped { (name : List ℕ) (records : List Record) (c d e f : Seen) (second last : Ending) → Answers (DropOf name) c d second →
-        Answers (GetOf name) e f last → IsNext d e → IsKnown c records → IsDone second → (Rose e.disk_faults f.disk_faults → ⊥) →
+        Answers (GetOf name) e f last → Follows d e → IsKnown c records → IsDone second → (Rose e.disk_faults f.disk_faults → ⊥) →
         (last.status ≡ 3) ⊎ (last.status ≡ 70) }
     ensures repaired { (name bytes : List ℕ) (records : List Record) (spoilt later : ℕ → Bool) (due : Due) (c d e f : Seen) (second last : Ending) →
-        Answers RepairDue c d second → Answers (GetOf name) e f last → IsNext d e → IsKnown c records → due_of records ≡ Some due →
+        Answers RepairDue c d second → Answers (GetOf name) e f last → Follows d e → IsKnown c records → due_of records ≡ Some due →
         HasFile c records name bytes spoilt → IsDone second → IsSteady (setup_at records).n spoilt c d →
         spoilt_below (setup_at records).n spoilt ≤ (setup_at records).b →
         ((j : ℕ) → is_flagged (setup_at records).tolerance due.counts j ≡ true → is_some (provider_at c.providers j).held ≡ true) →
@@ -153,7 +171,7 @@ pub fn put_files_are_got()
         (Rose e.disk_faults f.disk_faults → ⊥) → (Rose e.sink_faults f.sink_faults → ⊥) → EndsWell bytes e f last }
     ensures mended { (name bytes : List ℕ) (records : List Record) (spoilt : ℕ → Bool) (a b c d e f g h : Seen) (first second third last : Ending) →
         Answers (PutUnder name) a b first → Answers AuditAll c d second → Answers RepairDue e f third → Answers (GetOf name) g h last →
-        IsNext b c → IsNext d e → IsNext f g → IsKnown a records → a.source ≡ Some bytes → IsDone first → IsDone second → IsDone third →
+        Follows b c → Follows d e → Follows f g → IsKnown a records → a.source ≡ Some bytes → IsDone first → IsDone second → IsDone third →
         ((j : ℕ) → spoilt j ≡ false → is_some (provider_at a.providers j).held ≡ true) →
         ((j : ℕ) → is_some (provider_at e.providers j).held ≡ true) →
         IsUntouched (setup_at records).n spoilt b c → IsUntouched (setup_at records).n spoilt d e → IsSteady (setup_at records).n spoilt e f →

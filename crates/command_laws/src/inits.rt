@@ -1,5 +1,5 @@
 //! What a user may believe of `init` and `list`, from their status and the counts of the devices.
-ghost use Rattle.std.specs.Prelude.{◌≡◌, ◌⊎◌, ℕ, ◌<◌, ◌≤◌, true, false, List, [], length, Some};
+ghost use Rattle.std.specs.Prelude.{◌≡◌, ◌≢◌, ◌⊎◌, ℕ, ◌<◌, ◌≤◌, true, false, List, [], length, Some};
 ghost use Rattle.hail_devices.specs.Cells.{Cells};
 ghost use Rattle.hail_devices.specs.Faults.{Rose};
 ghost use Rattle.hail_records.specs.Records.{Record, is_setup};
@@ -57,10 +57,12 @@ pub fn init_refusals_are_exact()
 {}
 
 /// A list of status 0 or 15 has written the lines of the files in effect, or a part of them at 15. Over a disk that tells a list ends with
-/// all of them, or finds no memory, unless the disk or the sink failed.
+/// all of them, or finds no memory, unless the disk or the sink failed; where there is no file, never in a fault of the sink.
 pub fn lists_give_the_files()
     ensures done { (old new : Seen) (end : Ending) → Answers ListAll old new end → IsDone end → IsListed old new end }
     ensures ends_well { (records : List Record) (old new : Seen) (end : Ending) → Answers ListAll old new end → IsKnown old records →
         (Rose old.disk_faults new.disk_faults → ⊥) → (Rose old.sink_faults new.sink_faults → ⊥) →
         EndsWell (list_lines (files_of records)) old new end }
+    ensures empty { (records : List Record) (old new : Seen) (end : Ending) → Answers ListAll old new end → IsKnown old records →
+        files_of records ≡ [] → end.status ≢ 15 }
 {}
