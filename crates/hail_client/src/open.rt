@@ -1,0 +1,90 @@
+ghost use Rattle.std.specs.Prelude.{◌≡◌, ℕ, List, IsSome, IsErrOf, is_some, length};
+ghost use Rattle.hail_devices.specs.Faults.{HasCause};
+ghost use Rattle.hail_devices.specs.Providers.{Provider};
+ghost use Rattle.hail_devices.specs.Told.{Goes};
+ghost use Rattle.hail_machine.specs.Events.{Init, Reopen, Stop, Stopped};
+ghost use Rattle.hail_machine.specs.States.{State};
+ghost use Rattle.record_codec.specs.Entries.{with_master};
+ghost use Rattle.vault.specs.Devices.{devices};
+ghost use Rattle.vault.specs.Openings.{IsResynced};
+ghost use Rattle.vault.specs.Outcomes.{init_outcome};
+ghost use Rattle.hail_client.specs.Client.{next_job_of};
+ghost use Rattle.hail_client.specs.Outcomes.{reopen_outcome};
+ghost use Rattle.hail_client.specs.Stands.{ClientStands, Makes};
+
+use crate::begin::bytes_are_bytes;
+use crate::client::Client;
+use crate::fault::ReopenFault;
+use disk_model::Disk;
+use key_schedule::Master;
+use record_codec::Setup;
+use std::alloc::Global;
+use vault::{InitFault, Vault, init};
+
+impl Client {
+    /// Sets a store up on a disk; refused where a vault is open, with the disk left alone.
+    pub fn init<D: Disk>(
+        &self,
+        alloc: Global,
+        setup: &Setup,
+        master: &Master,
+        disk: &mut D,
+    ) -> Result<(), InitFault>
+        ensures machine { (w : State) (providers : List Provider) (moment : ℕ) → IsSome (D.holds disk.old)
+            → ClientStands self.now (devices (D.holds disk.old) (D.faults disk.old) providers) w
+            → Makes w moment (Init (with_master setup.now master.now.0)) (init_outcome result) self.now
+            (devices (D.holds disk.new) (D.faults disk.new) providers) }
+        ensures tells { is_some (D.holds disk.new) ≡ is_some (D.holds disk.old) }
+    {
+        bytes_are_bytes(&master.0);
+        if self.vault.is_some() {
+            return Err(InitFault::Already);
+        }
+        init(alloc, disk, master, setup)
+    }
+
+    /// Gives up an open vault with its jobs, and opens one over what the disk reads, where so many providers are handed in. Job
+    /// numbers go on. After an error no vault is open.
+    pub fn reopen<D: Disk>(
+        &mut self,
+        alloc: Global,
+        disk: &mut D,
+        handed: usize,
+    ) -> Result<(), ReopenFault>
+        ensures machine { (w : State) (providers : List Provider) (moment : ℕ) → IsSome (D.holds disk.old) → length providers ≡ handed
+            → ClientStands self.old (devices (D.holds disk.old) (D.faults disk.old) providers) w
+            → Makes w moment Reopen (reopen_outcome result) self.new (devices (D.holds disk.new) (D.faults disk.new) providers) }
+        ensures next_job { next_job_of self.new ≡ next_job_of self.old }
+        ensures disk { Goes IsResynced (D.holds disk.old) (D.holds disk.new) }
+    {
+        self.give_up();
+        let vault = Vault::start(alloc, disk, self.next_job)?;
+        if handed < usize::from(vault.setup().n) {
+            return Err(ReopenFault::TooFewProviders);
+        }
+        self.vault = Some(vault);
+        Ok(())
+    }
+
+    /// Gives up an open vault with its jobs, and stops the disk, of which one of its images is left: a disk in memory makes it by
+    /// the picks.
+    pub fn stop<D: Disk>(&mut self, disk: &mut D, picks: &[u8])
+        ensures machine { (w : State) (providers : List Provider) (moment : ℕ)
+            → ClientStands self.old (devices (D.holds disk.old) (D.faults disk.old) providers) w
+            → Makes w moment (Stop picks.now) Stopped self.new (devices (D.holds disk.new) (D.faults disk.new) providers) }
+        ensures next_job { next_job_of self.new ≡ next_job_of self.old }
+        ensures tells { is_some (D.holds disk.new) ≡ is_some (D.holds disk.old) }
+    {
+        bytes_are_bytes(picks);
+        self.give_up();
+        disk.stop(picks);
+    }
+
+    /// Gives up an open vault with its jobs.
+    fn give_up(&mut self)
+        ensures closed { self.new ≡ record { vault = None; next_job = next_job_of self.old } }
+    {
+        self.next_job = self.next_job();
+        self.vault = None;
+    }
+}
