@@ -5,3 +5,5 @@ pub mod Settled
 pub mod Stopped
 pub mod Refused
 pub mod Reopened
+pub mod Fresh
+pub mod Begun

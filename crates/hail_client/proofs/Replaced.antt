@@ -44,6 +44,7 @@ module _ (holds : Option Cells) (faults : ℕ) (ps qs : List Provider) (w : Stat
   after = record w { providers = providers }
 
   stands-open : (v : Vault) → Stands v (devices holds faults ps) w → AreHanded qs after → IsSound 8 after → Stands v (devices holds faults qs) after
+  unfolding setup_in
   stands-open v S handed sound =
       let same : setup_in after ≡ setup_in w = setup_same w after refl in
       record {

@@ -1,10 +1,9 @@
-ghost use Rattle.std.specs.Prelude.{◌≡◌, ℕ, IfSome};
-ghost use Rattle.std.specs.Option.{option_map, option_copied};
-ghost use Rattle.hail_machine.specs.Events.{Names, IsSpelledKind};
+ghost use Rattle.std.specs.Prelude.{◌≡◌, ℕ, option_copied};
+ghost use Rattle.hail_machine.specs.Events.{Names};
 ghost use Rattle.hail_machine.specs.States.{State, IsStart, continued};
 ghost use Rattle.sound_states.specs.Sound.{IsSound};
 ghost use Rattle.vault.specs.Devices.{Devices, AreDevices};
-ghost use Rattle.hail_client.specs.Client.{next_job_of, uses, is_open, files_of};
+ghost use Rattle.hail_client.specs.Client.{next_job_of, uses};
 ghost use Rattle.hail_client.specs.Outcomes.{names_outcome};
 ghost use Rattle.hail_client.specs.Stands.{ClientStands, Makes};
 
@@ -58,6 +57,9 @@ impl Client {
         ensures machine { (w : State) (d : Devices) (moment : ℕ) → ClientStands self.now d w
             → Makes w moment Names (names_outcome (option_copied result)) self.now d }
     {
-        self.vault.as_ref().map(Vault::table)
+        match &self.vault {
+            Some(vault) => Some(vault.table()),
+            None => None,
+        }
     }
 }

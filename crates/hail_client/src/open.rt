@@ -1,8 +1,8 @@
-ghost use Rattle.std.specs.Prelude.{◌≡◌, ℕ, List, IsSome, IsErrOf, is_some, length};
-ghost use Rattle.hail_devices.specs.Faults.{HasCause};
+ghost use Rattle.std.specs.Prelude.{◌≡◌, ℕ, List, IsSome, IsTrue, is_some, length};
 ghost use Rattle.hail_devices.specs.Providers.{Provider};
 ghost use Rattle.hail_devices.specs.Told.{Goes};
-ghost use Rattle.hail_machine.specs.Events.{Init, Reopen, Stop, Stopped};
+ghost use Rattle.hail_machine.specs.Events.{Init, Reopen, Stop, Stopped, IsSpelled};
+ghost use Rattle.hail_records.specs.Records.{is_master};
 ghost use Rattle.hail_machine.specs.States.{State};
 ghost use Rattle.record_codec.specs.Entries.{with_master};
 ghost use Rattle.vault.specs.Devices.{devices};
@@ -21,6 +21,20 @@ use record_codec::Setup;
 use std::alloc::Global;
 use vault::{InitFault, Vault, init};
 
+/// A key is one of the grammar.
+fn key_is_spelled(key: &[u8])
+    requires { length key.now ≡ 32 }
+    ensures { IsTrue (is_master key.now) }
+{}
+
+/// The numbers of a setup and its key are spelled.
+fn setup_is_spelled(setup: &Setup, master: &Master)
+    ensures { IsSpelled (Init (with_master setup.now master.now.0)) }
+{
+    let _setup = *setup;
+    key_is_spelled(&master.0);
+}
+
 impl Client {
     /// Sets a store up on a disk; refused where a vault is open, with the disk left alone.
     pub fn init<D: Disk>(
@@ -36,7 +50,7 @@ impl Client {
             (devices (D.holds disk.new) (D.faults disk.new) providers) }
         ensures tells { is_some (D.holds disk.new) ≡ is_some (D.holds disk.old) }
     {
-        bytes_are_bytes(&master.0);
+        setup_is_spelled(setup, master);
         if self.vault.is_some() {
             return Err(InitFault::Already);
         }
