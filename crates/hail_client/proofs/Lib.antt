@@ -7,3 +7,4 @@ pub mod Refused
 pub mod Reopened
 pub mod Fresh
 pub mod Begun
+pub mod Reopening

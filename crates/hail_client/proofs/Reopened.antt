@@ -83,7 +83,7 @@ module _ (w : State) (rs : List Record) (sound : IsSound 8 w) (kept : AreKept w 
   module _ (v : Vault) (holds : Option Cells) (faults first : ℕ) (is_first : w.next_job ≡ first)
       (stands : (u : State) (ps : List Provider) → IsJustOpened u rs first faults ps → Stands v (devices holds faults ps) u) where
     just : (u : State) (ps : List Provider) → IsAtRest u → u.is_open ≡ true → u.records ≡ rs → u.next_job ≡ first → u.disk_faults ≡ faults → AreHanded ps u → Stands v (devices holds faults ps) u
-    just u ps rest open records next faults_are handed = stands u ps (record { at_rest = rest; is_open = open; records = records; next_job = next; faults_are = faults_are; handed = handed })
+    just u ps rest opens records next faults_are handed = stands u ps (record { at_rest = rest; is_open = opens; records = records; next_job = next; faults_are = faults_are; handed = handed })
 
     pub stands-opened : (providers : ℕ → Provider) (ps : List Provider) → AreHanded ps (record (settled w rs) { providers = providers; handed = length ps }) → (setup_in (settled w rs)).n ≤ length ps →
         Stands v (devices holds faults ps) (opened w rs providers (length ps) faults)

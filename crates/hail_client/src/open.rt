@@ -28,10 +28,18 @@ fn key_is_spelled(key: &[u8])
 {}
 
 /// The numbers of a setup and its key are spelled.
-fn setup_is_spelled(setup: &Setup, master: &Master)
-    ensures { IsSpelled (Init (with_master setup.now master.now.0)) }
+fn setup_is_spelled(setup: Setup, master: &Master)
+    ensures { IsSpelled (Init (with_master setup master.now.0)) }
 {
-    let _setup = *setup;
+    let Setup {
+        n: _,
+        l: _,
+        b: _,
+        profile: _,
+        rounds: _,
+        picks: _,
+        tolerance: _,
+    } = setup;
     key_is_spelled(&master.0);
 }
 
@@ -50,7 +58,7 @@ impl Client {
             (devices (D.holds disk.new) (D.faults disk.new) providers) }
         ensures tells { is_some (D.holds disk.new) ≡ is_some (D.holds disk.old) }
     {
-        setup_is_spelled(setup, master);
+        setup_is_spelled(*setup, master);
         if self.vault.is_some() {
             return Err(InitFault::Already);
         }

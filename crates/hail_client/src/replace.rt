@@ -10,6 +10,7 @@ ghost use Rattle.hail_client.specs.Stands.{ClientStands, Makes};
 
 use crate::client::Client;
 use hail_field::Symbol;
+use hail_field::laws::symbol_is_number;
 use provider_model::Tamper;
 
 /// Replaces one symbol of a block.
@@ -51,6 +52,7 @@ impl Client {
             → Makes w moment (Alter provider object stripe place symbol) (replace_outcome result) self.now
             (devices holds faults (map (as_seen P.held P.store_faults P.other_faults P.fetches) providers.new)) }
     {
+        symbol_is_number(symbol);
         let index = provider as usize;
         if index >= providers.len() {
             return false;
