@@ -11,3 +11,6 @@ mod step;
 
 pub use client::Client;
 pub use fault::ReopenFault;
+
+#[cfg(test)]
+mod tests;

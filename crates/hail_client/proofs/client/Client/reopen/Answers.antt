@@ -6,6 +6,7 @@ use Rattle.hail_client.specs.declared.fault.ReopenFault.{ReopenFault}
 use Rattle.hail_client.specs.Client.{next_job_of}
 use Rattle.hail_client.specs.Outcomes.{reopen_outcome}
 use Rattle.hail_client.specs.Stands.{Makes}
+use Rattle.vault.specs.declared.fault.StartFault.{StartFault}
 use Rattle.vault.specs.Devices.{devices}
 use Rattle.hail_client.proofs.Reopening.{refused-event, few-event, opened-event}
 use Rattle.hail_client.proofs.client.Client.reopen.Goals as goal
@@ -14,7 +15,7 @@ pub returns-in_err-vault-clause-machine : goal.returns-in_err-vault-clause-machi
 returns-in_err-vault-clause-machine g c = λ w providers moment told handed stands.
     refused-event w moment c.args.self.now c.give_up.new.self (g.D.Disk.holds c.args.disk.now) (g.D.Disk.holds c.start.new.disk) (g.D.Disk.faults c.args.disk.now) (g.D.Disk.faults c.start.new.disk) providers
     c.in_err-vault.field-0.0 c.from_residual.result told c.give_up.ensures.closed c.from_residual.ensures.1 c.in_err-vault.ensures.disk c.in_err-vault.ensures.refused c.in_err-vault.ensures.resynced
-    c.in_err-vault.ensures.cause.never_falls c.in_err-vault.ensures.cause.rose stands
+    c.in_err-vault.ensures.cause.never_falls (λ is. c.in_err-vault.ensures.cause.rose (ap (λ (f : StartFault). Err f) is)) stands
 
 pub returns-then-handed-from-clause-machine : goal.returns-then-handed-from-clause-machine
 returns-then-handed-from-clause-machine g c = λ w providers moment told handed stands.
