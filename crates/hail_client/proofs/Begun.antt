@@ -71,13 +71,15 @@ module _ (w : State) (moment : ℕ) (s : Setup) (spelled : IsSpelled (Init s)) w
   init-by (Some v) next old new f g ps result none told makes S = absurd (false≢true (sym none))
   init-by None next old new f g ps result none told makes S =
       (let M = makes (record { sound = S.sound; closed = S.closed; told_is = told }) S.devices in
-      let k = inits-keep w M.state s w.is_open (init_outcome result) M.happens in
-      (M, record {
-        devices = M.devices;
-        sound = events-sound 8 moment w S.sound (Init s) (init_outcome result) M.state spelled M.happens;
-        closed = k.0 ∙ S.closed;
-        next_job_is = k.1 ∙ S.next_job_is;
-      }))
+      let k = inits-keep w M.state s w.is_open (init_outcome result) M.happens in (
+        M,
+        record {
+          devices = M.devices;
+          sound = events-sound 8 moment w S.sound (Init s) (init_outcome result) M.state spelled M.happens;
+          closed = k.0 ∙ S.closed;
+          next_job_is = k.1 ∙ S.next_job_is;
+        },
+      ))
 
   -- while none is open
   pub init-closed : (c : Client) (old new : Option Cells) (f g : ℕ) (ps : List Provider) (result : Result Unit InitFault) → is_some c.vault ≡ false → IsSome old →

@@ -1,10 +1,15 @@
--- A disk before its first use.
-use Rattle.std.proofs.Common.{◌≡◌, ◌⊎◌, inl, inr, ℕ, suc, ◌≤◌, true, false, List, [], ◌∷◌, length, Some, refl, ap, sym, subst, ◌∙◌, arith}
+-- A disk before its first use, and the state before the first event.
+use Rattle.std.proofs.Common.{◌≡◌, ◌⊎◌, inl, inr, ℕ, zero, suc, ◌<◌, ◌≤◌, ◌&&◌, true, false, List, [], ◌∷◌, length, Option, Some, refl, ap, sym, subst, ◌∙◌, arith}
 use Rattle.hail_devices.specs.Cells.{Cells, reads, firm, loose_from}
-use Rattle.hail_records.specs.Records.{Record, Setup, SetUp}
+use Rattle.std.specs.Prelude.{IsTrue, slice_get}
+use Rattle.std.specs.List.{list_all}
+use Rattle.hail_devices.specs.Providers.{Provider}
+use Rattle.hail_records.specs.Records.{Record, Setup, SetUp, is_in_grammar}
 use Rattle.hail_records.specs.Journal.{StandsFor, StandsOrIsEmpty}
-use Rattle.hail_machine.specs.States.{State}
+use Rattle.hail_machine.specs.States.{State, IsStart, AreFirst}
 use Rattle.hail_machine.specs.Stands.{IsFresh, StandsForState}
+use Rattle.vault.specs.Devices.{Devices, AreDevices}
+use Rattle.hail_client.specs.Start.{provider_at, start_of}
 use Rattle.hail_client.proofs.Settled.{firm-stands}
 
 -- cells of which none is loose
@@ -21,3 +26,27 @@ pub fresh-stands : (cells : Cells) (rs : List Record) (w : State) → IsFresh ce
 fresh-stands cells rs w fresh same =
     subst (λ (c : Cells). StandsForState (Some c) w) (sym (none-loose 0 cells fresh.firm))
     (firm-stands (reads cells) w (subst (StandsOrIsEmpty (reads cells)) (sym same) (fresh-reads (reads cells) rs fresh.stands)))
+
+-- ---- the state before the first event
+
+fresh-first : (bytes : List ℕ) (rs : List Record) → ((bytes ≡ []) × (rs ≡ [])) ⊎ ((s : Setup) × (rs ≡ SetUp s ∷ []) × StandsFor bytes rs) → AreFirst rs
+fresh-first bytes rs (inl (empty, none)) = inl none
+fresh-first bytes rs (inr (s, one, stands)) = inr (s, spelled (subst (λ (l : List Record). IsTrue (list_all is_in_grammar l)) one stands.in_grammar), one)
+  where
+    spelled : IsTrue (list_all is_in_grammar (SetUp s ∷ [])) → IsTrue (is_in_grammar (SetUp s))
+    spelled all = grind (arith, all)
+
+pub is-start : (d : Devices) (cells : Cells) (rs : List Record) → d.holds ≡ Some cells → IsFresh cells rs → IsStart (start_of d rs)
+is-start d cells rs told fresh = record { records = fresh-first (reads cells) rs fresh.stands; jobs = refl; first_job = refl; append = refl; doubt = refl; closed = refl; unbarred = refl }
+
+each-at : (ps : List Provider) (j : ℕ) → j < length ps → slice_get ps j ≡ Some (provider_at ps j)
+each-at [] j l = absurd (omega (arith, l))
+each-at (p ∷ ps) zero l = refl
+each-at (p ∷ ps) (suc j) l = each-at ps j (omega (arith, l))
+
+pub are-devices : (d : Devices) (cells : Cells) (rs : List Record) → d.holds ≡ Some cells → IsFresh cells rs → AreDevices d (start_of d rs)
+are-devices d cells rs told fresh = record {
+  images = subst (λ (o : Option Cells). StandsForState o (start_of d rs)) (sym told) (fresh-stands cells rs (start_of d rs) fresh refl);
+  faults = refl;
+  providers = record { count = refl; each = each-at d.providers };
+}

@@ -8,3 +8,4 @@ pub mod Reopened
 pub mod Fresh
 pub mod Begun
 pub mod Reopening
+pub mod Runs

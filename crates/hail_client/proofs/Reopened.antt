@@ -35,14 +35,11 @@ use Rattle.vault.proofs.Ways.{images_on}
 use Rattle.hail_client.specs.declared.client.Client.{Client}
 use Rattle.hail_client.specs.declared.fault.ReopenFault.{ReopenFault}
 use Rattle.hail_client.specs.declared.fault.ReopenFault.TheVariants as reopen_fault
-use Rattle.hail_client.specs.Outcomes.{reopen_outcome, start_refusal}
+use Rattle.hail_client.specs.Outcomes.{start_refusal}
+use Rattle.hail_client.specs.Start.{anyone}
 use Rattle.hail_client.specs.Stands.{StandsClosed, StandsBy, ClientStands, Makes}
 use Rattle.hail_client.proofs.Settled.{AreKept, settled, settles, settled-sound, read-kept, image-kept, kept-accepted, kept-fits, firm-stands, stands-take, short-read, whole-read}
 use Rattle.hail_client.proofs.Refused.{bad-none}
-
--- a provider of which nothing is told
-abbrev anyone : Provider
-anyone = record { held = None; store_faults = 0; other_faults = 0; fetches = 0 }
 
 each-anyone : (n j : ℕ) → j < n → slice_get (replicate n anyone) j ≡ Some anyone
 each-anyone zero j l = absurd (omega (arith, l))

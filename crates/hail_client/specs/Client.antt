@@ -3,9 +3,11 @@
 --   next_job_of c  == the number of the next job
 --   uses c         == how many providers a step uses; 0 where no vault is open
 --   left_of c job  == how many steps of a job may remain at most; 0 where it does not run
-use Rattle.std.specs.Prelude.{ℕ, Option, Some, None}
+--   is_open c      == a vault is open
+--   IsSame old new == nothing changed but spare room of the open vault
+use Rattle.std.specs.Prelude.{◌≡◌, ℕ, Bool, Option, Some, None, is_some}
 use Rattle.vault.specs.declared.vault.Vault.{Vault}
-use Rattle.vault.specs.Seen.{provider_count}
+use Rattle.vault.specs.Seen.{provider_count, IsUnchanged}
 use Rattle.vault.specs.Seen as seen
 use Rattle.hail_client.specs.declared.client.Client.{Client}
 
@@ -35,3 +37,18 @@ left_by None job = 0
 -- how many steps of a job may remain at most
 abbrev pub left_of : Client → ℕ → ℕ
 left_of c job = left_by c.vault job
+
+-- a vault is open
+abbrev pub is_open : Client → Bool
+is_open c = is_some c.vault
+
+-- no vault came or went, and nothing of an open one changed but spare room
+abbrev pub IsSameVault : Option Vault → Option Vault → Type 0
+IsSameVault None None = Unit {0}
+IsSameVault (Some old) (Some new) = IsUnchanged old new
+IsSameVault old new = ⊥
+
+-- nothing changed but spare room
+pub record IsSame (old new : Client) : Type 0 where
+  pub vault : IsSameVault old.vault new.vault
+  pub next_job : new.next_job ≡ old.next_job

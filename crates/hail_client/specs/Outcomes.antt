@@ -1,6 +1,7 @@
 -- What the answers of the calls are as outcomes of the machine. An answer is None where no vault is open.
 --
 --   begin_outcome result   == of a begin
+--   UnlessBegun result P   == P holds unless the begin was accepted
 --   step_outcome result    == of a step
 --   reopen_outcome result  == of a reopening
 --   replace_outcome result == of an alteration or a loss
@@ -23,6 +24,11 @@ use Rattle.hail_client.specs.declared.fault.ReopenFault.TheVariants as reopen_fa
 abbrev pub begin_outcome : Option (Result ℕ BeginFault) → Outcome
 begin_outcome None = events.Closed
 begin_outcome (Some result) = vault.begin_outcome result
+
+-- a fact of a begin that was not accepted
+abbrev pub UnlessBegun : Option (Result ℕ BeginFault) → Type 0 → Type 0
+UnlessBegun (Some (Ok job)) P = Unit {0}
+UnlessBegun result P = P
 
 -- the outcome of a step
 abbrev pub step_outcome : Option Turn → Outcome

@@ -3,8 +3,8 @@ ghost use Rattle.hail_machine.specs.Events.{Begin, AreBytes};
 ghost use Rattle.hail_machine.specs.Jobs.{PutJob, GetJob, DropJob, AuditJob, RepairJob};
 ghost use Rattle.hail_machine.specs.States.{State};
 ghost use Rattle.vault.specs.Devices.{Devices};
-ghost use Rattle.hail_client.specs.Client.{next_job_of};
-ghost use Rattle.hail_client.specs.Outcomes.{begin_outcome};
+ghost use Rattle.hail_client.specs.Client.{next_job_of, IsSame};
+ghost use Rattle.hail_client.specs.Outcomes.{begin_outcome, UnlessBegun};
 ghost use Rattle.hail_client.specs.Stands.{ClientStands, Makes};
 
 use crate::client::Client;
@@ -22,6 +22,7 @@ impl Client {
         requires { next_job_of self.old < 2 ^ 32 - 1 }
         ensures machine { (w : State) (d : Devices) (moment : ℕ) → ClientStands self.old d w
             → Makes w moment (Begin (PutJob name.now bytes)) (begin_outcome result) self.new d }
+        ensures unchanged { UnlessBegun result (IsSame self.old self.new) }
     {
         bytes_are_bytes(name);
         bytes_are_bytes(bytes.as_slice());
@@ -36,6 +37,7 @@ impl Client {
         requires { next_job_of self.old < 2 ^ 32 - 1 }
         ensures machine { (w : State) (d : Devices) (moment : ℕ) → ClientStands self.old d w
             → Makes w moment (Begin (GetJob name.now)) (begin_outcome result) self.new d }
+        ensures unchanged { UnlessBegun result (IsSame self.old self.new) }
     {
         bytes_are_bytes(name);
         match &mut self.vault {
@@ -49,6 +51,7 @@ impl Client {
         requires { next_job_of self.old < 2 ^ 32 - 1 }
         ensures machine { (w : State) (d : Devices) (moment : ℕ) → ClientStands self.old d w
             → Makes w moment (Begin (DropJob name.now)) (begin_outcome result) self.new d }
+        ensures unchanged { UnlessBegun result (IsSame self.old self.new) }
     {
         bytes_are_bytes(name);
         match &mut self.vault {
@@ -62,6 +65,7 @@ impl Client {
         requires { next_job_of self.old < 2 ^ 32 - 1 }
         ensures machine { (w : State) (d : Devices) (moment : ℕ) → ClientStands self.old d w
             → Makes w moment (Begin AuditJob) (begin_outcome result) self.new d }
+        ensures unchanged { UnlessBegun result (IsSame self.old self.new) }
     {
         match &mut self.vault {
             Some(vault) => Some(vault.begin_audit()),
@@ -74,6 +78,7 @@ impl Client {
         requires { next_job_of self.old < 2 ^ 32 - 1 }
         ensures machine { (w : State) (d : Devices) (moment : ℕ) → ClientStands self.old d w
             → Makes w moment (Begin RepairJob) (begin_outcome result) self.new d }
+        ensures unchanged { UnlessBegun result (IsSame self.old self.new) }
     {
         match &mut self.vault {
             Some(vault) => Some(vault.begin_repair()),

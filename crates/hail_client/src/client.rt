@@ -3,7 +3,7 @@ ghost use Rattle.hail_machine.specs.Events.{Names};
 ghost use Rattle.hail_machine.specs.States.{State, IsStart, continued};
 ghost use Rattle.sound_states.specs.Sound.{IsSound};
 ghost use Rattle.vault.specs.Devices.{Devices, AreDevices};
-ghost use Rattle.hail_client.specs.Client.{next_job_of, uses};
+ghost use Rattle.hail_client.specs.Client.{is_open, next_job_of, uses};
 ghost use Rattle.hail_client.specs.Outcomes.{names_outcome};
 ghost use Rattle.hail_client.specs.Stands.{ClientStands, Makes};
 
@@ -30,6 +30,13 @@ impl Client {
             vault: None,
             next_job: FIRST_JOB,
         }
+    }
+
+    /// Whether a vault is open.
+    pub fn is_open(&self) -> bool
+        ensures { result ≡ is_open self.now }
+    {
+        self.vault.is_some()
     }
 
     /// The number that the next accepted begin gets.

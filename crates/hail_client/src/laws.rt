@@ -5,11 +5,12 @@ ghost use Rattle.hail_records.specs.Records.{Record};
 ghost use Rattle.hail_machine.specs.Events.{Event, Outcome};
 ghost use Rattle.hail_machine.specs.Runs.{Moment, now};
 ghost use Rattle.hail_machine.specs.Stands.{IsFresh, StandsForState};
-ghost use Rattle.hail_machine.specs.States.{State};
+ghost use Rattle.hail_machine.specs.States.{State, IsStart};
 ghost use Rattle.sound_states.specs.Sound.{IsSound};
 ghost use Rattle.vault.specs.Devices.{Devices, AreDevices};
 ghost use Rattle.hail_client.specs.declared.client.Client.{Client};
 ghost use Rattle.hail_client.specs.Client.{next_job_of, uses};
+ghost use Rattle.hail_client.specs.Start.{start_of};
 ghost use Rattle.hail_client.specs.Stands.{ClientStands, Makes, IsReached, moment_of};
 
 /// The devices of a client are those of each state that it stands for, which is sound; no more providers are used than are handed
@@ -24,6 +25,12 @@ pub fn what_a_client_stands_for()
 /// A disk before its first use stands for each state over the records that it reads.
 pub fn fresh_disks_stand()
     ensures { (cells : Cells) (rs : List Record) (w : State) → IsFresh cells rs → w.records ≡ rs → StandsForState (Some cells) w }
+{}
+
+/// So there is a state before the first event for every disk that tells, before its first use, and for all providers.
+pub fn there_is_a_start()
+    ensures start { (d : Devices) (cells : Cells) (rs : List Record) → d.holds ≡ Some cells → IsFresh cells rs → IsStart (start_of d rs) }
+    ensures devices { (d : Devices) (cells : Cells) (rs : List Record) → d.holds ≡ Some cells → IsFresh cells rs → AreDevices d (start_of d rs) }
 {}
 
 /// A client that stands for a state has made the run of no event from there, and a run goes on by each call that is an event.

@@ -1,4 +1,5 @@
-ghost use Rattle.std.specs.Prelude.{◌≡◌, ℕ, List, IsSome, IsTrue, is_some, length};
+ghost use Rattle.std.specs.Prelude.{◌≡◌, ℕ, true, false, List, Err, IsSome, IsTrue, IfSome, IfErr, OnOk, IsErrOf, is_ok, is_some, length};
+ghost use Rattle.hail_devices.specs.Faults.{HasCause};
 ghost use Rattle.hail_devices.specs.Providers.{Provider};
 ghost use Rattle.hail_devices.specs.Told.{Goes};
 ghost use Rattle.hail_machine.specs.Events.{Init, Reopen, Stop, Stopped, IsSpelled};
@@ -6,9 +7,13 @@ ghost use Rattle.hail_records.specs.Records.{is_master};
 ghost use Rattle.hail_machine.specs.States.{State};
 ghost use Rattle.record_codec.specs.Entries.{with_master};
 ghost use Rattle.vault.specs.Devices.{devices};
-ghost use Rattle.vault.specs.Openings.{IsResynced};
+ghost use Rattle.vault.specs.Openings.{journal_read, IsInitFault, IsStartFault, IsSetUpOn, IsResynced};
+ghost use Rattle.vault.specs.declared.fault.InitFault.TheVariants as init_fault;
+ghost use Rattle.vault.specs.declared.fault.StartFault.{StartFault as StartFaultData};
+ghost use Rattle.vault.specs.declared.fault.StartFault.TheVariants as start_fault;
+ghost use Rattle.hail_client.specs.declared.fault.ReopenFault.TheVariants as reopen_fault;
 ghost use Rattle.vault.specs.Outcomes.{init_outcome};
-ghost use Rattle.hail_client.specs.Client.{next_job_of};
+ghost use Rattle.hail_client.specs.Client.{is_open, next_job_of};
 ghost use Rattle.hail_client.specs.Outcomes.{reopen_outcome};
 ghost use Rattle.hail_client.specs.Stands.{ClientStands, Makes};
 
@@ -56,7 +61,12 @@ impl Client {
             → ClientStands self.now (devices (D.holds disk.old) (D.faults disk.old) providers) w
             → Makes w moment (Init (with_master setup.now master.now.0)) (init_outcome result) self.now
             (devices (D.holds disk.new) (D.faults disk.new) providers) }
+        ensures already { is_open self.now ≡ true → (result ≡ Err init_fault.Already) × (disk.new ≡ disk.old) }
+        ensures ok { OnOk result (Goes (IsSetUpOn (with_master setup.now master.now.0)) (D.holds disk.old) (D.holds disk.new)) }
+        ensures refused { is_open self.now ≡ false
+            → IfErr result (λ why. IfSome (D.holds disk.old) (λ cells. IsInitFault (journal_read cells) (with_master setup.now master.now.0) why)) }
         ensures tells { is_some (D.holds disk.new) ≡ is_some (D.holds disk.old) }
+        ensures cause { HasCause (D.faults disk.old) (D.faults disk.new) (IsErrOf result init_fault.DiskFault) }
     {
         setup_is_spelled(*setup, master);
         if self.vault.is_some() {
@@ -76,8 +86,11 @@ impl Client {
         ensures machine { (w : State) (providers : List Provider) (moment : ℕ) → IsSome (D.holds disk.old) → length providers ≡ handed
             → ClientStands self.old (devices (D.holds disk.old) (D.faults disk.old) providers) w
             → Makes w moment Reopen (reopen_outcome result) self.new (devices (D.holds disk.new) (D.faults disk.new) providers) }
+        ensures opens { is_open self.new ≡ is_ok result }
         ensures next_job { next_job_of self.new ≡ next_job_of self.old }
+        ensures refused { (why : StartFaultData) → IsErrOf result (reopen_fault.NotOpened why) → IfSome (D.holds disk.old) (λ cells. IsStartFault (journal_read cells) why) }
         ensures disk { Goes IsResynced (D.holds disk.old) (D.holds disk.new) }
+        ensures cause { HasCause (D.faults disk.old) (D.faults disk.new) (IsErrOf result (reopen_fault.NotOpened start_fault.DiskFault)) }
     {
         self.give_up();
         let vault = Vault::start(alloc, disk, self.next_job)?;
@@ -94,6 +107,7 @@ impl Client {
         ensures machine { (w : State) (providers : List Provider) (moment : ℕ)
             → ClientStands self.old (devices (D.holds disk.old) (D.faults disk.old) providers) w
             → Makes w moment (Stop picks.now) Stopped self.new (devices (D.holds disk.new) (D.faults disk.new) providers) }
+        ensures closed { is_open self.new ≡ false }
         ensures next_job { next_job_of self.new ≡ next_job_of self.old }
         ensures tells { is_some (D.holds disk.new) ≡ is_some (D.holds disk.old) }
     {

@@ -14,13 +14,7 @@ use hail_field::laws::symbol_is_number;
 use provider_model::Tamper;
 
 /// Replaces one symbol of a block.
-fn alter_of<P: Tamper>(
-    held: &mut P,
-    object: u64,
-    stripe: u32,
-    place: u32,
-    symbol: Symbol,
-) -> bool
+fn alter_of<P: Tamper>(held: &mut P, object: u64, stripe: u32, place: u32, symbol: Symbol) -> bool
     ensures { Replaces (λ blocks. HasPlace (blocks object stripe) place) (with_symbol object stripe place symbol) result
         (as_seen P.held P.store_faults P.other_faults P.fetches held.old) (as_seen P.held P.store_faults P.other_faults P.fetches held.new) }
 {

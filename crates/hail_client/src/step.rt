@@ -5,8 +5,8 @@ ghost use Rattle.hail_machine.specs.Jobs.{job_of};
 ghost use Rattle.hail_machine.specs.States.{State};
 ghost use Rattle.vault.specs.declared.turn.Turn.TheVariants as turn;
 ghost use Rattle.vault.specs.Devices.{as_seen, devices};
-ghost use Rattle.vault.specs.Outcomes.{IfEnded, HasPaddedCounts};
-ghost use Rattle.hail_client.specs.Client.{uses, left_of};
+ghost use Rattle.vault.specs.Outcomes.{IfEnded, IsIdle, HasPaddedCounts};
+ghost use Rattle.hail_client.specs.Client.{uses, left_of, IsSame};
 ghost use Rattle.hail_client.specs.Outcomes.{step_outcome};
 ghost use Rattle.hail_client.specs.Stands.{ClientStands, Makes};
 
@@ -35,7 +35,10 @@ impl Client {
         ensures tells { is_some (D.holds disk.new) ≡ is_some (D.holds disk.old) }
         ensures left { result ≡ Some turn.More → left_of self.new job < left_of self.old job }
         ensures padded { IfSome result (λ turn. IfEnded turn (λ ended. HasPaddedCounts ended.answer)) }
-        ensures closed { result ≡ None → (disk.new ≡ disk.old) × (providers.new ≡ providers.old) }
+        ensures waits { (w : State)
+            → ClientStands self.old (devices (D.holds disk.old) (D.faults disk.old) (map (as_seen P.held P.store_faults P.other_faults P.fetches) providers.old)) w
+            → IfSome result (λ turn. IsIdle turn → IsSame self.old self.new × (disk.new ≡ disk.old) × (providers.new ≡ providers.old)) }
+        ensures closed { result ≡ None → (self.new ≡ self.old) × (disk.new ≡ disk.old) × (providers.new ≡ providers.old) }
     {
         match &mut self.vault {
             Some(vault) => Some(vault.step(job, disk, providers)),

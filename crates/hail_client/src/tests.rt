@@ -216,9 +216,15 @@ fn jobs_run_and_numbers_go_on(rt: HostRuntime) -> Result<(), Fail> {
     assert_eq!(rt; step(&mut client, 1, &mut disk, &mut held), "closed");
     assert_eq!(rt; init(&client, alloc, &mut disk), "ready");
     assert_eq!(rt; reopen(&mut client, alloc, &mut disk, 4), "opened");
-    assert_eq!(rt; put(&mut client, b"a", Bytes::from_slice(alloc, b"hail")?), "begun");
+    assert_eq!(rt;
+        put(&mut client, b"a", Bytes::from_slice(alloc, b"hail")?),
+        "begun"
+    );
     assert_eq!(rt; step(&mut client, 1, &mut disk, &mut held), "more");
-    assert_eq!(rt; put(&mut client, b"b", Bytes::from_slice(alloc, b"stone")?), "begun");
+    assert_eq!(rt;
+        put(&mut client, b"b", Bytes::from_slice(alloc, b"stone")?),
+        "begun"
+    );
     assert_eq!(rt; step(&mut client, 2, &mut disk, &mut held), "waiting");
     assert_eq!(rt; run(&mut client, 1, &mut disk, &mut held), "put");
     assert_eq!(rt; run(&mut client, 2, &mut disk, &mut held), "put");
@@ -246,7 +252,10 @@ fn blocks_are_replaced_and_repaired(rt: HostRuntime) -> Result<(), Fail> {
     let mut held = four(alloc);
     assert_eq!(rt; init(&client, alloc, &mut disk), "ready");
     assert_eq!(rt; reopen(&mut client, alloc, &mut disk, 4), "opened");
-    assert_eq!(rt; put(&mut client, b"a", Bytes::from_slice(alloc, b"hail")?), "begun");
+    assert_eq!(rt;
+        put(&mut client, b"a", Bytes::from_slice(alloc, b"hail")?),
+        "begun"
+    );
     assert_eq!(rt; run(&mut client, 1, &mut disk, &mut held), "put");
     assert_eq!(rt; alter(&client, &mut held, 2), true);
     assert_eq!(rt; lose(&client, &mut held, 2), true);
@@ -272,12 +281,18 @@ fn client_reopens_after_fault_of_disk(rt: HostRuntime) -> Result<(), Fail> {
     let mut held = four(alloc);
     assert_eq!(rt; init(&client, alloc, &mut disk), "ready");
     assert_eq!(rt; reopen(&mut client, alloc, &mut disk, 4), "opened");
-    assert_eq!(rt; put(&mut client, b"a", Bytes::from_slice(alloc, b"hail")?), "begun");
+    assert_eq!(rt;
+        put(&mut client, b"a", Bytes::from_slice(alloc, b"hail")?),
+        "begun"
+    );
     assert_eq!(rt; run(&mut client, 1, &mut disk, &mut held), "disk fault");
     assert_eq!(rt; step(&mut client, 1, &mut disk, &mut held), "must reopen");
     assert_eq!(rt; get(&mut client, b"a"), "must reopen");
     assert_eq!(rt; reopen(&mut client, alloc, &mut disk, 4), "opened");
-    assert_eq!(rt; put(&mut client, b"a", Bytes::from_slice(alloc, b"hail")?), "begun");
+    assert_eq!(rt;
+        put(&mut client, b"a", Bytes::from_slice(alloc, b"hail")?),
+        "begun"
+    );
     assert_eq!(rt; run(&mut client, 2, &mut disk, &mut held), "put");
     Ok(())
 }

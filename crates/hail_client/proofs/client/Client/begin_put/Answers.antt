@@ -4,5 +4,5 @@ use Rattle.hail_machine.specs.Jobs.{PutJob}
 use Rattle.hail_client.proofs.Made.{begin-of}
 use Rattle.hail_client.proofs.client.Client.begin_put.Goals as goal
 
-pub returns-in-Some : goal.returns-in-Some
-returns-in-Some c = record { machine = begin-of c.args.self.now _ c.begin_put.new.self (PutJob c.args.name.now c.args.bytes) c.begin_put.result c.in-Some.is (c.bytes_are_bytes.ensures, subst AreBytes c.as_slice.ensures c.bytes_are_bytes-2.ensures) c.begin_put.ensures.machine }
+pub returns-in-Some-clause-machine : goal.returns-in-Some-clause-machine
+returns-in-Some-clause-machine c = begin-of c.args.self.now _ c.begin_put.new.self (PutJob c.args.name.now c.args.bytes) c.begin_put.result c.in-Some.is (c.bytes_are_bytes.ensures, subst AreBytes c.as_slice.ensures c.bytes_are_bytes-2.ensures) c.begin_put.ensures.machine
