@@ -1,4 +1,4 @@
-ghost use Rattle.std.specs.Prelude.{◌≡◌, ℕ, option_copied};
+ghost use Rattle.std.specs.Prelude.{◌≡◌, ℕ, false, option_copied};
 ghost use Rattle.hail_machine.specs.Events.{Names};
 ghost use Rattle.hail_machine.specs.States.{State, IsStart, continued};
 ghost use Rattle.sound_states.specs.Sound.{IsSound};
@@ -24,6 +24,8 @@ impl Client {
     /// A client with no vault open, whose jobs are numbered from 1.
     pub fn new() -> Client
         ensures start { (d : Devices) (w : State) → IsStart w → AreDevices d w → ClientStands result d w }
+        ensures closed { is_open result ≡ false }
+        ensures first { next_job_of result ≡ 1 }
         ensures continued { (d : Devices) (w : State) → IsSound 8 w → AreDevices d w → ClientStands result d (continued w) }
     {
         Client {

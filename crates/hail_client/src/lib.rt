@@ -7,6 +7,7 @@ mod fault;
 pub mod laws;
 mod open;
 mod replace;
+mod run;
 mod step;
 
 pub use client::Client;

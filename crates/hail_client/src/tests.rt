@@ -1,3 +1,10 @@
+ghost use Rattle.std.specs.Prelude.{◌≡◌, List, IsSome, length, map};
+ghost use Rattle.hail_devices.specs.Providers.{Provider as ProviderData};
+ghost use Rattle.hail_machine.specs.States.{State, IsStart};
+ghost use Rattle.vault.specs.Devices.{Devices, as_seen, devices, AreDevices};
+ghost use Rattle.hail_client.specs.Stands.{IsStanding};
+
+use super::laws::there_is_a_start;
 use super::*;
 use disk_model::{Disk, MemDisk, SureDisk};
 use hail_field::Symbol;
@@ -9,13 +16,9 @@ use std::test::Fail;
 use stream_model::Bytes;
 use vault::{Answer, BeginFault, Ended, InitFault, StartFault, Turn};
 
-/// A word for an init, of four providers.
-fn init<D: Disk>(client: &Client, alloc: Global, disk: &mut D) -> &'static str {
-    let key = b"000102030405060708090a0b0c0d0e0f101112131415161718191a1b1c1d1e1f";
-    let Some(master) = Master::from_hex(key) else {
-        return "no key";
-    };
-    let setup = Setup {
+/// A setup of four providers.
+fn four_providers() -> Setup {
+    Setup {
         n: 4,
         l: 1,
         b: 1,
@@ -23,27 +26,50 @@ fn init<D: Disk>(client: &Client, alloc: Global, disk: &mut D) -> &'static str {
         rounds: 2,
         picks: 2,
         tolerance: 0,
-    };
-    match client.init(alloc, &setup, &master, disk) {
+    }
+}
+
+/// A word for an init.
+fn set_up(answer: Result<(), InitFault>) -> &'static str {
+    match answer {
         Ok(()) => "ready",
         Err(InitFault::Already) => "already",
         Err(_) => "another fault",
     }
 }
 
+/// A word for the init of four providers.
+fn init<D: Disk>(client: &Client, alloc: Global, disk: &mut D) -> &'static str
+    ensures told { IsSome (D.holds disk.old) → IsSome (D.holds disk.new) }
+    ensures stands { (ps : List ProviderData) → IsSome (D.holds disk.old) → IsStanding client.now (devices (D.holds disk.old) (D.faults disk.old) ps)
+        → IsStanding client.now (devices (D.holds disk.new) (D.faults disk.new) ps) }
+{
+    let master = Master([7; 32]);
+    set_up(client.init(alloc, &four_providers(), &master, disk))
+}
+
 /// A word for a reopening.
-fn reopen<D: Disk>(
-    client: &mut Client,
-    alloc: Global,
-    disk: &mut D,
-    handed: usize,
-) -> &'static str {
-    match client.reopen(alloc, disk, handed) {
+fn opened(answer: Result<(), ReopenFault>) -> &'static str {
+    match answer {
         Ok(()) => "opened",
         Err(ReopenFault::TooFewProviders) => "too few",
         Err(ReopenFault::NotOpened(StartFault::NotSetUp)) => "not set up",
         Err(ReopenFault::NotOpened(_)) => "another fault",
     }
+}
+
+/// A word for a reopening over so many providers.
+fn reopen<D: Disk>(
+    client: &mut Client,
+    alloc: Global,
+    disk: &mut D,
+    handed: usize,
+) -> &'static str
+    ensures stands { (ps : List ProviderData) → IsSome (D.holds disk.old) → length ps ≡ handed
+        → IsStanding client.old (devices (D.holds disk.old) (D.faults disk.old) ps)
+        → IsStanding client.new (devices (D.holds disk.new) (D.faults disk.new) ps) }
+{
+    opened(client.reopen(alloc, disk, handed))
 }
 
 /// A word for what came of a begin.
@@ -58,7 +84,9 @@ fn begun(answer: Option<Result<u32, BeginFault>>) -> &'static str {
 }
 
 /// A word for the begin of a put.
-fn put(client: &mut Client, name: &[u8], bytes: Bytes) -> &'static str {
+fn put(client: &mut Client, name: &[u8], bytes: Bytes) -> &'static str
+    ensures stands { (d : Devices) → IsStanding client.old d → IsStanding client.new d }
+{
     if client.next_job() == u32::MAX {
         return "no number";
     }
@@ -294,5 +322,41 @@ fn client_reopens_after_fault_of_disk(rt: HostRuntime) -> Result<(), Fail> {
         "begun"
     );
     assert_eq!(rt; run(&mut client, 2, &mut disk, &mut held), "put");
+    Ok(())
+}
+
+/// A word for a put from a new client's start, run to its end.
+fn put_from_start<D: Disk, P: Provider>(
+    alloc: Global,
+    disk: &mut D,
+    providers: &mut [P],
+    bytes: Bytes,
+) -> &'static str
+    requires told { IsSome (D.holds disk.old) }
+    requires start { (w : State) × IsStart w
+        × AreDevices (devices (D.holds disk.old) (D.faults disk.old) (map (as_seen P.held P.store_faults P.other_faults P.fetches) providers.old)) w }
+{
+    let mut client = Client::new();
+    if init(&client, alloc, disk) != "ready" {
+        return "not set up";
+    }
+    if reopen(&mut client, alloc, disk, providers.len()) != "opened" {
+        return "not opened";
+    }
+    put(&mut client, b"a", bytes);
+    match client.run(1, disk, providers) {
+        Some(Turn::Done(end)) => ended(end),
+        _ => "no end",
+    }
+}
+
+#[test]
+fn jobs_run_to_their_end(rt: HostRuntime) -> Result<(), Fail> {
+    let alloc = rt.alloc();
+    let mut disk = SureDisk::new(alloc, &[])?;
+    let mut held = four(alloc);
+    let bytes = Bytes::from_slice(alloc, b"hail")?;
+    there_is_a_start();
+    assert_eq!(rt; put_from_start(alloc, &mut disk, &mut held, bytes), "put");
     Ok(())
 }
