@@ -161,15 +161,20 @@ mkdir -p home/journal
 row 12 'hail: disk fault' empty list
 
 # A journal of 16,777,190 bytes has room for the records of a put under a name of one byte, and one of 16,777,191 has not.
+# It gets the start of a put under a name of so many bytes, and 1,677,712 starts of audits.
 fill_journal() {
-    python3 - "$1" <<'END'
-import sys
-name = int(sys.argv[1])
-head = open('home/journal', 'rb').read()[:-1]
-started = b'\x01\x02' + (1).to_bytes(8, 'little') + bytes([name]) + b'a' * name
-audits = b''.join(b'\x01\x05' + k.to_bytes(8, 'little') for k in range(1, 1677713))
-open('home/journal', 'wb').write(head + started + audits + b'\0')
-END
+    head -c -1 home/journal >front
+    {
+        cat front
+        printf '\001\002\001\000\000\000\000\000\000\000'
+        printf "\\$(printf %03o "$1")"
+        head -c "$1" /dev/zero | tr '\0' a
+        LC_ALL=C awk 'BEGIN {
+            for (k = 1; k <= 1677712; k++)
+                printf "%c%c%c%c%c%c%c%c%c%c", 1, 5, k % 256, int(k / 256) % 256, int(k / 65536), 0, 0, 0, 0, 0
+        }'
+        printf '\000'
+    } >home/journal
 }
 set_up 4 1 1 0 1 1 0
 fill_journal 8

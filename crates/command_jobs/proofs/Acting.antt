@@ -21,7 +21,7 @@ use Rattle.lone_laws.proofs.Walk.{found}
 use Rattle.vault.specs.Devices.{records_in_flight}
 
 -- the only job of a list is the one that is found
-one-found : (job other : Job) (number : ℕ) → job_of (job ∷ []) number ≡ Some other → other ≡ job
+pub one-found : (job other : Job) (number : ℕ) → job_of (job ∷ []) number ≡ Some other → other ≡ job
 one-found job other number h = elim (cases_Bool (job.number == number)) [
   | inl t ↦ same_value _ other job h (cond_true (job.number == number) (Some job) None t)
   | inr f ↦ absurd (some-none _ other h (cond_false (job.number == number) (Some job) None f))
@@ -117,7 +117,7 @@ module _ (start : State) (O : IsOpened start) (kind : Kind) (w : State) (job : J
       let f : moves_before h.2.0 ≡ moves_before action = ap moves_before e in
       let g = h.2.2 in omega (arith, begun, f, g))
 
-  none-flies : (action : Action) → next_action w job ≡ Some action → moves_before action ≡ 0 → w.append ≡ None
+  pub none-flies : (action : Action) → next_action w job ≡ Some action → moves_before action ≡ 0 → w.append ≡ None
   none-flies action next e = by_flight w.append refl
     where
       by_flight : (o : Option Append) → w.append ≡ o → w.append ≡ None
@@ -141,7 +141,7 @@ module _ (start : State) (O : IsOpened start) (kind : Kind) (w : State) (job : J
       by_flight (Some a) f End next = refl
 
   -- a step makes the next action
-  step-makes : (r : Outcome) (new : State) → Steps w 1 w.is_open r new → (action : Action) × (next_action w job ≡ Some action) × Acts w job action r new
+  pub step-makes : (r : Outcome) (new : State) → Steps w 1 w.is_open r new → (action : Action) × (next_action w job ≡ Some action) × Acts w job action r new
   step-makes r new h =
       on (next_action w job) refl (subst (λ (o : Option Job). StepsJob w o r new) (found start O kind w job W) (subst (λ b. StepsOpen w 1 b r new) W.unbarred (subst (λ b. Steps w 1 b r new) W.opened h)))
     where

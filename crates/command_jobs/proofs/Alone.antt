@@ -22,7 +22,7 @@ use Rattle.hail_commands.specs.Opens.{setup_at}
 use Rattle.hail_commands.specs.Refusals as commands
 use Rattle.hail_commands.specs.JobRuns.{IsOpenedOver, GoesOnTo}
 use Rattle.hail_commands.specs.JobRuns as job_runs
-use Rattle.hail_commands.specs.Jobs.{past, SamePast, RanAlone, RunsAlone, LeftAlone}
+use Rattle.hail_commands.specs.Jobs.{past, with_next, SameBehind, SamePast, RanAlone, RunsAlone, LeftAlone}
 use Rattle.lone_laws.specs.Walked.{IsOpened}
 use Rattle.lone_laws.proofs.Walk.{walk-begin}
 use Rattle.vault_core.specs.declared.wish.BeginFault.{BeginFault}
@@ -53,16 +53,19 @@ past-of rs a b e = sym (through b) ∙ (ap (option_map (drop (text_size rs))) e 
     through None = refl
     through (Some cells) = refl
 
-past-before : (how : Answer) (rs : List Record) (a b c : Option Cells) → option_map reads b ≡ option_map reads a → SamePast how rs b c → SamePast how rs a c
-past-before answer.Put rs a b c e h = h ∙ past-of rs a b e
-past-before (answer.Got bytes) rs a b c e h = h ∙ past-of rs a b e
-past-before answer.Dropped rs a b c e h = h ∙ past-of rs a b e
-past-before (answer.Audited number undecided counts) rs a b c e h = h ∙ past-of rs a b e
-past-before (answer.Repaired number) rs a b c e h = h ∙ past-of rs a b e
-past-before (answer.Lost stripe row) rs a b c e h = h ∙ past-of rs a b e
-past-before (answer.ProviderFault j) rs a b c e h = h ∙ past-of rs a b e
-past-before answer.DiskFault rs a b c e h = tt
-past-before answer.Memory rs a b c e h = tt
+behind-before : (kind : Kind) (before after : List Record) (a b c : Option Cells) → option_map reads b ≡ option_map reads a → SameBehind kind before after b c → SameBehind kind before after a c
+behind-before kind before after a b c e h = record { next = h.next; is_next = h.is_next; same = h.same ∙ past-of (with_next h.next after) a b e }
+
+past-before : (kind : Kind) (how : Answer) (before after : List Record) (a b c : Option Cells) → option_map reads b ≡ option_map reads a → SamePast kind how before after b c → SamePast kind how before after a c
+past-before kind answer.Put before after a b c e h = h ∙ past-of after a b e
+past-before kind (answer.Got bytes) before after a b c e h = h ∙ past-of after a b e
+past-before kind answer.Dropped before after a b c e h = h ∙ past-of after a b e
+past-before kind (answer.Audited number undecided counts) before after a b c e h = h ∙ past-of after a b e
+past-before kind (answer.Repaired number) before after a b c e h = h ∙ past-of after a b e
+past-before kind (answer.Lost stripe row) before after a b c e h = h ∙ past-of after a b e
+past-before kind (answer.ProviderFault j) before after a b c e h = h ∙ past-of after a b e
+past-before kind answer.DiskFault before after a b c e h = behind-before kind before after a b c e h
+past-before kind answer.Memory before after a b c e h = behind-before kind before after a b c e h
 
 -- ---- the begin
 
@@ -142,7 +145,7 @@ module _ (law : OpensAll) (there : ThereIsOne) (v : Vault) (records : List Recor
       ])
 
   module _ (leaves : LeavesAll) (next last : Vault) (kind : Kind) (number : ℕ) (ended : Ended) (providers after : List Provider) (new_holds : Option Cells) (new_faults : ℕ) (begins : BeginsAs v kind number next)
-      (goes : (start w : State) (kind : Kind) (moment : ℕ) → IsOnly start kind w → Stands next (devices holds faults providers) w → GoesToEnd w moment ended last (devices holds faults providers) (devices new_holds new_faults after))
+      (goes : (start w : State) (kind : Kind) (moment : ℕ) → IsOnly start kind w → Stands next (devices holds faults providers) w → GoesToEnd start kind w moment ended last (devices holds faults providers) (devices new_holds new_faults after))
       (same : length after ≡ length providers)
       (old new : Seen) (R : opens.IsOpened old records) (B : IsSeenBefore old (devices holds faults providers)) (A : IsSeenAfter new (devices new_holds new_faults after)) where
     enough : (setup_at records).n ≤ length providers
@@ -164,7 +167,9 @@ module _ (law : OpensAll) (there : ThereIsOne) (v : Vault) (records : List Recor
           images = subst (λ told. StandsForState told G.last) (sym A.disk) G.stands.devices.images;
           faults_are = G.stands.devices.faults ∙ sym A.faults;
           handed = subst (λ (ps : List Provider). job_runs.AreHanded ps G.last) (sym A.providers) (record { count = G.stands.devices.providers.count; each = G.stands.devices.providers.each });
-          past_text = subst (λ told. SamePast (answer_of ended.answer) G.last.records old.disk told) (sym A.disk) (past-before (answer_of ended.answer) G.last.records old.disk holds new_holds B.reads G.past_text);
+          past_text = subst (λ told. SamePast kind (answer_of ended.answer) records G.last.records old.disk told) (sym A.disk)
+              (past-before kind (answer_of ended.answer) records G.last.records old.disk holds new_holds B.reads
+              (subst (λ rs. SamePast kind (answer_of ended.answer) rs G.last.records holds new_holds) over.records G.past_text));
         })
 
     runs-alone : RunsAlone records kind (answer_of ended.answer) old new ended.heard

@@ -1,6 +1,7 @@
 -- The only job of a vault, step by step.
 use Rattle.std.proofs.Common.{◌≡◌, ℕ, ◌+◌, ◌-◌, ◌≤◌, ◌⊎◌, List, [], ◌∷◌, length, drop, Option, Some, None, refl, ap, sym, subst, ◌∙◌, inl, inr, arith}
 use Rattle.std.specs.Option.{option_map}
+use Rattle.std.specs.Prelude.{IfSome}
 use Rattle.std.proofs.lemmas.List.{drop-drop}
 use Rattle.hail_devices.specs.Cells.{Cells, reads}
 use Rattle.hail_devices.specs.Told.{Goes}
@@ -16,9 +17,10 @@ use Rattle.hail_machine.specs.Runs.{Moment, now}
 use Rattle.hail_machine.specs.Heard.{heard_by}
 use Rattle.hail_machine.specs.Jobs.{job_of}
 use Rattle.hail_commands.specs.JobRuns.{AreSteps}
-use Rattle.hail_commands.specs.Jobs.{past, SamePast}
+use Rattle.hail_commands.specs.Jobs.{past, with_next, IsNext, SameBehind, SamePast}
 use Rattle.journal_core.specs.Moves.{SameFrom}
 use Rattle.lone_laws.proofs.Walk.{walk-step}
+use Rattle.vault_core.specs.Carried.{IsWriting}
 use Rattle.vault.specs.declared.turn.Ended.{Ended as EndedJob}
 use Rattle.vault.specs.declared.turn.Turn.{Turn}
 use Rattle.vault.specs.declared.turn.Turn.TheVariants as turn
@@ -28,6 +30,7 @@ use Rattle.vault.specs.Outcomes.{answer_of, outcome_of}
 use Rattle.vault.specs.Stands.{Stands, MakesStep}
 use Rattle.command_jobs.specs.Going.{IsOnly, GoesToEnd}
 use Rattle.command_jobs.proofs.Acting.{step-turn, step-grows, step-ends}
+use Rattle.command_jobs.proofs.Cuts.{fault-records, memory-clears, next-written, next-flight}
 
 -- ---- what the disk reads past a place
 
@@ -49,23 +52,43 @@ goes-on-same m n (Some a) None c l h k = absurd h
 goes-on-same m n None None (Some c) l h k = absurd k
 goes-on-same m n (Some a) (Some b) None l h k = absurd k
 
+goes-further : (m n : ℕ) (a b : Option Cells) → m ≤ n → Goes (SameFrom m) a b → Goes (SameFrom n) a b
+goes-further m n None None l h = tt
+goes-further m n (Some a) (Some b) l h = drop-further m n (reads b) (reads a) l h
+goes-further m n None (Some b) l h = absurd h
+goes-further m n (Some a) None l h = absurd h
+
 past-same : (rs : List Record) (a b : Option Cells) → Goes (SameFrom (text_size rs)) a b → option_map (past rs) b ≡ option_map (past rs) a
 past-same rs None None h = refl
 past-same rs (Some a) (Some b) h = ap (λ (bytes : List ℕ). Some bytes) h
 past-same rs None (Some b) h = absurd h
 past-same rs (Some a) None h = absurd h
 
--- past the text it reads as before, where the job ended in no fault of the disk and not for want of memory
-same-past : (how : Answer) (rs : List Record) (a b : Option Cells) → ((how ≡ answer.DiskFault → ⊥) → (how ≡ answer.Memory → ⊥) → option_map (past rs) b ≡ option_map (past rs) a) → SamePast how rs a b
-same-past answer.Put rs a b h = h (λ e. cc) (λ e. cc)
-same-past (answer.Got bytes) rs a b h = h (λ e. cc) (λ e. cc)
-same-past answer.Dropped rs a b h = h (λ e. cc) (λ e. cc)
-same-past (answer.Audited number undecided counts) rs a b h = h (λ e. cc) (λ e. cc)
-same-past (answer.Repaired number) rs a b h = h (λ e. cc) (λ e. cc)
-same-past (answer.Lost stripe row) rs a b h = h (λ e. cc) (λ e. cc)
-same-past (answer.ProviderFault j) rs a b h = h (λ e. cc) (λ e. cc)
-same-past answer.DiskFault rs a b h = tt
-same-past answer.Memory rs a b h = tt
+-- past the text it reads as before, by how the job ended
+same-past : (kind : Kind) (how : Answer) (before after : List Record) (a b : Option Cells) → ((how ≡ answer.DiskFault → ⊥) → (how ≡ answer.Memory → ⊥) → option_map (past after) b ≡ option_map (past after) a)
+    → (how ≡ answer.DiskFault → SameBehind kind before after a b) → (how ≡ answer.Memory → SameBehind kind before after a b) → SamePast kind how before after a b
+same-past kind answer.Put before after a b h d m = h (λ e. cc) (λ e. cc)
+same-past kind (answer.Got bytes) before after a b h d m = h (λ e. cc) (λ e. cc)
+same-past kind answer.Dropped before after a b h d m = h (λ e. cc) (λ e. cc)
+same-past kind (answer.Audited number undecided counts) before after a b h d m = h (λ e. cc) (λ e. cc)
+same-past kind (answer.Repaired number) before after a b h d m = h (λ e. cc) (λ e. cc)
+same-past kind (answer.Lost stripe row) before after a b h d m = h (λ e. cc) (λ e. cc)
+same-past kind (answer.ProviderFault j) before after a b h d m = h (λ e. cc) (λ e. cc)
+same-past kind answer.DiskFault before after a b h d m = d refl
+same-past kind answer.Memory before after a b h d m = m refl
+
+-- the record in flight, if one is
+abbrev flying : Option Append → Option Record
+flying o = option_map (λ (a : Append). a.entry) o
+
+flying-same : (rs : List Record) (o : Option Append) → records_in_flight rs o ≡ with_next (flying o) rs
+flying-same rs None = refl
+flying-same rs (Some a) = refl
+
+-- the text with the record in flight is no longer than that with the one that was being appended
+flying-le : (rs : List Record) (entry : Record) (o : Option Append) → ((a : Append) → o ≡ Some a → a.entry ≡ entry) → text_size (records_in_flight rs o) ≤ text_size (entry ∷ rs)
+flying-le rs entry None same = omega arith
+flying-le rs entry (Some a) same = (let e : text_size (a.entry ∷ rs) ≡ text_size (entry ∷ rs) = ap (λ (r : Record). text_size (r ∷ rs)) (same a refl) in omega (arith, e))
 
 -- ---- the job on its way
 
@@ -103,12 +126,12 @@ module _ (start : State) (kind : Kind) (w : State) (moment number : ℕ) (first 
             (step-grows start way.only.opened kind here way.only.job way.only.walked (moment + length way.steps) M.state happens) way.beyond (M.beyond (λ e. cc));
       })
 
-  pub at-end : (ended : EndedJob) → MakesStep here (moment + length way.steps) number (turn.Done ended) next mid new → GoesToEnd w moment ended next old new
+  pub at-end : (ended : EndedJob) → MakesStep here (moment + length way.steps) number (turn.Done ended) next mid new → GoesToEnd start kind w moment ended next old new
   at-end ended M = record {
     last = M.state;
     goes = record { steps = way.steps; are_steps = way.are_steps; ends = happens; heard_is = subst (λ n. ended.heard ≡ heard_by (job_of here.jobs n)) first M.heard };
     stands = M.stands;
-    past_text = same-past (answer_of ended.answer) M.state.records old.holds new.holds past_end;
+    past_text = same-past kind (answer_of ended.answer) start.records M.state.records old.holds new.holds past_end past_fault past_memory;
   }
     where
       happens : Happens 8 (moment + length way.steps) here (Step 1) (Ended (answer_of ended.answer)) M.state
@@ -125,6 +148,49 @@ module _ (start : State) (kind : Kind) (w : State) (moment number : ℕ) (first 
         where
           same-answer : (a b : Answer) → Ended a ≡ Ended b → a ≡ b
           same-answer a b e = cc
+
+      one_end : (how : Answer) → answer_of ended.answer ≡ how → Happens 8 (moment + length way.steps) here (Step 1) (Ended how) M.state
+      one_end how e = subst (λ (x : Answer). Happens 8 (moment + length way.steps) here (Step 1) (Ended x) M.state) e happens
+
+      past_fault : answer_of ended.answer ≡ answer.DiskFault → SameBehind kind start.records M.state.records old.holds new.holds
+      past_fault e =
+          (let T = M.torn (ap Ended e) in
+          let same = fault-records start way.only.opened kind here way.only.job way.only.walked (moment + length way.steps) M.state (one_end answer.DiskFault e) in
+          let next = next-written start way.only.opened kind here way.only.job way.only.walked T.entry (subst (λ n. IsWriting here n T.entry) first T.writing) in
+          let both = goes-on-same (text_size (records_in_flight here.records here.append)) (text_size (T.entry ∷ here.records)) old.holds mid.holds new.holds (flying-le here.records T.entry here.append T.in_flight) way.beyond T.same in
+          subst (λ rs. SameBehind kind start.records rs old.holds new.holds) (sym same)
+          (record { next = Some T.entry; is_next = next; same = past-same (T.entry ∷ here.records) old.holds new.holds both }))
+
+      past_memory : answer_of ended.answer ≡ answer.Memory → SameBehind kind start.records M.state.records old.holds new.holds
+      past_memory e =
+          (let c = memory-clears start way.only.opened kind here way.only.job way.only.walked (moment + length way.steps) M.state (one_end answer.Memory e) in
+          let last : Goes (SameFrom (text_size here.records)) mid.holds new.holds =
+          subst (λ rs. Goes (SameFrom (text_size rs)) mid.holds new.holds) c.0
+          (subst (λ (o : Option Append). Goes (SameFrom (text_size (records_in_flight M.state.records o))) mid.holds new.holds) c.1 (M.beyond (λ f. no_fault (answer_of ended.answer) e f))) in
+          subst (λ rs. SameBehind kind start.records rs old.holds new.holds) (sym c.0) (by_flight here.append refl last))
+        where
+          no_fault : (a : Answer) → a ≡ answer.Memory → Ended a ≡ Ended answer.DiskFault → ⊥
+          no_fault a m f = (let g : Ended answer.Memory ≡ Ended answer.DiskFault = ap Ended (sym m) ∙ f in cc)
+
+          flight-le : (o : Option Append) → text_size here.records ≤ text_size (records_in_flight here.records o)
+          flight-le None = omega arith
+          flight-le (Some a) = omega arith
+
+          flight-next : (o : Option Append) → here.append ≡ o → IfSome (flying o) (IsNext kind start.records here.records)
+          flight-next None is = tt
+          flight-next (Some a) is = next-flight start way.only.opened kind here way.only.job way.only.walked a is
+
+          by_flight : (o : Option Append) → here.append ≡ o → Goes (SameFrom (text_size here.records)) mid.holds new.holds → SameBehind kind start.records here.records old.holds new.holds
+          by_flight o is last =
+              (let beyond : Goes (SameFrom (text_size (records_in_flight here.records o))) old.holds mid.holds = subst (λ (x : Option Append). Goes (SameFrom (text_size (records_in_flight here.records x))) old.holds mid.holds) is way.beyond in
+              let on = goes-further (text_size here.records) (text_size (records_in_flight here.records o)) mid.holds new.holds (flight-le o) last in
+              record {
+                next = flying o;
+                is_next = flight-next o is;
+                same = past-same (with_next (flying o) here.records) old.holds new.holds
+                    (subst (λ rs. Goes (SameFrom (text_size rs)) old.holds new.holds) (flying-same here.records o)
+                    (goes-on-same (text_size (records_in_flight here.records o)) (text_size (records_in_flight here.records o)) old.holds mid.holds new.holds (omega arith) beyond on));
+              })
 
 -- other turns do not come
 pub never-stops : (r : Turn) → ((holder : ℕ) × (r ≡ turn.Waiting holder)) ⊎ ((r ≡ turn.NoSuchJob) ⊎ (r ≡ turn.MustReopen)) → (outcome_of r ≡ More) ⊎ ((how : Answer) × (outcome_of r ≡ Ended how)) → ⊥

@@ -2,8 +2,9 @@
 --
 --   IsOnly start kind w            == the only job of a state is of this kind, and has gone on since it began in `start`
 --   IsUnderWay v d                 == vault and devices stand for such a state
---   GoesToEnd w moment ended v old new  == the job goes on from a state, after so many events, to this end, and vault and devices stand
---                                     for the last state; past the text the disk reads as before
+--   GoesToEnd start kind w moment ended v old new  == the job goes on from a state, after so many events, to this end, and vault and
+--                                     devices stand for the last state; past the text, with the record that was being appended where the
+--                                     job was cut short, the disk reads as before
 use Rattle.std.specs.Prelude.{ℕ}
 use Rattle.hail_machine.specs.Jobs.{Kind, Job}
 use Rattle.hail_machine.specs.States.{State}
@@ -31,8 +32,8 @@ pub record IsUnderWay (v : Vault) (d : Devices) : Type 0 where
   pub stands : Stands v d state
 
 -- the job goes on to this end
-pub record GoesToEnd (w : State) (moment : ℕ) (ended : Ended) (v : Vault) (old new : Devices) : Type 0 where
+pub record GoesToEnd (start : State) (kind : Kind) (w : State) (moment : ℕ) (ended : Ended) (v : Vault) (old new : Devices) : Type 0 where
   pub last : State
   pub goes : GoesOnTo w moment 1 (answer_of ended.answer) ended.heard last
   pub stands : Stands v new last
-  pub past_text : SamePast (answer_of ended.answer) last.records old.holds new.holds
+  pub past_text : SamePast kind (answer_of ended.answer) start.records last.records old.holds new.holds

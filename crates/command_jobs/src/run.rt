@@ -71,7 +71,7 @@ fn finish<D: Disk, P: Provider>(
     requires under_way { IsUnderWay vault.old (devices (D.holds disk.old) (D.faults disk.old) (map (as_seen P.held P.store_faults P.other_faults P.fetches) providers.old)) }
     ensures ended { (start w : State) (kind : Kind) (moment : ℕ) → IsOnly start kind w
         → Stands vault.old (devices (D.holds disk.old) (D.faults disk.old) (map (as_seen P.held P.store_faults P.other_faults P.fetches) providers.old)) w
-        → GoesToEnd w moment result vault.new
+        → GoesToEnd start kind w moment result vault.new
         (devices (D.holds disk.old) (D.faults disk.old) (map (as_seen P.held P.store_faults P.other_faults P.fetches) providers.old))
         (devices (D.holds disk.new) (D.faults disk.new) (map (as_seen P.held P.store_faults P.other_faults P.fetches) providers.new)) }
     ensures tells { is_some (D.holds disk.new) ≡ is_some (D.holds disk.old) }

@@ -89,7 +89,7 @@ pub not-wrong-each : (o : Object) (bytes : List ℕ) (j : ℕ) (held : ℕ → O
 unfolding is_wrong
 not-wrong-each o bytes j held h t l = none-any (λ k. is_wrong_block o bytes j k (held k)) 0 (stripes o (length bytes)) h t (omega arith) (omega (arith, l))
 
-each-not-wrong : (o : Object) (bytes : List ℕ) (j : ℕ) (held : ℕ → Option (List ℕ)) → ((t : ℕ) → t < stripes o (length bytes) → is_wrong_block o bytes j t (held t) ≡ false) → is_wrong o bytes j held ≡ false
+pub each-not-wrong : (o : Object) (bytes : List ℕ) (j : ℕ) (held : ℕ → Option (List ℕ)) → ((t : ℕ) → t < stripes o (length bytes) → is_wrong_block o bytes j t (held t) ≡ false) → is_wrong o bytes j held ≡ false
 unfolding is_wrong
 each-not-wrong o bytes j held h = any-none (λ k. is_wrong_block o bytes j k (held k)) 0 (stripes o (length bytes)) (λ t l u. h t (omega (arith, u)))
 

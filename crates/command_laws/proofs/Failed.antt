@@ -123,7 +123,7 @@ written-own m text old new end (inr (inl w)) is (inr k) = differ end.status 15 m
 written-own m text old new end (inr (inr w)) is own = memory-own m end.status w.0 is own
 
 -- images of a disk that gained these records, of which none is in doubt
-images-same : (told : Option Cells) (after records : List Record) (doubt : Option Record) → records ≢ [] → after ≡ records → doubt ≡ None →
+pub images-same : (told : Option Cells) (after records : List Record) (doubt : Option Record) → records ≢ [] → after ≡ records → doubt ≡ None →
     EachImage told (λ image. StandsOrIsEmpty image after ⊎ IsSomeAnd doubt (λ entry. StandsFor image (entry ∷ after))) → EachImage told (λ image. StandsFor image records)
 images-same told after [] doubt some is sure h = absurd (some refl)
 images-same told after (first ∷ rest) doubt some is sure h = images-have told after doubt first rest is sure h

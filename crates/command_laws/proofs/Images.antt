@@ -40,7 +40,7 @@ reads-image [] = tt
 reads-image (c ∷ cells) = ((λ e. refl), reads-image cells)
 
 -- where no byte is loose there is one image
-image-firm : (bytes image : List ℕ) → IsImage (firm bytes) image → image ≡ bytes
+pub image-firm : (bytes image : List ℕ) → IsImage (firm bytes) image → image ≡ bytes
 image-firm [] [] is = refl
 image-firm [] (b ∷ image) is = absurd is
 image-firm (b ∷ bytes) [] is = absurd is
@@ -246,7 +246,7 @@ stands-long bytes (r ∷ rs) some S =
     let e = ap length S.bytes_are in omega (arith, h, a, b, e))
 
 -- what stands at the front of bytes stands in them
-stands-front : (n : ℕ) (bytes : List ℕ) (rs : List Record) → StandsFor (take n bytes) rs → StandsFor bytes rs
+pub stands-front : (n : ℕ) (bytes : List ℕ) (rs : List Record) → StandsFor (take n bytes) rs → StandsFor bytes rs
 stands-front n bytes rs S = record {
   in_grammar = S.in_grammar;
   gate = S.gate;

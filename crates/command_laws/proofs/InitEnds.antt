@@ -38,7 +38,7 @@ digits-front : (text key : List ℕ) (F : IsKeyForm text key) → F.digits ≡ t
 digits-front text key F = subst (λ (t : List ℕ). F.digits ≡ take 64 t) (sym F.text_is) (subst (λ (n : ℕ). F.digits ≡ take n (F.digits ++ F.behind)) F.size (sym (take-append_seam F.digits F.behind)))
 
 -- a text spells one key
-key-once : (text a b : List ℕ) → IsKeyForm text a → IsKeyForm text b → a ≡ b
+pub key-once : (text a b : List ℕ) → IsKeyForm text a → IsKeyForm text b → a ≡ b
 key-once text a b A B = (let same : A.digits ≡ B.digits = digits-front text a A ∙ sym (digits-front text b B) in
     let both : Ok a ≡ Ok b = sym A.spelled ∙ (ap (λ (ds : List ℕ). decode_of ds) same ∙ B.spelled) in cc)
 
@@ -60,7 +60,7 @@ seen-short old (Some left) bytes seen is short R =
 form-seen : (old new : Option (List ℕ)) (bytes seen key : List ℕ) → old ≡ Some bytes → ReadsUpTo longest_key old new seen → IsKeyForm bytes key → IsKeyForm seen key
 form-seen old new bytes seen key is R F = subst (λ b. IsKeyForm b key) (short-read old new bytes seen is (seen-short old new bytes seen is (form-length bytes key F) R) R) F
 
-form-all : (old new : Option (List ℕ)) (bytes seen key : List ℕ) → old ≡ Some bytes → ReadsUpTo longest_key old new seen → IsKeyForm seen key → IsKeyForm bytes key
+pub form-all : (old new : Option (List ℕ)) (bytes seen key : List ℕ) → old ≡ Some bytes → ReadsUpTo longest_key old new seen → IsKeyForm seen key → IsKeyForm bytes key
 form-all old new bytes seen key is R F = subst (λ b. IsKeyForm b key) (sym (short-read old new bytes seen is (form-length seen key F) R)) F
 
 -- ---- what a disk reads, when a store is set up

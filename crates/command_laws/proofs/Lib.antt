@@ -33,3 +33,10 @@ pub mod Images
 pub mod InitEnds
 pub mod RowCauses
 pub mod Failed
+pub mod LastStates
+pub mod Knowing
+pub mod Afterwards
+pub mod DoneStores
+pub mod FilesStay
+pub mod FilesKept
+pub mod Chains

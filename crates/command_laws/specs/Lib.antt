@@ -2,3 +2,4 @@ pub mod Failing
 pub mod Ends
 pub mod Kept
 pub mod Opened
+pub mod After

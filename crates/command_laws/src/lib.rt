@@ -1,6 +1,7 @@
 //! What the job of a command leaves, as laws over runs of the machine.
 #![tactic(auto)]
 
+pub mod after;
 pub mod alone;
 pub mod ends;
 pub mod files;

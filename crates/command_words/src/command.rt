@@ -11,13 +11,21 @@ use std::alloc::Global;
 /// A command that words spell. A name is the bytes of its word, whatever they are: they may be no name of a file.
 #[derive(Debug, PartialEq, Eq, Drop)]
 pub enum Command<'a> {
+    /// `row` with a shape and the symbols that were seen.
     Row(Row),
+    /// `init` with the numbers of a setup.
     Init(Numbers),
+    /// `put` with a name.
     Put { name: &'a [u8] },
+    /// `get` with a name.
     Get { name: &'a [u8] },
+    /// `drop` with a name.
     Drop { name: &'a [u8] },
+    /// `list`.
     List,
+    /// `audit`.
     Audit,
+    /// `repair`.
     Repair,
 }
 

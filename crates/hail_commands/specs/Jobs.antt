@@ -1,17 +1,21 @@
 -- What a command leaves and says that runs one job.
 --
 --   Leaves x kind answer       == what a job of this kind leaves that ended with this answer
+--   SamePast kind answer before after old new  == past the text of the records in effect, with the one that was being appended where the
+--                                 job was cut short, the disk reads as before
 --   RunsAlone records kind answer old new heard  == a job of this kind ran alone over these records and devices, as a run of the machine
 --   LeftAlone records kind answer old new heard  == the same without its run: the records then in effect, what is left and heard
 --   EndsBy text answer old new end  == how the command ends: the answer is told by its text, or by the status of its fault
 --   AnswersJob kind records old new end  == the job is refused, or ends, over these records
-use Rattle.std.specs.Prelude.{◌≡◌, ◌⊎◌, ℕ, ◌≤◌, List, [], ◌∷◌, drop, Option, None, Some, IsSomeAnd}
+use Rattle.std.specs.Prelude.{◌≡◌, ◌⊎◌, ℕ, ◌≤◌, List, [], ◌∷◌, ◌++◌, length, reverse, drop, Option, None, Some, IfSome, IsSomeAnd}
 use Rattle.std.specs.Option.{option_map}
 use Rattle.hail_devices.specs.Cells.{Cells, reads}
 use Rattle.hail_devices.specs.Images.{EachImage}
-use Rattle.hail_records.specs.Records.{Record}
+use Rattle.hail_records.specs.Records.{Record, Drop, RepairDone}
+use Rattle.hail_records.specs.Table.{due_of}
 use Rattle.hail_records.specs.Journal.{text_size, StandsFor, StandsOrIsEmpty}
 use Rattle.hail_machine.specs.Jobs.{Kind, PutJob, GetJob, DropJob, AuditJob, RepairJob}
+use Rattle.hail_machine.specs.Begins.{due_number}
 use Rattle.hail_machine.specs.Answers.{Answer, Lost, ProviderFault, DiskFault, Memory}
 use Rattle.hail_machine.specs.States.{State}
 use Rattle.hail_machine.specs.Stands.{StandsForState}
@@ -24,10 +28,10 @@ use Rattle.hail_commands.specs.Refusals.{refusal_of, status_of}
 use Rattle.hail_commands.specs.Lines.{text_of}
 use Rattle.hail_commands.specs.Ran.{Ran, ran_alone, setup_at_begin, CountsRise, NoFetches}
 use Rattle.hail_commands.specs.JobRuns.{AreHanded, IsOpenedOver, RunsJob}
-use Rattle.hail_commands.specs.Puts.{PutLeaves}
+use Rattle.hail_commands.specs.Puts.{PutLeaves, put_records}
 use Rattle.hail_commands.specs.Gets.{GetLeaves}
 use Rattle.hail_commands.specs.Drops.{DropLeaves}
-use Rattle.hail_commands.specs.Audits.{AuditLeaves}
+use Rattle.hail_commands.specs.Audits.{AuditLeaves, audit_records}
 use Rattle.hail_commands.specs.Repairs.{RepairLeaves}
 
 -- what a job leaves and hears, by its kind; only gets and audits hear anything, and only gets and repairs fetch
@@ -48,21 +52,50 @@ pub record Leaves (x : Ran) (kind : Kind) (answer : Answer) : Type 0 where
 abbrev pub past : List Record → Cells → List ℕ
 past records cells = drop (text_size records) (reads cells)
 
--- the disk reads as before past the text of records, unless the job ended in a fault of the disk or for want of memory
-abbrev pub SamePast : Answer → List Record → Option Cells → Option Cells → Type 0
-SamePast DiskFault records old new = Unit {0}
-SamePast Memory records old new = Unit {0}
-SamePast answer records old new = option_map (past records) new ≡ option_map (past records) old
+-- of these records, given the oldest first, the first ones are in effect behind those before, and this one comes next
+pub record IsNextOf (own before after : List Record) (next : Record) : Type 0 where
+  pub done : List Record
+  pub rest : List Record
+  pub parts : own ≡ done ++ next ∷ rest
+  pub after_is : after ≡ reverse done ++ before
+
+-- the record of a job that comes next; a get appends none
+abbrev pub IsNext : Kind → List Record → List Record → Record → Type 0
+IsNext (PutJob name bytes) before after next = IsNextOf (put_records before name (length bytes)) before after next
+IsNext (GetJob name) before after next = ⊥
+IsNext (DropJob name) before after next = IsNextOf (Drop name ∷ []) before after next
+IsNext AuditJob before after next =
+    (undecided : ℕ) × (counts : List ℕ) × (length counts ≡ (setup_at before).n) × IsNextOf (audit_records before undecided counts) before after next
+IsNext RepairJob before after next = IsNextOf (RepairDone (due_number (due_of before)) ∷ []) before after next
+
+-- the records in effect, with the one that was being appended
+abbrev pub with_next : Option Record → List Record → List Record
+with_next None after = after
+with_next (Some next) after = next ∷ after
+
+-- the disk reads as before past the text of the records in effect, with the job's next one where that was being appended
+pub record SameBehind (kind : Kind) (before after : List Record) (old new : Option Cells) : Type 0 where
+  pub next : Option Record
+  pub is_next : IfSome next (IsNext kind before after)
+  pub same : option_map (past (with_next next after)) new ≡ option_map (past (with_next next after)) old
+
+-- the disk reads as before past the text of the records in effect; where the job ended in a fault of the disk or for want of memory,
+-- past that text with the record that was being appended
+abbrev pub SamePast : Kind → Answer → List Record → List Record → Option Cells → Option Cells → Type 0
+SamePast kind DiskFault before after old new = SameBehind kind before after old new
+SamePast kind Memory before after old new = SameBehind kind before after old new
+SamePast kind answer before after old new = option_map (past after) new ≡ option_map (past after) old
 
 -- a job that ran alone, whatever bytes of the recorded lengths the files have: it is a run of the machine from any state just opened over
--- these records and devices, and the devices are those of its last state; past the text of its records the disk reads as before
+-- these records and devices, and the devices are those of its last state; past the text of its records, with the one that was being
+-- appended where it was cut short, the disk reads as before
 pub record RanAlone (records : List Record) (kind : Kind) (answer : Answer) (old new : Seen) (heard : List Entry) (faults : ℕ) (w : State) : Type 0 where
   pub last : State
   pub runs : RunsJob w kind answer heard last
   pub images : StandsForState new.disk last
   pub faults_are : last.disk_faults ≡ new.disk_faults
   pub handed : AreHanded new.providers last
-  pub past_text : SamePast answer last.records old.disk new.disk
+  pub past_text : SamePast kind answer records last.records old.disk new.disk
 
 -- so it is from every such state, with what the disk's count of faults was once it was opened
 pub record RunsAlone (records : List Record) (kind : Kind) (answer : Answer) (old new : Seen) (heard : List Entry) : Type 0 where
@@ -79,7 +112,7 @@ pub record LeftAlone (records : List Record) (kind : Kind) (answer : Answer) (ol
   pub doubt : Option Record
   pub leaves : Leaves (ran_alone records old new heard faults after doubt) kind answer
   pub images : EachImage new.disk (λ image. StandsOrIsEmpty image after ⊎ IsSomeAnd doubt (λ entry. StandsFor image (entry ∷ after)))
-  pub past_text : SamePast answer after old.disk new.disk
+  pub past_text : SamePast kind answer records after old.disk new.disk
 
 -- nothing was written
 pub record IsSilent (status at : ℕ) (old new : Seen) (end : Ending) : Type 0 where

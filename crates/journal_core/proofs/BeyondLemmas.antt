@@ -1,11 +1,11 @@
 -- What is read past a write, and past a write that failed.
-use Rattle.std.proofs.Common.{◌≡◌, ℕ, ◌+◌, ◌-◌, ◌≤◌, min, true, List, ◌∷◌, [], ◌++◌, length, take, drop, replicate, Option, Some, None, refl, sym, ap, ◌∙◌, subst, arith, length-append, length-take}
+use Rattle.std.proofs.Common.{◌≡◌, ℕ, ◌+◌, ◌-◌, ◌≤◌, min, true, List, ◌++◌, length, take, drop, replicate, Option, Some, None, refl, sym, ap, ◌∙◌, subst, arith, length-append, length-take}
 use Rattle.std.specs.Option.{option_map}
-use Rattle.std.proofs.lemmas.List.{drop-drop, drop_all, length-map, length-replicate, drop-map}
+use Rattle.std.proofs.lemmas.List.{drop-drop, length-map, length-replicate, drop-map}
 use Rattle.std.proofs.Math.Seq.{drop-append-add}
 use Rattle.stream_model.specs.declared.fault.WriteFault.{WriteFault}
 use Rattle.stream_model.specs.declared.fault.WriteFault.TheVariants as write_fault
-use Rattle.hail_devices.specs.Cells.{Cells, reads, firm, loose}
+use Rattle.hail_devices.specs.Cells.{Cells, reads, loose}
 use Rattle.hail_devices.specs.Disks.{spliced, written, Torn}
 use Rattle.hail_devices.specs.Told.{Goes}
 use Rattle.journal_core.specs.Moves.{SameFrom}

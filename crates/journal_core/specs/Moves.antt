@@ -8,8 +8,11 @@
 --   MayStandFor rs r told            each image stands for these records, or for these with one more
 --   SameFrom at old new              what is read from an offset on is as before, also where it lies past an end
 --   IsWrite moves                    the move that comes after so many is a write
-use Rattle.std.specs.Prelude.{◌≡◌, ◌≢◌, ◌⊎◌, ℕ, zero, suc, true, false, List, ◌∷◌, ◌++◌, drop, Option}
+--   cells_after n gate body cells    the cells after the move that comes after n, at this gate, with this body
+--   MayTear n gate body old new      how the cells may go where that move failed: torn by a write, as before at a sync
+use Rattle.std.specs.Prelude.{◌≡◌, ◌≢◌, ◌⊎◌, ℕ, zero, suc, ◌+◌, true, false, List, [], ◌∷◌, ◌++◌, length, drop, Option}
 use Rattle.hail_devices.specs.Cells.{Cells, reads, firm, loose}
+use Rattle.hail_devices.specs.Disks.{written, Torn, synced}
 use Rattle.hail_devices.specs.Images.{EachImage}
 use Rattle.hail_records.specs.Records.{Record}
 use Rattle.hail_records.specs.Journal.{StandsFor}
@@ -55,3 +58,17 @@ SameFrom at old new = drop at (reads new) ≡ drop at (reads old)
 -- the move that comes after so many is a write
 abbrev pub IsWrite : ℕ → Type 0
 IsWrite moves = (moves ≡ 0) ⊎ (moves ≡ 2)
+
+-- the cells after the move that comes after so many: the body written behind the gate, a sync, the open gate written, a sync
+abbrev pub cells_after : ℕ → ℕ → List ℕ → Cells → Cells
+cells_after zero gate body cells = written (gate + 1) body cells
+cells_after (suc zero) gate body cells = synced cells
+cells_after (suc (suc zero)) gate body cells = written gate (1 ∷ []) cells
+cells_after (suc (suc (suc n))) gate body cells = synced cells
+
+-- what a fault of that move may leave: a torn write of the body or of the gate, and where a sync failed the cells as they were
+abbrev pub MayTear : ℕ → ℕ → List ℕ → Cells → Cells → Type 0
+MayTear zero gate body old new = Torn (gate + 1) (length body) old new
+MayTear (suc zero) gate body old new = new ≡ old
+MayTear (suc (suc zero)) gate body old new = Torn gate 1 old new
+MayTear (suc (suc (suc n))) gate body old new = new ≡ old

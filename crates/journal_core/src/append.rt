@@ -1,12 +1,13 @@
 ghost use Rattle.std.specs.Prelude.{◌≡◌, ◌+◌, ◌^◌, ◌<◌, ◌≤◌, ◌++◌, [], ◌∷◌, ℕ, List, length, drop, OnOk, OnErr, IfSome, IfOk, IsErrOf, IsTrue, ◌↔◌};
 ghost use Rattle.stream_model.specs.declared.fault.WriteFault.TheVariants as write_fault;
+ghost use Rattle.std.specs.Option.{option_map};
 ghost use Rattle.hail_devices.specs.Faults.{HasCause};
 ghost use Rattle.hail_devices.specs.Told.{Goes};
 ghost use Rattle.hail_records.specs.Records.{Record as Entry, record_size};
 ghost use Rattle.hail_records.specs.Spellings.{spelling};
 ghost use Rattle.hail_records.specs.Journal.{before_gate};
 ghost use Rattle.record_codec.specs.Entries.{entry_of, IsInGrammar};
-ghost use Rattle.journal_core.specs.Moves.{IsClosed, IsAfterMoves, IsGivenUp, AllStandFor, MayStandFor, SameFrom, IsWrite};
+ghost use Rattle.journal_core.specs.Moves.{IsClosed, IsAfterMoves, IsGivenUp, AllStandFor, MayStandFor, SameFrom, IsWrite, cells_after, MayTear};
 
 use disk_model::Disk;
 use record_codec::Record;
@@ -73,6 +74,9 @@ impl Append {
         ensures failed { OnErr result (moves_of self.new ≡ 5) }
         ensures gate { gate_of self.new ≡ gate_of self.old }
         ensures body { body_of self.new ≡ body_of self.old }
+        ensures does { OnOk result (D.holds disk.new ≡ option_map (cells_after (moves_of self.old) (gate_of self.old) (body_of self.old)) (D.holds disk.old)) }
+        ensures torn { IsErrOf result write_fault.Failed
+            → Goes (MayTear (moves_of self.old) (gate_of self.old) (body_of self.old)) (D.holds disk.old) (D.holds disk.new) }
         ensures moved { (rs : List Entry) (r : Entry) → Appends rs r self.old (D.holds disk.old) → OnOk result (Appends rs r self.new (D.holds disk.new)) }
         ensures given_up { (rs : List Entry) (r : Entry) → Appends rs r self.old (D.holds disk.old)
             → OnErr result (IfSome (D.holds disk.new) (IsGivenUp (moves_of self.old) (before_gate rs) (body_of self.old))) }

@@ -7,7 +7,9 @@ use stream_model::Failed;
 /// Why a provider did not store a block: it failed, or it found no memory.
 #[derive(Clone, Copy, Debug, PartialEq, Eq)]
 pub enum StoreFault {
+    /// The provider failed, and its count of store faults rose.
     Failed,
+    /// Memory ran out, and the block is as before.
     Memory,
 }
 

@@ -4,8 +4,8 @@ use Rattle.std.specs.Int.{Width, w16, w32, w64, byte_len, from_le_bytes}
 use Rattle.std.proofs.Common.{zero, suc}
 use Rattle.hail_records.specs.Records.{Setup, Record, SetUp, PutStart, PutDone, Drop, AuditStart, AuditDone, RepairDone, is_name, is_setup}
 
--- a step that reads on where the one before found something
 infixl 10 ◌>>=◌
+-- a step that reads on where the one before found something
 abbrev pub ◌>>=◌ : {A B : Type 0} → Option A → (A → Option B) → Option B
 None >>= f = None
 (Some x) >>= f = f x
@@ -23,33 +23,39 @@ name_at (n ∷ rest) = if nat_lt (length rest) n then None else (if is_name (tak
 unfoldable pub keyed_at : Setup → List ℕ → Option (Record × List ℕ)
 keyed_at s rest = if is_setup s then (if nat_lt (length rest) 32 then None else Some (SetUp (record s { master = take 32 rest }), drop 32 rest)) else None
 
+-- a setup with its master key
 unfoldable pub setup_at : List ℕ → Option (Record × List ℕ)
 setup_at (n ∷ l ∷ b ∷ profile ∷ rounds ∷ picks ∷ low ∷ high ∷ rest) =
     keyed_at (record { n = n; l = l; b = b; profile = profile; rounds = rounds; picks = picks; tolerance = from_le_bytes w16 (low ∷ high ∷ []); master = [] }) rest
 setup_at bytes = None
 
+-- the start of a put: its object number and its name
 unfoldable pub put_start_at : List ℕ → Option (Record × List ℕ)
 put_start_at bytes = do
   id ← number_at w64 bytes
   name ← name_at id.1
   Some (PutStart id.0 name.0, name.1)
 
+-- the end of a put: its object number and the length of its file
 unfoldable pub put_done_at : List ℕ → Option (Record × List ℕ)
 put_done_at bytes = do
   id ← number_at w64 bytes
   len ← number_at w32 id.1
   if nat_le len.0 4194304 then Some (PutDone id.0 len.0, len.1) else None
 
+-- a drop: the name
 unfoldable pub drop_at : List ℕ → Option (Record × List ℕ)
 drop_at bytes = do
   name ← name_at bytes
   Some (Drop name.0, name.1)
 
+-- the start of an audit: its number
 unfoldable pub audit_start_at : List ℕ → Option (Record × List ℕ)
 audit_start_at bytes = do
   number ← number_at w64 bytes
   Some (AuditStart number.0, number.1)
 
+-- the end of a repair: the number of its audit
 unfoldable pub repair_done_at : List ℕ → Option (Record × List ℕ)
 repair_done_at bytes = do
   number ← number_at w64 bytes
@@ -68,6 +74,7 @@ unfoldable pub counts_at : List ℕ → Option (List ℕ × List ℕ)
 counts_at [] = None
 counts_at (n ∷ rest) = if nat_le 4 n && nat_le n 16 then numbers_at n rest else None
 
+-- the end of an audit: its number, how many rounds were undecided, and the counts
 unfoldable pub audit_done_at : List ℕ → Option (Record × List ℕ)
 audit_done_at bytes = do
   number ← number_at w64 bytes

@@ -12,10 +12,15 @@ use std::alloc::Global;
 /// The server code of any profile.
 #[derive(Drop)]
 pub enum AnyCode {
+    /// Profile 0: 6 symbols a block, 2 of them kept.
     P0(ServerCode<6, 2>),
+    /// Profile 1: 16 symbols, 8 kept.
     P1(ServerCode<16, 8>),
+    /// Profile 2: 32 symbols, 24 kept.
     P2(ServerCode<32, 24>),
+    /// Profile 3: 64 symbols, 48 kept.
     P3(ServerCode<64, 48>),
+    /// Profile 4: 128 symbols, 96 kept.
     P4(ServerCode<128, 96>),
 }
 

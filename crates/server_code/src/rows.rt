@@ -97,7 +97,6 @@ fn difference(a: Symbol, b: Symbol) -> u32
 }
 
 /// Puts the polynomial's values at the points into a block, and tells at how many places it changes.
-
 pub fn put_values(coefficients: &[Symbol], points: &[Symbol], block: &mut [Symbol]) -> u32
     requires even { length points.now ≡ length block.old }
     requires few { length points.now ≤ 128 }

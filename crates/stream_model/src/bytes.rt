@@ -35,6 +35,7 @@ impl Bytes {
         Bytes { items }
     }
 
+    /// The bytes as a slice.
     pub fn as_slice(&self) -> &[u8]
         ensures { result.now ≡ self.now }
     {

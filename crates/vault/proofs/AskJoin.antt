@@ -482,6 +482,7 @@ module _ (v : Vault) (w : State) (holds : Option Cells) (faults moment number k 
               core keeps flight are;
           heard = tt;
           beyond = λ ended. same_beyond new holds faults ps ps';
+          torn = λ e. cc;
         }
       where
         is_handed_in : k < length ps

@@ -152,6 +152,14 @@ well number subject undecided counts new task.Drop = tt
 well number subject undecided counts new (task.Audit t) = tt
 well number subject undecided counts new (task.Repair t) = tt
 
+-- nor is it a fault of the disk
+no_fault : (t : Task) (subject undecided : ℕ) (counts : Counts) → answer_of (answer_at_end t subject undecided counts) ≡ answers.DiskFault → ⊥
+no_fault (task.Put t) subject undecided counts e = cc
+no_fault (task.Get t) subject undecided counts e = cc
+no_fault task.Drop subject undecided counts e = cc
+no_fault (task.Audit t) subject undecided counts e = cc
+no_fault (task.Repair t) subject undecided counts e = cc
+
 some_of : {X Y : Type 0} (f : X → Y) (o : Option X) (x : X) (y : Y) → o ≡ Some x → option_map f o ≡ Some y → f x ≡ y
 some_of f o x y is e = (let h : Some (f x) ≡ Some y = ap (option_map f) (sym is) ∙ e in cc)
 
@@ -181,4 +189,4 @@ module _ (v : Vault) (d : Devices) (w : State) (moment number : ℕ) (stands : S
       (record { core = refl; jobs = set_same v.jobs.items place r there; number = refl; heard = refl; keeps = record { setup = refl; master = refl; shape = refl; profile = refl } })
       refl stopped
       (well number subject undecided counts new r.task)
-      (handed_same d.providers w new stands.devices.providers refl (λ j. refl))
+      (handed_same d.providers w new stands.devices.providers refl (λ j. refl)) (no_fault r.task subject undecided counts)

@@ -10,14 +10,14 @@ use Rattle.hail_records.specs.Journal.{before_gate, text_size}
 use Rattle.hail_records.specs.Table.{setup_of}
 use Rattle.hail_records.specs.Acceptance.{refused}
 use Rattle.hail_machine.specs.Actions.{Action, SyncBody, WriteGate, SyncGate}
-use Rattle.hail_machine.specs.Appends.{Moves, taken_out, moved, doubted, barred, unappended, done_append, IsAt}
+use Rattle.hail_machine.specs.Appends.{Moves, Writes, taken_out, moved, doubted, barred, unappended, done_append, IsAt}
 use Rattle.hail_machine.specs.Events.{More, Ended}
 use Rattle.hail_machine.specs.Answers as answers
-use Rattle.hail_machine.specs.Jobs.{advanced, without_job}
+use Rattle.hail_machine.specs.Jobs.{Job, job_of, advanced, without_job}
 use Rattle.hail_machine.specs.Setups.{setup_or_none}
 use Rattle.hail_machine.specs.Stands.{StandsForState}
 use Rattle.hail_machine.specs.States.{State, Append, Doubt, setup_in, going_on, ended}
-use Rattle.hail_machine.proofs.JobLists.{number_of}
+use Rattle.hail_machine.proofs.JobLists.{number_of, same_value}
 use Rattle.sound_states.specs.Orders.{moves_before}
 use Rattle.sound_states.specs.Sound.{IsGatedDoubt, IsDoubtOf}
 use Rattle.sound_states.proofs.Given.{mover}
@@ -26,7 +26,7 @@ use Rattle.journal_core.specs.Appends.{Appends, gate_of, body_of, moves_of}
 use Rattle.journal_core.specs.Moves.{IsClosed, IsAfterMoves, SameFrom}
 use Rattle.journal_core.proofs.BeyondLemmas.{goes_still}
 use Rattle.vault_core.specs.Carried.{ComesNext}
-use Rattle.vault_core.specs.Coming.{entry_in}
+use Rattle.vault_core.specs.Coming.{entry_in, is_move}
 use Rattle.vault_core.specs.declared.reply.Reply.TheVariants as reply
 use Rattle.vault.specs.declared.flight.Flight.{Flight}
 use Rattle.vault.specs.declared.flight.Moved.{Moved}
@@ -38,7 +38,7 @@ use Rattle.vault.specs.declared.vault.Vault.{Vault}
 use Rattle.vault.specs.Devices.{devices, records_in_flight}
 use Rattle.vault.specs.Flights.{HasFailed, MakesMove, GoesOn, Ends, GivesUp}
 use Rattle.vault.specs.Running.{KeepsAll, IsFed, IsStopped}
-use Rattle.vault.specs.Stands.{Stands, Comes, IsFlight, MakesStep, MakesTurn}
+use Rattle.vault.specs.Stands.{Stands, Comes, IsFlight, IsSamePast, MakesStep, MakesTurn}
 use Rattle.vault.proofs.MoveStep.{moves_on, moves_end, beyond_of, all_images, doubted_images, closed_after}
 use Rattle.vault.proofs.Ways.{setup_same, images_on, handed_same, entry_kept}
 
@@ -76,7 +76,7 @@ module _ (v : Vault) (w : State) (holds : Option Cells) (faults number : ℕ) (p
   pub next : ComesNext w number action None
   next = comes.machine w stands.core
 
-  held : (a : Append) × (w.append ≡ Some a) × IsAt a next.job (moves_before action)
+  pub held : (a : Append) × (w.append ≡ Some a) × IsAt a next.job (moves_before action)
   held = mover 8 w stands.core.sound number next.job action next.runs next.comes later
 
   in_flight : IsFlight v.flight (Some held.0) w.records holds
@@ -86,16 +86,33 @@ module _ (v : Vault) (w : State) (holds : Option Cells) (faults number : ℕ) (p
   pub not_none : v.flight ≡ None → ⊥
   not_none is = no_flight v.flight held.0 w.records holds is in_flight
 
-  entry_is : held.0.job ≡ number → entry_in v.core number ≡ Some held.0.entry
+  pub entry_is : held.0.job ≡ number → entry_in v.core number ≡ Some held.0.entry
   entry_is = entry_kept v.core w w.append number stands.core.append held.0 held.1
 
   module _ (f : Flight) (is : v.flight ≡ Some f) where
-    mine : (moves_of f.append ≡ held.0.moves) × Appends w.records held.0.entry f.append holds
+    pub mine : (moves_of f.append ≡ held.0.moves) × Appends w.records held.0.entry f.append holds
     mine = subst (λ (o : Option Flight). IsFlight o (Some held.0) w.records holds) is in_flight
 
     -- so many moves are made
     pub made_so_far : moves_of f.append ≡ moves_before action
     made_so_far = mine.0 ∙ held.2.1
+
+-- past the text with the record in flight the disk reads as before
+past_moved : (v : Vault) (w : State) (holds holds' : Option Cells) (faults faults' number : ℕ) (ps : List Provider) (stands : Stands v (devices holds faults ps) w) (action : Action) (comes : Comes v.core number action) (later : 0 < moves_before action)
+    → is_move (Some action) ≡ true → (f : Flight) → v.flight ≡ Some f → Goes (SameFrom (gate_of f.append + 1 + length (body_of f.append))) holds holds' → IsSamePast w number (devices holds faults ps) (devices holds' faults' ps)
+past_moved v w holds holds' faults faults' number ps stands action comes later moves f is beyond =
+    let next = next v w holds faults number ps stands action comes later in
+    let a = held v w holds faults number ps stands action comes later in
+    let m = mine v w holds faults number ps stands action comes later f is in
+    let sound = stands.core.sound.append a.0 a.1 in
+    let at : a.0.job ≡ number = a.2.0 ∙ number_of w.jobs number next.job next.runs in
+    let same : sound.job ≡ next.job = same_value (job_of w.jobs number) sound.job next.job (subst (λ n. job_of w.jobs n ≡ Some sound.job) at sound.runs) next.runs in
+    record {
+      entry = a.0.entry;
+      writing = record { job = next.job; runs = next.runs; moves = ap is_move next.comes ∙ moves; writes = subst (λ (j : Job). Writes w j j.kind a.0.entry) same sound.writes };
+      in_flight = λ x is. ap (λ (y : Append). y.entry) (one_of x a.0 (sym is ∙ a.1));
+      same = beyond_of w.records a.0.entry f.append holds holds' m.1 beyond;
+    }
 
 counts : (old told faults : ℕ) → told ≡ old → old ≤ faults → told ≤ faults
 counts old told faults is falls = subst (λ (n : ℕ). n ≤ faults) (sym is) falls
@@ -138,10 +155,10 @@ module _ (v : Vault) (w : State) (holds holds' : Option Cells) (faults faults' m
       (beyond_of w.records a.0.entry f.append holds holds' m.1 beyond)
       keeps fed
 
-  pub body_unsynced : (v1 v2 : Vault) (result : Option Turn) → MakesMove f.append holds moves.Failed holds' → HasCause faults faults' (HasFailed moves.Failed)
+  pub body_unsynced : (v1 v2 : Vault) (result : Option Turn) → MakesMove f.append holds moves.Failed holds' → Goes (SameFrom (gate_of f.append + 1 + length (body_of f.append))) holds holds' → HasCause faults faults' (HasFailed moves.Failed)
       → v1.core ≡ v.core → v1.jobs.items ≡ v.jobs.items → KeepsAll v v1 → IsStopped v1 number reply.Failed answer.DiskFault result v2
       → MakesTurn w moment number result v2 (devices holds faults ps) (devices holds' faults' ps)
-  body_unsynced v1 v2 result made cause core jobs keeps stopped =
+  body_unsynced v1 v2 result made beyond cause core jobs keeps stopped =
       let next = next v w holds faults number ps stands SyncBody comes sync_later in
       let a = held v w holds faults number ps stands SyncBody comes sync_later in
       let m = mine v w holds faults number ps stands SyncBody comes sync_later f is in
@@ -162,6 +179,7 @@ module _ (v : Vault) (w : State) (holds holds' : Option Cells) (faults faults' m
         flight = λ free. absurd (true_false free);
       })
       refl (λ on. absurd (on refl))
+      (λ e. past_moved v w holds holds' faults faults' number ps stands SyncBody comes sync_later refl f is beyond)
 
   -- no other thing comes of it
   pub body_otherwise : (moved : Moved) → MakesMove f.append holds moved holds' → ((g : Flight) → moved ≡ moves.On g → ⊥) → (moved ≡ moves.Failed → ⊥) → ⊥
@@ -201,10 +219,10 @@ module _ (v : Vault) (w : State) (holds holds' : Option Cells) (faults faults' m
       (beyond_of w.records a.0.entry f.append holds holds' m.1 beyond)
       keeps fed
 
-  pub gate_failed : (v1 v2 : Vault) (result : Option Turn) → MakesMove f.append holds moves.Failed holds' → HasCause faults faults' (HasFailed moves.Failed)
+  pub gate_failed : (v1 v2 : Vault) (result : Option Turn) → MakesMove f.append holds moves.Failed holds' → Goes (SameFrom (gate_of f.append + 1 + length (body_of f.append))) holds holds' → HasCause faults faults' (HasFailed moves.Failed)
       → v1.core ≡ v.core → v1.jobs.items ≡ v.jobs.items → KeepsAll v v1 → IsStopped v1 number reply.Failed answer.DiskFault result v2
       → MakesTurn w moment number result v2 (devices holds faults ps) (devices holds' faults' ps)
-  gate_failed v1 v2 result made cause core jobs keeps stopped =
+  gate_failed v1 v2 result made beyond cause core jobs keeps stopped =
       let next = next v w holds faults number ps stands WriteGate comes gate_later in
       let a = held v w holds faults number ps stands WriteGate comes gate_later in
       let m = mine v w holds faults number ps stands WriteGate comes gate_later f is in
@@ -225,6 +243,7 @@ module _ (v : Vault) (w : State) (holds holds' : Option Cells) (faults faults' m
         flight = λ free. absurd (true_false free);
       })
       refl (λ on. absurd (on refl))
+      (λ e. past_moved v w holds holds' faults faults' number ps stands WriteGate comes gate_later refl f is beyond)
 
   pub gate_unwritten : (v1 v2 : Vault) (result : Option Turn) → MakesMove f.append holds moves.Memory holds' → HasCause faults faults' (HasFailed moves.Memory)
       → v1.core ≡ v.core → v1.jobs.items ≡ v.jobs.items → v1.flight ≡ None → KeepsAll v v1 → IsStopped v1 number reply.Memory answer.Memory result v2
@@ -250,7 +269,7 @@ module _ (v : Vault) (w : State) (holds holds' : Option Cells) (faults faults' m
             (subst (λ (t : Option Cells). IfSome t (IsClosed (before_gate w.records))) (sym made.1)
             (closed_after holds (before_gate w.records) (body_of f.append) (subst (λ (n : ℕ). IfSome holds (IsAfterMoves n (before_gate w.records) (body_of f.append))) k m.1.disk)));
       })
-      refl (λ on. goes_still (text_size (records_in_flight new.records new.append)) holds holds' made.1)
+      refl (λ on. goes_still (text_size (records_in_flight new.records new.append)) holds holds' made.1) (λ e. cc)
 
   -- it is not the last move
   pub gate_otherwise : MakesMove f.append holds moves.Done holds' → ⊥
@@ -293,10 +312,10 @@ module _ (v : Vault) (w : State) (holds holds' : Option Cells) (faults faults' m
       (beyond_of w.records a.0.entry f.append holds holds' m.1 beyond)
       keeps fed
 
-  pub gate_unsynced : (v1 v2 : Vault) (result : Option Turn) → MakesMove f.append holds moves.Failed holds' → HasCause faults faults' (HasFailed moves.Failed)
+  pub gate_unsynced : (v1 v2 : Vault) (result : Option Turn) → MakesMove f.append holds moves.Failed holds' → Goes (SameFrom (gate_of f.append + 1 + length (body_of f.append))) holds holds' → HasCause faults faults' (HasFailed moves.Failed)
       → v1.core ≡ v.core → v1.jobs.items ≡ v.jobs.items → KeepsAll v v1 → IsStopped v1 number reply.Failed answer.DiskFault result v2
       → MakesTurn w moment number result v2 (devices holds faults ps) (devices holds' faults' ps)
-  gate_unsynced v1 v2 result made cause core jobs keeps stopped =
+  gate_unsynced v1 v2 result made beyond cause core jobs keeps stopped =
       let next = next v w holds faults number ps stands SyncGate comes last_later in
       let a = held v w holds faults number ps stands SyncGate comes last_later in
       let m = mine v w holds faults number ps stands SyncGate comes last_later f is in
@@ -318,6 +337,7 @@ module _ (v : Vault) (w : State) (holds holds' : Option Cells) (faults faults' m
         flight = λ free. absurd (true_false free);
       })
       refl (λ on. absurd (on refl))
+      (λ e. past_moved v w holds holds' faults faults' number ps stands SyncGate comes last_later refl f is beyond)
 
   -- no other thing comes of it
   pub end_otherwise : (moved : Moved) → MakesMove f.append holds moved holds' → (moved ≡ moves.Done → ⊥) → (moved ≡ moves.Failed → ⊥) → ⊥

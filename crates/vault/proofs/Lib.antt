@@ -38,3 +38,4 @@ pub mod AskStep
 pub mod AskJoin
 pub mod Carried
 pub mod HeardAt
+pub mod MovedCells

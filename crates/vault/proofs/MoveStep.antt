@@ -46,7 +46,7 @@ use Rattle.vault.specs.Devices.{devices, AreHanded, IsSameBeyond, records_in_fli
 use Rattle.vault.specs.Flights.{HasFailed, MakesMove, GoesOn, GivesUp}
 use Rattle.vault.specs.Outcomes.{answer_of}
 use Rattle.vault.specs.Running.{place_in, KeepsAll, IsFed, IsStopped}
-use Rattle.vault.specs.Stands.{Stands, Comes, IsFlight, MakesStep, MakesTurn}
+use Rattle.vault.specs.Stands.{Stands, Comes, IsFlight, IsSamePast, MakesStep, MakesTurn}
 use Rattle.vault.specs.Tasks.{AreRunning}
 use Rattle.vault.proofs.JobPlaces.{place_is, put_back}
 use Rattle.vault.proofs.Moving.{IsMove, moved_on, move_runs}
@@ -103,6 +103,7 @@ moves_on v v' w new holds holds' faults faults' moment number ps action subject 
       stands = stands_left v v' v' w new holds holds' faults faults' ps stands left core keeps refl are;
       heard = tt;
       beyond = λ on. beyond;
+      torn = λ e. cc;
     }
 
 -- a job ends by a move
@@ -111,13 +112,14 @@ pub moves_end : (v v1 v2 : Vault) (w new : State) (holds holds' : Option Cells) 
     → v1.core ≡ v.core → v1.jobs.items ≡ v.jobs.items → KeepsAll v v1 → IsStopped v1 number reply answer result v2 → Tells number reply (Ended (answer_of answer)) new
     → IsLeft v1 w new holds' faults' ps → new.append ≡ None
     → (Ended (answer_of answer) ≢ Ended answers.DiskFault → IsSameBeyond new (devices holds faults ps) (devices holds' faults' ps))
+    → (Ended (answer_of answer) ≡ Ended answers.DiskFault → IsSamePast w number (devices holds faults ps) (devices holds' faults' ps))
     → MakesTurn w moment number result v2 (devices holds faults ps) (devices holds' faults' ps)
-moves_end v v1 v2 w new holds holds' faults faults' moment number ps action reply answer None stands next acts jobs same_core same_jobs keeps stopped tells left none beyond =
+moves_end v v1 v2 w new holds holds' faults faults' moment number ps action reply answer None stands next acts jobs same_core same_jobs keeps stopped tells left none beyond torn =
     let f = working v (devices holds faults ps) w number action stands next in
     let at : place_in v.jobs.items number ≡ Some f.place = place_is v.jobs.items number ∙ f.at in
     let aside : IsAside v v1 f.place f.running f.running = record { core = same_core; jobs = same_jobs ∙ sym (set_same v.jobs.items f.place f.running f.there); number = refl; heard = refl; keeps = keeps } in
     absurd (not_gone v v1 (devices holds faults ps) w number f.place action f.running f.running stands next at f.there aside v2 reply answer stopped)
-moves_end v v1 v2 w new holds holds' faults faults' moment number ps action reply answer (Some t) stands next acts jobs same_core same_jobs keeps stopped tells left none beyond =
+moves_end v v1 v2 w new holds holds' faults faults' moment number ps action reply answer (Some t) stands next acts jobs same_core same_jobs keeps stopped tells left none beyond torn =
     let f = working v (devices holds faults ps) w number action stands next in
     let at : place_in v.jobs.items number ≡ Some f.place = place_is v.jobs.items number ∙ f.at in
     let aside : IsAside v v1 f.place f.running f.running = record { core = same_core; jobs = same_jobs ∙ sym (set_same v.jobs.items f.place f.running f.there); number = refl; heard = refl; keeps = keeps } in
@@ -138,6 +140,7 @@ moves_end v v1 v2 w new holds holds' faults faults' moment number ps action repl
       stands = stands_left v v1 v2 w new holds holds' faults faults' ps stands left core keeps2 stopped.flight are;
       heard = gone.heard_is;
       beyond = beyond;
+      torn = torn;
     })
   where
     none_some : (a : Append) → None ≡ Some a → ⊥
@@ -145,7 +148,7 @@ moves_end v v1 v2 w new holds holds' faults faults' moment number ps action repl
 
 -- ---- texts
 
-before_size : (rs : List Record) → IsTrue (list_all is_in_grammar rs) → length (before_gate rs) + 1 ≡ text_size rs
+pub before_size : (rs : List Record) → IsTrue (list_all is_in_grammar rs) → length (before_gate rs) + 1 ≡ text_size rs
 before_size rs good = (let a = length-text rs good in let b = length-append (before_gate rs) (0 ∷ []) in omega (arith, a, b))
 
 -- the text with the record, by what an append writes
@@ -269,9 +272,9 @@ module _ (v : Vault) (w : State) (holds holds' : Option Cells) (faults faults' m
       one_of : (a b : Append) → Some a ≡ Some b → a ≡ b
       one_of a b e = cc
 
-  pub body_failed : (v2 : Vault) (result : Option Turn) → MakesMove f.append holds moves.Failed holds' → HasCause faults faults' (HasFailed moves.Failed) → IsStopped v number reply.Failed answer.DiskFault result v2
+  pub body_failed : (v2 : Vault) (result : Option Turn) → MakesMove f.append holds moves.Failed holds' → Goes (SameFrom (gate_of f.append + 1 + length (body_of f.append))) holds holds' → HasCause faults faults' (HasFailed moves.Failed) → IsStopped v number reply.Failed answer.DiskFault result v2
       → MakesTurn w moment number result v2 (devices holds faults ps) (devices holds' faults' ps)
-  body_failed v2 result made cause stopped =
+  body_failed v2 result made beyond cause stopped =
       let job = next.job in
       let up : GivesUp f.append w.records (entry_of entry) holds' = made w.records (entry_of entry) begun in
       let new : State = record (barred (ended w job)) { disk_faults = faults' } in
@@ -287,6 +290,7 @@ module _ (v : Vault) (w : State) (holds holds' : Option Cells) (faults faults' m
         flight = λ free. absurd (let e : true ≡ false = free in true_false e);
       })
       refl (λ on. absurd (on refl))
+      (λ e. record { entry = entry_of entry; writing = writing; in_flight = λ a is. absurd (let e : None ≡ Some a = sym alone ∙ is in cc); same = beyond_of w.records (entry_of entry) f.append holds holds' begun beyond })
     where
       true_false : true ≡ false → ⊥
       true_false e = cc
@@ -307,7 +311,7 @@ module _ (v : Vault) (w : State) (holds holds' : Option Cells) (faults faults' m
         images = subst (λ (t : Option Cells). StandsForState t new) (sym made.1) (images_on holds w new refl refl stands.devices.images);
         flight = λ free. subst (λ (t : Option Cells). IsFlight v.flight w.append w.records t) (sym made.1) (stands.flight free);
       })
-      alone (λ on. goes_still (text_size (records_in_flight new.records new.append)) holds holds' made.1)
+      alone (λ on. goes_still (text_size (records_in_flight new.records new.append)) holds holds' made.1) (λ e. cc)
 
 long_text : (rs : List Record) → 9 ≤ text_size rs
 long_text [] = omega arith

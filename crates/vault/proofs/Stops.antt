@@ -7,6 +7,7 @@ use Rattle.hail_devices.specs.Cells.{Cells}
 use Rattle.hail_devices.specs.Providers.{Provider}
 use Rattle.hail_records.specs.Records.{Setup}
 use Rattle.hail_machine.specs.Actions.{Action, actions_left}
+use Rattle.hail_machine.specs.Answers as answers
 use Rattle.hail_machine.specs.Events.{Ended}
 use Rattle.hail_machine.specs.Heard.{Entry, heard_by, heard_by_kind}
 use Rattle.hail_machine.specs.Jobs.{Job, job_of, without_job}
@@ -108,15 +109,19 @@ module _ (v v1 : Vault) (d : Devices) (w : State) (number place : ℕ) (action :
   pub not_gone : (v2 : Vault) (reply : Reply) (answer : Answer) → IsStopped v1 number reply answer None v2 → ⊥
   not_gone v2 reply answer none = (let e : None ≡ Some place = sym none ∙ at_aside in cc)
 
+-- one end is one answer
+same_answer : (a b : answers.Answer) → Ended a ≡ Ended b → a ≡ b
+same_answer a b e = cc
+
 -- a job ends, and another state is left of it alone, and of the providers
 pub ends_by : (v v1 v2 : Vault) (w new : State) (holds : Option Cells) (faults moment number place : ℕ) (ps ps' : List Provider) (action : Action) (r r' : Running) (reply : Reply) (answer : Answer) (result : Option Turn)
     → Stands v (devices holds faults ps) w → (next : ComesNext w number action None) → Acts w next.job action (Ended (answer_of answer)) new → IsQuiet w new → new.jobs ≡ without_job w.jobs number
     → place_in v.jobs.items number ≡ Some place → slice_get v.jobs.items place ≡ Some r → IsAside v v1 place r r' → v1.flight ≡ v.flight
-    → IsStopped v1 number reply answer result v2 → Tells number reply (Ended (answer_of answer)) new → AreHanded ps' new
+    → IsStopped v1 number reply answer result v2 → Tells number reply (Ended (answer_of answer)) new → AreHanded ps' new → (answer_of answer ≡ answers.DiskFault → ⊥)
     → MakesTurn w moment number result v2 (devices holds faults ps) (devices holds faults ps')
-ends_by v v1 v2 w new holds faults moment number place ps ps' action r r' reply answer None stands next acts quiet jobs at there aside flight stopped tells handed =
+ends_by v v1 v2 w new holds faults moment number place ps ps' action r r' reply answer None stands next acts quiet jobs at there aside flight stopped tells handed whole =
     absurd (not_gone v v1 (devices holds faults ps) w number place action r r' stands next at there aside v2 reply answer stopped)
-ends_by v v1 v2 w new holds faults moment number place ps ps' action r r' reply answer (Some t) stands next acts quiet jobs at there aside flight stopped tells handed =
+ends_by v v1 v2 w new holds faults moment number place ps ps' action r r' reply answer (Some t) stands next acts quiet jobs at there aside flight stopped tells handed whole =
     let left = is_left v v1 (devices holds faults ps) w number place action r r' stands next at there aside v2 reply answer t stopped in
     let happens = happens_by w new moment number action (Ended (answer_of answer)) stands.core.is_open next acts in
     let core = left.fed w new (Ended (answer_of answer)) moment stands.core happens (record { tells = tells; entry = λ a is mine. entry_kept v.core w w.append number stands.core.append a (sym quiet.append ∙ is) mine }) in
@@ -134,4 +139,5 @@ ends_by v v1 v2 w new holds faults moment number place ps ps' action r r' reply 
       stands = stands_on v v2 w new holds faults ps ps' stands quiet handed core keeps (stopped.flight ∙ flight) are;
       heard = left.heard_is;
       beyond = λ ended. same_beyond new holds faults ps ps';
+      torn = λ e. absurd (whole (same_answer (answer_of answer) answers.DiskFault e));
     })

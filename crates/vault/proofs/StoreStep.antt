@@ -245,7 +245,7 @@ module _ (v : Vault) (w : State) (holds : Option Cells) (faults moment number k 
             (refl, (q, subst (λ (x : Provider). FailsToStore x q) seen fails, refl))
             (record { records = refl; doubt = refl; append = refl; faults = refl; barred = refl })
             (ap (without_job w.jobs) (number_of w.jobs number coming.job coming.runs))
-            at there aside flight stopped tt handed
+            at there aside flight stopped tt handed (λ e. cc)
 
         -- and so does one that found no memory
         pub no_memory_step : FindsNoMemory p q → IsStopped v1 number reply.Memory answer.Memory result v2
@@ -255,7 +255,7 @@ module _ (v : Vault) (w : State) (holds : Option Cells) (faults moment number k 
             (q, subst (λ (x : Provider). FindsNoMemory x q) seen finds, refl)
             (record { records = refl; doubt = refl; append = refl; faults = refl; barred = refl })
             (ap (without_job w.jobs) (number_of w.jobs number coming.job coming.runs))
-            at there aside flight stopped tt handed
+            at there aside flight stopped tt handed (λ e. cc)
 
 -- ---- what came of the call
 

@@ -172,6 +172,7 @@ goes_told v v' w new holds faults moment number place ps ps' action r j answer s
       stands = stands_on v v' w new holds faults ps ps' stands quiet handed core keeps flight are;
       heard = tt;
       beyond = λ ended. same_beyond new holds faults ps ps';
+      torn = λ e. cc;
     }
 
 -- the same, where all that came of it is that it was done

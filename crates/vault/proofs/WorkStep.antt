@@ -320,4 +320,4 @@ module _ (v : Vault) (w : State) (d : Devices) (moment number o s : ℕ) (stands
           at there
           (record { core = core; jobs = jobs; number = same_number; heard = heard_same r.task r'.task loss.1; keeps = keeps_all })
           flight stopped refl
-          (handed_same d.providers w new stands.devices.providers refl (λ j. refl))
+          (handed_same d.providers w new stands.devices.providers refl (λ j. refl)) (λ e. cc)

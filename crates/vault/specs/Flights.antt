@@ -3,13 +3,16 @@
 --   HasFailed moved               == the disk failed
 --   GoesOn, Ends, GivesUp         == the disk after a move behind which others are left, after the last one, after one that failed
 --   MakesMove a old moved new     == by what came of it
+--   ChangesCells a old moved new  == the cells after a move, by what came of it
 use Rattle.std.specs.Prelude.{◌≡◌, ◌+◌, ◌<◌, List, ◌∷◌, Option, IfSome}
+use Rattle.std.specs.Option.{option_map}
 use Rattle.hail_devices.specs.Cells.{Cells}
+use Rattle.hail_devices.specs.Told.{Goes}
 use Rattle.hail_records.specs.Records.{Record}
 use Rattle.hail_records.specs.Journal.{before_gate}
 use Rattle.journal_core.specs.declared.append.Append.{Append}
 use Rattle.journal_core.specs.Appends.{Appends, gate_of, body_of, moves_of}
-use Rattle.journal_core.specs.Moves.{IsClosed, AllStandFor, MayStandFor, IsWrite}
+use Rattle.journal_core.specs.Moves.{IsClosed, AllStandFor, MayStandFor, IsWrite, cells_after, MayTear}
 use Rattle.vault.specs.declared.flight.Moved.{Moved}
 use Rattle.vault.specs.declared.flight.Moved.TheVariants as moved
 
@@ -42,3 +45,10 @@ MakesMove a old (moved.On f) new =
 MakesMove a old moved.Done new = (moves_of a ≡ 3) × ((rs : List Record) (r : Record) → Appends rs r a old → Ends rs r new)
 MakesMove a old moved.Failed new = (rs : List Record) (r : Record) → Appends rs r a old → GivesUp a rs r new
 MakesMove a old moved.Memory new = IsWrite (moves_of a) × (new ≡ old)
+
+-- the cells of a disk after a move
+abbrev pub ChangesCells : Append → Option Cells → Moved → Option Cells → Type 0
+ChangesCells a old (moved.On f) new = new ≡ option_map (cells_after (moves_of a) (gate_of a) (body_of a)) old
+ChangesCells a old moved.Done new = new ≡ option_map (cells_after (moves_of a) (gate_of a) (body_of a)) old
+ChangesCells a old moved.Failed new = Goes (MayTear (moves_of a) (gate_of a) (body_of a)) old new
+ChangesCells a old moved.Memory new = new ≡ old

@@ -2,10 +2,13 @@
 --
 --   setup_of, master_of, table_of, next_job_of, provider_count v == its setup, its master key, the fold of the records in effect, the
 --                          number of the next job, how many providers it uses
+--   coming_of, entry_of v job == what comes next for a job, and the record that its append writes, by the core
+--   closed_gate_of v    == the offset of the closed gate behind the records in effect
 --   left_of v job       == how many steps of a job may remain at most; 0 where it does not run
 --   IsUnchanged old new == the same jobs with what they work with, the same core, the same append; spare room does not count
-use Rattle.std.specs.Prelude.{◌≡◌, ℕ, List, unwrap_or}
-use Rattle.vault_core.specs.Coming.{left_in}
+use Rattle.std.specs.Prelude.{◌≡◌, ℕ, ◌-◌, List, Option, unwrap_or}
+use Rattle.hail_records.specs.Records.{Record}
+use Rattle.vault_core.specs.Coming.{Coming, next_in, entry_in, left_in}
 use Rattle.record_codec.specs.declared.setup.Setup.{Setup}
 use Rattle.vault_table.specs.Values.{Kept}
 use Rattle.vault.specs.declared.vault.Vault.{Vault}
@@ -29,6 +32,18 @@ next_job_of v = v.core.next_job
 -- how many providers a step uses
 abbrev pub provider_count : Vault → ℕ
 provider_count v = v.setup.n
+
+-- what comes next for a job
+abbrev pub coming_of : Vault → ℕ → Coming
+coming_of v job = next_in v.core job
+
+-- the record that the append of a job writes
+abbrev pub entry_of : Vault → ℕ → Option Record
+entry_of v job = entry_in v.core job
+
+-- the offset of the closed gate behind the records in effect
+abbrev pub closed_gate_of : Vault → ℕ
+closed_gate_of v = v.core.end - 1
 
 -- how many steps of a job may remain at most; 0 where it does not run
 abbrev pub left_of : Vault → ℕ → ℕ

@@ -7,10 +7,12 @@
 --   Carries v told        == the disk carries the vault: the text, of the core's length, of records that fold to its table, but for what
 --                            the moves of an append in flight have done; a disk that tells nothing carries every vault
 --   Comes c job action    == what comes next for a job, by its core
+--   IsSamePast w job old new == past the text with the record that a job's append writes the disk reads as before
 --   MakesStep, MakesTurn, MakesBegin == a step and a begin are events of the machine
-use Rattle.std.specs.Prelude.{◌≡◌, ◌≢◌, ℕ, false, List, Option, Some, None, Result, IfSome}
+use Rattle.std.specs.Prelude.{◌≡◌, ◌≢◌, ℕ, false, List, Option, Some, None, ◌∷◌, Result, IfSome}
 use Rattle.hail_codes.specs.Profiles.{profile_of}
 use Rattle.hail_devices.specs.Cells.{Cells}
+use Rattle.hail_devices.specs.Told.{Goes}
 use Rattle.hail_records.specs.Records.{Record}
 use Rattle.hail_records.specs.Journal.{before_gate, text_size}
 use Rattle.hail_machine.specs.Actions.{Action}
@@ -25,11 +27,11 @@ use Rattle.hail_machine.specs.Machine.{Happens}
 use Rattle.code_points.specs.Profile.{plain_profile}
 use Rattle.record_codec.specs.Entries.{with_master}
 use Rattle.journal_core.specs.Appends.{Appends, moves_of}
-use Rattle.journal_core.specs.Moves.{IsClosed}
+use Rattle.journal_core.specs.Moves.{IsClosed, SameFrom}
 use Rattle.vault_table.specs.Values.{IsFoldOf}
 use Rattle.vault_core.specs.View.{CoreView}
 use Rattle.vault_core.specs.Coming.{Acts, next_in}
-use Rattle.vault_core.specs.Carried.{CoreIs, ComesNext}
+use Rattle.vault_core.specs.Carried.{CoreIs, ComesNext, IsWriting}
 use Rattle.vault_core.specs.declared.wish.BeginFault.{BeginFault}
 use Rattle.vault.specs.declared.flight.Flight.{Flight}
 use Rattle.vault.specs.declared.vault.Vault.{Vault}
@@ -76,13 +78,23 @@ pub record MakesBegin (w : State) (moment : ℕ) (kind : Kind) (result : Result 
   pub begins : Begins 8 moment w kind (begin_outcome result) state
   pub stands : Stands v d state
 
--- a step is one of the machine
+-- past the text of the records in effect, with the one that the job was appending, the disk reads as before; where an append was in
+-- flight, it is its record
+pub record IsSamePast (w : State) (job : ℕ) (old new : Devices) : Type 0 where
+  pub entry : Record
+  pub writing : IsWriting w job entry
+  pub in_flight : (a : states.Append) → w.append ≡ Some a → a.entry ≡ entry
+  pub same : Goes (SameFrom (text_size (entry ∷ w.records))) old.holds new.holds
+
+-- a step is one of the machine; past the text with the record in flight the disk reads as before, and where a call of it failed, past
+-- the text with the record that was being appended
 pub record MakesStep (w : State) (moment job : ℕ) (turn : Turn) (v : Vault) (old new : Devices) : Type 0 where
   pub state : State
   pub happens : Happens 8 moment w (Step job) (outcome_of turn) state
   pub stands : Stands v new state
   pub heard : IfEnded turn (λ ended. ended.heard ≡ heard_by (job_of w.jobs job))
   pub beyond : outcome_of turn ≢ Ended answers.DiskFault → IsSameBeyond state old new
+  pub torn : outcome_of turn ≡ Ended answers.DiskFault → IsSamePast w job old new
 
 -- what comes next for a job, by its core
 pub record Comes (c : CoreView) (job : ℕ) (action : Action) : Type 0 where

@@ -1,4 +1,4 @@
-ghost use Rattle.std.specs.Prelude.{◌≡◌, ℕ, Bool, List, Option, length, map, IsOk, IsSome, OnOk, OnSome, ◌<◌, Some, IfSome};
+ghost use Rattle.std.specs.Prelude.{◌≡◌, ◌≢◌, slice_get, ℕ, Bool, List, Option, length, map, IsOk, IsSome, OnOk, OnSome, ◌<◌, Some, IfSome};
 ghost use Rattle.hail_devices.specs.Cells.{Cells};
 ghost use Rattle.hail_devices.specs.ProviderCalls.{Fetches as FetchesOf};
 ghost use Rattle.hail_machine.specs.Actions.{Fetch as FetchAction};
@@ -67,6 +67,7 @@ impl Vault {
             → MakesTurn w moment job result self.new
             (devices holds faults (map (as_seen P.held P.store_faults P.other_faults P.fetches) providers.old))
             (devices holds faults (map (as_seen P.held P.store_faults P.other_faults P.fetches) providers.new)) }
+        ensures others { (k : ℕ) → k ≢ provider → slice_get providers.new k ≡ slice_get providers.old k }
         ensures left { result ≡ Some turn.More → left_of self.new job < left_of self.old job }
         ensures padded { IfSome result (λ turn. IfEnded turn (λ ended. HasPaddedCounts ended.answer)) }
         ensures acted { IfSome result (λ turn. IsIdle turn → ⊥) }

@@ -35,7 +35,7 @@ impl Flight {
     ghost use Rattle.record_codec.specs.Entries.{entry_of, IsInGrammar};
     ghost use Rattle.journal_core.specs.Appends.{gate_of, body_of, moves_of};
     ghost use Rattle.journal_core.specs.Moves.{SameFrom};
-    ghost use Rattle.vault.specs.Flights.{MakesMove, HasFailed};
+    ghost use Rattle.vault.specs.Flights.{MakesMove, ChangesCells, HasFailed};
 
     /// An append of this record at the gate at this offset, no move of which is made. Condition: the journal has room.
     pub fn new(gate: u64, entry: &Record) -> Flight
@@ -53,6 +53,7 @@ impl Flight {
     /// Makes the next move.
     pub fn turn<D: Disk>(self, disk: &mut D) -> Moved
         ensures made { MakesMove self.append (D.holds disk.old) result (D.holds disk.new) }
+        ensures cells { ChangesCells self.append (D.holds disk.old) result (D.holds disk.new) }
         ensures beyond { Goes (SameFrom (gate_of self.append + 1 + length (body_of self.append))) (D.holds disk.old) (D.holds disk.new) }
         ensures tells { is_some (D.holds disk.new) ≡ is_some (D.holds disk.old) }
         ensures cause { HasCause (D.faults disk.old) (D.faults disk.new) (HasFailed result) }

@@ -1,12 +1,15 @@
-ghost use Rattle.std.specs.Prelude.{ℕ, List, ◌≡◌, ◌<◌, Some, IfSome, is_some};
+ghost use Rattle.std.specs.Prelude.{ℕ, List, [], ◌∷◌, ◌++◌, ◌≡◌, ◌<◌, Some, IfSome, is_some};
 ghost use Rattle.hail_devices.specs.Providers.{Provider};
+ghost use Rattle.hail_records.specs.Records.{Record as Entry};
+ghost use Rattle.hail_records.specs.Spellings.{spelling};
 ghost use Rattle.hail_machine.specs.Actions.{WriteBody, SyncBody, WriteGate, SyncGate};
 ghost use Rattle.hail_machine.specs.States.{State};
 ghost use Rattle.vault.specs.Devices.{devices};
 ghost use Rattle.vault.specs.Stands.{Stands, Comes, MakesTurn};
 ghost use Rattle.vault.specs.declared.turn.Turn.TheVariants as turn;
 ghost use Rattle.vault.specs.Outcomes.{IfEnded, IsIdle, HasPaddedCounts};
-ghost use Rattle.vault.specs.Seen.{left_of};
+ghost use Rattle.vault.specs.Calls.{MovesCells};
+ghost use Rattle.vault.specs.Seen.{left_of, entry_of, closed_gate_of};
 
 use crate::flight::{Flight, Moved};
 use crate::turn::{Answer, Turn};
@@ -20,6 +23,9 @@ impl Vault {
         requires { Comes self.old.core job WriteBody }
         ensures machine { (w : State) (moment : ℕ) (providers : List Provider) → Stands self.old (devices (D.holds disk.old) (D.faults disk.old) providers) w
             → MakesTurn w moment job result self.new (devices (D.holds disk.old) (D.faults disk.old) providers) (devices (D.holds disk.new) (D.faults disk.new) providers) }
+        ensures cells { (w : State) (entry : Entry) (providers : List Provider) → Stands self.old (devices (D.holds disk.old) (D.faults disk.old) providers) w
+            → entry_of self.old job ≡ Some entry
+            → IfSome result (λ turn. MovesCells 0 (closed_gate_of self.old) (spelling entry ++ 0 ∷ []) turn (D.holds disk.old) (D.holds disk.new)) }
         ensures tells { is_some (D.holds disk.new) ≡ is_some (D.holds disk.old) }
         ensures left { result ≡ Some turn.More → left_of self.new job < left_of self.old job }
         ensures padded { IfSome result (λ turn. IfEnded turn (λ ended. HasPaddedCounts ended.answer)) }
@@ -44,6 +50,9 @@ impl Vault {
         requires { Comes self.old.core job SyncBody }
         ensures machine { (w : State) (moment : ℕ) (providers : List Provider) → Stands self.old (devices (D.holds disk.old) (D.faults disk.old) providers) w
             → MakesTurn w moment job result self.new (devices (D.holds disk.old) (D.faults disk.old) providers) (devices (D.holds disk.new) (D.faults disk.new) providers) }
+        ensures cells { (w : State) (entry : Entry) (providers : List Provider) → Stands self.old (devices (D.holds disk.old) (D.faults disk.old) providers) w
+            → entry_of self.old job ≡ Some entry
+            → IfSome result (λ turn. MovesCells 1 (closed_gate_of self.old) (spelling entry ++ 0 ∷ []) turn (D.holds disk.old) (D.holds disk.new)) }
         ensures tells { is_some (D.holds disk.new) ≡ is_some (D.holds disk.old) }
         ensures left { result ≡ Some turn.More → left_of self.new job < left_of self.old job }
         ensures padded { IfSome result (λ turn. IfEnded turn (λ ended. HasPaddedCounts ended.answer)) }
@@ -65,6 +74,9 @@ impl Vault {
         requires { Comes self.old.core job WriteGate }
         ensures machine { (w : State) (moment : ℕ) (providers : List Provider) → Stands self.old (devices (D.holds disk.old) (D.faults disk.old) providers) w
             → MakesTurn w moment job result self.new (devices (D.holds disk.old) (D.faults disk.old) providers) (devices (D.holds disk.new) (D.faults disk.new) providers) }
+        ensures cells { (w : State) (entry : Entry) (providers : List Provider) → Stands self.old (devices (D.holds disk.old) (D.faults disk.old) providers) w
+            → entry_of self.old job ≡ Some entry
+            → IfSome result (λ turn. MovesCells 2 (closed_gate_of self.old) (spelling entry ++ 0 ∷ []) turn (D.holds disk.old) (D.holds disk.new)) }
         ensures tells { is_some (D.holds disk.new) ≡ is_some (D.holds disk.old) }
         ensures left { result ≡ Some turn.More → left_of self.new job < left_of self.old job }
         ensures padded { IfSome result (λ turn. IfEnded turn (λ ended. HasPaddedCounts ended.answer)) }
@@ -87,6 +99,9 @@ impl Vault {
         requires { Comes self.old.core job SyncGate }
         ensures machine { (w : State) (moment : ℕ) (providers : List Provider) → Stands self.old (devices (D.holds disk.old) (D.faults disk.old) providers) w
             → MakesTurn w moment job result self.new (devices (D.holds disk.old) (D.faults disk.old) providers) (devices (D.holds disk.new) (D.faults disk.new) providers) }
+        ensures cells { (w : State) (entry : Entry) (providers : List Provider) → Stands self.old (devices (D.holds disk.old) (D.faults disk.old) providers) w
+            → entry_of self.old job ≡ Some entry
+            → IfSome result (λ turn. MovesCells 3 (closed_gate_of self.old) (spelling entry ++ 0 ∷ []) turn (D.holds disk.old) (D.holds disk.new)) }
         ensures tells { is_some (D.holds disk.new) ≡ is_some (D.holds disk.old) }
         ensures left { result ≡ Some turn.More → left_of self.new job < left_of self.old job }
         ensures padded { IfSome result (λ turn. IfEnded turn (λ ended. HasPaddedCounts ended.answer)) }

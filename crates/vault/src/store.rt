@@ -1,4 +1,4 @@
-ghost use Rattle.std.specs.Prelude.{◌≡◌, ◌≤◌, ◌<◌, ℕ, List, Option, length, map, IfSome, IsSome, Some};
+ghost use Rattle.std.specs.Prelude.{◌≡◌, ◌≢◌, ◌≤◌, ◌<◌, ℕ, List, Option, length, map, slice_get, IfSome, IsSome, Some};
 ghost use Rattle.hail_columns.specs.Columns.{column_of_symbols};
 ghost use Rattle.hail_devices.specs.Cells.{Cells};
 ghost use Rattle.hail_machine.specs.Actions.{Store};
@@ -107,6 +107,7 @@ impl Vault {
             → MakesTurn w moment job result self.new
             (devices holds faults (map (as_seen P.held P.store_faults P.other_faults P.fetches) providers.old))
             (devices holds faults (map (as_seen P.held P.store_faults P.other_faults P.fetches) providers.new)) }
+        ensures others { (k : ℕ) → k ≢ provider → slice_get providers.new k ≡ slice_get providers.old k }
         ensures left { result ≡ Some turn.More → left_of self.new job < left_of self.old job }
         ensures padded { IfSome result (λ turn. IfEnded turn (λ ended. HasPaddedCounts ended.answer)) }
         ensures acted { IfSome result (λ turn. IsIdle turn → ⊥) }

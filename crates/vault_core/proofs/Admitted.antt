@@ -1,38 +1,34 @@
 -- A core with one more job: it is kept, and stands for the state after the begin.
-use Rattle.std.proofs.Common.{◌≡◌, ℕ, zero, suc, ◌+◌, ◌*◌, ◌-◌, ◌<◌, ◌≤◌, ◌^◌, Bool, true, false, cond, List, [], ◌∷◌, ◌++◌, Option, Some, None, Vec, Global, length, map, take, drop, get_or, inl, inr, refl, ap, sym, subst, ◌∙◌, append_assoc, length-append, arith}
-use Rattle.std.specs.Prelude.{◌⊎◌, nat_lt, nat_le, ◌==◌, ◌&&◌, ◌||◌, not, IsTrue, sum, sum_by, if◌then◌else◌}
+use Rattle.std.proofs.Common.{◌≡◌, ℕ, zero, suc, ◌+◌, ◌-◌, ◌<◌, ◌≤◌, Bool, true, false, List, [], ◌∷◌, ◌++◌, Option, Some, None, Vec, Global, length, map, drop, inl, inr, refl, ap, sym, subst, ◌∙◌, length-append, arith}
+use Rattle.std.specs.Prelude.{nat_lt, ◌==◌, ◌||◌, IsTrue, sum, sum_by, if◌then◌else◌}
 use Rattle.std.specs.List.{All, AllZip}
-use Rattle.std.specs.Option.{option_map}
 use Rattle.std.specs.Prelude.{Result, Ok, Err, is_err, OnOk}
-use Rattle.std.proofs.lemmas.Bool.{cases_Bool, lt-ltb, ltb-true, le-leb, false≢true}
+use Rattle.std.proofs.lemmas.Bool.{cases_Bool, false≢true}
 use Rattle.std.proofs.lemmas.Bool.Decides.{nat_tests}
 use Rattle.std.proofs.lemmas.List.Elements.{All-push}
-use Rattle.std.proofs.lemmas.List.Sums.{sum_by-cons, sum_by_push}
+use Rattle.std.proofs.lemmas.List.Sums.{sum_by_push}
 use Rattle.hail_records.specs.Records.{Setup, Record, is_setup, largest_journal}
 use Rattle.hail_machine.specs.Jobs.{Kind}
-use Rattle.hail_machine.specs.Jobs.{Job as MachineJob}
-use Rattle.hail_machine.specs.Refusals.{Refusal}
 use Rattle.hail_machine.specs.Events.{Begin, Begun, IsSpelledKind}
 use Rattle.hail_machine.specs.States.{State, Append, setup_in}
 use Rattle.hail_machine.specs.Begins.{begin_refusal, new_job}
 use Rattle.sound_states.proofs.Events.{events-sound}
-use Rattle.vault_table.specs.Values.{Kept, IsFoldOf}
+use Rattle.vault_table.specs.Values.{Kept}
 use Rattle.vault_core.specs.declared.wish.Wish.{Wish}
 use Rattle.vault_core.specs.declared.wish.Wish.TheVariants as wish
 use Rattle.vault_core.specs.declared.wish.BeginFault.{BeginFault}
 use Rattle.vault_core.specs.declared.wish.BeginFault.TheVariants as fault
-use Rattle.vault_core.specs.declared.cursor.Cursor.{Cursor}
 use Rattle.vault_core.specs.declared.job.Task.{Task}
 use Rattle.vault_core.specs.declared.job.Job.{Job}
 use Rattle.vault_core.specs.declared.own.Core.TheInside.{Inside}
 use Rattle.vault_core.specs.View.{CoreJob, CoreView, AreRising, job_in}
 use Rattle.vault_core.specs.Reserves.{sizes_of, reserved_of, starts_of, Reserves}
-use Rattle.vault_core.specs.Coming.{entry_of_job, entry_of_found, entry_in}
+use Rattle.vault_core.specs.Coming.{entry_of_found}
 use Rattle.vault_core.specs.Carried.{IsKindOf, IsJobOf, IsFlight, CoreIs, begun}
-use Rattle.vault_core.specs.Parts.{seen, view_of, setup_kept, comes_to, is_opening, is_past, IsKept, IsCore}
-use Rattle.vault_core.specs.Refusing.{is_busy_in, is_kept_out, wishes_of, word_refusal_in, is_too_full_in, is_used_up, is_full_in, or_full, refusal_in}
-use Rattle.vault_core.specs.Making.{cursor_on, cursor_first, starts_for, admitted, IsMade}
-use Rattle.vault_core.proofs.Counts.{gates_at, reserved_is, reserved_at, reserved_opening}
+use Rattle.vault_core.specs.Parts.{seen, view_of, IsKept, IsCore}
+use Rattle.vault_core.specs.Refusing.{is_busy_in, word_refusal_in, is_used_up, is_full_in, or_full, refusal_in}
+use Rattle.vault_core.specs.Making.{cursor_first, starts_for, admitted, IsMade}
+use Rattle.vault_core.proofs.Counts.{gates_at, reserved_is, reserved_at}
 use Rattle.vault_core.proofs.Joins.{made-is}
 use Rattle.vault_core.proofs.Refusals.{length-seen}
 

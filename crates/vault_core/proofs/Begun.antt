@@ -1,15 +1,15 @@
 -- A job as it is made is kept: where it is, and how many steps it may still make.
-use Rattle.std.proofs.Common.{◌≡◌, ℕ, zero, suc, ◌+◌, ◌*◌, ◌-◌, ◌<◌, ◌≤◌, ◌^◌, Bool, true, false, cond, List, [], ◌∷◌, ◌++◌, Option, Some, None, length, map, take, drop, get_or, inl, inr, refl, ap, sym, subst, ◌∙◌, append_assoc, length-append, arith}
-use Rattle.std.specs.Prelude.{◌⊎◌, nat_lt, ◌==◌, ◌&&◌, IsTrue, sum_by, count_by, replicate, slice_get, if◌then◌else◌}
-use Rattle.std.specs.List.{All, flat_map, range_with_len}
-use Rattle.std.proofs.lemmas.Bool.{cases_Bool, lt-ltb, ltb-true, false≢true}
+use Rattle.std.proofs.Common.{◌≡◌, ℕ, zero, suc, ◌+◌, ◌*◌, ◌-◌, ◌<◌, ◌≤◌, Bool, true, false, List, [], ◌∷◌, ◌++◌, length, take, drop, get_or, inl, inr, refl, ap, sym, subst, ◌∙◌, length-append, arith}
+use Rattle.std.specs.Prelude.{nat_lt, ◌&&◌, sum_by, replicate, slice_get, if◌then◌else◌}
+use Rattle.std.specs.List.{All, flat_map}
+use Rattle.std.proofs.lemmas.Bool.{cases_Bool, ltb-true, false≢true}
 use Rattle.std.proofs.lemmas.List.{length-map}
 use Rattle.std.proofs.lemmas.List.Sums.{sum_by-cons}
 use Rattle.std.proofs.lemmas.List.FromFn.{length-range_with_len}
-use Rattle.hail_records.specs.Records.{Setup, is_name, largest_file}
-use Rattle.hail_machine.specs.Actions.{Action, Work, ends_append, append_actions, End}
+use Rattle.hail_records.specs.Records.{Setup}
+use Rattle.hail_machine.specs.Actions.{Action, append_actions}
 use Rattle.record_codec.specs.declared.counts.Counts.{Counts}
-use Rattle.record_codec.specs.Entries.{counted, IsPadded}
+use Rattle.record_codec.specs.Entries.{IsPadded}
 use Rattle.vault_table.specs.Values.{Kept}
 use Rattle.vault_core.specs.declared.pinned.Pinned.{Pinned}
 use Rattle.vault_core.specs.declared.wish.Wish.{Wish}
@@ -20,9 +20,9 @@ use Rattle.vault_core.specs.declared.cursor.Cursor.TheVariants as at
 use Rattle.vault_core.specs.declared.job.Task.{Task}
 use Rattle.vault_core.specs.declared.job.Job.{Job}
 use Rattle.vault_core.specs.View.{flag_at}
-use Rattle.vault_core.specs.Rest.{numbers, call_of, calls_from, rewrite_of, rewrites_from, work_of, turn_of, turns_from, tasks_of, closing_of, tasks_on, rest_at, rest_of}
+use Rattle.vault_core.specs.Rest.{numbers, calls_from, rewrite_of, rewrites_from, work_of, turn_of, turns_from, tasks_of, closing_of, tasks_on, rest_of}
 use Rattle.vault_core.specs.Coming.{takes_older, most_of}
-use Rattle.vault_core.specs.Parts.{seen, is_caller, is_opener, comes_to, IsWithin, IsWishable, IsSet, IsAt, IsKept}
+use Rattle.vault_core.specs.Parts.{seen, is_caller, is_opener, comes_to, IsWithin, IsWishable, IsAt, IsKept}
 use Rattle.vault_core.specs.Refusing.{IsNamed}
 use Rattle.vault_core.specs.Wished.{IsShort}
 use Rattle.vault_core.specs.Making.{pins_for, targets_of, turns_for, tasks_made, size_of_turn, other_actions, cursor_on, cursor_first, IsMade}

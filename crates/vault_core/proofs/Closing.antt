@@ -1,22 +1,20 @@
 -- A job of a core stands for a job of the machine after the fourth move of an append.
-use Rattle.std.proofs.Common.{◌≡◌, ℕ, zero, suc, ◌+◌, ◌-◌, ◌<◌, ◌≤◌, Bool, true, false, List, [], ◌∷◌, ◌++◌, Some, None, length, map, drop, replicate, inl, inr, refl, ap, sym, subst, ◌∙◌, arith}
-use Rattle.std.specs.Prelude.{Option, ◌⊎◌, if◌then◌else◌, ◌==◌, ◌&&◌, ◌||◌, not, nat_lt, slice_get, IsTrue}
+use Rattle.std.proofs.Common.{◌≡◌, ℕ, zero, suc, ◌+◌, ◌-◌, ◌<◌, ◌≤◌, Bool, true, false, List, [], ◌∷◌, ◌++◌, Some, None, map, drop, inl, inr, refl, ap, sym, subst, ◌∙◌, arith}
+use Rattle.std.specs.Prelude.{Option, if◌then◌else◌, ◌==◌, ◌&&◌, ◌||◌, not, nat_lt, slice_get, IsTrue}
 use Rattle.std.specs.List.{AllZip, flat_map, list_any, range_with_len}
 use Rattle.std.proofs.Math.Seq.{drop-append-add}
 use Rattle.std.proofs.lemmas.Bool.{cases_Bool, ltb-false, ltb-true, false≢true}
 use Rattle.std.proofs.lemmas.List.{append-nil}
-use Rattle.hail_codes.specs.Points.{upto}
 use Rattle.hail_records.specs.Records.{Setup}
-use Rattle.hail_records.specs.Table.{File, find_file, file_of}
+use Rattle.hail_records.specs.Table.{File, file_of}
 use Rattle.hail_machine.specs.Jobs.{Kind, PutJob, GetJob, DropJob, AuditJob, RepairJob, Pinned as PinnedBytes, Job}
-use Rattle.hail_machine.specs.Actions.{Action, WriteBody, SyncBody, WriteGate, SyncGate, Remove, End, append_actions, on_each_provider, ask_actions, remove_actions, actions_of, actions_left, appends_left}
+use Rattle.hail_machine.specs.Actions.{Action, WriteBody, SyncBody, WriteGate, SyncGate, Remove, End, append_actions, on_each_provider, actions_of, actions_left, appends_left}
 use Rattle.hail_machine.specs.States.{State, setup_in, file_in}
-use Rattle.hail_machine.specs.Appends.{is_first_append, is_pinned, removable, taken_out}
+use Rattle.hail_machine.specs.Appends.{is_first_append, removable, taken_out}
 use Rattle.hail_machine.specs.Audits.{HasSums}
 use Rattle.hail_machine.specs.Steps.{next_action}
-use Rattle.hail_machine.proofs.ActionLists.{Each}
 use Rattle.hail_machine.proofs.Fair.{gate_place}
-use Rattle.sound_states.proofs.Orders.{put-list, audit-list, put_rest, drop_rest, audit_rest, next-listed, next-left}
+use Rattle.sound_states.proofs.Orders.{put-list, audit-list, drop_rest, audit_rest, next-listed, next-left}
 use Rattle.sound_states.proofs.Gates.{decided, drop-list, drop-gate, put-behind}
 use Rattle.sound_states.proofs.Going.{onward}
 use Rattle.vault_table.specs.Values.{Kept, IsFoldOf}
@@ -24,15 +22,13 @@ use Rattle.vault_core.specs.declared.pinned.Pinned.{Pinned}
 use Rattle.vault_core.specs.declared.wish.Wish.{Wish}
 use Rattle.vault_core.specs.declared.wish.Wish.TheVariants as wish
 use Rattle.vault_core.specs.View.{CoreJob}
-use Rattle.vault_core.specs.Rest.{numbers}
 use Rattle.vault_core.specs.Coming.{is_ask}
 use Rattle.vault_core.specs.Going.{removals_of}
 use Rattle.vault_core.specs.Carried.{IsKindOf, has_asked, opens, pin_of, IsJobOf}
-use Rattle.vault_core.specs.Fed.{is_gate, moved, is_pinned_in, removable_in, older_of, is_taker, decides_now, gated_by, gated}
-use Rattle.vault_core.proofs.Kept.{and_left}
+use Rattle.vault_core.specs.Fed.{is_gate, moved, is_pinned_in, removable_in, older_of, is_taker, decides_now, gated}
 use Rattle.vault_core.proofs.Places.{any-map}
 use Rattle.vault_core.proofs.Standing.{get-drop, file_here}
-use Rattle.vault_core.proofs.Onward.{sums-same, no-sums, asks-none, head-here, left-here, rest-on, opening-on, on-moved}
+use Rattle.vault_core.proofs.Onward.{sums-same, no-sums, asks-none, head-here, left-here, opening-on, on-moved}
 use Rattle.vault_core.proofs.Judging.{Asked, asked_parts, asked_whole, audit_kind}
 use Rattle.vault_core.proofs.Taking.{gate_left}
 

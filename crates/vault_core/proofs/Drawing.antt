@@ -1,8 +1,7 @@
 -- A job that takes its number as it begins its append.
-use Rattle.std.proofs.Common.{◌≡◌, ℕ, zero, suc, ◌+◌, ◌-◌, ◌<◌, ◌≤◌, Bool, true, false, cond, List, [], ◌∷◌, ◌++◌, Some, None, length, map, drop, set, get_or, refl, ap, sym, subst, ◌∙◌, arith, Global}
-use Rattle.std.specs.Prelude.{Option, ◌&&◌, not, nat_lt, count_by, slice_get, if◌then◌else◌}
+use Rattle.std.proofs.Common.{◌≡◌, ℕ, ◌+◌, ◌<◌, ◌≤◌, Bool, false, cond, List, [], ◌∷◌, ◌++◌, Some, length, map, drop, set, get_or, refl, ap, sym, subst, ◌∙◌, arith, Global}
+use Rattle.std.specs.Prelude.{◌&&◌, not, nat_lt, slice_get, if◌then◌else◌}
 use Rattle.std.specs.List.{All, flat_map}
-use Rattle.std.proofs.lemmas.Bool.{false≢true}
 use Rattle.std.proofs.lemmas.List.{map-append, length-map}
 use Rattle.std.proofs.lemmas.List.Elements.{All-map}
 use Rattle.std.specs.declared.vec.Vec.{Vec}
@@ -17,7 +16,7 @@ use Rattle.vault_core.specs.declared.job.Job.{Job}
 use Rattle.vault_core.specs.declared.own.Core.TheInside.{Inside}
 use Rattle.vault_core.specs.View.{CoreJob, CoreView}
 use Rattle.vault_core.specs.Coming.{takes_older}
-use Rattle.vault_core.specs.Rest.{numbers, call_of, calls_from, work_of, turn_of, turns_from, tasks_of, closing_of, tasks_on, rest_at, rest_of}
+use Rattle.vault_core.specs.Rest.{numbers, calls_from, turn_of, turns_from, tasks_of, closing_of, rest_at, rest_of}
 use Rattle.vault_core.specs.Going.{aimed, drawn_tasks, decides, decides_at, goes_opening}
 use Rattle.vault_core.specs.Parts.{seen, view_of, is_opening, is_over, IsKept, IsCore}
 use Rattle.vault_core.specs.Fed.{first_of, first_at, is_gate, renamed, all_renamed, moved, number_drawn, drawn}

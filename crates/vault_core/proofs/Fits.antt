@@ -1,5 +1,5 @@
 -- The record that a job writes fits into the journal.
-use Rattle.std.proofs.Common.{◌≡◌, ℕ, zero, suc, ◌+◌, ◌<◌, ◌≤◌, ◌^◌, Bool, true, false, List, [], ◌∷◌, Some, None, inl, inr, refl, ap, sym, subst, ◌∙◌, arith}
+use Rattle.std.proofs.Common.{◌≡◌, ℕ, ◌+◌, ◌≤◌, ◌^◌, Bool, true, false, List, [], ◌∷◌, Some, None, inl, inr, refl, ap, sym, subst, ◌∙◌, arith}
 use Rattle.std.specs.Prelude.{Option, IfSome, if◌then◌else◌, ◌==◌, ◌⊎◌, slice_get, sum_by}
 use Rattle.std.specs.Option.{option_map}
 use Rattle.std.proofs.lemmas.Bool.{cases_Bool, false≢true}
@@ -16,10 +16,10 @@ use Rattle.vault_core.specs.declared.cursor.Cursor.{Cursor}
 use Rattle.vault_core.specs.declared.cursor.Cursor.TheVariants as at
 use Rattle.vault_core.specs.declared.job.Job.{Job}
 use Rattle.vault_core.specs.View.{CoreJob, CoreView, job_in}
-use Rattle.vault_core.specs.Coming.{is_move, action_next, written_by, entry_of_job}
+use Rattle.vault_core.specs.Coming.{is_move, written_by, entry_of_job}
 use Rattle.vault_core.specs.Reserves.{reserved_of, Reserves}
 use Rattle.vault_core.specs.Parts.{seen, comes_to, is_opening, IsKept}
-use Rattle.vault_core.proofs.Counts.{gates_at, reserved_at, reserved_is}
+use Rattle.vault_core.proofs.Counts.{reserved_at, reserved_is}
 use Rattle.vault_core.proofs.Gates.{action_at, first_is}
 use Rattle.vault_core.proofs.Gating.{entry_size, size_of_entry, length_counted, room_at}
 use Rattle.vault_core.proofs.Standing.{head_moves, in_append}

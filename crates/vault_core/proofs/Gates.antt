@@ -1,14 +1,13 @@
 -- The first of the actions that a job has not yet made, how many they are, and whether a gate is among them.
-use Rattle.std.proofs.Common.{◌≡◌, ℕ, zero, suc, ◌+◌, ◌-◌, ◌<◌, ◌≤◌, Bool, true, false, cond, List, [], ◌∷◌, ◌++◌, Some, None, length, map, drop, inl, inr, refl, ap, sym, subst, ◌∙◌, arith}
+use Rattle.std.proofs.Common.{◌≡◌, ℕ, suc, ◌+◌, ◌-◌, ◌<◌, Bool, true, false, cond, List, [], ◌∷◌, ◌++◌, Some, None, length, map, drop, inl, inr, refl, ap, sym, subst, ◌∙◌, arith}
 use Rattle.std.specs.Prelude.{◌⊎◌, nat_lt, Option, not, is_some, if◌then◌else◌, ◌&&◌, slice_get, count_by}
 use Rattle.std.specs.Option.{option_map}
-use Rattle.std.specs.List.{flat_map, range_with_len}
 use Rattle.std.proofs.lemmas.Bool.{cases_Bool, lt-ltb, ltb-true, false≢true}
 use Rattle.std.proofs.lemmas.List.Sums.{sum_by-cons}
 use Rattle.std.proofs.lemmas.List.{length-append, length-map}
 use Rattle.std.proofs.lemmas.List.FromFn.{length-range_with_len}
 use Rattle.std.proofs.lemmas.Option.{slice_get_within}
-use Rattle.hail_machine.specs.Actions.{Action, WriteBody, SyncBody, WriteGate, SyncGate, Store, Fetch, Ask, Work, Remove, End, ends_append}
+use Rattle.hail_machine.specs.Actions.{Action, WriteBody, SyncBody, WriteGate, SyncGate, Store, Ask, Work, Remove, End, ends_append}
 use Rattle.hail_records.specs.Table.{File, find_file}
 use Rattle.vault_table.specs.Values.{Kept}
 use Rattle.vault_core.specs.declared.wish.Wish.{Wish}
@@ -20,11 +19,10 @@ use Rattle.vault_core.specs.declared.cursor.Cursor.{Cursor}
 use Rattle.vault_core.specs.declared.cursor.Cursor.TheVariants as at
 use Rattle.vault_core.specs.declared.job.Task.{Task}
 use Rattle.vault_core.specs.declared.job.Job.{Job}
-use Rattle.vault_core.specs.View.{flag_at}
-use Rattle.vault_core.specs.Rest.{numbers, call_of, calls_from, rewrite_of, rewrites_from, work_of, turn_of, turns_from, tasks_of, moves_from, moves_after, closing_of, tasks_on, beyond, rest_at, rest_of}
+use Rattle.vault_core.specs.Rest.{numbers, call_of, calls_from, work_of, turns_from, tasks_of, moves_from, moves_after, closing_of, tasks_on, beyond, rest_at, rest_of}
 use Rattle.vault_core.specs.Coming.{takes_older, most_of, is_ask, begins_append, is_last_ask, is_gone, is_idle}
-use Rattle.vault_core.specs.Going.{decides, decides_at, removals_of}
-use Rattle.vault_core.specs.Parts.{comes_to, is_unbegun, is_opening, is_start, is_over, is_caller, is_worker, is_rewriter, seen, IsWithin, IsSet, IsAt, IsKept}
+use Rattle.vault_core.specs.Going.{decides, decides_at}
+use Rattle.vault_core.specs.Parts.{comes_to, is_unbegun, is_opening, is_start, is_over, is_caller, is_worker, is_rewriter, seen, IsWithin, IsAt, IsKept}
 use Rattle.vault_core.proofs.Rests.{numbers_here, calls_here, rewrites_take, rest_is, rest_opening, rest_closing, rest_calling, rest_removing}
 
 -- the action at a cursor

@@ -1,5 +1,5 @@
 -- A job whose append is done.
-use Rattle.std.proofs.Common.{◌≡◌, ℕ, zero, suc, ◌+◌, ◌-◌, ◌<◌, ◌≤◌, Bool, true, false, cond, List, [], ◌∷◌, ◌++◌, Some, None, length, map, take, drop, set, get_or, inl, inr, refl, ap, sym, subst, ◌∙◌, arith, Global}
+use Rattle.std.proofs.Common.{◌≡◌, ℕ, ◌+◌, ◌-◌, ◌<◌, ◌≤◌, Bool, true, false, cond, List, [], ◌∷◌, Some, None, length, map, drop, set, get_or, inl, inr, refl, ap, sym, subst, ◌∙◌, arith, Global}
 use Rattle.std.specs.Prelude.{Option, Result, Ok, Err, is_err, IfErr, OnOk, IsErrOf, IsTrue, sum_by, ◌⊎◌, ◌*◌, sum, ◌&&◌, not, slice_get, if◌then◌else◌}
 use Rattle.std.proofs.lemmas.Bool.{cases_Bool, false≢true}
 use Rattle.hail_machine.specs.Actions.{Action, SyncGate, Remove, End, ends_append}
@@ -21,7 +21,6 @@ use Rattle.vault_core.specs.declared.wish.Wish.TheVariants as wish
 use Rattle.vault_core.specs.declared.cursor.Move.TheVariants as move
 use Rattle.vault_core.specs.declared.cursor.Cursor.{Cursor}
 use Rattle.vault_core.specs.declared.cursor.Cursor.TheVariants as at
-use Rattle.vault_core.specs.declared.job.Task.{Task}
 use Rattle.vault_core.specs.declared.job.Job.{Job}
 use Rattle.std.specs.declared.vec.Vec.{Vec}
 use Rattle.vault_core.specs.declared.own.Core.TheInside.{Inside}
@@ -33,7 +32,7 @@ use Rattle.vault_core.specs.Parts.{seen, view_of, IsCore, is_opening, is_over, c
 use Rattle.vault_core.specs.Fed.{first_of, first_at, older_of, gated, HasGated, is_gate, is_taker, moved, decides_now, gated_by}
 use Rattle.vault_core.specs.Reserves.{sizes_of, reserved_of, starts_by, starts_of}
 use Rattle.vault_core.proofs.Counts.{gates, gates-append, gates-cons, removes_none, gates_at, gates_is, reserved_at, reserved_is, one, two}
-use Rattle.vault_core.proofs.Gates.{action_at, first_is, decides_rest, decides_takes}
+use Rattle.vault_core.proofs.Gates.{action_at, first_is, decides_rest}
 use Rattle.vault_core.proofs.Moving.{within, kept_at, seen_by, seen_moved}
 use Rattle.vault_core.proofs.Kept.{seen_at, rising_set}
 

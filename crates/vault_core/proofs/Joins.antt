@@ -1,19 +1,19 @@
 -- A job as it is made stands for the job that the machine adds.
-use Rattle.std.proofs.Common.{◌≡◌, ℕ, zero, suc, ◌+◌, ◌*◌, ◌-◌, ◌<◌, ◌≤◌, ◌^◌, Bool, true, false, cond, List, [], ◌∷◌, ◌++◌, Option, Some, None, length, map, take, drop, get_or, inl, inr, refl, ap, sym, subst, ◌∙◌, append_assoc, length-append, arith}
-use Rattle.std.specs.Prelude.{◌⊎◌, nat_lt, nat_le, ◌==◌, ◌&&◌, ◌||◌, not, IsTrue, sum, sum_by, replicate, slice_get, if◌then◌else◌}
-use Rattle.std.specs.List.{All, flat_map, range_with_len, AllZip}
-use Rattle.std.proofs.lemmas.Bool.{cases_Bool, lt-ltb, ltb-true, false≢true}
+use Rattle.std.proofs.Common.{◌≡◌, ℕ, zero, suc, ◌+◌, ◌-◌, ◌<◌, ◌≤◌, Bool, true, false, List, [], ◌∷◌, ◌++◌, Option, Some, None, length, map, inl, inr, refl, ap, sym, subst, ◌∙◌, append_assoc, arith}
+use Rattle.std.specs.Prelude.{nat_lt, ◌==◌, ◌&&◌, IsTrue, replicate, if◌then◌else◌}
+use Rattle.std.specs.List.{flat_map, range_with_len}
+use Rattle.std.proofs.lemmas.Bool.{cases_Bool, false≢true}
 use Rattle.std.proofs.lemmas.Bool.Decides.{nat_tests}
 use Rattle.std.proofs.lemmas.List.Folds.{flat_map-map}
 use Rattle.hail_codes.specs.Points.{upto}
 use Rattle.hail_columns.specs.Verdicts.{Sums}
-use Rattle.hail_records.specs.Records.{Setup, Record, is_setup}
-use Rattle.hail_records.specs.Table.{File, Due, find_file, files_of, file_of, due_of, setup_of}
+use Rattle.hail_records.specs.Records.{Setup}
+use Rattle.hail_records.specs.Table.{File, Due, find_file, files_of, file_of, due_of}
 use Rattle.hail_records.proofs.FilesLaws.{find-files_of}
 use Rattle.hail_machine.specs.Setups.{stripes_of}
 use Rattle.hail_machine.specs.Jobs.{Kind, PutJob, GetJob, DropJob, AuditJob, RepairJob}
 use Rattle.hail_machine.specs.Jobs.{Job as MachineJob, Pinned as PinnedBytes}
-use Rattle.hail_machine.specs.Actions.{Action, Store, Fetch, Ask, Work, End, append_actions, on_each_provider, on_each_stripe, store_actions, open_actions, read_actions, rewrite_actions, repair_actions, rounds_of, ask_actions, remove_actions, actions_by, actions_of, actions_left}
+use Rattle.hail_machine.specs.Actions.{Action, Store, Ask, Work, End, append_actions, on_each_provider, on_each_stripe, store_actions, open_actions, rewrite_actions, rounds_of, remove_actions, actions_by, actions_of, actions_left}
 use Rattle.hail_machine.specs.Begins.{pinned_file, pin, pin_all, pin_one, pinned_for, due_number, due_flags, subject_at_begin, new_job}
 use Rattle.hail_machine.specs.States.{State, setup_in, file_in}
 use Rattle.hail_machine.proofs.RecordFacts.{In, listed_file}
@@ -24,14 +24,13 @@ use Rattle.vault_table.specs.Values.{Kept, IsFoldOf}
 use Rattle.vault_core.specs.declared.pinned.Pinned.{Pinned}
 use Rattle.vault_core.specs.declared.wish.Wish.{Wish}
 use Rattle.vault_core.specs.declared.wish.Wish.TheVariants as wish
-use Rattle.vault_core.specs.declared.cursor.Cursor.{Cursor}
 use Rattle.vault_core.specs.declared.job.Task.{Task}
 use Rattle.vault_core.specs.declared.job.Job.{Job}
-use Rattle.vault_core.specs.View.{CoreJob, CoreView, flag_at}
-use Rattle.vault_core.specs.Rest.{numbers, call_of, calls_from, rewrite_of, rewrites_from, work_of, turn_of, turns_from, tasks_of, closing_of, tasks_on, rest_of}
+use Rattle.vault_core.specs.View.{CoreJob, flag_at}
+use Rattle.vault_core.specs.Rest.{numbers, call_of, calls_from, rewrite_of, rewrites_from, turn_of, turns_from, tasks_of, closing_of, rest_of}
 use Rattle.vault_core.specs.Carried.{IsKindOf, pin_of, has_asked, opens, IsJobOf}
 use Rattle.vault_core.specs.Parts.{seen, is_opening}
-use Rattle.vault_core.specs.Making.{pin_of_file, put_pin, pins_of, pins_found, pins_for, targets_of, turns_for, tasks_made, subject_for, cursor_on, cursor_first, IsMade}
+use Rattle.vault_core.specs.Making.{pin_of_file, put_pin, pins_of, pins_found, pins_for, targets_of, turns_for, tasks_made, subject_for, cursor_first, IsMade}
 use Rattle.vault_core.proofs.Rests.{turns_none}
 use Rattle.vault_core.proofs.Begun.{front_of, take-zeros, made-rest}
 

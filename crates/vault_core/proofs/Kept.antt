@@ -1,7 +1,7 @@
 -- A core stays one as it is kept while its jobs change.
-use Rattle.std.proofs.Common.{◌≡◌, ℕ, zero, suc, ◌+◌, ◌-◌, ◌<◌, ◌≤◌, Bool, true, false, cond, List, [], ◌∷◌, ◌++◌, Some, None, length, map, take, drop, set, get_or, refl, ap, sym, subst, ◌∙◌, arith, Global}
+use Rattle.std.proofs.Common.{◌≡◌, ℕ, zero, suc, ◌+◌, ◌-◌, ◌<◌, ◌≤◌, Bool, true, false, List, [], ◌∷◌, ◌++◌, Some, None, length, map, take, drop, set, get_or, refl, ap, sym, subst, ◌∙◌, arith, Global}
 use Rattle.std.specs.Option.{option_map, option_eq}
-use Rattle.std.specs.Prelude.{Option, if◌then◌else◌, eqb, ◌&&◌, not, slice_get, sum_by, sum, remove, count_by}
+use Rattle.std.specs.Prelude.{Option, if◌then◌else◌, eqb, ◌&&◌, not, slice_get, sum, remove}
 use Rattle.std.specs.List.{All}
 use Rattle.std.proofs.lemmas.Bool.{false≢true, ne_eqb}
 use Rattle.std.proofs.lemmas.Option.{slice_get_within, slice_get-map, slice_get_read, get_or_from_slice_get}
@@ -9,7 +9,7 @@ use Rattle.std.proofs.lemmas.List.{map-set, length-map, length-set}
 use Rattle.std.proofs.lemmas.List.Edits.{length-remove}
 use Rattle.std.proofs.lemmas.List.Elements.{All-take, All-drop, All-append, All-set}
 use Rattle.std.proofs.lemmas.List.Sums.{sum_by-set, sum_by-remove, sum_by-take-drop}
-use Rattle.hail_machine.specs.Actions.{Action, SyncGate, ends_append}
+use Rattle.hail_machine.specs.Actions.{Action}
 use Rattle.vault_core.specs.declared.wish.Wish.{Wish}
 use Rattle.vault_core.specs.declared.wish.Wish.TheVariants as wish
 use Rattle.vault_core.specs.declared.job.Job.{Job}

@@ -1,14 +1,12 @@
 -- A job as it is kept and a job as a contract sees it go on alike.
-use Rattle.std.proofs.Common.{◌≡◌, ℕ, zero, suc, ◌+◌, ◌-◌, ◌<◌, ◌≤◌, Bool, true, false, List, [], ◌∷◌, ◌++◌, Some, None, length, map, drop, set, get_or, refl, ap, sym, subst, ◌∙◌, arith, Global}
+use Rattle.std.proofs.Common.{◌≡◌, ℕ, ◌+◌, ◌<◌, Bool, true, false, List, Some, None, length, map, drop, set, get_or, refl, ap, sym, subst, ◌∙◌, arith, Global}
 use Rattle.std.specs.Prelude.{Option, ◌&&◌, not, nat_lt, count_by, slice_get, if◌then◌else◌}
-use Rattle.std.specs.List.{All}
-use Rattle.std.specs.Option.{option_map}
 use Rattle.std.proofs.lemmas.Bool.{false≢true}
-use Rattle.std.proofs.lemmas.Option.{slice_get_within, slice_get-map}
+use Rattle.std.proofs.lemmas.Option.{slice_get_within}
 use Rattle.std.proofs.lemmas.List.{length-map}
 use Rattle.std.proofs.lemmas.List.Elements.{All-get_or}
 use Rattle.hail_columns.specs.Verdicts.{Sums}
-use Rattle.hail_machine.specs.Actions.{Action, WriteBody, SyncBody, WriteGate, SyncGate, End, ends_append}
+use Rattle.hail_machine.specs.Actions.{Action, ends_append}
 use Rattle.record_codec.specs.Entries.{counted, IsPadded}
 use Rattle.record_codec.specs.declared.counts.Counts.{Counts}
 use Rattle.vault_core.specs.declared.wish.Wish.{Wish}

@@ -1,19 +1,18 @@
 -- A job of a core stands for a job of the machine, before an action and after it.
-use Rattle.std.proofs.Common.{◌≡◌, ℕ, zero, suc, ◌+◌, ◌-◌, ◌<◌, ◌≤◌, Bool, true, false, List, [], ◌∷◌, ◌++◌, Some, None, length, map, drop, replicate, inl, inr, refl, ap, sym, subst, ◌∙◌, arith}
-use Rattle.std.specs.Prelude.{Option, ◌⊎◌, if◌then◌else◌, ◌&&◌, not, nat_lt, slice_get, IsTrue}
+use Rattle.std.proofs.Common.{◌≡◌, ℕ, zero, suc, ◌+◌, ◌<◌, Bool, true, false, List, [], ◌∷◌, ◌++◌, Some, length, map, drop, replicate, inl, inr, refl, ap, sym, subst, ◌∙◌, arith}
+use Rattle.std.specs.Prelude.{Option, ◌⊎◌, ◌&&◌, not, nat_lt, slice_get, IsTrue}
 use Rattle.std.specs.List.{flat_map, range_with_len}
-use Rattle.std.proofs.lemmas.Bool.{cases_Bool, cases_lt, le-ltb, lt-ltb, ltb-true, false≢true}
+use Rattle.std.proofs.lemmas.Bool.{le-ltb, false≢true}
 use Rattle.hail_codes.specs.Points.{upto}
 use Rattle.hail_columns.specs.Verdicts.{Sums, Judges}
 use Rattle.hail_columns.specs.Challenges.{challenge_of}
 use Rattle.hail_records.specs.Records.{Setup}
 use Rattle.hail_machine.specs.Setups.{object_of}
-use Rattle.hail_machine.specs.Jobs.{Kind, PutJob, GetJob, DropJob, AuditJob, RepairJob, Pinned, Given, Job}
-use Rattle.hail_machine.specs.Actions.{Action, WriteBody, SyncBody, WriteGate, SyncGate, Store, Fetch, Ask, Work, Remove, End, append_actions, on_each_provider, rounds_of, ask_actions, remove_actions, actions_of, actions_left}
+use Rattle.hail_machine.specs.Jobs.{Kind, PutJob, DropJob, AuditJob, Pinned, Given, Job}
+use Rattle.hail_machine.specs.Actions.{Action, WriteBody, SyncBody, WriteGate, SyncGate, Store, Fetch, Ask, Work, Remove, End, append_actions, on_each_provider, rounds_of, ask_actions, actions_of, actions_left}
 use Rattle.hail_machine.specs.Given.{answers_given}
 use Rattle.hail_machine.specs.States.{State, setup_in}
-use Rattle.hail_machine.specs.Appends.{is_first_append}
-use Rattle.hail_machine.specs.Audits.{JudgesRound, JudgesRounds, JudgesFiles, HasSums}
+use Rattle.hail_machine.specs.Audits.{JudgesRounds, JudgesFiles, HasSums}
 use Rattle.hail_machine.specs.Steps.{next_action}
 use Rattle.hail_machine.proofs.ActionLists.{Each, each_get, each_append, each_map, each_flat}
 use Rattle.sound_states.proofs.Orders.{put-list, audit-list, put_rest, drop_rest, audit_rest, next-listed, next-left}
@@ -22,11 +21,10 @@ use Rattle.sound_states.proofs.Going.{onward, actions-onward}
 use Rattle.vault_core.specs.declared.wish.Wish.{Wish}
 use Rattle.vault_core.specs.declared.wish.Wish.TheVariants as wish
 use Rattle.vault_core.specs.View.{CoreJob}
-use Rattle.vault_core.specs.Coming.{is_ask, begins_append, is_last_ask}
+use Rattle.vault_core.specs.Coming.{is_ask, begins_append}
 use Rattle.vault_core.specs.Carried.{IsKindOf, has_asked, opens, IsJobOf}
-use Rattle.vault_core.specs.Fed.{goes_plainly, is_gate, moved, judged}
+use Rattle.vault_core.specs.Fed.{is_gate, moved}
 use Rattle.vault_core.proofs.Kept.{and_left}
-use Rattle.vault_core.proofs.Standing.{get-drop}
 
 -- ---- the first append
 

@@ -1,20 +1,18 @@
 -- Why no job begins: what a core sees, and what the machine does.
-use Rattle.std.proofs.Common.{◌≡◌, ℕ, zero, suc, ◌+◌, ◌*◌, ◌<◌, ◌≤◌, Bool, true, false, cond, not, ◌&&◌, ◌||◌, List, [], ◌∷◌, ◌++◌, Option, Some, None, ◌⊎◌, ◌^◌, ◌-◌, min, length, map, drop, get_or, inl, inr, refl, ap, sym, subst, ◌∙◌, arith}
-use Rattle.std.specs.Prelude.{nat_lt, nat_le, nat_eq, IsTrue, is_some, sum, sum_by, if◌then◌else◌}
+use Rattle.std.proofs.Common.{◌≡◌, ℕ, zero, suc, ◌+◌, ◌<◌, ◌≤◌, Bool, true, false, not, ◌&&◌, ◌||◌, List, [], ◌∷◌, Option, Some, None, ◌^◌, ◌-◌, min, length, map, drop, get_or, inl, inr, refl, ap, sym, subst, ◌∙◌, arith}
+use Rattle.std.specs.Prelude.{nat_lt, nat_le, nat_eq, is_some, sum, sum_by, if◌then◌else◌}
 use Rattle.std.specs.List.{list_any, AllZip}
 use Rattle.std.specs.Cmp.Lexicographic.{pointwise}
 use Rattle.std.specs.Option.{option_map}
-use Rattle.std.proofs.lemmas.Bool.{cases_Bool, lt-ltb, ltb-true, false≢true}
+use Rattle.std.proofs.lemmas.Bool.{cases_Bool, lt-ltb, ltb-true}
 use Rattle.std.proofs.lemmas.Bool.Decides.{nat_tests}
 use Rattle.std.proofs.lemmas.List.Sums.{sum_by-cons}
-use Rattle.std.proofs.lemmas.List.{length-map}
 use Rattle.hail_records.specs.Records.{Setup, is_name, largest_file, largest_journal, most_files}
 use Rattle.hail_records.specs.Journal.{text_size}
-use Rattle.hail_records.specs.Table.{File, is_same_name, find_file, files_of, file_of, due_of, next_id, next_audit}
-use Rattle.hail_records.proofs.FilesLaws.{same-eq, same-refl, find-files_of}
+use Rattle.hail_records.specs.Table.{File, is_same_name, find_file, files_of}
+use Rattle.hail_records.proofs.FilesLaws.{find-files_of}
 use Rattle.hail_machine.specs.Jobs.{Kind, PutJob, GetJob, DropJob, AuditJob, RepairJob}
 use Rattle.hail_machine.specs.Jobs.{Job as MachineJob}
-use Rattle.hail_machine.specs.Actions.{appends_left}
 use Rattle.hail_machine.specs.Refusals as refusal
 use Rattle.hail_machine.specs.Refusals.{Refusal, first_refusal}
 use Rattle.hail_machine.specs.States.{State, setup_in, file_in}
@@ -22,7 +20,7 @@ use Rattle.hail_machine.specs.Space.{append_sizes, reserved, is_full, is_too_ful
 use Rattle.hail_machine.specs.Begins.{is_put_or_check, is_check, is_busy, is_listed, with_puts, names_in, names_taken, is_crowded, begin_refusal}
 use Rattle.sound_states.proofs.NamesTaken.{are_put, listed-taken, listed-with_puts, listed-files_of, length-names_in}
 use Rattle.sound_states.proofs.NamesTaken.{puts_name as machine_puts}
-use Rattle.vault_table.specs.Values.{Kept, IsFoldOf, id_after}
+use Rattle.vault_table.specs.Values.{Kept}
 use Rattle.vault_core.specs.declared.wish.Wish.{Wish}
 use Rattle.vault_core.specs.declared.wish.Wish.TheVariants as wish
 use Rattle.vault_core.specs.declared.wish.BeginFault.{BeginFault}
@@ -34,7 +32,7 @@ use Rattle.vault_core.specs.Parts.{seen, view_of}
 use Rattle.vault_core.specs.Reserves.{sizes_of, reserved_of}
 use Rattle.vault_core.specs.Carried.{IsKindOf, IsJobOf, CoreIs, refusal_of}
 use Rattle.vault_core.specs.Wished.{IsShort}
-use Rattle.vault_core.specs.Refusing.{wishes_of, wishes_kept, checks, puts_or_checks, puts_name, is_taken_by, is_new, names_beside, is_taken, is_kept_out, is_busy_in, is_crowded_in, word_refusal_in, is_too_full_in, is_used_up, is_full_in, or_full, refusal_in, IsNamed}
+use Rattle.vault_core.specs.Refusing.{wishes_of, wishes_kept, checks, puts_or_checks, puts_name, is_taken_by, is_new, names_beside, is_taken, is_kept_out, is_busy_in, is_crowded_in, is_too_full_in, is_used_up, is_full_in, or_full, refusal_in, IsNamed}
 
 -- ---- lists of jobs, as they are kept and as they are seen
 

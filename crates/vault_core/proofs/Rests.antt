@@ -17,7 +17,7 @@ use Rattle.vault_core.specs.declared.job.Job.{Job}
 use Rattle.vault_core.specs.View.{flag_at}
 use Rattle.vault_core.specs.Rest.{numbers, call_of, calls_from, rewrite_of, rewrites_from, work_of, turn_of, turns_from, tasks_of, moves_from, moves_after, closing_of, tasks_on, beyond, rest_at, rest_of}
 use Rattle.vault_core.specs.Going.{aimed}
-use Rattle.vault_core.specs.Parts.{comes_to, is_caller, is_worker, is_rewriter, IsWithin, IsSet, IsAt, IsKept}
+use Rattle.vault_core.specs.Parts.{comes_to, is_caller, is_worker, is_rewriter, IsWithin, IsSet, IsAt}
 
 pub numbers_here : (a b : ℕ) → a < b → numbers a b ≡ a ∷ numbers (a + 1) b
 numbers_here a b l = let e : b - a ≡ suc (b - (a + 1)) = omega arith in ap (range_with_len a) e

@@ -1,11 +1,10 @@
 -- What comes next for a job, in a core and in a state of the machine that it stands for.
-use Rattle.std.proofs.Common.{◌≡◌, ℕ, zero, suc, ◌+◌, ◌<◌, ◌≤◌, Bool, true, false, List, [], ◌∷◌, ◌++◌, Some, None, length, drop, inl, inr, refl, ap, sym, subst, ◌∙◌, arith}
+use Rattle.std.proofs.Common.{◌≡◌, ℕ, zero, suc, ◌+◌, Bool, true, false, List, [], ◌∷◌, ◌++◌, Some, None, length, drop, inl, inr, refl, ap, sym, subst, ◌∙◌, arith}
 use Rattle.std.specs.Prelude.{Option, ◌⊎◌, if◌then◌else◌, ◌==◌, ◌&&◌, not, is_some, nat_lt, nat_le, slice_get, count_by}
 use Rattle.std.specs.Option.{option_map}
-use Rattle.std.proofs.lemmas.Bool.{cases_Bool, le-ltb, lt-ltb, ltb-true, ne_eqb, false≢true}
-use Rattle.hail_columns.specs.Verdicts.{Sums}
+use Rattle.std.proofs.lemmas.Bool.{cases_Bool, le-ltb, ne_eqb, false≢true}
 use Rattle.hail_records.specs.Records.{Setup, Record, PutStart, PutDone, Drop, AuditStart, AuditDone, RepairDone}
-use Rattle.hail_records.specs.Table.{File, find_file, file_of, next_id, next_audit}
+use Rattle.hail_records.specs.Table.{File, find_file, file_of, next_id}
 use Rattle.hail_records.proofs.FilesLaws.{find-files_of}
 use Rattle.hail_machine.specs.Jobs.{Kind, PutJob, GetJob, DropJob, AuditJob, RepairJob, Pinned, Job, job_of}
 use Rattle.hail_machine.specs.Actions.{Action, WriteBody, SyncBody, WriteGate, SyncGate, Store, Fetch, Ask, Work, Remove, End, append_actions, on_each_provider, on_each_stripe, open_actions, read_actions, remove_actions, actions_by, actions_of, actions_left, ends_append}
@@ -24,9 +23,9 @@ use Rattle.vault_core.specs.declared.action.Next.TheVariants as next
 use Rattle.vault_core.specs.declared.wish.Wish.{Wish}
 use Rattle.vault_core.specs.declared.wish.Wish.TheVariants as wish
 use Rattle.vault_core.specs.View.{CoreJob, CoreView, job_in}
-use Rattle.vault_core.specs.Coming.{Coming, Acts, Waits, IsNoJob, IsBarred, seen_action, seen_next, is_gone, is_idle, action_next, begins_append, is_move, is_ask, waits_or_acts, next_of, next_in, takes_older, most_of, left_in, written_by, entry_of_job, entry_of_found, entry_in}
+use Rattle.vault_core.specs.Coming.{Acts, Waits, IsNoJob, IsBarred, seen_action, seen_next, is_gone, is_idle, action_next, begins_append, is_move, is_ask, waits_or_acts, next_of, next_in, takes_older, most_of, left_in, written_by, entry_of_job, entry_of_found, entry_in}
 use Rattle.vault_core.specs.Carried.{IsKindOf, has_asked, opens, IsJobOf, IsFlight, CoreIs, ComesNext, IsNextOf, IsEntryOf}
-use Rattle.vault_core.proofs.Pairs.{Pair, pair_some, pair_none, pair_length}
+use Rattle.vault_core.proofs.Pairs.{pair_some, pair_none, pair_length}
 
 pub get-drop : {X : Type 0} (i : ℕ) (xs : List X) → slice_get (drop i xs) 0 ≡ slice_get xs i
 get-drop zero xs = refl

@@ -1,17 +1,16 @@
 -- A core after a step of a job, and the state of the machine that it stands for then.
-use Rattle.std.proofs.Common.{◌≡◌, ℕ, zero, suc, ◌+◌, ◌<◌, ◌≤◌, ◌^◌, Bool, true, false, List, [], ◌∷◌, Some, None, length, map, drop, set, inl, inr, refl, ap, sym, subst, ◌∙◌, arith}
-use Rattle.std.specs.Prelude.{Option, ◌⊎◌, if◌then◌else◌, ◌==◌, ◌&&◌, not, slice_get, remove, IsTrue}
+use Rattle.std.proofs.Common.{◌≡◌, ℕ, zero, suc, ◌+◌, ◌<◌, ◌^◌, Bool, true, false, List, [], ◌∷◌, Some, None, map, drop, set, inl, inr, refl, ap, sym, subst, ◌∙◌, arith}
+use Rattle.std.specs.Prelude.{Option, ◌⊎◌, if◌then◌else◌, ◌&&◌, not, slice_get, remove}
 use Rattle.std.specs.List.{AllZip}
-use Rattle.std.proofs.lemmas.Bool.{cases_Bool, eqb-true, eq-eqb, ne_eqb, false≢true}
+use Rattle.std.proofs.lemmas.Bool.{eq-eqb, ne_eqb, false≢true}
 use Rattle.hail_records.specs.Records.{Record, Setup, PutStart, PutDone, Drop, AuditStart, AuditDone, RepairDone, record_size}
 use Rattle.hail_records.specs.Journal.{text_size}
 use Rattle.hail_records.specs.Table.{setup_of}
 use Rattle.hail_records.specs.Acceptance.{refused}
-use Rattle.hail_columns.specs.Verdicts.{Sums}
-use Rattle.hail_machine.specs.Jobs.{Kind, AuditJob, Given, Fetched, Answered, Worked, Job, job_of, with_job, without_job, advanced}
-use Rattle.hail_machine.specs.Actions.{Action, WriteBody, SyncBody, WriteGate, SyncGate, Store, Fetch, Ask, Work, Remove, End, actions_of, actions_left, appends_left}
+use Rattle.hail_machine.specs.Jobs.{AuditJob, Given, Fetched, Answered, Worked, Job, job_of, with_job, without_job}
+use Rattle.hail_machine.specs.Actions.{Action, WriteBody, SyncBody, WriteGate, SyncGate, Store, Fetch, Ask, Work, Remove, End, actions_of, actions_left}
 use Rattle.hail_machine.specs.Answers.{Answer, Put, Got, Dropped, Audited, Repaired, Lost, ProviderFault, DiskFault, Memory}
-use Rattle.hail_machine.specs.Events.{Outcome, Refused, More, Waiting, Ended, Closed, Step}
+use Rattle.hail_machine.specs.Events.{Outcome, Refused, More, Waiting, Ended, Step}
 use Rattle.hail_machine.specs.States.{State, Append, setup_in, going_on, ended, with_provider}
 use Rattle.hail_devices.specs.Providers.{Provider}
 use Rattle.hail_machine.specs.Audits.{HasSums}
@@ -38,13 +37,13 @@ use Rattle.vault_core.specs.declared.wish.Wish.{Wish}
 use Rattle.vault_core.specs.declared.wish.Wish.TheVariants as wish
 use Rattle.vault_core.specs.declared.reply.Reply.{Reply}
 use Rattle.vault_core.specs.View.{CoreJob, CoreView, job_in}
-use Rattle.vault_core.specs.Coming.{Acts as ActsNext, seen_action, HasReply, is_last_ask_of, next_in, is_gone, begins_append, is_idle, action_next, is_move, is_ask, is_last_ask, written_by, entry_of_job, entry_of_found, entry_in}
-use Rattle.vault_core.specs.Carried.{IsJobOf, IsFlight, CoreIs, ComesNext}
+use Rattle.vault_core.specs.Coming.{Acts as ActsNext, seen_action, HasReply, is_last_ask_of, is_gone, begins_append, is_idle, action_next, is_move, is_ask, is_last_ask, written_by, entry_of_job, entry_of_found, entry_in}
+use Rattle.vault_core.specs.Carried.{IsJobOf, IsFlight, CoreIs}
 use Rattle.vault_core.specs.Fed.{is_own, freed, stopped, barred_at, with_at, moved, judged, is_gate, goes_plainly, number_drawn, renamed, all_renamed, drawn, gated, HasGated}
 use Rattle.vault_core.specs.declared.reply.Reply.TheVariants as reply
-use Rattle.vault_core.specs.Replies.{EndsWell, Tells, IsReplyTo}
+use Rattle.vault_core.specs.Replies.{EndsWell, Tells}
 use Rattle.vault_core.proofs.Pairs.{IsFirst, pair_some, pair_with, pair_without, in_set_same, in_set_other, in_remove_other}
-use Rattle.vault_core.proofs.Standing.{Comes, acts_comes, comes_next, same_job, in_append}
+use Rattle.vault_core.proofs.Standing.{acts_comes, comes_next, same_job, in_append}
 use Rattle.vault_core.proofs.Judging.{sums-on, on-judged}
 use Rattle.vault_core.proofs.Onward.{audit-action, on-moved, head-here, left-here}
 use Rattle.vault_core.proofs.Taking.{on-drawn}

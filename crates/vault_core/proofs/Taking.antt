@@ -1,21 +1,20 @@
 -- A job of a core stands for a job of the machine after the first move of an append.
-use Rattle.std.proofs.Common.{◌≡◌, ℕ, zero, suc, ◌+◌, ◌<◌, ◌≤◌, Bool, true, false, List, [], ◌∷◌, ◌++◌, Some, None, length, map, drop, inl, inr, refl, ap, sym, subst, ◌∙◌, arith}
+use Rattle.std.proofs.Common.{◌≡◌, ℕ, zero, suc, ◌+◌, ◌<◌, Bool, true, false, List, [], ◌∷◌, ◌++◌, Some, None, length, map, drop, inl, inr, refl, ap, sym, subst, ◌∙◌, arith}
 use Rattle.std.specs.Prelude.{Option, ◌⊎◌, if◌then◌else◌, ◌&&◌, not, nat_lt, slice_get, IsTrue}
 use Rattle.std.specs.List.{flat_map}
-use Rattle.std.proofs.lemmas.Bool.{cases_Bool, false≢true}
 use Rattle.std.proofs.lemmas.List.{map-append}
 use Rattle.hail_codes.specs.Points.{upto}
 use Rattle.hail_records.specs.Records.{Setup}
 use Rattle.hail_records.specs.Table.{next_id, next_audit}
 use Rattle.hail_machine.specs.Setups.{stripes_of}
 use Rattle.hail_machine.specs.Jobs.{Kind, PutJob, GetJob, DropJob, AuditJob, RepairJob, Given, Job}
-use Rattle.hail_machine.specs.Actions.{Action, WriteBody, SyncBody, WriteGate, SyncGate, Store, End, append_actions, on_each_provider, store_actions, remove_actions, actions_by, actions_of, actions_left, appends_left}
+use Rattle.hail_machine.specs.Actions.{Action, WriteBody, SyncGate, Store, End, append_actions, store_actions, remove_actions, actions_by, actions_of, actions_left, appends_left}
 use Rattle.hail_machine.specs.States.{State, setup_in}
 use Rattle.hail_machine.specs.Appends.{subject_drawn, is_first_append}
 use Rattle.hail_machine.specs.Audits.{HasSums}
 use Rattle.hail_machine.specs.Steps.{next_action}
 use Rattle.sound_states.specs.Orders.{IsInOrder}
-use Rattle.sound_states.proofs.Orders.{put-list, put_rest, next-left, in_order-step, appends-order, appends-cons, appends_in}
+use Rattle.sound_states.proofs.Orders.{put-list, next-left, in_order-step, appends-order, appends-cons, appends_in}
 use Rattle.sound_states.proofs.Going.{onward}
 use Rattle.vault_table.specs.Values.{Kept, IsFoldOf, id_after}
 use Rattle.vault_core.specs.declared.wish.Wish.{Wish}
@@ -23,10 +22,10 @@ use Rattle.vault_core.specs.declared.wish.Wish.TheVariants as wish
 use Rattle.vault_core.specs.View.{CoreJob}
 use Rattle.vault_core.specs.Coming.{is_ask}
 use Rattle.vault_core.specs.Carried.{IsKindOf, has_asked, opens, IsJobOf}
-use Rattle.vault_core.specs.Fed.{is_gate, renamed, all_renamed, moved, number_drawn, drawn}
+use Rattle.vault_core.specs.Fed.{is_gate, renamed, all_renamed, number_drawn, drawn}
 use Rattle.vault_core.proofs.Kept.{and_left}
-use Rattle.vault_core.proofs.Onward.{sums-same, head-here, left-here, rest-on, opening-on}
-use Rattle.vault_core.proofs.Judging.{Asked, asked_parts, asked_whole, audit_kind, and_true}
+use Rattle.vault_core.proofs.Onward.{sums-same, head-here, rest-on, opening-on}
+use Rattle.vault_core.proofs.Judging.{asked_parts, asked_whole, audit_kind, and_true}
 
 -- an append that begins is left
 pub append_left : (s : Setup) (m : Job) (moves : ℕ) (more : List Action) → actions_left s m ≡ WriteBody ∷ more → IsInOrder moves (actions_left s m) → 0 < appends_left s m

@@ -11,7 +11,7 @@
 --   begun w moment kind    == the state after a begin
 --   IsNextOf w number next == what comes next for a job in a state of the machine
 --   IsEntryOf w number e   == the record that the append of a job writes in a state of the machine
-use Rattle.std.specs.Prelude.{◌≡◌, ℕ, ◌+◌, ◌<◌, ◌&&◌, Bool, true, false, not, IsTrue, List, [], ◌∷◌, ◌++◌, length, map, replicate, slice_get, Option, None, Some}
+use Rattle.std.specs.Prelude.{◌≡◌, ℕ, ◌+◌, ◌<◌, ◌&&◌, Bool, true, false, not, IsTrue, [], ◌∷◌, ◌++◌, length, map, replicate, slice_get, Option, None, Some}
 use Rattle.std.specs.List.{AllZip}
 use Rattle.hail_records.specs.Records.{Setup, Record}
 use Rattle.hail_records.specs.Journal.{text_size}

@@ -10,7 +10,7 @@
 --   entry_in c number   == the record that the job's append writes; None outside an append
 --   HasReply c number coming reply  == the reply is one that this action has
 --   TakesReply c number reply  == the reply is one that the next action has
-use Rattle.std.specs.Prelude.{◌≡◌, ℕ, ◌+◌, ◌&&◌, Bool, true, false, not, List, [], ◌∷◌, length, Option, None, Some, is_some, nat_lt, unwrap_or, count_by, slice_get, if◌then◌else◌}
+use Rattle.std.specs.Prelude.{◌≡◌, ℕ, ◌+◌, ◌&&◌, Bool, true, false, not, List, length, Option, None, Some, is_some, nat_lt, unwrap_or, count_by, slice_get, if◌then◌else◌}
 use Rattle.std.specs.Option.{option_map}
 use Rattle.hail_records.specs.Records.{Record, PutStart, PutDone, Drop, AuditStart, AuditDone, RepairDone}
 use Rattle.hail_records.specs.Table.{find_file}

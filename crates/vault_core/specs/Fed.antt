@@ -13,20 +13,17 @@
 --   older_of t jobs j    == the object that a job takes out of effect, unless there is none or it is pinned
 --   gated n t jobs j     == a job whose append is done
 --   HasGated c place new == the append of the job is done: its record is in effect, if the records before let it follow
-use Rattle.std.specs.Prelude.{◌≡◌, ℕ, ◌+◌, ◌==◌, ◌&&◌, Bool, true, false, not, List, [], ◌∷◌, ◌++◌, length, map, drop, slice_get, slice_set, Option, None, Some, remove, if◌then◌else◌}
+use Rattle.std.specs.Prelude.{◌≡◌, ℕ, ◌+◌, ◌==◌, ◌&&◌, Bool, true, false, not, List, ◌∷◌, map, drop, slice_get, slice_set, Option, None, Some, remove, if◌then◌else◌}
 use Rattle.std.specs.List.{list_any}
-use Rattle.std.specs.Option.{option_and_then}
 use Rattle.hail_columns.specs.Verdicts.{Sums}
 use Rattle.hail_records.specs.Records.{Record, record_size}
 use Rattle.hail_records.specs.Table.{File, find_file}
-use Rattle.hail_records.specs.Acceptance.{refused}
 use Rattle.hail_machine.specs.Actions.{Action, WriteBody, SyncGate, Store, End}
 use Rattle.vault_table.specs.Values.{Kept, IsFoldOf, id_after}
 use Rattle.vault_core.specs.declared.pinned.Pinned.{Pinned}
 use Rattle.vault_core.specs.declared.wish.Wish.{Wish}
 use Rattle.vault_core.specs.declared.wish.Wish.TheVariants as wish
 use Rattle.vault_core.specs.View.{CoreJob, CoreView}
-use Rattle.vault_core.specs.Coming.{written_by}
 use Rattle.vault_core.specs.Going.{removals_of}
 
 -- the next of the actions that a job has not yet made

@@ -14,12 +14,11 @@
 --   IsMade t s k w job      == a job as it is made
 --   starts_for w            == 1 for a put, which has a PutStart
 --   admitted c w job        == the core in which the job runs
-use Rattle.std.specs.Prelude.{◌≡◌, ℕ, ◌+◌, ◌*◌, ◌<◌, ◌==◌, Bool, List, [], ◌∷◌, ◌++◌, length, Option, None, Some, replicate, nat_lt, if◌then◌else◌}
+use Rattle.std.specs.Prelude.{◌≡◌, ℕ, ◌+◌, ◌<◌, ◌==◌, Bool, List, [], ◌∷◌, ◌++◌, length, Option, None, Some, replicate, nat_lt, if◌then◌else◌}
 use Rattle.hail_records.specs.Records.{Setup}
-use Rattle.hail_records.specs.Table.{File, Due, find_file}
+use Rattle.hail_records.specs.Table.{File, find_file}
 use Rattle.hail_machine.specs.Setups.{stripes_of}
 use Rattle.hail_machine.specs.Begins.{due_number, due_flags}
-use Rattle.record_codec.specs.Entries.{counted}
 use Rattle.vault_table.specs.Values.{Kept}
 use Rattle.vault_core.specs.declared.pinned.Pinned.{Pinned}
 use Rattle.vault_core.specs.declared.wish.Wish.{Wish}

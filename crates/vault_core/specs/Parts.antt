@@ -8,16 +8,14 @@
 --   IsAt n job c xs  == a job may be at a cursor, and then these are the actions that it has not yet made
 --   IsKept n job     == a job as it is kept
 --   IsCore a         == a core as it is kept
-use Rattle.std.specs.Prelude.{◌≡◌, ℕ, ◌+◌, ◌*◌, ◌^◌, ◌<◌, ◌≤◌, ◌&&◌, Bool, true, false, IsTrue, List, [], ◌∷◌, length, map, nat_lt, count_by, sum_by, if◌then◌else◌}
+use Rattle.std.specs.Prelude.{◌≡◌, ℕ, ◌<◌, ◌≤◌, Bool, true, false, IsTrue, List, [], length, map}
 use Rattle.std.specs.List.{All}
-use Rattle.hail_columns.specs.Verdicts.{Sums}
-use Rattle.hail_records.specs.Records.{Setup, is_setup, is_name, largest_file, largest_journal}
-use Rattle.hail_machine.specs.Actions.{Action, ends_append}
+use Rattle.hail_records.specs.Records.{Setup, is_setup, is_name, largest_file}
+use Rattle.hail_machine.specs.Actions.{Action}
 use Rattle.record_codec.specs.Entries.{counted, with_master, IsPadded}
 use Rattle.vault_core.specs.declared.wish.Wish.{Wish}
 use Rattle.vault_core.specs.declared.wish.Wish.TheVariants as wish
 use Rattle.vault_core.specs.declared.cursor.Move.TheVariants as move
-use Rattle.vault_core.specs.declared.cursor.Spot.{Spot}
 use Rattle.vault_core.specs.declared.cursor.Cursor.{Cursor}
 use Rattle.vault_core.specs.declared.cursor.Cursor.TheVariants as at
 use Rattle.vault_core.specs.declared.job.Task.{Task}

@@ -4,8 +4,7 @@
 --   Tells number reply outcome new == a reply tells what came of a step of this job: Done that it goes on or came to its end; the
 --                                     others why it ended; a verdict has the sums of all that the audit heard
 --   IsReplyTo c number reply outcome new  == the same, and a record that the step put in flight is the one that the core gave
-use Rattle.std.specs.Prelude.{◌≡◌, ℕ, Option, None, Some}
-use Rattle.hail_records.specs.Records.{Record}
+use Rattle.std.specs.Prelude.{◌≡◌, ℕ, Some}
 use Rattle.hail_machine.specs.Jobs.{Job, job_of}
 use Rattle.hail_machine.specs.Answers.{Answer, Put, Got, Dropped, Audited, Repaired, Lost, ProviderFault, DiskFault, Memory}
 use Rattle.hail_machine.specs.Events.{Outcome, More, Ended}

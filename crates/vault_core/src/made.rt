@@ -64,6 +64,7 @@ fn pin(pinned: &mut Vec<Pinned>, file: Pinned) -> Result<(), Memory>
     }
 }
 
+/// What is pinned of a file.
 fn pinned_entry(file: &Entry) -> Pinned
     ensures { result ≡ pin_of_file (file_of_entry file.now) }
 {

@@ -3,6 +3,7 @@ use record_codec::Counts;
 /// What came of an action. A fault of a provider at a fetch, an ask or a removal is told as `Done`.
 #[derive(Clone, Copy, Debug)]
 pub enum Reply {
+    /// The action was done.
     Done,
     /// The disk call, or the store, failed.
     Failed,

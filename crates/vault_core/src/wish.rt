@@ -3,10 +3,15 @@ use record_codec::Name;
 /// What a job is wished for. A put is told the length of its file in bytes; the bytes themselves stay with the caller.
 #[derive(Clone, Copy, Debug, PartialEq, Eq)]
 pub enum Wish {
+    /// To put a file of so many bytes under a name.
     Put { name: Name, length: u32 },
+    /// To get the file of a name.
     Get { name: Name },
+    /// To drop the file of a name.
     Drop { name: Name },
+    /// To audit all files in effect.
     Audit,
+    /// To rebuild the providers that the last audit flagged.
     Repair,
 }
 

@@ -1,4 +1,3 @@
-use Rattle.std.proofs.Common.{◌≡◌, ◌∙◌}
 use Rattle.vault_core.proofs.Grammar.{audit_done_in_grammar}
 use Rattle.vault_core.proofs.entries.audit_done.Goals as goal
 

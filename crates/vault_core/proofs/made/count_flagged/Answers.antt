@@ -1,4 +1,4 @@
-use Rattle.std.proofs.Common.{◌≡◌, ◌+◌, ◌≤◌, arith}
+use Rattle.std.proofs.Common.{arith}
 use Rattle.vault_core.proofs.Pins.{rewrites-flagged, rewrites-unflagged}
 use Rattle.vault_core.proofs.made.count_flagged.Goals as goal
 use Rattle.vault_core.proofs.made.count_flagged.Goals.{then-flagged-j, else-flagged-j}

@@ -1,5 +1,5 @@
 use Rattle.std.proofs.Common.{◌≡◌, ◌<◌, ℕ, length, get_or}
-use Rattle.std.specs.Prelude.{nat_lt, false}
+use Rattle.std.specs.Prelude.{nat_lt}
 use Rattle.vault_core.specs.View.{flag_at}
 use Rattle.vault_core.proofs.made.flags_of.Given as goal
 

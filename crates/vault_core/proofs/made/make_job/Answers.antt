@@ -1,11 +1,11 @@
-use Rattle.std.proofs.Common.{◌≡◌, ◌∙◌, ℕ, List, [], ◌+◌, ◌*◌, ap, subst, refl}
+use Rattle.std.proofs.Common.{◌∙◌, List, [], ◌+◌, ◌*◌, ap, refl}
 use Rattle.std.specs.Prelude.{Option, sum_by}
 use Rattle.hail_records.specs.Table.{Due}
 use Rattle.hail_machine.specs.Begins.{due_number, due_flags}
 use Rattle.record_codec.specs.Entries.{with_master}
 use Rattle.vault_core.specs.declared.pinned.Pinned.{Pinned}
 use Rattle.vault_core.specs.declared.job.Task.{Task}
-use Rattle.vault_core.specs.Making.{turns_for, tasks_made, targets_of, cursor_first, size_of_turn, other_actions, IsMade}
+use Rattle.vault_core.specs.Making.{turns_for, tasks_made, targets_of, cursor_first, size_of_turn, other_actions}
 use Rattle.vault_core.proofs.Pins.{subject_is}
 use Rattle.vault_core.proofs.Begun.{made-kept}
 use Rattle.vault_core.proofs.made.make_job.Goals as goal

@@ -1,4 +1,4 @@
-use Rattle.std.proofs.Common.{◌≡◌, ◌∙◌, ap, Bool, ◌||◌}
+use Rattle.std.proofs.Common.{◌∙◌, ap, Bool, ◌||◌}
 use Rattle.std.specs.Prelude.{is_some}
 use Rattle.hail_records.specs.Table.{find_file}
 use Rattle.vault_core.specs.Refusing.{wishes_kept, puts_name}

@@ -1,4 +1,4 @@
-use Rattle.std.proofs.Common.{◌≡◌, ◌∙◌, ap, sym, subst, ℕ, List}
+use Rattle.std.proofs.Common.{◌∙◌, ap, sym, ℕ, List}
 use Rattle.std.specs.Prelude.{nat_eq}
 use Rattle.std.specs.Cmp.Lexicographic.{pointwise}
 use Rattle.vault_core.specs.Refusing.{puts_name}

@@ -1,4 +1,4 @@
-use Rattle.std.proofs.Common.{◌≡◌, ◌∙◌, sym}
+use Rattle.std.proofs.Common.{◌∙◌, sym}
 use Rattle.vault_core.proofs.Counts.{reserved_is, reserved_opening, reserved_past, reserved_last}
 use Rattle.vault_core.proofs.room.reserved.Goals as goal
 

@@ -1,4 +1,10 @@
-use Rattle.std.proofs.Common.{refl, sym, arith}
+use Rattle.std.proofs.Common.{◌++◌, ◌∷◌, [], refl, sym, arith}
+use Rattle.hail_records.specs.Spellings.{spelling}
+use Rattle.vault_core.specs.declared.reply.Reply.TheVariants as reply
+use Rattle.vault.specs.declared.turn.Answer.TheVariants as answer
+use Rattle.vault.specs.Seen.{closed_gate_of}
+use Rattle.hail_machine.specs.Actions.{SyncGate}
+use Rattle.vault.proofs.MovedCells.{append_of, cells_torn, cells_stopped}
 use Rattle.vault.proofs.LaterMoves.{not_none, gate_synced, gate_unsynced, end_otherwise}
 use Rattle.vault.proofs.vault.Vault.sync_gate.Goals as goal
 
@@ -14,9 +20,14 @@ returns-in-Done-clause-machine g c = λ w moment providers stands.
 pub returns-in-Failed-clause-machine : goal.returns-in-Failed-clause-machine
 returns-in-Failed-clause-machine g c = λ w moment providers stands.
     gate_unsynced c.args.self.now w _ _ _ _ moment c.args.job providers stands c.requires c.in_ok-take.field-0 (sym c.in_ok-take.ensures.value)
-    _ _ _ c.in-Failed.ensures.made c.in-Failed.ensures.cause refl refl (record { setup = refl; master = refl; shape = refl; profile = refl }) c.stop.ensures.stopped
+    _ _ _ c.in-Failed.ensures.made c.turn.ensures.beyond c.in-Failed.ensures.cause refl refl (record { setup = refl; master = refl; shape = refl; profile = refl }) c.stop.ensures.stopped
 
 pub returns-in_default-clause-machine : goal.returns-in_default-clause-machine
 returns-in_default-clause-machine g c = λ w moment providers stands.
     end_otherwise c.args.self.now w _ _ _ (g.D.Disk.faults c.turn.new.disk) moment c.args.job providers stands c.requires c.in_ok-take.field-0 (sym c.in_ok-take.ensures.value)
     _ c.turn.ensures.made c.in_default.not-Done c.in_default.not-Failed
+
+pub returns-in-Failed-clause-cells : goal.returns-in-Failed-clause-cells
+returns-in-Failed-clause-cells g c = λ w entry providers stands given.
+    cells_stopped _ c.stop.new.self c.args.job 3 (closed_gate_of c.args.self.now) (spelling entry ++ 0 ∷ []) reply.Failed answer.DiskFault c.stop.result (g.D.Disk.holds c.args.disk.now) (g.D.Disk.holds c.turn.new.disk) c.stop.ensures.stopped
+    (cells_torn c.args.self.now _ entry _ _ _ (append_of c.args.self.now w _ _ c.args.job providers stands SyncGate c.requires (omega arith) c.in_ok-take.field-0 (sym c.in_ok-take.ensures.value) entry given) c.in-Failed.ensures.cells)

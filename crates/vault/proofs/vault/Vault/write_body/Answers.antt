@@ -21,7 +21,7 @@ returns-in-Failed-clause-machine g c = λ w moment providers stands.
     body_failed c.args.self.now w _ _ _ _ moment c.args.job providers stands c.requires c.in_ok-entry.entry c.in_ok-gate.gate c.new.result
     (sym c.in_ok-entry.ensures.value) (c.in_ok-entry.ensures.machine w stands.core) c.in_ok-entry.ensures.in_grammar (grind (arith, end, c.in_ok-gate.ensures, c.end.ensures))
     c.new.ensures.gate c.new.ensures.moves c.new.ensures.body
-    _ _ c.in-Failed.ensures.made c.in-Failed.ensures.cause c.stop.ensures.stopped
+    _ _ c.in-Failed.ensures.made c.turn.ensures.beyond c.in-Failed.ensures.cause c.stop.ensures.stopped
 
 pub returns-in-Memory-clause-machine : goal.returns-in-Memory-clause-machine
 returns-in-Memory-clause-machine g c = λ w moment providers stands.

@@ -1,4 +1,10 @@
-use Rattle.std.proofs.Common.{refl, sym, arith}
+use Rattle.std.proofs.Common.{◌++◌, ◌∷◌, [], refl, sym, arith}
+use Rattle.hail_records.specs.Spellings.{spelling}
+use Rattle.vault_core.specs.declared.reply.Reply.TheVariants as reply
+use Rattle.vault.specs.declared.turn.Answer.TheVariants as answer
+use Rattle.vault.specs.Seen.{closed_gate_of}
+use Rattle.hail_machine.specs.Actions.{WriteGate}
+use Rattle.vault.proofs.MovedCells.{append_of, cells_on, cells_torn, cells_stopped}
 use Rattle.vault.proofs.LaterMoves.{not_none, gate_written, gate_failed, gate_unwritten, gate_otherwise}
 use Rattle.vault.proofs.vault.Vault.write_gate.Goals as goal
 
@@ -14,7 +20,7 @@ returns-in-On-clause-machine g c = λ w moment providers stands.
 pub returns-in-Failed-clause-machine : goal.returns-in-Failed-clause-machine
 returns-in-Failed-clause-machine g c = λ w moment providers stands.
     gate_failed c.args.self.now w _ _ _ _ moment c.args.job providers stands c.requires c.in_ok-take.field-0 (sym c.in_ok-take.ensures.value)
-    _ _ _ c.in-Failed.ensures.made c.in-Failed.ensures.cause refl refl (record { setup = refl; master = refl; shape = refl; profile = refl }) c.stop.ensures.stopped
+    _ _ _ c.in-Failed.ensures.made c.turn.ensures.beyond c.in-Failed.ensures.cause refl refl (record { setup = refl; master = refl; shape = refl; profile = refl }) c.stop.ensures.stopped
 
 pub returns-in-Done-clause-machine : goal.returns-in-Done-clause-machine
 returns-in-Done-clause-machine g c = λ w moment providers stands.
@@ -25,3 +31,12 @@ pub returns-in-Memory-clause-machine : goal.returns-in-Memory-clause-machine
 returns-in-Memory-clause-machine g c = λ w moment providers stands.
     gate_unwritten c.args.self.now w _ _ _ _ moment c.args.job providers stands c.requires c.in_ok-take.field-0 (sym c.in_ok-take.ensures.value)
     _ _ _ c.in-Memory.ensures.made c.in-Memory.ensures.cause refl refl c.take.ensures.after (record { setup = refl; master = refl; shape = refl; profile = refl }) c.stop-in-Memory.ensures.stopped
+
+pub returns-in-On-clause-cells : goal.returns-in-On-clause-cells
+returns-in-On-clause-cells g c = λ w entry providers stands given.
+    cells_on c.args.self.now _ entry _ _ _ (append_of c.args.self.now w _ _ c.args.job providers stands WriteGate c.requires (omega arith) c.in_ok-take.field-0 (sym c.in_ok-take.ensures.value) entry given) c.in-On.ensures.cells
+
+pub returns-in-Failed-clause-cells : goal.returns-in-Failed-clause-cells
+returns-in-Failed-clause-cells g c = λ w entry providers stands given.
+    cells_stopped _ c.stop.new.self c.args.job 2 (closed_gate_of c.args.self.now) (spelling entry ++ 0 ∷ []) reply.Failed answer.DiskFault c.stop.result (g.D.Disk.holds c.args.disk.now) (g.D.Disk.holds c.turn.new.disk) c.stop.ensures.stopped
+    (cells_torn c.args.self.now _ entry _ _ _ (append_of c.args.self.now w _ _ c.args.job providers stands WriteGate c.requires (omega arith) c.in_ok-take.field-0 (sym c.in_ok-take.ensures.value) entry given) c.in-Failed.ensures.cells)

@@ -1,4 +1,4 @@
-use Rattle.std.proofs.Common.{◌≡◌, ◌∙◌, ap, sym, Some}
+use Rattle.std.proofs.Common.{◌∙◌, ap, sym, Some}
 use Rattle.vault_core.proofs.Rests.{first_calling, first_working, first_rewriting, first_removing, first_ending, first_opening, first_closing}
 use Rattle.vault_core.proofs.job.Job.action.Goals as goal
 

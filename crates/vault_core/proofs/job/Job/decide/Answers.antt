@@ -1,4 +1,4 @@
-use Rattle.std.proofs.Common.{◌-◌, arith, ap, sym, refl, ◌∙◌}
+use Rattle.std.proofs.Common.{◌-◌, arith, ap, sym}
 use Rattle.vault_core.specs.Rest.{rest_of}
 use Rattle.vault_core.specs.Going.{removals_of}
 use Rattle.vault_core.proofs.Gates.{decides_left, decided, ended}

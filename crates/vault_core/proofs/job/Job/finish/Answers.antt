@@ -1,4 +1,4 @@
-use Rattle.std.proofs.Common.{◌≡◌, ◌∙◌, sym}
+use Rattle.std.proofs.Common.{◌∙◌, sym}
 use Rattle.vault_core.proofs.Gating.{gate_going, seen_decided, seen_undecided}
 use Rattle.vault_core.proofs.job.Job.finish.Goals as goal
 

@@ -1,6 +1,5 @@
-use Rattle.std.proofs.Common.{◌≡◌, ◌∙◌, Option, Some, None, Bool, true, false, ap, sym, refl}
-use Rattle.std.specs.Prelude.{not, is_some}
-use Rattle.std.specs.Option.{option_map}
+use Rattle.std.proofs.Common.{◌∙◌, ap, sym}
+use Rattle.std.specs.Prelude.{not}
 use Rattle.vault_core.proofs.Gates.{idle_is, map_none}
 use Rattle.vault_core.proofs.job.Job.is_idle.Goals as goal
 

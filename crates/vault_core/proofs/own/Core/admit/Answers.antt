@@ -1,4 +1,4 @@
-use Rattle.std.proofs.Common.{◌≡◌, ◌∙◌, ℕ, List, ◌++◌, ◌∷◌, [], ◌+◌, ◌<◌, ◌≤◌, ap, sym, subst, length, arith}
+use Rattle.std.proofs.Common.{◌≡◌, ◌∙◌, List, ◌++◌, ◌∷◌, [], ◌+◌, ◌<◌, ◌≤◌, ap, sym, subst, length}
 use Rattle.std.specs.Prelude.{sum_by}
 use Rattle.hail_records.specs.Records.{largest_journal}
 use Rattle.vault_core.specs.declared.job.Job.{Job}

@@ -1,4 +1,4 @@
-use Rattle.std.proofs.Common.{◌≡◌, ◌<◌, ◌∙◌, sym, ap, subst, length, None, true}
+use Rattle.std.proofs.Common.{◌<◌, ◌∙◌, sym, ap, subst, length, None, true}
 use Rattle.vault_core.specs.Fed.{barred_at}
 use Rattle.vault_core.specs.View.{CoreView}
 use Rattle.vault_core.proofs.Kept.{less_view, less_core}

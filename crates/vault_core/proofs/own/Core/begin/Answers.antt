@@ -1,4 +1,4 @@
-use Rattle.std.proofs.Common.{◌≡◌, ◌∙◌, ℕ, ap, sym, subst, ◌+◌, ◌≤◌, None, arith}
+use Rattle.std.proofs.Common.{◌≡◌, ◌∙◌, ap, sym, subst, ◌+◌, ◌≤◌, None, arith}
 use Rattle.std.specs.Prelude.{IsTrue, sum_by}
 use Rattle.std.specs.Option.{option_map}
 use Rattle.hail_records.specs.Records.{is_setup, largest_journal}

@@ -1,4 +1,4 @@
-use Rattle.std.proofs.Common.{◌≡◌, ◌∙◌, ap, ◌<◌, length, sym, subst, Some, ℕ, List}
+use Rattle.std.proofs.Common.{◌∙◌, ap, ◌<◌, length, sym, subst, Some}
 use Rattle.std.specs.Prelude.{◌==◌, slice_get}
 use Rattle.std.proofs.lemmas.List.Quantifiers.{position-Some}
 use Rattle.vault_core.specs.View.{CoreJob, CoreView}

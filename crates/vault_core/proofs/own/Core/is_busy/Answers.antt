@@ -1,6 +1,5 @@
-use Rattle.std.proofs.Common.{◌≡◌, ◌∙◌, ap, sym, subst, ℕ, List, arith}
+use Rattle.std.proofs.Common.{◌∙◌, ap, sym, List, arith}
 use Rattle.std.specs.List.{list_any}
-use Rattle.vault_core.specs.declared.wish.Wish.{Wish}
 use Rattle.vault_core.specs.declared.job.Job.{Job}
 use Rattle.vault_core.specs.Refusing.{wishes_kept, checks, puts_or_checks, is_kept_out}
 use Rattle.vault_core.proofs.Refusals.{busy, any-wishes}

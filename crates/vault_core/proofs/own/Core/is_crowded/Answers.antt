@@ -1,10 +1,10 @@
-use Rattle.std.proofs.Common.{◌≡◌, ◌∙◌, ap, sym, refl, ◌≤◌, ℕ, ◌+◌, min, Bool, ◌&&◌, ◌||◌, not, List, arith, length}
-use Rattle.std.specs.Prelude.{is_some, nat_le}
+use Rattle.std.proofs.Common.{◌∙◌, ap, sym, refl, ◌≤◌, Bool, ◌&&◌, ◌||◌, not, List, arith}
+use Rattle.std.specs.Prelude.{is_some}
 use Rattle.std.proofs.lemmas.Bool.{le-leb}
 use Rattle.hail_records.specs.Table.{find_file}
 use Rattle.vault_core.specs.declared.job.Job.{Job}
-use Rattle.vault_core.specs.Refusing.{wishes_kept, names_beside, puts_name, is_taken_by}
-use Rattle.vault_core.proofs.Refusals.{crowded, sat, any-wishes, names_along, few_false}
+use Rattle.vault_core.specs.Refusing.{wishes_kept, puts_name, is_taken_by}
+use Rattle.vault_core.proofs.Refusals.{crowded, any-wishes, names_along, few_false}
 use Rattle.vault_core.proofs.own.Core.is_crowded.Goals as goal
 
 pub returns-then-saturating_add-ge-MOST_FILES : goal.returns-then-saturating_add-ge-MOST_FILES

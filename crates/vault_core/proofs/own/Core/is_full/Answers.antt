@@ -1,4 +1,4 @@
-use Rattle.std.proofs.Common.{◌≡◌, ◌∙◌, ap, sym, subst, ℕ, List, arith}
+use Rattle.std.proofs.Common.{◌∙◌, ap, sym, List, arith}
 use Rattle.std.specs.Prelude.{sum_by, nat_lt}
 use Rattle.vault_core.specs.declared.job.Job.{Job}
 use Rattle.vault_core.specs.Parts.{seen}

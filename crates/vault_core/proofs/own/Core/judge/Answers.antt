@@ -1,9 +1,9 @@
-use Rattle.std.proofs.Common.{◌≡◌, ◌∙◌, ap, sym, refl}
+use Rattle.std.proofs.Common.{◌∙◌, ap, sym, refl}
 use Rattle.std.specs.Vec.{with_item}
 use Rattle.record_codec.specs.Entries.{counted}
 use Rattle.vault_core.specs.View.{CoreView, CoreJob}
-use Rattle.vault_core.specs.Parts.{seen, view_of}
-use Rattle.vault_core.specs.Fed.{moved, judged}
+use Rattle.vault_core.specs.Parts.{seen}
+use Rattle.vault_core.specs.Fed.{judged}
 use Rattle.vault_core.proofs.Kept.{other_core, moved_room, moved_starts}
 use Rattle.vault_core.proofs.Moving.{plain_here, kept_judged, seen_judged, set_view_same}
 use Rattle.vault_core.proofs.own.Core.judge.Goals as goal

@@ -1,4 +1,4 @@
-use Rattle.std.proofs.Common.{◌≡◌, ◌∙◌, ap, Some, arith}
+use Rattle.std.proofs.Common.{◌∙◌, ap, Some, arith}
 use Rattle.std.specs.Option.{option_map}
 use Rattle.vault_core.specs.Coming.{most_of}
 use Rattle.vault_core.proofs.Gates.{rest_some}

@@ -1,4 +1,4 @@
-use Rattle.std.proofs.Common.{◌≡◌, ◌∙◌, ap, List}
+use Rattle.std.proofs.Common.{◌∙◌, ap}
 use Rattle.std.specs.Prelude.{◌==◌, position}
 use Rattle.vault_core.specs.declared.job.Job.{Job}
 use Rattle.vault_core.specs.View.{CoreJob, CoreView}

@@ -1,4 +1,4 @@
-use Rattle.std.proofs.Common.{◌≡◌, ◌∙◌, ap, sym}
+use Rattle.std.proofs.Common.{◌∙◌, ap}
 use Rattle.std.specs.Option.{option_map}
 use Rattle.vault_core.specs.Carried.{refusal_of}
 use Rattle.vault_core.proofs.Refusals.{refusal_is}

@@ -1,4 +1,4 @@
-use Rattle.std.proofs.Common.{◌≡◌, ◌<◌, ◌∙◌, sym, ap, subst, length, ℕ, None, true, false}
+use Rattle.std.proofs.Common.{◌<◌, ◌∙◌, sym, ap, subst, length, ℕ, None, true, false}
 use Rattle.std.specs.Prelude.{Option, remove}
 use Rattle.vault_core.specs.Fed.{stopped}
 use Rattle.vault_core.specs.View.{CoreView}

@@ -1,6 +1,4 @@
-use Rattle.std.proofs.Common.{◌≡◌, ◌∙◌, ap, sym, Bool, Some, None, List, ℕ}
-use Rattle.std.specs.Prelude.{Option, if◌then◌else◌}
-use Rattle.vault_core.specs.declared.wish.BeginFault.{BeginFault}
+use Rattle.std.proofs.Common.{◌∙◌, ap, sym}
 use Rattle.vault_core.specs.declared.wish.BeginFault.TheVariants as fault
 use Rattle.vault_core.specs.Refusing.{word_refusal_in}
 use Rattle.vault_core.proofs.Refusals.{some_if}

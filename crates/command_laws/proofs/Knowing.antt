@@ -1,0 +1,191 @@
+-- Which records a disk reads, and its images stand for, after a job that ran over known records.
+use Rattle.std.proofs.Common.{◌≡◌, ◌≢◌, ℕ, suc, ◌+◌, ◌-◌, ◌<◌, ◌≤◌, ◌⊎◌, Bool, true, false, cond, not, List, [], ◌∷◌, ◌++◌, length, take, Option, None, Some, refl, ap, sym, subst, ◌∙◌, inl, inr, arith, length-append}
+use Rattle.std.specs.Prelude.{IsTrue, is_some, IfSome}
+use Rattle.std.specs.List.{list_all}
+use Rattle.std.specs.Option.{option_map}
+use Rattle.std.proofs.Math.Seq.{take-append-add}
+use Rattle.std.proofs.lemmas.Bool.{cases_Bool, false≢true}
+use Rattle.std.proofs.lemmas.Bool.Decides.{nat_tests}
+use Rattle.hail_devices.specs.Cells.{Cells, reads}
+use Rattle.hail_devices.specs.Images.{IsImage, EachImage}
+use Rattle.hail_records.specs.Records.{Record, Setup, is_byte, is_name_byte, is_name, is_in_grammar, largest_journal}
+use Rattle.hail_records.specs.Journal.{before_gate, text_size, StandsFor, StandsOrIsEmpty}
+use Rattle.hail_records.specs.Table.{setup_of}
+use Rattle.hail_records.specs.Acceptance.{AreAccepted}
+use Rattle.hail_records.proofs.Sizes.{length-text}
+use Rattle.journal_core.proofs.Meanings.{one_meaning}
+use Rattle.hail_machine.specs.Jobs.{Kind, PutJob, GetJob, DropJob, AuditJob, RepairJob}
+use Rattle.hail_machine.specs.Answers.{Answer}
+use Rattle.hail_machine.specs.Events.{AreBytes, IsSpelledKind}
+use Rattle.hail_machine.specs.Heard.{Entry}
+use Rattle.hail_machine.specs.Refusals as refusal
+use Rattle.hail_machine.specs.Refusals.{Refusal}
+use Rattle.hail_machine.specs.Setups.{setup_or_none}
+use Rattle.hail_machine.specs.States.{State, setup_in}
+use Rattle.hail_machine.specs.Stands.{StandsWithDoubt, StandsForState}
+use Rattle.hail_commands.specs.Seen.{Seen, Ending, IsRefused}
+use Rattle.hail_commands.specs.Openings.{journal_read, IsRead}
+use Rattle.hail_commands.specs.Opens.{IsOpened, setup_at}
+use Rattle.hail_commands.specs.Refusals.{refusal_of, status_of}
+use Rattle.hail_commands.specs.Jobs.{AnswersJob, RunsAlone}
+use Rattle.sound_states.proofs.Records.{is_some-at, setup-more}
+use Rattle.command_laws.specs.Ends.{IsKnown, DiskHas}
+use Rattle.command_laws.specs.After.{IsSure}
+use Rattle.command_laws.proofs.Telling.{over-opened, opened_state, state-over}
+use Rattle.command_laws.proofs.Images.{reads-image}
+use Rattle.command_laws.proofs.LastStates.{IsLast, last-state}
+
+-- ---- a text that fits is looked at
+
+size-before : (rs : List Record) → IsTrue (list_all is_in_grammar rs) → length (before_gate rs) + 1 ≡ text_size rs
+size-before rs all = omega (arith, length-text rs all, length-append (before_gate rs) (0 ∷ []))
+
+-- a text that fits stands at the front
+stands-take : (n : ℕ) (bytes : List ℕ) (rs : List Record) → StandsFor bytes rs → text_size rs ≤ n → StandsFor (take n bytes) rs
+stands-take n bytes rs is fits =
+    (let front = before_gate rs in
+    let size : length front + 1 ≡ text_size rs = size-before rs is.in_grammar in
+    let m : ℕ = n - (length front + 1) in
+    let n_is : n ≡ length front + suc m = omega (arith, size, fits) in
+    record {
+      in_grammar = is.in_grammar;
+      gate = is.gate;
+      rest = take m is.rest;
+      closed = is.closed;
+      bytes_are = ap (take n) is.bytes_are ∙ (ap (λ (k : ℕ). take k (front ++ is.gate ∷ is.rest)) n_is ∙ take-append-add front (is.gate ∷ is.rest) (suc m));
+    })
+
+least-size : (rs : List Record) → 9 ≤ text_size rs
+least-size [] = omega arith
+least-size (r ∷ rs) = (let h = least-size rs in omega (arith, h))
+
+-- bytes that stand for a record are longer than those of an empty disk
+stands-longer : (bytes : List ℕ) (rs : List Record) → rs ≢ [] → StandsFor bytes rs → 9 < length bytes
+stands-longer bytes [] some is = absurd (some refl)
+stands-longer bytes (r ∷ rs) some is =
+    (let size = size-before (r ∷ rs) is.in_grammar in
+    let long = least-size rs in
+    let sum = length-append (before_gate (r ∷ rs)) (is.gate ∷ is.rest) in
+    let e = ap length is.bytes_are in omega (arith, size, long, sum, e))
+
+-- ---- images of a store
+
+-- an image stands for records that a start accepts, with this setup
+pub record IsGood (s : Setup) (image : List ℕ) (rs : List Record) : Type 0 where
+  pub some : rs ≢ []
+  pub accepted : AreAccepted rs
+  pub room : text_size rs ≤ largest_journal
+  pub setup : setup_at rs ≡ s
+  pub stands : StandsFor image rs
+
+-- what each image of a disk is so
+abbrev pub AreGood : Setup → Option Cells → Type 0
+AreGood s told = EachImage told (λ image. (rs : List Record) × IsGood s image rs)
+
+pub read-good : (s : Setup) (told : Option Cells) (cells : Cells) (rs : List Record) → told ≡ Some cells → IsGood s (reads cells) rs → IsRead told rs
+read-good s told cells rs is G = record {
+  some = G.some;
+  in_grammar = G.stands.in_grammar;
+  accepted = G.accepted;
+  room = G.room;
+  reads_are = subst (λ d. IfSome d (λ c. (9 < length (reads c)) × StandsFor (journal_read c) rs)) (sym is)
+      (stands-longer (reads cells) rs G.some G.stands, stands-take largest_journal (reads cells) rs G.stands G.room);
+}
+
+pub known-good : (s : Setup) (d : Seen) (cells : Cells) (rs : List Record) → d.disk ≡ Some cells → IsGood s (reads cells) rs → s.n ≤ length d.providers → IsKnown d rs
+known-good s d cells rs is G enough = record {
+  tells = ap is_some is;
+  opened = record { read = read-good s d.disk cells rs is G; enough = subst (λ (t : Setup). t.n ≤ length d.providers) (sym G.setup) enough };
+}
+
+-- known records with another setup's text read are these
+same-good : (s : Setup) (image : List ℕ) (a b : List Record) → IsGood s image a → StandsFor image b → IsGood s image b
+same-good s image a b G stands = subst (IsGood s image) (one_meaning image a b G.stands stands) G
+
+pub sure-good : (s : Setup) (d : Seen) (cells : Cells) (rs : List Record) → d.disk ≡ Some cells → AreGood s d.disk → s.n ≤ length d.providers → DiskHas rs d → IsSure d rs
+sure-good s d cells rs is good enough has = record { known = known-good s d cells rs is here enough; images = has }
+  where
+    here : IsGood s (reads cells) rs
+    here = (let g : EachImage (Some cells) (λ image. (rs : List Record) × IsGood s image rs) = subst (AreGood s) is good in
+        let h : EachImage (Some cells) (λ image. StandsFor image rs) = subst (λ t. EachImage t (λ image. StandsFor image rs)) is has in
+        let a = g (reads cells) (reads-image cells) in
+        same-good s (reads cells) a.0 rs a.1 (h (reads cells) (reads-image cells)))
+
+-- ---- the last state of a job
+
+none-up : (rs : List Record) → is_some (setup_of rs) ≡ true → rs ≢ []
+none-up rs up none = false≢true (let e : false ≡ true = sym (ap (λ l. is_some (setup_of l)) none) ∙ up in e)
+
+last-good : (start last : State) → IsLast start last → (image : List ℕ) → StandsOrIsEmpty image last.records ⊎ StandsWithDoubt last image → (rs : List Record) × IsGood (setup_in start) image rs
+unfolding setup_in
+last-good start last L image (inl (inl stands)) = (last.records, record {
+  some = none-up last.records L.up;
+  accepted = L.sound.accepted;
+  room = (let r = L.sound.room in omega (arith, r));
+  setup = L.setup;
+  stands = stands;
+})
+last-good start last L image (inl (inr empty)) = absurd (none-up last.records L.up empty.0)
+last-good start last L image (inr D) = (let F = L.sound.doubt D.doubt D.in_doubt in (D.doubt.entry ∷ last.records, record {
+  some = λ e. cc;
+  accepted = (F.accepted, L.sound.accepted);
+  room = F.room;
+  setup = ap setup_or_none (setup-more D.doubt.entry last.records L.up F.accepted) ∙ L.setup;
+  stands = D.stands;
+}))
+
+images-good : (start last : State) (told : Option Cells) → IsLast start last → StandsForState told last → AreGood (setup_in start) told
+images-good start last None L h = tt
+images-good start last (Some cells) L h = λ image is. last-good start last L image (h image is)
+
+-- ---- a job that is not refused has words that are bytes
+
+name-byte : (b : ℕ) → is_name_byte b ≡ true → is_byte b ≡ true
+name-byte b h = grind (arith, nat_tests, h)
+
+names-bytes : (name : List ℕ) → list_all is_name_byte name ≡ true → list_all is_byte name ≡ true
+names-bytes [] h = refl
+names-bytes (b ∷ name) h = (let first : is_name_byte b ≡ true = grind (arith, h) in
+    let rest : list_all is_name_byte name ≡ true = grind (arith, h) in
+    let here = name-byte b first in let there = names-bytes name rest in grind (arith, here, there))
+
+name-bytes : (name : List ℕ) → is_name name ≡ true → AreBytes name
+name-bytes name h = names-bytes name (grind (arith, h))
+
+first-off : (b : Bool) (x : Refusal) (rest : Option Refusal) → cond (not b) (Some x) rest ≡ None → b ≡ true
+first-off true x rest h = refl
+first-off false x rest h = absurd (let e : Some x ≡ None = h in cc)
+
+-- the words of a put are bytes where its source gives bytes
+abbrev pub HasBytes : Kind → Type 0
+HasBytes (PutJob name bytes) = AreBytes bytes
+HasBytes kind = Unit {0}
+
+pub spelled-kind : (records : List Record) (kind : Kind) → HasBytes kind → refusal_of records kind ≡ None → IsSpelledKind kind
+spelled-kind records (PutJob name bytes) are none = (name-bytes name (first-off (is_name name) _ _ none), are)
+spelled-kind records (GetJob name) are none = name-bytes name (first-off (is_name name) _ _ none)
+spelled-kind records (DropJob name) are none = name-bytes name (first-off (is_name name) _ _ none)
+spelled-kind records AuditJob are none = tt
+spelled-kind records RepairJob are none = tt
+
+-- ---- what a job leaves
+
+-- each image is good, and as many providers are handed in
+abbrev pub LeavesGood : List Record → Seen → Seen → Type 0
+LeavesGood records old new = AreGood (setup_at records) new.disk × ((setup_at records).n ≤ length new.providers)
+
+pub ran-good : (records : List Record) (kind : Kind) (how : Answer) (old new : Seen) (heard : List Entry) → IsOpened old records → IsSpelledKind kind → RunsAlone records kind how old new heard → LeavesGood records old new
+unfolding setup_in
+ran-good records kind how old new heard R spelled A =
+    (let w : State = opened_state records A.faults old.providers in
+    let over = state-over records A.faults old.providers R.read.accepted in
+    let ran = A.ran w over in
+    let L = last-state w ran.last kind how heard (over-opened w old records A.faults R over) spelled ran.runs in
+    (images-good w ran.last new.disk L ran.images, (let a = L.handed in let b = ran.handed.count in let c = over.handed.count in let e = R.enough in omega (arith, a, b, c, e))))
+
+-- a job is refused, or leaves what is good
+pub job-good : (kind : Kind) (records : List Record) (old new : Seen) (end : Ending) → IsOpened old records → HasBytes kind → AnswersJob kind records old new end →
+    ((status : ℕ) × (at : ℕ) × IsRefused status at old new end) ⊎ LeavesGood records old new
+job-good kind records old new end R are (AnswersJob.refused why is synced r) = inl (status_of why, 0, r)
+job-good kind records old new end R are (AnswersJob.no_memory synced r) = inl (70, 0, r)
+job-good kind records old new end R are (AnswersJob.ended how none runs left by) = inr (ran-good records kind how old new end.heard R (spelled-kind records kind are none) runs)

@@ -1,0 +1,76 @@
+-- The state in which a job ended is sound, and has the setup and the providers that it began with.
+use Rattle.std.proofs.Common.{◌≡◌, ℕ, ◌+◌, ◌<◌, ◌⊎◌, true, List, [], ◌∷◌, length, Option, None, Some, refl, ap, sym, subst, ◌∙◌, inl, inr, arith}
+use Rattle.std.specs.Prelude.{is_some}
+use Rattle.hail_records.specs.Table.{setup_of}
+use Rattle.hail_machine.specs.Jobs.{Kind, Job}
+use Rattle.hail_machine.specs.Actions.{Action, WriteBody, SyncBody, WriteGate, SyncGate, Store, Work, End}
+use Rattle.hail_machine.specs.Answers as answer
+use Rattle.hail_machine.specs.Answers.{Answer}
+use Rattle.hail_machine.specs.Events.{Step, Ended, IsSpelledKind}
+use Rattle.hail_machine.specs.Heard.{Entry}
+use Rattle.hail_machine.specs.States.{State, Append, setup_in}
+use Rattle.hail_machine.specs.Setups.{setup_or_none}
+use Rattle.hail_machine.specs.Begins.{new_job}
+use Rattle.hail_machine.specs.Appends.{Moves}
+use Rattle.hail_machine.specs.Steps.{Acts}
+use Rattle.hail_machine.specs.Runs.{Moment, now}
+use Rattle.hail_commands.specs.JobRuns.{AreSteps, GoesOnTo, RunsJob}
+use Rattle.sound_states.specs.Sound.{IsSound}
+use Rattle.sound_states.proofs.Events.{events-sound}
+use Rattle.lone_laws.specs.Walked.{IsOpened, Walked}
+use Rattle.lone_laws.proofs.Walk.{walk-begin, walk-step, walk-last}
+
+-- the last state of a job that ran alone
+pub record IsLast (start new : State) : Type 0 where
+  pub sound : IsSound 8 new
+  pub up : is_some (setup_of new.records) ≡ true
+  pub setup : setup_in new ≡ setup_in start
+  pub handed : new.handed ≡ start.handed
+
+-- a last step changes neither the records nor how many providers are handed in
+abbrev Stays : State → State → Type 0
+Stays w new = (new.records ≡ w.records) × (new.handed ≡ w.handed)
+
+by-state : (w new left : State) → new ≡ left → left.records ≡ w.records → left.handed ≡ w.handed → Stays w new
+by-state w new left is records handed = (ap (λ (v : State). v.records) is ∙ records, ap (λ (v : State). v.handed) is ∙ handed)
+
+module _ (w : State) (job : Job) (new : State) where
+  moves-stay : (action : Action) (flight : Option Append) (how : Answer) → Moves w job action flight (Ended how) new → Stays w new
+  moves-stay WriteBody flight answer.DiskFault (faults, low, rose, is) = by-state w new _ is refl refl
+  moves-stay WriteBody flight answer.Memory (faults, low, is) = by-state w new _ is refl refl
+  moves-stay SyncBody (Some a) answer.DiskFault (at, (faults, low, rose, is)) = by-state w new _ is refl refl
+  moves-stay WriteGate (Some a) answer.DiskFault (at, (faults, low, rose, is)) = by-state w new _ is refl refl
+  moves-stay WriteGate (Some a) answer.Memory (at, (faults, low, is)) = by-state w new _ is refl refl
+  moves-stay SyncGate (Some a) answer.DiskFault (at, (faults, low, rose, is)) = by-state w new _ is refl refl
+  moves-stay action flight how h = absurd h
+
+  acts-stay : (action : Action) (how : Answer) → Acts w job action (Ended how) new → Stays w new
+  acts-stay (Store j o s) (answer.ProviderFault k) (same, (p, made, is)) = by-state w new _ is refl refl
+  acts-stay (Store j o s) answer.Memory (p, made, is) = by-state w new _ is refl refl
+  acts-stay (Work o s) (answer.Lost t row) (same, loses, is) = by-state w new _ is refl refl
+  acts-stay End how (so, is) = by-state w new _ is refl refl
+  acts-stay action how h = moves-stay action w.append how h
+
+walk-steps : (start w : State) (kind : Kind) (job : Job) (moment : ℕ) (ms : List Moment) → IsOpened start → Walked start kind w job → AreSteps w moment 1 ms → (next : Job) × Walked start kind (now w ms) next
+walk-steps start w kind job moment [] O W h = (job, W)
+walk-steps start w kind job moment (m ∷ ms) O W (event, outcome, happens, rest) =
+    (let r = walk-steps start w kind job moment ms O W rest in walk-step start O kind (now w ms) r.0 r.1 (moment + length ms) m.state happens)
+
+last-of : (start w : State) (kind : Kind) (job : Job) (new : State) → Walked start kind w job → IsSound 8 new → Stays w new → IsLast start new
+unfolding setup_in
+last-of start w kind job new W sound stay = record {
+  sound = sound;
+  up = ap (λ rs. is_some (setup_of rs)) stay.0 ∙ W.sound.set_up W.opened;
+  setup = ap (λ rs. setup_or_none (setup_of rs)) stay.0 ∙ W.setup;
+  handed = stay.1 ∙ W.handed;
+}
+
+pub last-state : (start new : State) (kind : Kind) (how : Answer) (heard : List Entry) → IsOpened start → IsSpelledKind kind → RunsJob start kind how heard new → IsLast start new
+last-state start new kind how heard O spelled r =
+    (let b = walk-begin 1 r.job start r.begun kind O spelled r.begins in
+    let g : GoesOnTo r.begun 2 1 how heard new = subst (λ n. GoesOnTo r.begun 2 n how heard new) b.0 r.goes_on in
+    let last = walk-steps start r.begun kind (new_job start 1 kind) 2 g.steps O b.1 g.are_steps in
+    let a = walk-last start O kind (now r.begun g.steps) last.0 last.1 (2 + length g.steps) new how g.ends in
+    last-of start (now r.begun g.steps) kind last.0 new last.1
+    (events-sound 8 (2 + length g.steps) (now r.begun g.steps) last.1.sound (Step 1) (Ended how) new (omega arith) g.ends)
+    (acts-stay (now r.begun g.steps) last.0 new a.0 how a.3))

@@ -1,0 +1,14 @@
+use Rattle.command_laws.proofs.Chains.{init-put-get, put-get, drop-get, repair-get}
+use Rattle.command_laws.proofs.after.put_files_are_got.Goals as goal
+
+pub returns-clause-got : goal.returns-clause-got
+returns-clause-got x numbers key name bytes spoilt a b c d e f first second last I P G = init-put-get numbers key name bytes spoilt a b c d e f first second last I P G.0
+
+pub returns-clause-again : goal.returns-clause-again
+returns-clause-again x name bytes records spoilt c d e f second last P G = put-get name bytes records spoilt c d e f second last P G.0
+
+pub returns-clause-dropped : goal.returns-clause-dropped
+returns-clause-dropped x name records c d e f second last D G = drop-get name records c d e f second last D.0 G.0
+
+pub returns-clause-repaired : goal.returns-clause-repaired
+returns-clause-repaired x name bytes records spoilt later due c d e f second last R G = repair-get name bytes records spoilt later due c d e f second last R.0 G.0

@@ -1,0 +1,105 @@
+-- What stands between two commands: which records the store has, and which providers are right for a file.
+--
+--   IsSure s records           == the store is known, and whatever a stop leaves of its disk stands for these records
+--   IsNext new next            == the next command finds the disk as the last one left it, or as a stop then left it, and as many providers
+--   IsThen command records old new after == the records after a command: those before it, or these with the first few of its job's
+--   is_refusal status          == the status tells that a command was refused, or that its source failed
+--   is_wrong_at records s id bytes j == provider j is wrong for an object of these bytes, or does not tell what it holds
+--   HasFile s records name bytes spoilt == a file of these bytes is in effect, and each provider that is not spoilt is right for it
+--   IsUntouched n spoilt new next == each of n providers that is not spoilt holds what it held
+--   IsSteady n spoilt old new  == of none of n providers that is not spoilt the count of failed calls rose
+--   spoilt_below n spoilt      == how many of n providers are spoilt
+--   keeps_blocks command       == a get, a list and an audit
+--   IsOther name command       == a put or a drop of another name
+use Rattle.std.specs.Prelude.{◌≡◌, ◌≢◌, ◌⊎◌, ℕ, ◌<◌, ◌==◌, ◌||◌, Bool, true, false, List, ◌++◌, length, reverse, take, Option, None, Some}
+use Rattle.hail_codes.specs.Points.{upto}
+use Rattle.hail_columns.specs.Objects.{Object}
+use Rattle.hail_columns.specs.Columns.{is_wrong}
+use Rattle.hail_columns.specs.Forgeries.{count_of}
+use Rattle.hail_devices.specs.Disks.{Stopped}
+use Rattle.hail_devices.specs.Faults.{Rose}
+use Rattle.hail_devices.specs.Providers.{Held}
+use Rattle.hail_devices.specs.Told.{Goes}
+use Rattle.hail_records.specs.Records.{Record}
+use Rattle.hail_records.specs.Table.{File, file_of}
+use Rattle.hail_machine.specs.Setups.{object_of}
+use Rattle.hail_machine.specs.Jobs.{Kind}
+use Rattle.hail_machine.specs.Events.{AreBytes}
+use Rattle.hail_commands.specs.Forms.{Command, PutUnder, GetOf, DropOf, ListAll, AuditAll}
+use Rattle.hail_commands.specs.Seen.{Seen, provider_at}
+use Rattle.hail_commands.specs.Opens.{setup_at}
+use Rattle.command_laws.specs.Ends.{IsKnown, IsJobOf, DiskHas}
+use Rattle.command_laws.specs.Kept.{AreAppended}
+
+-- the store is known, and each image of its disk stands for these records
+pub record IsSure (s : Seen) (records : List Record) : Type 0 where
+  pub known : IsKnown s records
+  pub images : DiskHas records s
+
+-- the next command finds the disk as the last one left it, or as a stop then left it, and as many providers
+pub record IsNext (new next : Seen) : Type 0 where
+  pub disk : (next.disk ≡ new.disk) ⊎ Goes Stopped new.disk next.disk
+  pub handed : length next.providers ≡ length new.providers
+
+-- these are records before a command with the first few of those that its job appends
+pub record HasGrown (command : Command) (records : List Record) (old new : Seen) (after : List Record) : Type 0 where
+  pub kind : Kind
+  pub of_command : IsJobOf command old new kind
+  pub own : List Record
+  pub are_own : AreAppended records kind own
+  pub count : ℕ
+  pub after_is : after ≡ reverse (take count own) ++ records
+
+-- the records after a command, by those before it
+abbrev pub IsThen : Command → List Record → Seen → Seen → List Record → Type 0
+IsThen command records old new after = (after ≡ records) ⊎ HasGrown command records old new after
+
+-- the statuses of refusals, and that of a source that failed before a begin
+abbrev pub is_refusal : ℕ → Bool
+is_refusal status =
+    (status == 3) || (status == 6) || (status == 7) || (status == 8) || (status == 9) || (status == 10) || (status == 11)
+    || (status == 14) || (status == 16) || (status == 17) || (status == 18) || (status == 20) || (status == 21) || (status == 22)
+
+-- a provider with this content is wrong for an object of these bytes
+abbrev pub is_wrong_told : Object → List ℕ → ℕ → Option Held → Bool
+is_wrong_told o bytes j None = true
+is_wrong_told o bytes j (Some held) = is_wrong o bytes j (held o.id)
+
+-- so is a provider as it is seen
+abbrev pub is_wrong_at : List Record → Seen → ℕ → List ℕ → ℕ → Bool
+is_wrong_at records s id bytes j = is_wrong_told (object_of (setup_at records) id) bytes j (provider_at s.providers j).held
+
+-- a file of these bytes is in effect under this name, and each provider that is not spoilt is right for it
+pub record HasFile (s : Seen) (records : List Record) (name bytes : List ℕ) (spoilt : ℕ → Bool) : Type 0 where
+  pub file : File
+  pub in_effect : file_of records name ≡ Some file
+  pub are_bytes : AreBytes bytes
+  pub size : length bytes ≡ file.size
+  pub right : (j : ℕ) → j < (setup_at records).n → spoilt j ≡ false → is_wrong_at records s file.id bytes j ≡ false
+
+-- each of n providers that is not spoilt holds what it held
+abbrev pub IsUntouched : ℕ → (ℕ → Bool) → Seen → Seen → Type 0
+IsUntouched n spoilt new next =
+    (j : ℕ) → j < n → spoilt j ≡ false → (provider_at next.providers j).held ≡ (provider_at new.providers j).held
+
+-- of none of n providers that is not spoilt the count of failed calls rose
+abbrev pub IsSteady : ℕ → (ℕ → Bool) → Seen → Seen → Type 0
+IsSteady n spoilt old new =
+    (j : ℕ) → j < n → spoilt j ≡ false → Rose (provider_at old.providers j).other_faults (provider_at new.providers j).other_faults → ⊥
+
+-- how many of n providers are spoilt
+abbrev pub spoilt_below : ℕ → (ℕ → Bool) → ℕ
+spoilt_below n spoilt = count_of spoilt (upto n)
+
+-- a get, a list and an audit
+abbrev pub keeps_blocks : Command → Bool
+keeps_blocks (GetOf name) = true
+keeps_blocks ListAll = true
+keeps_blocks AuditAll = true
+keeps_blocks command = false
+
+-- a put or a drop of another name
+abbrev pub IsOther : List ℕ → Command → Type 0
+IsOther name (PutUnder other) = other ≢ name
+IsOther name (DropOf other) = other ≢ name
+IsOther name command = ⊥

@@ -1,0 +1,130 @@
+//! What a user may believe between two commands: the store is known again, by the status of the last one, and so the next one is
+//! spoken of. No run of a job and no state stands in these clauses.
+ghost use Rattle.std.specs.Prelude.{◌≡◌, ◌⊎◌, ℕ, ◌+◌, ◌≤◌, ◌&&◌, true, false, Bool, not, List, [], ◌∷◌, length, Some, None, is_some};
+ghost use Rattle.hail_columns.specs.Verdicts.{is_flagged};
+ghost use Rattle.hail_devices.specs.Faults.{Rose};
+ghost use Rattle.hail_devices.specs.Told.{told_then};
+ghost use Rattle.hail_records.specs.Records.{Record, SetUp, is_name};
+ghost use Rattle.hail_records.specs.Table.{Due, next_audit, file_of, due_of};
+ghost use Rattle.hail_commands.specs.Forms.{Command, Numbers, InitWith, PutUnder, GetOf, DropOf, ListAll, AuditAll, RepairDue};
+ghost use Rattle.hail_commands.specs.Keys.{IsKeyForm};
+ghost use Rattle.hail_commands.specs.Seen.{Seen, Ending, IsRefused, provider_at};
+ghost use Rattle.hail_commands.specs.Opens.{setup_at};
+ghost use Rattle.hail_commands.specs.Inits.{setup_with};
+ghost use Rattle.hail_commands.specs.Lines.{audit_lines};
+ghost use Rattle.hail_commands.specs.Jobs.{IsTold};
+ghost use Rattle.hail_commands.specs.Commands.{Answers};
+ghost use Rattle.command_laws.specs.Ends.{IsDone, IsKnown, EndsWell, opens_store, after_put, after_drop, after_audit, after_repair};
+ghost use Rattle.command_laws.specs.After.{IsSure, IsNext, IsThen, is_refusal, HasFile, IsUntouched, IsSteady, spoilt_below, keeps_blocks, IsOther};
+ghost use Rattle.command_laws.specs.Kept.{after_start};
+
+/// A store that is known stays known, whatever comes of a command, and a stop after it: its records are those before, or these with the
+/// first few of those that the job of the command appends. After a refusal they are those before, and nothing has changed.
+pub fn stores_stay_known()
+    ensures always { (command : Command) (records : List Record) (old new next : Seen) (end : Ending) → Answers command old new end →
+        opens_store command ≡ true → IsSure old records → is_some new.disk ≡ is_some old.disk → IsNext new next →
+        (after : List Record) × IsKnown next after × IsThen command records old new after }
+    ensures refusal { (command : Command) (old new : Seen) (end : Ending) → Answers command old new end → is_refusal end.status ≡ true →
+        IsRefused end.status end.at old new end }
+    ensures refused { (status at : ℕ) (records : List Record) (old new : Seen) (end : Ending) → IsRefused status at old new end →
+        IsKnown old records → IsKnown new records }
+    ensures refused_sure { (status at : ℕ) (records : List Record) (old new : Seen) (end : Ending) → IsRefused status at old new end →
+        IsSure old records → IsSure new records }
+    ensures next { (records : List Record) (new next : Seen) → IsSure new records → IsNext new next → IsSure next records }
+{}
+
+/// After a command that is done, and after 4 or 13, the store is known, with the records that are said; and no stop harms it.
+pub fn done_commands_leave_known_stores()
+    ensures init { (numbers : Numbers) (key : List ℕ) (old new : Seen) (end : Ending) → Answers (InitWith numbers) old new end → IsDone end →
+        is_some old.disk ≡ true → ((bytes : List ℕ) × (old.source ≡ Some bytes) × IsKeyForm bytes key) →
+        IsSure new (SetUp (setup_with numbers key) ∷ []) }
+    ensures put { (name bytes : List ℕ) (records : List Record) (old new : Seen) (end : Ending) → Answers (PutUnder name) old new end →
+        IsDone end → IsKnown old records → old.source ≡ Some bytes → IsSure new (after_put records name (length bytes)) }
+    ensures failed_put { (name : List ℕ) (records : List Record) (old new : Seen) (end : Ending) → Answers (PutUnder name) old new end →
+        end.status ≡ 13 → IsKnown old records → IsSure new (after_start records name) }
+    ensures get { (name : List ℕ) (records : List Record) (old new : Seen) (end : Ending) → Answers (GetOf name) old new end →
+        IsDone end ⊎ (end.status ≡ 4) → IsKnown old records → IsSure new records }
+    ensures drop { (name : List ℕ) (records : List Record) (old new : Seen) (end : Ending) → Answers (DropOf name) old new end →
+        IsDone end → IsKnown old records → IsSure new (after_drop records name) }
+    ensures list { (records : List Record) (old new : Seen) (end : Ending) → Answers ListAll old new end → IsDone end → IsKnown old records →
+        IsSure new records }
+    ensures audit { (records : List Record) (old new : Seen) (end : Ending) → Answers AuditAll old new end → IsDone end → IsKnown old records →
+        (undecided : ℕ) × (counts : List ℕ) × IsSure new (after_audit records undecided counts)
+        × IsTold (audit_lines (setup_at records).tolerance (next_audit records) undecided counts) old new end }
+    ensures repair { (records : List Record) (due : Due) (old new : Seen) (end : Ending) → Answers RepairDue old new end → IsDone end →
+        IsKnown old records → due_of records ≡ Some due → IsSure new (after_repair records due) }
+    ensures failed_repair { (records : List Record) (old new : Seen) (end : Ending) → Answers RepairDue old new end →
+        (end.status ≡ 4) ⊎ (end.status ≡ 13) → IsKnown old records → IsSure new records }
+{}
+
+/// A put that is done leaves its file, right on every provider that tells what it holds; between two commands it stays so on each provider
+/// that nobody touches. A get, a list, an audit, a put and a drop of another name leave it as it is, whatever comes of them, and so does a
+/// refusal. A repair that is done makes each flagged provider right for it, where at most b providers are spoilt or fail.
+pub fn files_stay()
+    ensures put { (name bytes : List ℕ) (records : List Record) (spoilt : ℕ → Bool) (old new : Seen) (end : Ending) →
+        Answers (PutUnder name) old new end → IsDone end → IsKnown old records → old.source ≡ Some bytes →
+        ((j : ℕ) → spoilt j ≡ false → is_some (provider_at old.providers j).held ≡ true) →
+        HasFile new (after_put records name (length bytes)) name bytes spoilt }
+    ensures next { (name bytes : List ℕ) (records : List Record) (spoilt : ℕ → Bool) (new next : Seen) → HasFile new records name bytes spoilt →
+        IsUntouched (setup_at records).n spoilt new next → HasFile next records name bytes spoilt }
+    ensures reads { (command : Command) (name bytes : List ℕ) (records after : List Record) (spoilt : ℕ → Bool) (old new : Seen) (end : Ending) →
+        Answers command old new end → keeps_blocks command ≡ true → HasFile old records name bytes spoilt →
+        IsThen command records old new after → HasFile new after name bytes spoilt }
+    ensures refused { (status at : ℕ) (name bytes : List ℕ) (records : List Record) (spoilt : ℕ → Bool) (old new : Seen) (end : Ending) →
+        IsRefused status at old new end → HasFile old records name bytes spoilt → HasFile new records name bytes spoilt }
+    ensures others { (command : Command) (name bytes : List ℕ) (records after : List Record) (spoilt : ℕ → Bool) (old new : Seen) (end : Ending) →
+        Answers command old new end → IsOther name command → IsKnown old records → HasFile old records name bytes spoilt →
+        IsThen command records old new after → HasFile new after name bytes spoilt }
+    ensures repair { (name bytes : List ℕ) (records : List Record) (due : Due) (spoilt : ℕ → Bool) (old new : Seen) (end : Ending) →
+        Answers RepairDue old new end → IsDone end → IsKnown old records → due_of records ≡ Some due → HasFile old records name bytes spoilt →
+        IsSteady (setup_at records).n spoilt old new → spoilt_below (setup_at records).n spoilt ≤ (setup_at records).b →
+        ((j : ℕ) → is_flagged (setup_at records).tolerance due.counts j ≡ true → is_some (provider_at old.providers j).held ≡ true) →
+        HasFile new (after_repair records due) name bytes (λ j. spoilt j && not (is_flagged (setup_at records).tolerance due.counts j)) }
+{}
+
+/// A get of such a file gives its bytes, or finds no memory, where at most b providers are spoilt or fail in it, unless the disk or the sink
+/// failed; with at most b + 1 of them status 0 means that it gave its bytes. A get of a name that has no file ends with 3, or finds no
+/// memory, unless the disk failed.
+pub fn gets_tell_what_stands()
+    ensures complete { (name bytes : List ℕ) (records : List Record) (spoilt : ℕ → Bool) (old new : Seen) (end : Ending) →
+        Answers (GetOf name) old new end → IsKnown old records → HasFile old records name bytes spoilt →
+        IsSteady (setup_at records).n spoilt old new → spoilt_below (setup_at records).n spoilt ≤ (setup_at records).b →
+        (Rose old.disk_faults new.disk_faults → ⊥) → (Rose old.sink_faults new.sink_faults → ⊥) → EndsWell bytes old new end }
+    ensures right { (name bytes : List ℕ) (records : List Record) (spoilt : ℕ → Bool) (old new : Seen) (end : Ending) →
+        Answers (GetOf name) old new end → IsKnown old records → HasFile old records name bytes spoilt →
+        IsSteady (setup_at records).n spoilt old new → spoilt_below (setup_at records).n spoilt ≤ (setup_at records).b + 1 → end.status ≡ 0 →
+        new.sink ≡ told_then old.sink bytes }
+    ensures missing { (name : List ℕ) (records : List Record) (old new : Seen) (end : Ending) → Answers (GetOf name) old new end →
+        IsKnown old records → is_name name ≡ true → file_of records name ≡ None → (Rose old.disk_faults new.disk_faults → ⊥) →
+        (end.status ≡ 3) ⊎ (end.status ≡ 70) }
+{}
+
+/// An init, a put and a get over the same devices, where at most b providers are spoilt since the put or fail in the get: the get gives the
+/// bytes of the put, unless the disk or the sink fails in it, or no memory is found. Stops between the commands do no harm. A get after the
+/// put and a drop ends with 3.
+pub fn put_files_are_got()
+    ensures got { (numbers : Numbers) (key name bytes : List ℕ) (spoilt : ℕ → Bool) (a b c d e f : Seen) (first second last : Ending) →
+        Answers (InitWith numbers) a b first → Answers (PutUnder name) c d second → Answers (GetOf name) e f last → IsNext b c → IsNext d e →
+        is_some a.disk ≡ true → ((text : List ℕ) × (a.source ≡ Some text) × IsKeyForm text key) → c.source ≡ Some bytes →
+        IsDone first → IsDone second → ((j : ℕ) → spoilt j ≡ false → is_some (provider_at c.providers j).held ≡ true) →
+        IsUntouched numbers.n spoilt d e → IsSteady numbers.n spoilt e f → spoilt_below numbers.n spoilt ≤ numbers.b →
+        (Rose e.disk_faults f.disk_faults → ⊥) → (Rose e.sink_faults f.sink_faults → ⊥) → EndsWell bytes e f last }
+    ensures again { (name bytes : List ℕ) (records : List Record) (spoilt : ℕ → Bool) (c d e f : Seen) (second last : Ending) →
+        Answers (PutUnder name) c d second → Answers (GetOf name) e f last → IsNext d e → IsKnown c records → c.source ≡ Some bytes →
+        IsDone second → ((j : ℕ) → spoilt j ≡ false → is_some (provider_at c.providers j).held ≡ true) →
+        IsUntouched (setup_at records).n spoilt d e → IsSteady (setup_at records).n spoilt e f →
+        spoilt_below (setup_at records).n spoilt ≤ (setup_at records).b →
+        (Rose e.disk_faults f.disk_faults → ⊥) → (Rose e.sink_faults f.sink_faults → ⊥) → EndsWell bytes e f last }
+    ensures dropped { (name : List ℕ) (records : List Record) (c d e f : Seen) (second last : Ending) → Answers (DropOf name) c d second →
+        Answers (GetOf name) e f last → IsNext d e → IsKnown c records → IsDone second → (Rose e.disk_faults f.disk_faults → ⊥) →
+        (last.status ≡ 3) ⊎ (last.status ≡ 70) }
+    ensures repaired { (name bytes : List ℕ) (records : List Record) (spoilt later : ℕ → Bool) (due : Due) (c d e f : Seen) (second last : Ending) →
+        Answers RepairDue c d second → Answers (GetOf name) e f last → IsNext d e → IsKnown c records → due_of records ≡ Some due →
+        HasFile c records name bytes spoilt → IsDone second → IsSteady (setup_at records).n spoilt c d →
+        spoilt_below (setup_at records).n spoilt ≤ (setup_at records).b →
+        ((j : ℕ) → is_flagged (setup_at records).tolerance due.counts j ≡ true → is_some (provider_at c.providers j).held ≡ true) →
+        ((j : ℕ) → later j ≡ false → (spoilt j && not (is_flagged (setup_at records).tolerance due.counts j)) ≡ false) →
+        IsUntouched (setup_at records).n later d e → IsSteady (setup_at records).n later e f →
+        spoilt_below (setup_at records).n later ≤ (setup_at records).b →
+        (Rose e.disk_faults f.disk_faults → ⊥) → (Rose e.sink_faults f.sink_faults → ⊥) → EndsWell bytes e f last }
+{}

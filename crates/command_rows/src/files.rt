@@ -1,0 +1,99 @@
+use crate::store::{KEY, Row, SureStore, after, done, done_with, refused};
+use hail_field::Symbol;
+use std::test::Fail;
+
+/// A text of 100 bytes.
+pub const NOTES: &[u8] = &[b'n'; 100];
+
+/// Three providers have a file's own bytes and three have parity, in blocks of 16 symbols.
+pub const SIX: Row = Row {
+    line: "init 6 3 1 1 4 8 0",
+    input: KEY,
+    status: 0,
+    at: 0,
+    text: b"ready\n",
+};
+
+/// The text of 100 bytes is stored.
+pub const STORED: Row = Row {
+    line: "put notes.txt",
+    input: NOTES,
+    status: 0,
+    at: 0,
+    text: b"stored notes.txt 100\n",
+};
+
+/// The block of the first stripe of the first object that a provider holds, by its length and whether it is all zero.
+fn block(store: &SureStore, place: usize) -> Option<(usize, bool)> {
+    let held = store.providers.get(place)?.held(1, 0)?;
+    Some((held.len(), held.iter().all(|symbol| *symbol == Symbol(0))))
+}
+
+/// How many providers of a store hold a first block of the first object.
+fn holders(store: &SureStore) -> usize {
+    let providers = store.providers.iter();
+    providers
+        .filter(|provider| provider.held(1, 0).is_some())
+        .count()
+}
+
+#[test]
+fn an_empty_file_has_no_block(rt: HostRuntime) -> Result<(), Fail> {
+    let rows = [
+        SIX,
+        done("put empty", b"stored empty 0\n"),
+        done("get empty", b""),
+        done("list", b"empty 0\n"),
+        done(
+            "audit",
+            b"audit 1 undecided 0\nprovider 0 count 0 ok\nprovider 1 count 0 ok\nprovider 2 count 0 ok\nprovider 3 count 0 ok\nprovider 4 count 0 ok\nprovider 5 count 0 ok\n",
+        ),
+    ];
+    let mut store = after(rt.alloc(), &rows).expect(&rt, "an empty file is kept");
+    assert_eq!(rt; holders(&store), 0);
+    let report = store.report_of("get empty").expect(&rt, "memory");
+    assert_eq!(rt; (report.status, report.heard.len()), (0, 0));
+    Ok(())
+}
+
+#[test]
+fn a_short_file_has_one_block_a_provider(rt: HostRuntime) -> Result<(), Fail> {
+    let rows = [SIX, STORED];
+    let store = after(rt.alloc(), &rows).expect(&rt, "a file is stored");
+    let journal = store.disk.bytes();
+    assert_eq!(rt; journal.len(), 85);
+    assert_eq!(rt;
+        &journal[50..],
+        b"\x01\x02\x01\0\0\0\0\0\0\0\x09notes.txt\x01\x03\x01\0\0\0\0\0\0\0\x64\0\0\0\0".as_slice()
+    );
+    assert_eq!(rt; holders(&store), 6);
+    for (place, zero) in [false, true, true, false, false, false].iter().enumerate() {
+        assert_eq!(rt; block(&store, place), Some((16, *zero)), "provider {place}");
+    }
+    Ok(())
+}
+
+#[test]
+fn a_file_is_listed_and_given_back_until_it_is_dropped(rt: HostRuntime) -> Result<(), Fail> {
+    let rows = [
+        SIX,
+        STORED,
+        done("list", b"notes.txt 100\n"),
+        done("get notes.txt", NOTES),
+        refused("put a/b", 17, 0),
+        refused("get nope", 3, 0),
+        refused("drop nope", 3, 0),
+        refused("fly", 2, 0),
+        refused("get", 2, 0),
+        done_with("put a", b"first", b"stored a 5\n"),
+        done_with("put a", b"second", b"stored a 6\n"),
+        done("list", b"a 6\nnotes.txt 100\n"),
+        done("get a", b"second"),
+        done("drop notes.txt", b"dropped notes.txt\n"),
+        refused("get notes.txt", 3, 0),
+        done("list", b"a 6\n"),
+    ];
+    let store = after(rt.alloc(), &rows).expect(&rt, "each command ends as told");
+    assert_eq!(rt; holders(&store), 0);
+    Ok(())
+}

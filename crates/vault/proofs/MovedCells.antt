@@ -1,0 +1,69 @@
+-- What a move does to the cells of the disk, by what the core tells of its append.
+use Rattle.std.proofs.Common.{◌≡◌, ℕ, ◌<◌, List, [], ◌∷◌, ◌++◌, Option, None, Some, sym, ap, subst, ◌∙◌, arith}
+use Rattle.std.specs.Prelude.{IfSome}
+use Rattle.std.specs.Option.{option_map}
+use Rattle.hail_devices.specs.Cells.{Cells}
+use Rattle.hail_devices.specs.Providers.{Provider}
+use Rattle.hail_devices.specs.Told.{Goes}
+use Rattle.hail_records.specs.Records.{Record}
+use Rattle.hail_records.specs.Spellings.{spelling}
+use Rattle.hail_machine.specs.Actions.{Action}
+use Rattle.hail_machine.specs.States.{State}
+use Rattle.hail_machine.proofs.JobLists.{number_of}
+use Rattle.sound_states.specs.Orders.{moves_before}
+use Rattle.journal_core.specs.declared.append.Append.{Append}
+use Rattle.journal_core.specs.Appends.{gate_of, body_of, moves_of}
+use Rattle.journal_core.specs.Moves.{cells_after, MayTear}
+use Rattle.vault_core.specs.declared.reply.Reply.{Reply}
+use Rattle.vault.specs.declared.flight.Flight.{Flight}
+use Rattle.vault.specs.declared.turn.Answer.{Answer}
+use Rattle.vault.specs.declared.turn.Turn.{Turn}
+use Rattle.vault.specs.declared.vault.Vault.{Vault}
+use Rattle.vault.specs.Calls.{EndsCells, MovesCells}
+use Rattle.vault.specs.Devices.{devices}
+use Rattle.vault.specs.Running.{IsStopped}
+use Rattle.vault.specs.Seen.{entry_of, closed_gate_of}
+use Rattle.vault.specs.Stands.{Stands, Comes}
+use Rattle.vault.proofs.MoveStep.{before_size}
+use Rattle.vault.proofs.LaterMoves.{next, held, mine, made_so_far, entry_is}
+
+-- an append at the closed gate with this record, so many moves of which are made
+pub record IsAppendOf (v : Vault) (n : ℕ) (entry : Record) (a : Append) : Type 0 where
+  pub moves : moves_of a ≡ n
+  pub gate : gate_of a ≡ closed_gate_of v
+  pub body : body_of a ≡ spelling entry ++ 0 ∷ []
+
+pub cells_on : (v : Vault) (n : ℕ) (entry : Record) (a : Append) (old new : Option Cells) → IsAppendOf v n entry a → new ≡ option_map (cells_after (moves_of a) (gate_of a) (body_of a)) old
+    → new ≡ option_map (cells_after n (closed_gate_of v) (spelling entry ++ 0 ∷ [])) old
+cells_on v n entry a old new of is = is ∙ (λ i. option_map (cells_after (of.moves i) (of.gate i) (of.body i)) old)
+
+pub cells_torn : (v : Vault) (n : ℕ) (entry : Record) (a : Append) (old new : Option Cells) → IsAppendOf v n entry a → Goes (MayTear (moves_of a) (gate_of a) (body_of a)) old new
+    → Goes (MayTear n (closed_gate_of v) (spelling entry ++ 0 ∷ [])) old new
+cells_torn v n entry a old new of is =
+    subst (λ (m : ℕ). Goes (MayTear m (closed_gate_of v) (spelling entry ++ 0 ∷ [])) old new) of.moves
+    (subst (λ (g : ℕ). Goes (MayTear (moves_of a) g (spelling entry ++ 0 ∷ [])) old new) of.gate
+    (subst (λ (b : List ℕ). Goes (MayTear (moves_of a) (gate_of a) b) old new) of.body is))
+
+-- where a job was ended
+pub cells_stopped : (v1 v2 : Vault) (job n gate : ℕ) (body : List ℕ) (reply : Reply) (answer : Answer) (result : Option Turn) (old new : Option Cells) → IsStopped v1 job reply answer result v2 → EndsCells n gate body answer old new
+    → IfSome result (λ t. MovesCells n gate body t old new)
+cells_stopped v1 v2 job n gate body reply answer None old new stopped ends = tt
+cells_stopped v1 v2 job n gate body reply answer (Some t) old new stopped ends = subst (λ (x : Turn). MovesCells n gate body x old new) (sym stopped.turn_is) ends
+
+-- the append in flight of a later move
+pub append_of : (v : Vault) (w : State) (holds : Option Cells) (faults number : ℕ) (ps : List Provider) (stands : Stands v (devices holds faults ps) w) (action : Action) (comes : Comes v.core number action) (later : 0 < moves_before action)
+    → (f : Flight) → v.flight ≡ Some f → (entry : Record) → entry_of v number ≡ Some entry → IsAppendOf v (moves_before action) entry f.append
+append_of v w holds faults number ps stands action comes later f is entry given =
+    let next = next v w holds faults number ps stands action comes later in
+    let a = held v w holds faults number ps stands action comes later in
+    let m = mine v w holds faults number ps stands action comes later f is in
+    let own : a.0.job ≡ number = a.2.0 ∙ number_of w.jobs number next.job next.runs in
+    let same : a.0.entry ≡ entry = (let e : Some a.0.entry ≡ Some entry = sym (entry_is v w holds faults number ps stands action comes later own) ∙ given in cc) in
+    let size = before_size w.records stands.core.sound.in_grammar in
+    let end = stands.core.end in
+    let gate = m.1.gate in
+    record {
+      moves = made_so_far v w holds faults number ps stands action comes later f is;
+      gate = omega (arith, size, end, gate);
+      body = m.1.body ∙ ap (λ (r : Record). spelling r ++ 0 ∷ []) same;
+    }

@@ -1,0 +1,52 @@
+-- Which device the next step of a job calls, and what a step does to the cells of the disk.
+--
+--   calls_disk coming        == what comes next is a move of an append, the only action that calls the disk
+--   called_provider coming   == the provider that the next action calls: of a store, a fetch, an ask, a removal
+--   moves_made coming        == how many moves of its append are made before the next action
+--   MovesCells n gate body turn old new == the cells after a step that makes the move after n, by what came of it
+use Rattle.std.specs.Prelude.{◌≡◌, ℕ, Bool, false, List, Option, None, Some}
+use Rattle.std.specs.Option.{option_map}
+use Rattle.hail_devices.specs.Cells.{Cells}
+use Rattle.hail_devices.specs.Told.{Goes}
+use Rattle.hail_machine.specs.Actions.{Action, Store, Fetch, Ask, Remove}
+use Rattle.sound_states.specs.Orders.{moves_before}
+use Rattle.journal_core.specs.Moves.{cells_after, MayTear}
+use Rattle.vault_core.specs.Coming.{Coming, Acts, is_move}
+use Rattle.vault.specs.declared.turn.Answer.{Answer}
+use Rattle.vault.specs.declared.turn.Answer.TheVariants as answer
+use Rattle.vault.specs.declared.turn.Turn.{Turn}
+use Rattle.vault.specs.declared.turn.Turn.TheVariants as turn
+
+-- what comes next is a move of an append
+abbrev pub calls_disk : Coming → Bool
+calls_disk (Acts action) = is_move (Some action)
+calls_disk coming = false
+
+-- the provider that an action calls
+abbrev pub provider_of : Action → Option ℕ
+provider_of (Store j object stripe) = Some j
+provider_of (Fetch j object stripe) = Some j
+provider_of (Ask j object round) = Some j
+provider_of (Remove j object) = Some j
+provider_of action = None
+
+-- the provider that the next action calls
+abbrev pub called_provider : Coming → Option ℕ
+called_provider (Acts action) = provider_of action
+called_provider coming = None
+
+-- how many moves of its append are made before the next action
+abbrev pub moves_made : Coming → ℕ
+moves_made (Acts action) = moves_before action
+moves_made coming = 0
+
+-- the cells where the job ended: torn at a fault of the disk, and as before where memory ran out
+abbrev pub EndsCells : ℕ → ℕ → List ℕ → Answer → Option Cells → Option Cells → Type 0
+EndsCells n gate body answer.DiskFault old new = Goes (MayTear n gate body) old new
+EndsCells n gate body a old new = new ≡ old
+
+-- the cells after a step that makes this move of an append
+abbrev pub MovesCells : ℕ → ℕ → List ℕ → Turn → Option Cells → Option Cells → Type 0
+MovesCells n gate body turn.More old new = new ≡ option_map (cells_after n gate body) old
+MovesCells n gate body (turn.Done ended) old new = EndsCells n gate body ended.answer old new
+MovesCells n gate body t old new = new ≡ old

@@ -1,0 +1,17 @@
+//! Worked rows of the vault, step by step, over devices in memory.
+#![tactic(auto)]
+
+#[cfg(test)]
+mod asking;
+#[cfg(test)]
+mod counted;
+#[cfg(test)]
+mod rebuilding;
+#[cfg(test)]
+mod setups;
+#[cfg(test)]
+mod sharing;
+#[cfg(test)]
+mod stopping;
+#[cfg(test)]
+mod store;
