@@ -3,6 +3,7 @@
 --   begin_outcome result   == of a begin
 --   UnlessBegun result P   == P holds unless the begin was accepted
 --   step_outcome result    == of a step
+--   is_more result         == the job of a step goes on
 --   reopen_outcome result  == of a reopening
 --   replace_outcome result == of an alteration or a loss
 --   names_outcome files    == of a list of the files in effect, by the table that has them
@@ -16,6 +17,7 @@ use Rattle.vault_table.specs.Values.{Kept}
 use Rattle.vault.specs.declared.fault.StartFault.{StartFault}
 use Rattle.vault.specs.declared.fault.StartFault.TheVariants as start_fault
 use Rattle.vault.specs.declared.turn.Turn.{Turn}
+use Rattle.vault.specs.declared.turn.Turn.TheVariants as turn
 use Rattle.vault.specs.Outcomes as vault
 use Rattle.hail_client.specs.declared.fault.ReopenFault.{ReopenFault}
 use Rattle.hail_client.specs.declared.fault.ReopenFault.TheVariants as reopen_fault
@@ -33,7 +35,12 @@ UnlessBegun result P = P
 -- the outcome of a step
 abbrev pub step_outcome : Option Turn → Outcome
 step_outcome None = events.Closed
-step_outcome (Some turn) = vault.outcome_of turn
+step_outcome (Some t) = vault.outcome_of t
+
+-- the job of a step goes on
+abbrev pub is_more : Option Turn → Bool
+is_more (Some turn.More) = true
+is_more result = false
 
 -- why a start gave no vault
 abbrev pub start_refusal : StartFault → Refusal

@@ -4,12 +4,20 @@ ghost use Rattle.hail_machine.specs.States.{State};
 ghost use Rattle.vault.specs.declared.turn.Turn.TheVariants as turn;
 ghost use Rattle.vault.specs.Devices.{as_seen, devices};
 ghost use Rattle.vault.specs.Outcomes.{IfEnded, HasPaddedCounts};
+ghost use Rattle.hail_client.specs.Outcomes.{is_more};
 ghost use Rattle.hail_client.specs.Stands.{IsStanding, IsReached, RunsJobOn};
 
 use crate::client::Client;
 use disk_model::Disk;
 use provider_model::Provider;
 use vault::Turn;
+
+/// Whether a job goes on after a step.
+fn goes_on(answer: &Option<Turn>) -> bool
+    ensures { result ≡ is_more answer.now }
+{
+    matches!(answer, Some(Turn::More))
+}
 
 impl Client {
     /// Makes as many steps of a job as it takes until the answer is not that it goes on; None where no vault is open. Condition:
@@ -30,9 +38,9 @@ impl Client {
         ensures padded { IfSome result (λ turn. IfEnded turn (λ ended. HasPaddedCounts ended.answer)) }
     {
         loop {
-            match self.step(job, disk, providers) {
-                Some(Turn::More) => {}
-                turn => return turn,
+            let turn = self.step(job, disk, providers);
+            if !goes_on(&turn) {
+                return turn;
             }
         }
     }

@@ -59,12 +59,7 @@ fn opened(answer: Result<(), ReopenFault>) -> &'static str {
 }
 
 /// A word for a reopening over so many providers.
-fn reopen<D: Disk>(
-    client: &mut Client,
-    alloc: Global,
-    disk: &mut D,
-    handed: usize,
-) -> &'static str
+fn reopen<D: Disk>(client: &mut Client, alloc: Global, disk: &mut D, handed: usize) -> &'static str
     ensures stands { (ps : List ProviderData) → IsSome (D.holds disk.old) → length ps ≡ handed
         → IsStanding client.old (devices (D.holds disk.old) (D.faults disk.old) ps)
         → IsStanding client.new (devices (D.holds disk.new) (D.faults disk.new) ps) }
