@@ -4,7 +4,6 @@ ghost use Rattle.hail_machine.specs.States.{State, IsStart};
 ghost use Rattle.vault.specs.Devices.{Devices, as_seen, devices, AreDevices};
 ghost use Rattle.hail_client.specs.Stands.{IsStanding};
 
-use super::laws::there_is_a_start;
 use super::*;
 use disk_model::{Disk, MemDisk, SureDisk};
 use hail_field::Symbol;
@@ -351,7 +350,6 @@ fn jobs_run_to_their_end(rt: HostRuntime) -> Result<(), Fail> {
     let mut disk = SureDisk::new(alloc, &[])?;
     let mut held = four(alloc);
     let bytes = Bytes::from_slice(alloc, b"hail")?;
-    there_is_a_start();
     assert_eq!(rt; put_from_start(alloc, &mut disk, &mut held, bytes), "put");
     Ok(())
 }
