@@ -5,7 +5,6 @@ use Rattle.std.proofs.lemmas.Bool.{false≢true}
 use Rattle.hail_devices.specs.Cells.{Cells}
 use Rattle.hail_devices.specs.Providers.{Provider}
 use Rattle.hail_records.specs.Records.{Setup, is_setup}
-use Rattle.hail_machine.specs.Events as events
 use Rattle.hail_machine.specs.Events.{Outcome, Init, Ready, Refused, IsSpelled}
 use Rattle.hail_machine.specs.Refusals as refusal
 use Rattle.hail_machine.specs.States.{State, Settles}
@@ -17,7 +16,7 @@ use Rattle.vault.specs.Devices.{Devices, devices, AreDevices}
 use Rattle.vault.specs.Inits.{MayInit, MakesInit}
 use Rattle.vault.specs.Outcomes.{init_outcome}
 use Rattle.hail_client.specs.declared.client.Client.{Client}
-use Rattle.hail_client.specs.Stands.{StandsClosed, StandsBy, ClientStands, Makes}
+use Rattle.hail_client.specs.Stands.{StandsBy, ClientStands, Makes}
 
 -- a vault is open or not as before, and job numbers go on
 abbrev Keeps : State → State → Type 0

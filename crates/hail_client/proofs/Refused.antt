@@ -1,5 +1,5 @@
 -- Bytes that stand for accepted records are not bad: no record stands among them that may not follow.
-use Rattle.std.proofs.Common.{◌≡◌, ◌≢◌, ℕ, ◌+◌, ◌<◌, ◌⊎◌, true, List, [], ◌∷◌, ◌++◌, length, take, None, Some, refl, ap, sym, subst, ◌∙◌, inl, inr, arith, append_assoc}
+use Rattle.std.proofs.Common.{◌≡◌, ◌≢◌, ℕ, ◌⊎◌, true, List, [], ◌∷◌, ◌++◌, take, None, refl, ap, sym, subst, ◌∙◌, inl, inr, arith, append_assoc}
 use Rattle.std.specs.List.{list_all}
 use Rattle.std.proofs.lemmas.List.{append_cancel_left, append-nil}
 use Rattle.hail_records.specs.Records.{Record, is_in_grammar}

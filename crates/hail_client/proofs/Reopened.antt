@@ -1,13 +1,12 @@
 -- A reopening as an event of the machine.
-use Rattle.std.proofs.Common.{◌≡◌, ◌≢◌, ◌⊎◌, inl, inr, ℕ, zero, suc, ◌<◌, ◌≤◌, Bool, true, false, List, [], ◌∷◌, length, replicate, length-take, Option, Some, None, Result, Ok, Err, refl, ap, sym, subst, ◌∙◌, arith}
-use Rattle.std.specs.Prelude.{IfSome, IsSome, IsTrue, is_some, slice_get}
+use Rattle.std.proofs.Common.{◌≡◌, ◌≢◌, ◌⊎◌, inl, inr, ℕ, zero, suc, ◌<◌, ◌≤◌, true, false, List, [], ◌∷◌, length, replicate, length-take, Option, Some, None, refl, ap, sym, subst, ◌∙◌, arith}
+use Rattle.std.specs.Prelude.{is_some, slice_get}
 use Rattle.std.specs.Option.{option_map}
 use Rattle.std.proofs.lemmas.List.{length-replicate}
-use Rattle.std.proofs.lemmas.Bool.{cases_Bool, false≢true}
+use Rattle.std.proofs.lemmas.Bool.{cases_Bool}
 use Rattle.hail_devices.specs.Cells.{Cells, reads}
 use Rattle.hail_devices.specs.Disks.{synced}
-use Rattle.hail_devices.specs.Faults.{Rose, HasCause}
-use Rattle.hail_devices.specs.Images.{IsImage}
+use Rattle.hail_devices.specs.Faults.{Rose}
 use Rattle.hail_devices.specs.Told.{Goes}
 use Rattle.hail_devices.specs.Providers.{Provider}
 use Rattle.hail_records.specs.Records.{Record, Setup, largest_journal}
@@ -25,20 +24,18 @@ use Rattle.sound_states.proofs.Records.{none-set_up}
 use Rattle.vault.specs.declared.fault.StartFault.{StartFault}
 use Rattle.vault.specs.declared.fault.StartFault.TheVariants as start_fault
 use Rattle.vault.specs.declared.vault.Vault.{Vault}
-use Rattle.vault.specs.Devices.{Devices, devices, AreDevices, AreHanded}
+use Rattle.vault.specs.Devices.{devices, AreDevices, AreHanded}
 use Rattle.vault.specs.Openings.{journal_read, IsStartFault, LiesInJournal, IsRead, IsResynced}
-use Rattle.vault.specs.Seen.{setup_of as vault_setup, provider_count}
+use Rattle.vault.specs.Seen.{provider_count}
 use Rattle.vault.specs.Stands.{Stands}
 use Rattle.vault.specs.Starts.{IsJustOpened}
 use Rattle.vault.proofs.Emptied.{reads-image, image-firm}
 use Rattle.vault.proofs.Ways.{images_on}
 use Rattle.hail_client.specs.declared.client.Client.{Client}
-use Rattle.hail_client.specs.declared.fault.ReopenFault.{ReopenFault}
-use Rattle.hail_client.specs.declared.fault.ReopenFault.TheVariants as reopen_fault
 use Rattle.hail_client.specs.Outcomes.{start_refusal}
 use Rattle.hail_client.specs.Start.{anyone}
-use Rattle.hail_client.specs.Stands.{StandsClosed, StandsBy, ClientStands, Makes}
-use Rattle.hail_client.proofs.Settled.{AreKept, settled, settles, settled-sound, read-kept, image-kept, kept-accepted, kept-fits, firm-stands, stands-take, short-read, whole-read}
+use Rattle.hail_client.specs.Stands.{StandsClosed, Makes}
+use Rattle.hail_client.proofs.Settled.{AreKept, settled, settles, settled-sound, read-kept, kept-accepted, kept-fits, firm-stands, stands-take, short-read, whole-read}
 use Rattle.hail_client.proofs.Refused.{bad-none}
 
 each-anyone : (n j : ℕ) → j < n → slice_get (replicate n anyone) j ≡ Some anyone

@@ -1,5 +1,5 @@
 -- A reopening by a client, as an event of the machine.
-use Rattle.std.proofs.Common.{◌≡◌, ℕ, ◌<◌, ◌≤◌, List, length, Option, Some, None, Result, Ok, Err, refl, ap, sym, subst, ◌∙◌}
+use Rattle.std.proofs.Common.{◌≡◌, ℕ, ◌<◌, ◌≤◌, List, length, Option, Some, None, Result, Ok, Err, ap, sym, subst}
 use Rattle.std.specs.Prelude.{IfSome, IsSome, IsErrAnd}
 use Rattle.std.specs.Option.{option_map}
 use Rattle.std.proofs.lemmas.Bool.{false≢true}
@@ -12,11 +12,10 @@ use Rattle.hail_records.specs.Records.{Record}
 use Rattle.hail_machine.specs.Events.{Reopen, Opened, Refused}
 use Rattle.hail_machine.specs.Refusals.{TooFewProviders}
 use Rattle.hail_machine.specs.States.{State}
-use Rattle.sound_states.specs.Sound.{IsSound}
 use Rattle.vault.specs.declared.fault.StartFault.{StartFault}
 use Rattle.vault.specs.declared.fault.StartFault.TheVariants as start_fault
 use Rattle.vault.specs.declared.vault.Vault.{Vault}
-use Rattle.vault.specs.Devices.{devices, AreDevices}
+use Rattle.vault.specs.Devices.{devices}
 use Rattle.vault.specs.Openings.{journal_read, IsStartFault, LiesInJournal, IsRead, IsResynced}
 use Rattle.vault.specs.Seen.{provider_count}
 use Rattle.vault.specs.Stands.{Stands}

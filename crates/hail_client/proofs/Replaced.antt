@@ -1,10 +1,10 @@
 -- An alteration or a loss as an event of the machine.
-use Rattle.std.proofs.Common.{◌≡◌, ◌↔◌, ℕ, ◌<◌, ◌≤◌, Bool, true, false, List, length, Option, Some, None, refl, ap, sym, subst, ◌∙◌, arith}
+use Rattle.std.proofs.Common.{◌≡◌, ◌↔◌, ℕ, ◌<◌, ◌≤◌, Bool, true, false, List, length, Option, Some, None, refl, sym, subst, ◌∙◌, arith}
 use Rattle.std.specs.Prelude.{IsTrue, IsSome, IfSome, nat_lt, slice_get, slice_set, if◌then◌else◌}
 use Rattle.std.specs.Option.{option_map}
 use Rattle.hail_devices.specs.Cells.{Cells}
 use Rattle.hail_devices.specs.Providers.{Held, Provider}
-use Rattle.hail_devices.specs.ProviderCalls.{Replaces, OtherCounts}
+use Rattle.hail_devices.specs.ProviderCalls.{Replaces}
 use Rattle.hail_machine.specs.Events.{Event, Outcome, IsSpelled, NothingHeld}
 use Rattle.hail_machine.specs.States.{State, setup_in, with_provider}
 use Rattle.hail_machine.specs.Replacements.{ReplacesAt, ReplacesIf}
@@ -12,12 +12,12 @@ use Rattle.hail_machine.specs.Machine.{Happens}
 use Rattle.sound_states.specs.Sound.{IsSound}
 use Rattle.sound_states.proofs.Events.{devices-sound}
 use Rattle.vault.specs.declared.vault.Vault.{Vault}
-use Rattle.vault.specs.Devices.{Devices, devices, AreHanded}
+use Rattle.vault.specs.Devices.{devices, AreHanded}
 use Rattle.vault.specs.Stands.{Stands}
 use Rattle.vault.proofs.Ways.{images_on, handed_on, setup_same}
 use Rattle.hail_client.specs.declared.client.Client.{Client}
 use Rattle.hail_client.specs.Outcomes.{replace_outcome}
-use Rattle.hail_client.specs.Stands.{StandsClosed, StandsBy, ClientStands, Makes}
+use Rattle.hail_client.specs.Stands.{StandsBy, ClientStands, Makes}
 use Rattle.hail_client.proofs.Standing.{devices-of, sound-of}
 
 lt-is : (a b : ℕ) → a < b → nat_lt a b ≡ true

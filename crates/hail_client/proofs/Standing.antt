@@ -1,5 +1,5 @@
 -- What a client and its devices stand for.
-use Rattle.std.proofs.Common.{◌≡◌, ℕ, ◌≤◌, length, Option, Some, None, refl, ap, sym, subst, ◌∙◌, arith}
+use Rattle.std.proofs.Common.{◌≡◌, ℕ, ◌≤◌, length, Option, Some, None, refl, ap, sym, arith}
 use Rattle.hail_records.specs.Records.{Setup}
 use Rattle.hail_machine.specs.Events.{Continue, Continued}
 use Rattle.hail_machine.specs.States.{State, IsStart, continued}

@@ -1,6 +1,6 @@
 -- A stop as an event of the machine.
-use Rattle.std.proofs.Common.{◌≡◌, ℕ, List, Option, Some, None, refl, sym, subst, ◌∙◌, inl, inr}
-use Rattle.hail_devices.specs.Cells.{Cells, firm}
+use Rattle.std.proofs.Common.{◌≡◌, ℕ, List, Option, Some, None, refl, sym, subst, ◌∙◌, inl}
+use Rattle.hail_devices.specs.Cells.{Cells}
 use Rattle.hail_devices.specs.Disks.{Stopped}
 use Rattle.hail_devices.specs.Told.{Goes}
 use Rattle.hail_devices.specs.Providers.{Provider}

@@ -1,4 +1,3 @@
-use Rattle.std.proofs.Common.{refl}
 use Rattle.hail_client.proofs.Replaced.{replaces}
 use Rattle.hail_client.proofs.replace.lose_of.Goals as goal
 

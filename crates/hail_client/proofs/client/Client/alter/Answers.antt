@@ -1,9 +1,8 @@
-use Rattle.std.proofs.Common.{refl, ap, ◌∙◌, ◌<◌, ◌^◌, arith, length, map}
-use Rattle.std.specs.Prelude.{IsSome}
+use Rattle.std.proofs.Common.{ap, ◌∙◌, arith, map}
 use Rattle.std.specs.Option.{option_map}
 use Rattle.std.proofs.lemmas.List.{length-map, map-set}
 use Rattle.std.proofs.lemmas.Option.{slice_get-get_or, slice_get-map}
-use Rattle.hail_devices.specs.Providers.{HasPlace, with_symbol, without_block}
+use Rattle.hail_devices.specs.Providers.{HasPlace, with_symbol}
 use Rattle.hail_machine.specs.Events.{Alter, IsSpelled}
 use Rattle.vault.specs.Devices.{as_seen}
 use Rattle.hail_client.proofs.Replaced.{not-handed, handed}

@@ -1,13 +1,6 @@
-use Rattle.std.proofs.Common.{◌≡◌, ℕ, ◌<◌, ◌≤◌, List, length, Option, Some, None, Result, Ok, Err, refl, ap, sym, subst, ◌∙◌, arith}
-use Rattle.hail_devices.specs.Providers.{Provider}
-use Rattle.hail_machine.specs.Events.{Reopen, Opened}
+use Rattle.std.proofs.Common.{Err, ap, arith}
 use Rattle.record_codec.specs.declared.setup.Setup.{Setup}
-use Rattle.hail_client.specs.declared.fault.ReopenFault.{ReopenFault}
-use Rattle.hail_client.specs.Client.{next_job_of}
-use Rattle.hail_client.specs.Outcomes.{reopen_outcome}
-use Rattle.hail_client.specs.Stands.{Makes}
 use Rattle.vault.specs.declared.fault.StartFault.{StartFault}
-use Rattle.vault.specs.Devices.{devices}
 use Rattle.hail_client.proofs.Reopening.{refused-event, few-event, opened-event}
 use Rattle.hail_client.proofs.client.Client.reopen.Goals as goal
 

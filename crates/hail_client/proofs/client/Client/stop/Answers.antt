@@ -1,4 +1,3 @@
-use Rattle.std.proofs.Common.{sym}
 use Rattle.hail_client.proofs.Stopped.{stops}
 use Rattle.hail_client.proofs.client.Client.stop.Goals as goal
 
