@@ -1,0 +1,59 @@
+-- A disk before its first use, and the state before the first event.
+use Rattle.std.proofs.Common.{◌≡◌, ◌⊎◌, inl, inr, ℕ, zero, suc, ◌<◌, true, false, List, [], ◌∷◌, length, Option, Some, refl, ap, sym, subst, arith}
+use Rattle.hail_devices.specs.Cells.{Cells, reads, firm, loose_from}
+use Rattle.std.specs.Prelude.{IsTrue, slice_get}
+use Rattle.std.specs.List.{list_all}
+use Rattle.hail_devices.specs.Providers.{Provider}
+use Rattle.hail_records.specs.Records.{Record, Setup, SetUp, is_in_grammar}
+use Rattle.hail_records.specs.Journal.{StandsFor, StandsOrIsEmpty}
+use Rattle.hail_machine.specs.States.{State, IsStart, AreFirst}
+use Rattle.hail_machine.specs.Stands.{IsFresh, StandsForState}
+use Rattle.vault.specs.Devices.{Devices, AreDevices}
+use Rattle.hail_client.specs.Start.{provider_at, start_of}
+use Rattle.hail_client.proofs.Settled.{firm-stands}
+
+-- cells of which none is loose
+none-loose : (at : ℕ) (cells : Cells) → loose_from at cells ≡ [] → cells ≡ firm (reads cells)
+none-loose at [] e = refl
+none-loose at ((b, false) ∷ cells) e = ap (λ (l : Cells). (b, false) ∷ l) (none-loose (suc at) cells e)
+none-loose at ((b, true) ∷ cells) e = absurd cc
+
+fresh-reads : (bytes : List ℕ) (rs : List Record) → ((bytes ≡ []) × (rs ≡ [])) ⊎ ((s : Setup) × (rs ≡ SetUp s ∷ []) × StandsFor bytes rs) → StandsOrIsEmpty bytes rs
+fresh-reads bytes rs (inl (empty, none)) = inr (none, (let e = ap length empty in omega (arith, e)))
+fresh-reads bytes rs (inr (s, one, stands)) = inl stands
+
+pub fresh-stands : (cells : Cells) (rs : List Record) (w : State) → IsFresh cells rs → w.records ≡ rs → StandsForState (Some cells) w
+fresh-stands cells rs w fresh same =
+    subst (λ (c : Cells). StandsForState (Some c) w) (sym (none-loose 0 cells fresh.firm))
+    (firm-stands (reads cells) w (subst (StandsOrIsEmpty (reads cells)) (sym same) (fresh-reads (reads cells) rs fresh.stands)))
+
+-- ---- the state before the first event
+
+fresh-first : (bytes : List ℕ) (rs : List Record) → ((bytes ≡ []) × (rs ≡ [])) ⊎ ((s : Setup) × (rs ≡ SetUp s ∷ []) × StandsFor bytes rs) → AreFirst rs
+fresh-first bytes rs (inl (empty, none)) = inl none
+fresh-first bytes rs (inr (s, one, stands)) = inr (s, spelled (subst (λ (l : List Record). IsTrue (list_all is_in_grammar l)) one stands.in_grammar), one)
+  where
+    spelled : IsTrue (list_all is_in_grammar (SetUp s ∷ [])) → IsTrue (is_in_grammar (SetUp s))
+    spelled all = grind (arith, all)
+
+pub is-start : (d : Devices) (cells : Cells) (rs : List Record) → d.holds ≡ Some cells → IsFresh cells rs → IsStart (start_of d rs)
+is-start d cells rs told fresh = record { records = fresh-first (reads cells) rs fresh.stands; jobs = refl; first_job = refl; append = refl; doubt = refl; closed = refl; unbarred = refl }
+
+each-at : (ps : List Provider) (j : ℕ) → j < length ps → slice_get ps j ≡ Some (provider_at ps j)
+each-at [] j l = absurd (omega (arith, l))
+each-at (p ∷ ps) zero l = refl
+each-at (p ∷ ps) (suc j) l = each-at ps j (omega (arith, l))
+
+pub are-devices : (d : Devices) (cells : Cells) (rs : List Record) → d.holds ≡ Some cells → IsFresh cells rs → AreDevices d (start_of d rs)
+are-devices d cells rs told fresh = record {
+  images = subst (λ (o : Option Cells). StandsForState o (start_of d rs)) (sym told) (fresh-stands cells rs (start_of d rs) fresh refl);
+  faults = refl;
+  providers = record { count = refl; each = each-at d.providers };
+}
+
+-- a disk that reads nothing
+pub started : (d : Devices) (cells : Cells) → d.holds ≡ Some cells → cells ≡ [] → (w : State) × IsStart w × AreDevices d w
+started d cells told e = (start_of d [], is-start d cells [] told none, are-devices d cells [] told none)
+  where
+    none : IsFresh cells []
+    none = record { firm = ap (λ (c : Cells). loose_from 0 c) e; stands = inl (ap (λ (c : Cells). reads c) e, refl) }

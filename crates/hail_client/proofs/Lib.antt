@@ -1,0 +1,11 @@
+pub mod Standing
+pub mod Made
+pub mod Replaced
+pub mod Settled
+pub mod Stopped
+pub mod Refused
+pub mod Reopened
+pub mod Fresh
+pub mod Begun
+pub mod Reopening
+pub mod Runs

@@ -1,0 +1,45 @@
+-- Begins, steps and lists of files, as events of the machine.
+use Rattle.std.proofs.Common.{◌≡◌, ℕ, ◌<◌, ◌^◌, Option, Some, None, Result, refl, sym, subst}
+use Rattle.std.specs.Option.{option_map}
+use Rattle.hail_machine.specs.Events.{Begin, Step, Names, Closed, IsSpelledKind}
+use Rattle.hail_machine.specs.Events as events
+use Rattle.hail_machine.specs.Heard.{heard_by}
+use Rattle.hail_machine.specs.Jobs.{Kind, job_of}
+use Rattle.hail_machine.specs.States.{State}
+use Rattle.hail_machine.specs.Machine.{Lists}
+use Rattle.vault_core.specs.declared.wish.BeginFault.{BeginFault}
+use Rattle.vault_table.specs.Values.{Kept}
+use Rattle.vault.specs.declared.turn.Turn.{Turn}
+use Rattle.vault.specs.declared.vault.Vault.{Vault}
+use Rattle.vault.specs.Devices.{Devices}
+use Rattle.vault.specs.Outcomes.{IfEnded}
+use Rattle.vault.specs.Seen.{table_of}
+use Rattle.vault.specs.Stands.{Stands, MakesBegin, MakesStep}
+use Rattle.hail_client.specs.declared.client.Client.{Client}
+use Rattle.hail_client.specs.Outcomes.{begin_outcome, step_outcome, names_outcome}
+use Rattle.hail_client.specs.Stands.{StandsBy, ClientStands, Makes}
+
+-- an open vault makes them
+pub begin-of : (c : Client) (v next : Vault) (kind : Kind) (result : Result ℕ BeginFault) → c.vault ≡ Some v → IsSpelledKind kind → ((w : State) (d : Devices) (moment : ℕ) → Stands v d w → MakesBegin w moment kind result next d) →
+    (w : State) (d : Devices) (moment : ℕ) → ClientStands c d w → Makes w moment (Begin kind) (begin_outcome (Some result)) (record { vault = Some next; next_job = c.next_job }) d
+begin-of c v next kind result is spelled makes w d moment S =
+    (let M = makes w d moment (subst (λ (o : Option Vault). StandsBy o c.next_job d w) is S) in
+    record { state = M.state; spelled = spelled; happens = M.begins; stands = M.stands })
+
+module _ (c : Client) (v next : Vault) (number : ℕ) (turn : Turn) (old new : Devices) (is : c.vault ≡ Some v) (makes : (w : State) (moment : ℕ) → Stands v old w → MakesStep w moment number turn next old new) where
+  opened : (w : State) → ClientStands c old w → Stands v old w
+  opened w S = subst (λ (o : Option Vault). StandsBy o c.next_job old w) is S
+
+  pub step-of : number < 2 ^ 32 → (w : State) (moment : ℕ) → ClientStands c old w → Makes w moment (Step number) (step_outcome (Some turn)) (record { vault = Some next; next_job = c.next_job }) new
+  step-of spelled w moment S = (let M = makes w moment (opened w S) in record { state = M.state; spelled = spelled; happens = M.happens; stands = M.stands })
+
+  pub heard-of : (w : State) → ClientStands c old w → IfEnded turn (λ ended. ended.heard ≡ heard_by (job_of w.jobs number))
+  heard-of w S = (makes w 0 (opened w S)).heard
+
+-- the files in effect are listed
+names-by : (o : Option Vault) (next : ℕ) (w : State) (d : Devices) → StandsBy o next d w → Lists w w.is_open (names_outcome (option_map table_of o)) w
+names-by (Some v) next w d S = subst (λ b. Lists w b (events.Listed (table_of v).files) w) (sym S.core.is_open) (S.core.table.files, refl)
+names-by None next w d S = subst (λ b. Lists w b Closed w) (sym S.closed) refl
+
+pub names : (w : State) (moment : ℕ) (c : Client) (d : Devices) (tables : Option Kept) → tables ≡ option_map table_of c.vault → ClientStands c d w → Makes w moment Names (names_outcome tables) c d
+names w moment c d tables is S = record { state = w; spelled = tt; happens = subst (λ (t : Option Kept). Lists w w.is_open (names_outcome t) w) (sym is) (names-by c.vault c.next_job w d S); stands = S }

@@ -1,0 +1,203 @@
+-- A reopening as an event of the machine.
+use Rattle.std.proofs.Common.{◌≡◌, ◌≢◌, ◌⊎◌, inl, inr, ℕ, zero, suc, ◌<◌, ◌≤◌, true, false, List, [], ◌∷◌, length, replicate, length-take, Option, Some, None, refl, ap, sym, subst, ◌∙◌, arith}
+use Rattle.std.specs.Prelude.{is_some, slice_get}
+use Rattle.std.specs.Option.{option_map}
+use Rattle.std.proofs.lemmas.List.{length-replicate}
+use Rattle.std.proofs.lemmas.Bool.{cases_Bool}
+use Rattle.hail_devices.specs.Cells.{Cells, reads}
+use Rattle.hail_devices.specs.Disks.{synced}
+use Rattle.hail_devices.specs.Faults.{Rose}
+use Rattle.hail_devices.specs.Told.{Goes}
+use Rattle.hail_devices.specs.Providers.{Provider}
+use Rattle.hail_records.specs.Records.{Record, Setup, largest_journal}
+use Rattle.hail_records.specs.Journal.{StandsFor, StandsOrIsEmpty}
+use Rattle.hail_records.specs.Table.{setup_of}
+use Rattle.hail_machine.specs.Events as events
+use Rattle.hail_machine.specs.Events.{Outcome, Reopen}
+use Rattle.hail_machine.specs.Refusals as refusal
+use Rattle.hail_machine.specs.States.{State, setup_in, given_up}
+use Rattle.hail_machine.specs.Stands.{StandsForState, StandsWithDoubt}
+use Rattle.hail_machine.specs.Openings.{Reopens, IsSetUp}
+use Rattle.sound_states.specs.Sound.{IsSound, IsAtRest}
+use Rattle.sound_states.proofs.Events.{events-sound}
+use Rattle.sound_states.proofs.Records.{none-set_up}
+use Rattle.vault.specs.declared.fault.StartFault.{StartFault}
+use Rattle.vault.specs.declared.fault.StartFault.TheVariants as start_fault
+use Rattle.vault.specs.declared.vault.Vault.{Vault}
+use Rattle.vault.specs.Devices.{devices, AreDevices, AreHanded}
+use Rattle.vault.specs.Openings.{journal_read, IsStartFault, LiesInJournal, IsRead, IsResynced}
+use Rattle.vault.specs.Seen.{provider_count}
+use Rattle.vault.specs.Stands.{Stands}
+use Rattle.vault.specs.Starts.{IsJustOpened}
+use Rattle.vault.proofs.Emptied.{reads-image, image-firm}
+use Rattle.vault.proofs.Ways.{images_on}
+use Rattle.hail_client.specs.declared.client.Client.{Client}
+use Rattle.hail_client.specs.Outcomes.{start_refusal}
+use Rattle.hail_client.specs.Start.{anyone}
+use Rattle.hail_client.specs.Stands.{StandsClosed, Makes}
+use Rattle.hail_client.proofs.Settled.{AreKept, settled, settles, settled-sound, read-kept, kept-accepted, kept-fits, firm-stands, stands-take, short-read, whole-read}
+use Rattle.hail_client.proofs.Refused.{bad-none}
+
+each-anyone : (n j : ℕ) → j < n → slice_get (replicate n anyone) j ≡ Some anyone
+each-anyone zero j l = absurd (omega (arith, l))
+each-anyone (suc n) zero l = refl
+each-anyone (suc n) (suc j) l = each-anyone n j (omega (arith, l))
+
+-- accepted records, of which there is one, have a setup
+has-setup : (w : State) → AreKept w w.records → IsSound 8 w → w.records ≢ [] → IsSetUp w
+has-setup w kept sound some = elim (cases_Bool (is_some (setup_of w.records))) [
+  | inl up ↦ up
+  | inr down ↦ absurd (some (none-set_up w.records sound.accepted down))
+]
+
+-- the vault was opened over these records, and so many providers are handed in
+abbrev pub opened : State → List Record → (ℕ → Provider) → ℕ → ℕ → State
+opened w rs providers handed faults = record (settled w rs) { is_open = true; providers = providers; handed = handed; disk_faults = faults }
+
+module _ (w : State) (rs : List Record) (sound : IsSound 8 w) (kept : AreKept w rs) (some : rs ≢ []) where
+  mid : IsSound 8 (settled w rs)
+  mid = settled-sound w rs sound kept
+
+  up : IsSetUp (settled w rs)
+  up = has-setup (settled w rs) (inl refl) mid some
+
+  rests : (providers : ℕ → Provider) (handed faults : ℕ) → (setup_in (settled w rs)).n ≤ handed → IsAtRest (opened w rs providers handed faults)
+  unfolding setup_in
+  rests providers handed faults enough = record {
+    idle = (refl, refl, refl);
+    undoubted = refl;
+    accepted = mid.accepted;
+    in_grammar = mid.in_grammar;
+    room = (let a = mid.room in omega (arith, a));
+    files = mid.files;
+    set_up = λ is. up;
+    handed = λ is. enough;
+  }
+
+  module _ (v : Vault) (holds : Option Cells) (faults first : ℕ) (is_first : w.next_job ≡ first)
+      (stands : (u : State) (ps : List Provider) → IsJustOpened u rs first faults ps → Stands v (devices holds faults ps) u) where
+    just : (u : State) (ps : List Provider) → IsAtRest u → u.is_open ≡ true → u.records ≡ rs → u.next_job ≡ first → u.disk_faults ≡ faults → AreHanded ps u → Stands v (devices holds faults ps) u
+    just u ps rest opens records next faults_are handed = stands u ps (record { at_rest = rest; is_open = opens; records = records; next_job = next; faults_are = faults_are; handed = handed })
+
+    pub stands-opened : (providers : ℕ → Provider) (ps : List Provider) → AreHanded ps (record (settled w rs) { providers = providers; handed = length ps }) → (setup_in (settled w rs)).n ≤ length ps →
+        Stands v (devices holds faults ps) (opened w rs providers (length ps) faults)
+    stands-opened providers ps handed enough =
+        just (opened w rs providers (length ps) faults) ps (rests providers (length ps) faults enough) refl refl is_first refl (record { count = refl; each = handed.each })
+
+    -- the vault uses as many providers as the setup in effect says
+    pub count-is : provider_count v ≡ (setup_in (settled w rs)).n
+    unfolding setup_in
+    count-is =
+        (let n : ℕ = (setup_in (settled w rs)).n in
+        let ps : List Provider = replicate n anyone in
+        let e : length ps ≡ n = length-replicate n anyone in
+        let enough : n ≤ length ps = omega (arith, e) in
+        let S = stands-opened (λ j. anyone) ps (record { count = refl; each = λ j l. each-anyone n j (omega (arith, l, e)) }) enough in
+        sym (ap (λ (z : Setup). z.n) S.setup))
+
+-- ---- events
+
+-- the client with its vault given up
+abbrev pub without_vault : ℕ → Client
+without_vault next = record { vault = None; next_job = next }
+
+module _ (w : State) (moment next : ℕ) (old : Cells) (f0 f1 : ℕ) (ps : List Provider) (sound : IsSound 8 w) (are : AreDevices (devices (Some old) f0 ps) w) (is_next : w.next_job ≡ next) (never : f0 ≤ f1) where
+  le : w.disk_faults ≤ f1
+  le = (let e = are.faults in omega (arith, e, never))
+
+  read : StandsOrIsEmpty (reads old) w.records ⊎ StandsWithDoubt w (reads old)
+  read = are.images (reads old) (reads-image old)
+
+  -- a state in which no vault is open, and job numbers go on
+  closed-at : (new : Option Cells) (u : State) → Reopens w events.Opened u ⊎ ((why : refusal.Refusal) × Reopens w (events.Refused why) u) → StandsForState new u → u.disk_faults ≡ f1 → u.handed ≡ w.handed → ((j : ℕ) → u.providers j ≡ w.providers j) →
+      u.is_open ≡ false → u.next_job ≡ w.next_job → StandsClosed next (devices new f1 ps) u
+  closed-at new u happens images faults handed providers closed same = record {
+    devices = record { images = images; faults = faults; providers = record { count = handed ∙ are.providers.count; each = λ j l. are.providers.each j l ∙ ap Some (sym (providers j)) } };
+    sound = by happens;
+    closed = closed;
+    next_job_is = same ∙ is_next;
+  }
+    where
+      by : Reopens w events.Opened u ⊎ ((why : refusal.Refusal) × Reopens w (events.Refused why) u) → IsSound 8 u
+      by (inl h) = events-sound 8 moment w sound Reopen events.Opened u tt h
+      by (inr (why, h)) = events-sound 8 moment w sound Reopen (events.Refused why) u tt h
+
+  refused-at : (new : Option Cells) (why : refusal.Refusal) (u : State) → Reopens w (events.Refused why) u → StandsForState new u → u.disk_faults ≡ f1 → u.handed ≡ w.handed → ((j : ℕ) → u.providers j ≡ w.providers j) →
+      u.is_open ≡ false → u.next_job ≡ w.next_job → Makes w moment Reopen (events.Refused why) (without_vault next) (devices new f1 ps)
+  refused-at new why u happens images faults handed providers closed same =
+      record { state = u; spelled = tt; happens = happens; stands = closed-at new u (inr (why, happens)) images faults handed providers closed same }
+
+  -- what the disk reads it reads still
+  abbrev left : State
+  left = record (given_up w) { disk_faults = f1 }
+
+  resynced-images : (new : Option Cells) → Goes IsResynced (Some old) new → StandsForState new left
+  resynced-images None goes = absurd goes
+  resynced-images (Some new) (inl same) = images_on (Some new) w left refl refl (subst (λ (c : Cells). StandsForState (Some c) w) (sym same) are.images)
+  resynced-images (Some new) (inr same) = images_on (Some new) w left refl refl (subst (λ (c : Cells). StandsForState (Some c) w) (sym same) one)
+    where
+      one : StandsForState (Some (synced old)) w
+      one image of = subst (λ (l : List ℕ). StandsOrIsEmpty l w.records ⊎ StandsWithDoubt w l) (sym (image-firm (reads old) image of)) read
+
+  synced-images : (new : Option Cells) (u : State) → new ≡ option_map synced (Some old) → StandsOrIsEmpty (reads old) u.records → StandsForState new u
+  synced-images new u is stands = subst (λ (o : Option Cells). StandsForState o u) (sym is) (firm-stands (reads old) u stands)
+
+  -- bytes that are no journal are not read
+  not-bad : (at : ℕ) → IsStartFault (journal_read old) (start_fault.BadJournal at) → ⊥
+  not-bad at (long, bad) = by_read read
+    where
+      none : (rs : List Record) → AreKept w rs → StandsFor (reads old) rs → ⊥
+      none rs kept stands = bad-none (journal_read old) at rs (kept-accepted w rs sound kept) (stands-take largest_journal (reads old) rs stands (kept-fits w rs sound kept)) bad
+
+      by_read : StandsOrIsEmpty (reads old) w.records ⊎ StandsWithDoubt w (reads old) → ⊥
+      by_read (inl (inl stands)) = none w.records (inl refl) stands
+      by_read (inl (inr empty)) = (let short = empty.1 in let e = length-take largest_journal (reads old) in omega (arith, long, short, e))
+      by_read (inr d) = none (d.doubt.entry ∷ w.records) (inr (d.doubt, d.in_doubt, refl)) d.stands
+
+  -- a disk on which nothing is set up
+  free-read : IsStartFault (journal_read old) start_fault.NotSetUp → StandsOrIsEmpty (reads old) []
+  free-read (inl short) = inr (refl, short-read old short)
+  free-read (inr none) = inl (whole-read old [] none)
+
+  pub fault-event : (new : Option Cells) (why : StartFault) → Goes IsResynced (Some old) new → IsStartFault (journal_read old) why → (LiesInJournal why → new ≡ option_map synced (Some old)) → (why ≡ start_fault.DiskFault → Rose f0 f1) →
+      Makes w moment Reopen (events.Refused (start_refusal why)) (without_vault next) (devices new f1 ps)
+  fault-event new start_fault.DiskFault goes is lies rose =
+      refused-at new refusal.DiskFault left (f1, le, subst (λ (k : ℕ). Rose k f1) (sym are.faults) (rose refl), refl) (resynced-images new goes) refl refl (λ j. refl) refl refl
+  fault-event new start_fault.Memory goes is lies rose = refused-at new refusal.Memory left (f1, le, refl) (resynced-images new goes) refl refl (λ j. refl) refl refl
+  fault-event new start_fault.NotSetUp goes is lies rose =
+      (let kept = read-kept w (reads old) [] (free-read is) read in
+      refused-at new refusal.NotSetUp (record (settled w []) { disk_faults = f1 }) (settled w [], settles w [] kept, refl, (f1, le, refl))
+      (synced-images new (record (settled w []) { disk_faults = f1 }) (lies tt) (free-read is)) refl refl (λ j. refl) refl refl)
+  fault-event new (start_fault.BadJournal at) goes is lies rose = absurd (not-bad at is)
+
+  -- records were read
+  module _ (new : Option Cells) (rs : List Record) (is_read : IsRead (Some old) rs) (is_synced : new ≡ option_map synced (Some old)) (v : Vault)
+      (stands : (u : State) (qs : List Provider) → IsJustOpened u rs next f1 qs → Stands v (devices new f1 qs) u) where
+    whole : StandsOrIsEmpty (reads old) rs
+    whole = inl (whole-read old rs is_read.reads_are.1)
+
+    kept : AreKept w rs
+    kept = read-kept w (reads old) rs whole read
+
+    uses-as : provider_count v ≡ (setup_in (settled w rs)).n
+    uses-as = count-is w rs sound kept is_read.some v new f1 next is_next stands
+
+    pub few-event : length ps < provider_count v → Makes w moment Reopen (events.Refused refusal.TooFewProviders) (without_vault next) (devices new f1 ps)
+    few-event few =
+        (let count = are.providers.count in
+        let fewer : w.handed < (setup_in (settled w rs)).n = (let e = uses-as in omega (arith, count, few, e)) in
+        refused-at new refusal.TooFewProviders (record (settled w rs) { disk_faults = f1 }) (settled w rs, settles w rs kept, up w rs sound kept is_read.some, fewer, (f1, le, refl))
+        (synced-images new (record (settled w rs) { disk_faults = f1 }) is_synced whole) refl refl (λ j. refl) refl refl)
+
+    pub opened-event : provider_count v ≤ length ps → Makes w moment Reopen events.Opened (record { vault = Some v; next_job = next }) (devices new f1 ps)
+    opened-event enough =
+        (let count = are.providers.count in
+        let many : (setup_in (settled w rs)).n ≤ length ps = (let e = uses-as in omega (arith, enough, e)) in
+        let many_handed : (setup_in (settled w rs)).n ≤ w.handed = omega (arith, many, count) in
+        record {
+          state = opened w rs w.providers w.handed f1;
+          spelled = tt;
+          happens = (settled w rs, settles w rs kept, up w rs sound kept is_read.some, many_handed, (f1, le, refl));
+          stands = subst (λ (k : ℕ). Stands v (devices new f1 ps) (opened w rs w.providers k f1)) (sym count)
+              (stands-opened w rs sound kept is_read.some v new f1 next is_next stands w.providers ps (record { count = refl; each = are.providers.each }) many);
+        })

@@ -1,0 +1,110 @@
+-- An alteration or a loss as an event of the machine.
+use Rattle.std.proofs.Common.{◌≡◌, ◌↔◌, ℕ, ◌<◌, ◌≤◌, Bool, true, false, List, length, Option, Some, None, refl, sym, subst, ◌∙◌, arith}
+use Rattle.std.specs.Prelude.{IsTrue, IsSome, IfSome, nat_lt, slice_get, slice_set, if◌then◌else◌}
+use Rattle.std.specs.Option.{option_map}
+use Rattle.hail_devices.specs.Cells.{Cells}
+use Rattle.hail_devices.specs.Providers.{Held, Provider}
+use Rattle.hail_devices.specs.ProviderCalls.{Replaces}
+use Rattle.hail_machine.specs.Events.{Event, Outcome, IsSpelled, NothingHeld}
+use Rattle.hail_machine.specs.States.{State, setup_in, with_provider}
+use Rattle.hail_machine.specs.Replacements.{ReplacesAt, ReplacesIf}
+use Rattle.hail_machine.specs.Machine.{Happens}
+use Rattle.sound_states.specs.Sound.{IsSound}
+use Rattle.sound_states.proofs.Events.{devices-sound}
+use Rattle.vault.specs.declared.vault.Vault.{Vault}
+use Rattle.vault.specs.Devices.{devices, AreHanded}
+use Rattle.vault.specs.Stands.{Stands}
+use Rattle.vault.proofs.Ways.{images_on, handed_on, setup_same}
+use Rattle.hail_client.specs.declared.client.Client.{Client}
+use Rattle.hail_client.specs.Outcomes.{replace_outcome}
+use Rattle.hail_client.specs.Stands.{StandsBy, ClientStands, Makes}
+use Rattle.hail_client.proofs.Standing.{devices-of, sound-of}
+
+lt-is : (a b : ℕ) → a < b → nat_lt a b ≡ true
+lt-is a b h = grind (arith, h)
+
+lt-not : (a b : ℕ) → b ≤ a → nat_lt a b ≡ false
+lt-not a b h = grind (arith, h)
+
+-- what a provider that tells goes to, or one that does not
+pub replaces : (IsThere : Held → Type 0) (change : Held → Held) (answer : Bool) (told : Option Held) (stores others fetches : ℕ) (new : Provider) → IfSome told (λ held. IsTrue answer ↔ IsThere held) →
+    new.held ≡ (if answer then option_map change told else told) → new.store_faults ≡ stores → others ≤ new.other_faults → (IsSome told → new.other_faults ≡ others) → new.fetches ≡ fetches →
+    Replaces IsThere change answer (record { held = told; store_faults = stores; other_faults = others; fetches = fetches }) new
+replaces IsThere change true (Some held) stores others fetches new there holds same_stores more same_others same_fetches =
+    (there, λ i. record { held = holds i; store_faults = same_stores i; other_faults = same_others refl i; fetches = same_fetches i })
+replaces IsThere change false (Some held) stores others fetches new there holds same_stores more same_others same_fetches =
+    (there, λ i. record { held = holds i; store_faults = same_stores i; other_faults = same_others refl i; fetches = same_fetches i })
+replaces IsThere change true None stores others fetches new there holds same_stores more same_others same_fetches =
+    (holds, record { store_faults = same_stores; other_faults = more; fetches = same_fetches })
+replaces IsThere change false None stores others fetches new there holds same_stores more same_others same_fetches =
+    (holds, record { store_faults = same_stores; other_faults = more; fetches = same_fetches })
+
+module _ (holds : Option Cells) (faults : ℕ) (ps qs : List Provider) (w : State) (providers : ℕ → Provider) where
+  abbrev after : State
+  after = record w { providers = providers }
+
+  stands-open : (v : Vault) → Stands v (devices holds faults ps) w → AreHanded qs after → IsSound 8 after → Stands v (devices holds faults qs) after
+  unfolding setup_in
+  stands-open v S handed sound =
+      let same : setup_in after ≡ setup_in w = setup_same w after refl in
+      record {
+        devices = record { images = images_on holds w after refl refl S.devices.images; faults = S.devices.faults; providers = handed };
+        core = record {
+          sound = sound;
+          is_open = S.core.is_open;
+          table = S.core.table;
+          setup = S.core.setup ∙ sym same;
+          end = S.core.end;
+          jobs = S.core.jobs;
+          next_job = S.core.next_job;
+          append = S.core.append;
+          barred = S.core.barred;
+        };
+        setup = same ∙ S.setup;
+        shaped = S.shaped;
+        jobs = S.jobs;
+        flight = S.flight;
+      }
+
+  pub stands-after : (o : Option Vault) (next : ℕ) → StandsBy o next (devices holds faults ps) w → AreHanded qs after → IsSound 8 after → StandsBy o next (devices holds faults qs) after
+  stands-after (Some v) next S handed sound = stands-open v S handed sound
+  stands-after None next S handed sound = record {
+    devices = record { images = images_on holds w after refl refl S.devices.images; faults = S.devices.faults; providers = handed };
+    sound = sound;
+    closed = S.closed;
+    next_job_is = S.next_job_is;
+  }
+
+-- ---- events
+
+-- a provider that is not handed in is not replaced
+pub not-handed : (event : Event) (w : State) (moment j : ℕ) (IsThere : Held → Type 0) (change : Held → Held) (c : Client) (holds : Option Cells) (faults : ℕ) (ps : List Provider) → IsSpelled event →
+    ((outcome : Outcome) (new : State) → ReplacesIf (nat_lt j w.handed) w j IsThere change outcome new → Happens 8 moment w event outcome new) → length ps ≤ j →
+    ClientStands c (devices holds faults ps) w → Makes w moment event NothingHeld c (devices holds faults ps)
+not-handed event w moment j IsThere change c holds faults ps spelled is beyond S =
+    let count = (devices-of c.vault c.next_job (devices holds faults ps) w S).providers.count in
+    let out : nat_lt j w.handed ≡ false = lt-not j w.handed (omega (arith, count, beyond)) in
+    record { state = w; spelled = spelled; happens = is NothingHeld w (subst (λ b. ReplacesIf b w j IsThere change NothingHeld w) (sym out) refl); stands = S }
+
+-- one that is handed in goes by the answer
+pub handed : (event : Event) (w : State) (moment j : ℕ) (IsThere : Held → Type 0) (change : Held → Held) (c : Client) (holds : Option Cells) (faults : ℕ) (ps qs : List Provider) (p q : Provider) (answer : Bool) → IsSpelled event →
+    ((outcome : Outcome) (new : State) → ReplacesIf (nat_lt j w.handed) w j IsThere change outcome new → Happens 8 moment w event outcome new) → j < length ps →
+    slice_get ps j ≡ Some p → qs ≡ slice_set ps j q → Replaces IsThere change answer p q →
+    ClientStands c (devices holds faults ps) w → Makes w moment event (replace_outcome answer) c (devices holds faults qs)
+handed event w moment j IsThere change c holds faults ps qs p q answer spelled is within p_is qs_are made S =
+    let are = (devices-of c.vault c.next_job (devices holds faults ps) w S).providers in
+    let inside : nat_lt j w.handed ≡ true = lt-is j w.handed (let count = are.count in omega (arith, count, within)) in
+    let seen : p ≡ w.providers j = (let e : Some p ≡ Some (w.providers j) = sym p_is ∙ are.each j within in cc) in
+    let changed : ℕ → Provider = with_provider w.providers j q in
+    let after_is : AreHanded qs (after holds faults ps qs w changed) = subst (λ (l : List Provider). AreHanded l (after holds faults ps qs w changed)) (sym qs_are) (handed_on ps w (after holds faults ps qs w changed) j q are within refl (λ k. refl)) in
+    record {
+      state = after holds faults ps qs w changed;
+      spelled = spelled;
+      happens = is (replace_outcome answer) (after holds faults ps qs w changed) (subst (λ b. ReplacesIf b w j IsThere change (replace_outcome answer) (after holds faults ps qs w changed)) (sym inside)
+          (by_answer answer (subst (λ (x : Provider). Replaces IsThere change answer x q) seen made)));
+      stands = stands-after holds faults ps qs w changed c.vault c.next_job S after_is (devices-sound 8 w changed w.disk_faults (sound-of c.vault c.next_job (devices holds faults ps) w S));
+    }
+  where
+    by_answer : (answer : Bool) → Replaces IsThere change answer (w.providers j) q → ReplacesAt w j IsThere change (replace_outcome answer) (record w { providers = with_provider w.providers j q })
+    by_answer true made = (q, made, refl)
+    by_answer false made = (q, made, refl)

@@ -1,0 +1,46 @@
+-- What a client and its devices stand for.
+use Rattle.std.proofs.Common.{◌≡◌, ℕ, ◌≤◌, length, Option, Some, None, refl, ap, sym, arith}
+use Rattle.hail_records.specs.Records.{Setup}
+use Rattle.hail_machine.specs.Events.{Continue, Continued}
+use Rattle.hail_machine.specs.States.{State, IsStart, continued}
+use Rattle.sound_states.specs.Sound.{IsSound}
+use Rattle.sound_states.proofs.Resting.{start-sound}
+use Rattle.sound_states.proofs.Events.{events-sound}
+use Rattle.vault.specs.declared.vault.Vault.{Vault}
+use Rattle.vault.specs.Devices.{Devices, AreDevices}
+use Rattle.vault.proofs.Ways.{images_on}
+use Rattle.hail_client.specs.Client.{next_job_by, uses_by}
+use Rattle.hail_client.specs.Stands.{StandsClosed, StandsBy}
+
+pub devices-of : (o : Option Vault) (next : ℕ) (d : Devices) (w : State) → StandsBy o next d w → AreDevices d w
+devices-of (Some v) next d w S = S.devices
+devices-of None next d w S = S.devices
+
+pub sound-of : (o : Option Vault) (next : ℕ) (d : Devices) (w : State) → StandsBy o next d w → IsSound 8 w
+sound-of (Some v) next d w S = S.core.sound
+sound-of None next d w S = S.sound
+
+pub next-of : (o : Option Vault) (next : ℕ) (d : Devices) (w : State) → StandsBy o next d w → w.next_job ≡ next_job_by o next
+next-of (Some v) next d w S = sym S.core.next_job
+next-of None next d w S = S.next_job_is
+
+pub enough-of : (o : Option Vault) (next : ℕ) (d : Devices) (w : State) → StandsBy o next d w → uses_by o ≤ length d.providers
+enough-of (Some v) next d w S =
+    (let a = S.core.sound.handed S.core.is_open in
+    let b = S.devices.providers.count in
+    let c = ap (λ (z : Setup). z.n) S.setup in
+    omega (arith, a, b, c))
+enough-of None next d w S = omega arith
+
+-- a client with no vault open stands for a state before the first event
+pub start-stands : (d : Devices) (w : State) → IsStart w → AreDevices d w → StandsClosed 1 d w
+start-stands d w start are = record { devices = are; sound = start-sound 8 w start; closed = start.closed; next_job_is = start.first_job }
+
+-- and for the state in which a later call of the program goes on
+pub continued-stands : (d : Devices) (w : State) → IsSound 8 w → AreDevices d w → StandsClosed 1 d (continued w)
+continued-stands d w sound are = record {
+  devices = record { images = images_on d.holds w (continued w) refl refl are.images; faults = are.faults; providers = record { count = are.providers.count; each = are.providers.each } };
+  sound = events-sound 8 0 w sound Continue Continued (continued w) tt refl;
+  closed = refl;
+  next_job_is = refl;
+}

@@ -1,0 +1,4 @@
+pub mod Client
+pub mod Outcomes
+pub mod Stands
+pub mod Start

@@ -1,0 +1,70 @@
+-- What the answers of the calls are as outcomes of the machine. An answer is None where no vault is open.
+--
+--   begin_outcome result   == of a begin
+--   UnlessBegun result P   == P holds unless the begin was accepted
+--   step_outcome result    == of a step
+--   is_more result         == the job of a step goes on
+--   reopen_outcome result  == of a reopening
+--   replace_outcome result == of an alteration or a loss
+--   names_outcome files    == of a list of the files in effect, by the table that has them
+use Rattle.std.specs.Prelude.{ℕ, Bool, true, false, Option, Some, None, Result, Ok, Err}
+use Rattle.hail_machine.specs.Refusals as refusal
+use Rattle.hail_machine.specs.Refusals.{Refusal}
+use Rattle.hail_machine.specs.Events as events
+use Rattle.hail_machine.specs.Events.{Outcome}
+use Rattle.vault_core.specs.declared.wish.BeginFault.{BeginFault}
+use Rattle.vault_table.specs.Values.{Kept}
+use Rattle.vault.specs.declared.fault.StartFault.{StartFault}
+use Rattle.vault.specs.declared.fault.StartFault.TheVariants as start_fault
+use Rattle.vault.specs.declared.turn.Turn.{Turn}
+use Rattle.vault.specs.declared.turn.Turn.TheVariants as turn
+use Rattle.vault.specs.Outcomes as vault
+use Rattle.hail_client.specs.declared.fault.ReopenFault.{ReopenFault}
+use Rattle.hail_client.specs.declared.fault.ReopenFault.TheVariants as reopen_fault
+
+-- the outcome of a begin
+abbrev pub begin_outcome : Option (Result ℕ BeginFault) → Outcome
+begin_outcome None = events.Closed
+begin_outcome (Some result) = vault.begin_outcome result
+
+-- a fact of a begin that was not accepted
+abbrev pub UnlessBegun : Option (Result ℕ BeginFault) → Type 0 → Type 0
+UnlessBegun (Some (Ok job)) P = Unit {0}
+UnlessBegun result P = P
+
+-- the outcome of a step
+abbrev pub step_outcome : Option Turn → Outcome
+step_outcome None = events.Closed
+step_outcome (Some t) = vault.outcome_of t
+
+-- the job of a step goes on
+abbrev pub is_more : Option Turn → Bool
+is_more (Some turn.More) = true
+is_more result = false
+
+-- why a start gave no vault
+abbrev pub start_refusal : StartFault → Refusal
+start_refusal start_fault.DiskFault = refusal.DiskFault
+start_refusal start_fault.NotSetUp = refusal.NotSetUp
+start_refusal (start_fault.BadJournal at) = refusal.BadJournal at
+start_refusal start_fault.Memory = refusal.Memory
+
+-- why no vault is open after a reopening
+abbrev pub reopen_refusal : ReopenFault → Refusal
+reopen_refusal (reopen_fault.NotOpened why) = start_refusal why
+reopen_refusal reopen_fault.TooFewProviders = refusal.TooFewProviders
+
+-- the outcome of a reopening
+abbrev pub reopen_outcome : Result Unit ReopenFault → Outcome
+reopen_outcome (Ok done) = events.Opened
+reopen_outcome (Err why) = events.Refused (reopen_refusal why)
+
+-- the outcome of an alteration or a loss
+abbrev pub replace_outcome : Bool → Outcome
+replace_outcome true = events.Replaced
+replace_outcome false = events.NothingHeld
+
+-- the outcome of a list of the files in effect
+abbrev pub names_outcome : Option Kept → Outcome
+names_outcome None = events.Closed
+names_outcome (Some table) = events.Listed table.files

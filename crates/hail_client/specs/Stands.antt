@@ -1,0 +1,72 @@
+-- How a client and its devices stand for a state of the machine, and how a call is one event of it.
+--
+--   ClientStands c d w   == client and devices stand for a state: a vault is open in both, and stands for it, or none is open; the state
+--                           is sound
+--   Makes w moment event outcome c d == from a state, after so many events, an event has this outcome, and client and devices stand for
+--                           the state after it
+--   moment_of m          == this event as a moment of a run
+--   IsStanding c d       == client and devices stand for some state
+--   IsReached start ms c d == the moments are a run from a state, and client and devices stand for the last state of it
+--   RunsJobOn start ms job turn c d == behind these moments a job was stepped until this turn, at which it did not go on
+use Rattle.std.specs.Prelude.{◌≡◌, ℕ, false, List, ◌∷◌, ◌++◌, Option, Some, None, IfSome}
+use Rattle.hail_machine.specs.Events.{Event, Outcome, IsSpelled}
+use Rattle.hail_machine.specs.States.{State}
+use Rattle.hail_machine.specs.Machine.{Happens}
+use Rattle.hail_machine.specs.Heard.{heard_by}
+use Rattle.hail_machine.specs.Jobs.{job_of}
+use Rattle.hail_machine.specs.Runs.{Moment, now, IsRun}
+use Rattle.hail_machine.specs.Transcripts.{RunsJob}
+use Rattle.sound_states.specs.Sound.{IsSound}
+use Rattle.vault.specs.declared.turn.Turn.{Turn}
+use Rattle.vault.specs.declared.vault.Vault.{Vault}
+use Rattle.vault.specs.Devices.{Devices, AreDevices}
+use Rattle.vault.specs.Outcomes.{IfEnded}
+use Rattle.vault.specs.Stands.{Stands}
+use Rattle.hail_client.specs.declared.client.Client.{Client}
+use Rattle.hail_client.specs.Outcomes.{step_outcome}
+
+-- no vault is open in a state
+pub record StandsClosed (next_job : ℕ) (d : Devices) (w : State) : Type 0 where
+  pub devices : AreDevices d w
+  pub sound : IsSound 8 w
+  pub closed : w.is_open ≡ false
+  pub next_job_is : w.next_job ≡ next_job
+
+-- an open vault stands for a state, or none is open in it; the next job has this number
+abbrev pub StandsBy : Option Vault → ℕ → Devices → State → Type 0
+StandsBy (Some v) next d w = Stands v d w
+StandsBy None next d w = StandsClosed next d w
+
+-- client and devices stand for a state
+abbrev pub ClientStands : Client → Devices → State → Type 0
+ClientStands c d w = StandsBy c.vault c.next_job d w
+
+-- client and devices stand for some state
+pub record IsStanding (c : Client) (d : Devices) : Type 0 where
+  pub state : State
+  pub stands : ClientStands c d state
+
+-- an event is one of the machine, and client and devices stand for the state after it
+pub record Makes (w : State) (moment : ℕ) (event : Event) (outcome : Outcome) (c : Client) (d : Devices) : Type 0 where
+  pub state : State
+  pub spelled : IsSpelled event
+  pub happens : Happens 8 moment w event outcome state
+  pub stands : ClientStands c d state
+
+-- an event as a moment of a run
+abbrev pub moment_of : {w : State} {moment : ℕ} {event : Event} {outcome : Outcome} {c : Client} {d : Devices} → Makes w moment event outcome c d → Moment
+moment_of {w} {moment} {event} {outcome} {c} {d} m = record { event = event; outcome = outcome; state = m.state }
+
+-- client and devices stand for the last state of a run
+pub record IsReached (start : State) (ms : List Moment) (c : Client) (d : Devices) : Type 0 where
+  pub run : IsRun 8 start ms
+  pub stands : ClientStands c d (now start ms)
+
+-- behind a run a job was stepped until it did not go on, and what it heard is told at its end
+pub record RunsJobOn (start : State) (ms : List Moment) (job : ℕ) (turn : Option Turn) (c : Client) (d : Devices) : Type 0 where
+  pub steps : List Moment
+  pub last : Moment
+  pub runs : RunsJob job last steps
+  pub outcome_is : last.outcome ≡ step_outcome turn
+  pub reached : IsReached start (last ∷ (steps ++ ms)) c d
+  pub heard : IfSome turn (λ t. IfEnded t (λ ended. ended.heard ≡ heard_by (job_of (now start (steps ++ ms)).jobs job)))

@@ -1,0 +1,36 @@
+-- The state at the start of a run over devices.
+--
+--   provider_at ps j  == what is seen of the provider of a number; one of which nothing is told where none is handed in
+--   start_of d rs     == the state before the first event over these devices, where the disk stands for these records
+use Rattle.std.specs.Prelude.{ℕ, zero, suc, false, List, [], ◌∷◌, length, None}
+use Rattle.hail_devices.specs.Providers.{Provider}
+use Rattle.hail_records.specs.Records.{Record}
+use Rattle.hail_machine.specs.States.{State}
+use Rattle.vault.specs.Devices.{Devices}
+
+-- a provider of which nothing is told
+abbrev pub anyone : Provider
+anyone = record { held = None; store_faults = 0; other_faults = 0; fetches = 0 }
+
+-- the provider of a number
+abbrev pub provider_at : List Provider → ℕ → Provider
+provider_at [] j = anyone
+provider_at (p ∷ ps) zero = p
+provider_at (p ∷ ps) (suc j) = provider_at ps j
+
+-- the state before the first event
+abbrev pub start_of : Devices → List Record → State
+start_of d rs = record {
+  records = rs;
+  bytes = λ id. [];
+  audits = λ number. 0;
+  jobs = [];
+  next_job = 1;
+  append = None;
+  doubt = None;
+  providers = provider_at d.providers;
+  handed = length d.providers;
+  disk_faults = d.faults;
+  is_open = false;
+  is_barred = false;
+}

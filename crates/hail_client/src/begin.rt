@@ -1,0 +1,88 @@
+ghost use Rattle.std.specs.Prelude.{◌≡◌, ◌<◌, ◌-◌, ◌^◌, ℕ};
+ghost use Rattle.hail_machine.specs.Events.{Begin, AreBytes};
+ghost use Rattle.hail_machine.specs.Jobs.{PutJob, GetJob, DropJob, AuditJob, RepairJob};
+ghost use Rattle.hail_machine.specs.States.{State};
+ghost use Rattle.vault.specs.Devices.{Devices};
+ghost use Rattle.hail_client.specs.Client.{next_job_of, IsSame};
+ghost use Rattle.hail_client.specs.Outcomes.{begin_outcome, UnlessBegun};
+ghost use Rattle.hail_client.specs.Stands.{ClientStands, Makes};
+
+use crate::client::Client;
+use stream_model::Bytes;
+use vault::BeginFault;
+
+/// What a slice of bytes holds are bytes.
+pub(crate) fn bytes_are_bytes(bytes: &[u8])
+    ensures { AreBytes bytes.now }
+{}
+
+impl Client {
+    /// Begins to put a file under a name; None where no vault is open, as at each begin.
+    pub fn begin_put(&mut self, name: &[u8], bytes: Bytes) -> Option<Result<u32, BeginFault>>
+        requires { next_job_of self.old < 2 ^ 32 - 1 }
+        ensures machine { (w : State) (d : Devices) (moment : ℕ) → ClientStands self.old d w
+            → Makes w moment (Begin (PutJob name.now bytes)) (begin_outcome result) self.new d }
+        ensures unchanged { UnlessBegun result (IsSame self.old self.new) }
+    {
+        bytes_are_bytes(name);
+        bytes_are_bytes(bytes.as_slice());
+        match &mut self.vault {
+            Some(vault) => Some(vault.begin_put(name, bytes)),
+            None => None,
+        }
+    }
+
+    /// Begins to get the file of a name.
+    pub fn begin_get(&mut self, name: &[u8]) -> Option<Result<u32, BeginFault>>
+        requires { next_job_of self.old < 2 ^ 32 - 1 }
+        ensures machine { (w : State) (d : Devices) (moment : ℕ) → ClientStands self.old d w
+            → Makes w moment (Begin (GetJob name.now)) (begin_outcome result) self.new d }
+        ensures unchanged { UnlessBegun result (IsSame self.old self.new) }
+    {
+        bytes_are_bytes(name);
+        match &mut self.vault {
+            Some(vault) => Some(vault.begin_get(name)),
+            None => None,
+        }
+    }
+
+    /// Begins to drop the file of a name.
+    pub fn begin_drop(&mut self, name: &[u8]) -> Option<Result<u32, BeginFault>>
+        requires { next_job_of self.old < 2 ^ 32 - 1 }
+        ensures machine { (w : State) (d : Devices) (moment : ℕ) → ClientStands self.old d w
+            → Makes w moment (Begin (DropJob name.now)) (begin_outcome result) self.new d }
+        ensures unchanged { UnlessBegun result (IsSame self.old self.new) }
+    {
+        bytes_are_bytes(name);
+        match &mut self.vault {
+            Some(vault) => Some(vault.begin_drop(name)),
+            None => None,
+        }
+    }
+
+    /// Begins to audit all files in effect.
+    pub fn begin_audit(&mut self) -> Option<Result<u32, BeginFault>>
+        requires { next_job_of self.old < 2 ^ 32 - 1 }
+        ensures machine { (w : State) (d : Devices) (moment : ℕ) → ClientStands self.old d w
+            → Makes w moment (Begin AuditJob) (begin_outcome result) self.new d }
+        ensures unchanged { UnlessBegun result (IsSame self.old self.new) }
+    {
+        match &mut self.vault {
+            Some(vault) => Some(vault.begin_audit()),
+            None => None,
+        }
+    }
+
+    /// Begins to rebuild the providers that the last audit flagged.
+    pub fn begin_repair(&mut self) -> Option<Result<u32, BeginFault>>
+        requires { next_job_of self.old < 2 ^ 32 - 1 }
+        ensures machine { (w : State) (d : Devices) (moment : ℕ) → ClientStands self.old d w
+            → Makes w moment (Begin RepairJob) (begin_outcome result) self.new d }
+        ensures unchanged { UnlessBegun result (IsSame self.old self.new) }
+    {
+        match &mut self.vault {
+            Some(vault) => Some(vault.begin_repair()),
+            None => None,
+        }
+    }
+}

@@ -1,0 +1,74 @@
+ghost use Rattle.std.specs.Prelude.{◌≡◌, ℕ, false, option_copied};
+ghost use Rattle.hail_machine.specs.Events.{Names};
+ghost use Rattle.hail_machine.specs.States.{State, IsStart, continued};
+ghost use Rattle.sound_states.specs.Sound.{IsSound};
+ghost use Rattle.vault.specs.Devices.{Devices, AreDevices};
+ghost use Rattle.hail_client.specs.Client.{is_open, next_job_of, uses};
+ghost use Rattle.hail_client.specs.Outcomes.{names_outcome};
+ghost use Rattle.hail_client.specs.Stands.{ClientStands, Makes};
+
+use vault::Vault;
+use vault_table::Table;
+
+/// The number of the first job.
+const FIRST_JOB: u32 = 1;
+
+/// A client: a vault with its jobs, where one is open, over a disk and providers, which it does not hold: each call is lent them.
+#[derive(Drop)]
+pub struct Client {
+    pub(crate) vault: Option<Vault>,
+    pub(crate) next_job: u32,
+}
+
+impl Client {
+    /// A client with no vault open, whose jobs are numbered from 1.
+    pub fn new() -> Client
+        ensures start { (d : Devices) (w : State) → IsStart w → AreDevices d w → ClientStands result d w }
+        ensures closed { is_open result ≡ false }
+        ensures first { next_job_of result ≡ 1 }
+        ensures continued { (d : Devices) (w : State) → IsSound 8 w → AreDevices d w → ClientStands result d (continued w) }
+    {
+        Client {
+            vault: None,
+            next_job: FIRST_JOB,
+        }
+    }
+
+    /// Whether a vault is open.
+    pub fn is_open(&self) -> bool
+        ensures { result ≡ is_open self.now }
+    {
+        self.vault.is_some()
+    }
+
+    /// The number that the next accepted begin gets.
+    pub fn next_job(&self) -> u32
+        ensures { result ≡ next_job_of self.now }
+    {
+        match &self.vault {
+            Some(vault) => vault.next_job(),
+            None => self.next_job,
+        }
+    }
+
+    /// How many providers a step uses: those of the setup, and 0 where no vault is open.
+    pub fn providers(&self) -> usize
+        ensures { result ≡ uses self.now }
+    {
+        match &self.vault {
+            Some(vault) => usize::from(vault.setup().n),
+            None => 0,
+        }
+    }
+
+    /// The files in effect, in byte order of their names; None where no vault is open.
+    pub fn names(&self) -> Option<&Table>
+        ensures machine { (w : State) (d : Devices) (moment : ℕ) → ClientStands self.now d w
+            → Makes w moment Names (names_outcome (option_copied result)) self.now d }
+    {
+        match &self.vault {
+            Some(vault) => Some(vault.table()),
+            None => None,
+        }
+    }
+}

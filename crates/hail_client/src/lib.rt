@@ -1,0 +1,17 @@
+//! A client over its devices, with a vault open or none. Each call is one event of the machine of jobs.
+#![tactic(auto)]
+
+mod begin;
+mod client;
+mod fault;
+pub mod laws;
+mod open;
+mod replace;
+mod run;
+mod step;
+
+pub use client::Client;
+pub use fault::ReopenFault;
+
+#[cfg(test)]
+mod tests;

@@ -1,0 +1,126 @@
+ghost use Rattle.std.specs.Prelude.{◌≡◌, ℕ, true, false, List, Err, IsSome, IsTrue, IfSome, IfErr, OnOk, IsErrOf, is_ok, is_some, length};
+ghost use Rattle.hail_devices.specs.Faults.{HasCause};
+ghost use Rattle.hail_devices.specs.Providers.{Provider};
+ghost use Rattle.hail_devices.specs.Told.{Goes};
+ghost use Rattle.hail_machine.specs.Events.{Init, Reopen, Stop, Stopped, IsSpelled};
+ghost use Rattle.hail_records.specs.Records.{is_master};
+ghost use Rattle.hail_machine.specs.States.{State};
+ghost use Rattle.record_codec.specs.Entries.{with_master};
+ghost use Rattle.vault.specs.Devices.{devices};
+ghost use Rattle.vault.specs.Openings.{journal_read, IsInitFault, IsStartFault, IsSetUpOn, IsResynced};
+ghost use Rattle.vault.specs.declared.fault.InitFault.TheVariants as init_fault;
+ghost use Rattle.vault.specs.declared.fault.StartFault.{StartFault as StartFaultData};
+ghost use Rattle.vault.specs.declared.fault.StartFault.TheVariants as start_fault;
+ghost use Rattle.hail_client.specs.declared.fault.ReopenFault.TheVariants as reopen_fault;
+ghost use Rattle.vault.specs.Outcomes.{init_outcome};
+ghost use Rattle.hail_client.specs.Client.{is_open, next_job_of};
+ghost use Rattle.hail_client.specs.Outcomes.{reopen_outcome};
+ghost use Rattle.hail_client.specs.Stands.{ClientStands, Makes};
+
+use crate::begin::bytes_are_bytes;
+use crate::client::Client;
+use crate::fault::ReopenFault;
+use disk_model::Disk;
+use key_schedule::Master;
+use record_codec::Setup;
+use std::alloc::Global;
+use vault::{InitFault, Vault, init};
+
+/// A key is one of the grammar.
+fn key_is_spelled(key: &[u8])
+    requires { length key.now ≡ 32 }
+    ensures { IsTrue (is_master key.now) }
+{}
+
+/// The numbers of a setup and its key are spelled.
+fn setup_is_spelled(setup: Setup, master: &Master)
+    ensures { IsSpelled (Init (with_master setup master.now.0)) }
+{
+    let Setup {
+        n: _,
+        l: _,
+        b: _,
+        profile: _,
+        rounds: _,
+        picks: _,
+        tolerance: _,
+    } = setup;
+    key_is_spelled(&master.0);
+}
+
+impl Client {
+    /// Sets a store up on a disk; refused where a vault is open, with the disk left alone.
+    pub fn init<D: Disk>(
+        &self,
+        alloc: Global,
+        setup: &Setup,
+        master: &Master,
+        disk: &mut D,
+    ) -> Result<(), InitFault>
+        ensures machine { (w : State) (providers : List Provider) (moment : ℕ) → IsSome (D.holds disk.old)
+            → ClientStands self.now (devices (D.holds disk.old) (D.faults disk.old) providers) w
+            → Makes w moment (Init (with_master setup.now master.now.0)) (init_outcome result) self.now
+            (devices (D.holds disk.new) (D.faults disk.new) providers) }
+        ensures already { is_open self.now ≡ true → (result ≡ Err init_fault.Already) × (disk.new ≡ disk.old) }
+        ensures ok { OnOk result (Goes (IsSetUpOn (with_master setup.now master.now.0)) (D.holds disk.old) (D.holds disk.new)) }
+        ensures refused { is_open self.now ≡ false
+            → IfErr result (λ why. IfSome (D.holds disk.old) (λ cells. IsInitFault (journal_read cells) (with_master setup.now master.now.0) why)) }
+        ensures tells { is_some (D.holds disk.new) ≡ is_some (D.holds disk.old) }
+        ensures cause { HasCause (D.faults disk.old) (D.faults disk.new) (IsErrOf result init_fault.DiskFault) }
+    {
+        setup_is_spelled(*setup, master);
+        if self.vault.is_some() {
+            return Err(InitFault::Already);
+        }
+        init(alloc, disk, master, setup)
+    }
+
+    /// Gives up an open vault with its jobs, and opens one over what the disk reads, where so many providers are handed in. Job
+    /// numbers go on. After an error no vault is open.
+    pub fn reopen<D: Disk>(
+        &mut self,
+        alloc: Global,
+        disk: &mut D,
+        handed: usize,
+    ) -> Result<(), ReopenFault>
+        ensures machine { (w : State) (providers : List Provider) (moment : ℕ) → IsSome (D.holds disk.old) → length providers ≡ handed
+            → ClientStands self.old (devices (D.holds disk.old) (D.faults disk.old) providers) w
+            → Makes w moment Reopen (reopen_outcome result) self.new (devices (D.holds disk.new) (D.faults disk.new) providers) }
+        ensures opens { is_open self.new ≡ is_ok result }
+        ensures next_job { next_job_of self.new ≡ next_job_of self.old }
+        ensures refused { (why : StartFaultData) → IsErrOf result (reopen_fault.NotOpened why) → IfSome (D.holds disk.old) (λ cells. IsStartFault (journal_read cells) why) }
+        ensures disk { Goes IsResynced (D.holds disk.old) (D.holds disk.new) }
+        ensures cause { HasCause (D.faults disk.old) (D.faults disk.new) (IsErrOf result (reopen_fault.NotOpened start_fault.DiskFault)) }
+    {
+        self.give_up();
+        let vault = Vault::start(alloc, disk, self.next_job)?;
+        if handed < usize::from(vault.setup().n) {
+            return Err(ReopenFault::TooFewProviders);
+        }
+        self.vault = Some(vault);
+        Ok(())
+    }
+
+    /// Gives up an open vault with its jobs, and stops the disk, of which one of its images is left: a disk in memory makes it by
+    /// the picks.
+    pub fn stop<D: Disk>(&mut self, disk: &mut D, picks: &[u8])
+        ensures machine { (w : State) (providers : List Provider) (moment : ℕ)
+            → ClientStands self.old (devices (D.holds disk.old) (D.faults disk.old) providers) w
+            → Makes w moment (Stop picks.now) Stopped self.new (devices (D.holds disk.new) (D.faults disk.new) providers) }
+        ensures closed { is_open self.new ≡ false }
+        ensures next_job { next_job_of self.new ≡ next_job_of self.old }
+        ensures tells { is_some (D.holds disk.new) ≡ is_some (D.holds disk.old) }
+    {
+        bytes_are_bytes(picks);
+        self.give_up();
+        disk.stop(picks);
+    }
+
+    /// Gives up an open vault with its jobs.
+    fn give_up(&mut self)
+        ensures closed { self.new ≡ record { vault = None; next_job = next_job_of self.old } }
+    {
+        self.next_job = self.next_job();
+        self.vault = None;
+    }
+}

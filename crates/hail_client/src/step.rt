@@ -1,0 +1,48 @@
+ghost use Rattle.std.specs.Prelude.{◌≡◌, ◌<◌, ◌≤◌, ℕ, Some, None, IfSome, is_some, length, map};
+ghost use Rattle.hail_machine.specs.Events.{Step};
+ghost use Rattle.hail_machine.specs.Heard.{heard_by};
+ghost use Rattle.hail_machine.specs.Jobs.{job_of};
+ghost use Rattle.hail_machine.specs.States.{State};
+ghost use Rattle.vault.specs.declared.turn.Turn.TheVariants as turn;
+ghost use Rattle.vault.specs.Devices.{as_seen, devices};
+ghost use Rattle.vault.specs.Outcomes.{IfEnded, IsIdle, HasPaddedCounts};
+ghost use Rattle.hail_client.specs.Client.{uses, left_of, IsSame};
+ghost use Rattle.hail_client.specs.Outcomes.{step_outcome};
+ghost use Rattle.hail_client.specs.Stands.{ClientStands, Makes};
+
+use crate::client::Client;
+use disk_model::Disk;
+use provider_model::Provider;
+use vault::Turn;
+
+impl Client {
+    /// Makes the next action of a job, with at most one call of a device; None where no vault is open. Conditions: as many
+    /// providers as the open vault uses, or more, of which only these are used; and the disk is the one that it was opened over.
+    pub fn step<D: Disk, P: Provider>(
+        &mut self,
+        job: u32,
+        disk: &mut D,
+        providers: &mut [P],
+    ) -> Option<Turn>
+        requires { uses self.old ≤ length providers.old }
+        ensures machine { (w : State) (moment : ℕ)
+            → ClientStands self.old (devices (D.holds disk.old) (D.faults disk.old) (map (as_seen P.held P.store_faults P.other_faults P.fetches) providers.old)) w
+            → Makes w moment (Step job) (step_outcome result) self.new
+            (devices (D.holds disk.new) (D.faults disk.new) (map (as_seen P.held P.store_faults P.other_faults P.fetches) providers.new)) }
+        ensures heard { (w : State)
+            → ClientStands self.old (devices (D.holds disk.old) (D.faults disk.old) (map (as_seen P.held P.store_faults P.other_faults P.fetches) providers.old)) w
+            → IfSome result (λ turn. IfEnded turn (λ ended. ended.heard ≡ heard_by (job_of w.jobs job))) }
+        ensures tells { is_some (D.holds disk.new) ≡ is_some (D.holds disk.old) }
+        ensures left { result ≡ Some turn.More → left_of self.new job < left_of self.old job }
+        ensures padded { IfSome result (λ turn. IfEnded turn (λ ended. HasPaddedCounts ended.answer)) }
+        ensures waits { (w : State)
+            → ClientStands self.old (devices (D.holds disk.old) (D.faults disk.old) (map (as_seen P.held P.store_faults P.other_faults P.fetches) providers.old)) w
+            → IfSome result (λ turn. IsIdle turn → IsSame self.old self.new × (disk.new ≡ disk.old) × (providers.new ≡ providers.old)) }
+        ensures closed { result ≡ None → (self.new ≡ self.old) × (disk.new ≡ disk.old) × (providers.new ≡ providers.old) }
+    {
+        match &mut self.vault {
+            Some(vault) => Some(vault.step(job, disk, providers)),
+            None => None,
+        }
+    }
+}
