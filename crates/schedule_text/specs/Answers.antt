@@ -1,0 +1,18 @@
+-- What `read_schedule` answers.
+--
+--   lines_behind behind     == the lines of what is behind a newline, where there is one
+--   IsCauseOf text fault    == the line of the fault is the first bad one; want of memory has no cause here
+use Rattle.std.specs.Prelude.{ℕ, List, [], Option, None, Some}
+use Rattle.schedule_text.specs.declared.fault.ScheduleFault.{ScheduleFault}
+use Rattle.schedule_text.specs.declared.fault.ScheduleFault.TheVariants as faults
+use Rattle.schedule_text.specs.Schedules.{lines, IsFirstBadLine}
+
+-- the lines of what is behind a newline, where there is one
+abbrev pub lines_behind : Option (List ℕ) → List (List ℕ)
+lines_behind None = []
+lines_behind (Some behind) = lines behind
+
+-- the line of the fault is the first bad one
+abbrev pub IsCauseOf : List ℕ → ScheduleFault → Type 0
+IsCauseOf text (faults.BadLine number) = IsFirstBadLine text number
+IsCauseOf text faults.Memory = Unit {0}
