@@ -1,0 +1,4 @@
+pub mod Pieces
+pub mod Lines
+pub mod Numbers
+pub mod Keys

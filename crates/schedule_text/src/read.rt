@@ -4,7 +4,7 @@ ghost use Rattle.std.specs.Option.{option_map};
 ghost use Rattle.hail_machine.specs.Transcripts.{Command};
 ghost use Rattle.schedule_text.specs.Schedules.{lines, IsSchedule, IsFirstBadLine};
 ghost use Rattle.schedule_text.specs.Events.{commands_of};
-ghost use Rattle.schedule_text.specs.Answers.{lines_behind, IsCauseOf};
+ghost use Rattle.schedule_text.specs.Answers.{without_return, lines_behind, IsCauseOf};
 ghost use Rattle.schedule_text.specs.declared.fault.ScheduleFault.TheVariants as faults;
 
 use crate::event::Event;
@@ -14,7 +14,9 @@ use memchr::memchr;
 use std::alloc::Global;
 
 /// A line without the carriage return at its end.
-fn without_return(line: &[u8]) -> &[u8] {
+fn without_return(line: &[u8]) -> &[u8]
+    ensures { result.now ≡ without_return line.now }
+{
     match line {
         [front @ .., b'\r'] => front,
         _ => line,

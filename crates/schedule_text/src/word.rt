@@ -28,8 +28,10 @@ pub(crate) fn take_word(line: &[u8]) -> Result<(&[u8], &[u8]), LineFault>
     if left.is_empty() {
         return Err(LineFault::Bad);
     }
-    let end = memchr(b' ', left).unwrap_or(left.len());
-    Ok(left.split_at(end))
+    match memchr(b' ', left) {
+        Some(end) => Ok((&left[..end], &left[end..])),
+        None => Ok((left, &[])),
+    }
 }
 
 /// The event, where no word is left behind it.
