@@ -81,3 +81,27 @@ words-first (b ∷ line) (suc end) some front within none here =
     split [] end within here = absurd (omega arith)
     split (x ∷ text) zero within here = ap (λ (y : ℕ). y ∷ text) (eqb-true x 32 here)
     split (x ∷ text) (suc end) within here = split text end (omega arith) here
+
+-- what is left begins with no space
+pub front_is : (left : List ℕ) → 0 < length left → (length left ≡ 0) ⊎ (slice_index left 0 ≢ 32) → slice_index left 0 ≢ 32
+front_is left some (inl none) = absurd (omega arith)
+front_is left some (inr other) = other
+
+-- there is a piece
+pieces-some : (c : ℕ) (text : List ℕ) → (piece : List ℕ) × (others : List (List ℕ)) × (pieces c text ≡ piece ∷ others)
+pieces-some c [] = ([], [], refl)
+pieces-some c (b ∷ text) = at (b == c) (pieces c text) (pieces-some c text)
+  where
+    at : (test : Bool) (all : List (List ℕ)) → ((piece : List ℕ) × (others : List (List ℕ)) × (all ≡ piece ∷ others))
+        → (piece : List ℕ) × (others : List (List ℕ)) × (cond test ([] ∷ all) (begun b all) ≡ piece ∷ others)
+    at true all some = ([], all, refl)
+    at false all some = (b ∷ some.0, some.1, ap (λ (ps : List (List ℕ)). begun b ps) some.2)
+
+-- and a word, where no space is at the front
+pub words-some : (line : List ℕ) → 0 < length line → slice_index line 0 ≢ 32 → (word : List ℕ) × (others : List (List ℕ)) × (words line ≡ word ∷ others)
+words-some [] some front = absurd (omega arith)
+words-some (b ∷ line) some front =
+    let rest = pieces-some 32 line in
+    (b ∷ rest.0, filter has_bytes rest.1,
+        ap (λ (test : Bool). filter has_bytes (cond test ([] ∷ pieces 32 line) (begun b (pieces 32 line)))) (differ b 32 front)
+        ∙ ap (λ (ps : List (List ℕ)). filter has_bytes (begun b ps)) rest.2)

@@ -170,6 +170,15 @@ stop_at ws = do
   picks ← bytes_at ws
   ended (Once (Stop picks.0)) picks.1
 
+-- what is behind the first word of a line that speaks of no job and of no vault
+unfoldable pub apart_at : Word → List Word → Option Command
+apart_at first ws =
+    if bytes_eq first (codes "alter") then alter_at ws
+    else if bytes_eq first (codes "lose") then lose_at ws
+    else if bytes_eq first (codes "stop") then stop_at ws
+    else if bytes_eq first (codes "list") then ended (Once Names) ws
+    else None
+
 -- what is behind the first word of a line
 unfoldable pub behind_at : Word → List Word → Option Command
 behind_at first ws =
@@ -178,11 +187,7 @@ behind_at first ws =
     else if bytes_eq first (codes "begin") then begin_at ws
     else if bytes_eq first (codes "step") then step_at ws
     else if bytes_eq first (codes "run") then run_at ws
-    else if bytes_eq first (codes "alter") then alter_at ws
-    else if bytes_eq first (codes "lose") then lose_at ws
-    else if bytes_eq first (codes "stop") then stop_at ws
-    else if bytes_eq first (codes "list") then ended (Once Names) ws
-    else None
+    else apart_at first ws
 
 -- a line: None in Some where it is skipped
 unfoldable pub line_at : List Word → Option (Option Command)

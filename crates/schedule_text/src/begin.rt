@@ -46,13 +46,18 @@ fn read_drop(alloc: Global, line: &[u8]) -> Result<Event, LineFault>
 fn read_begun(alloc: Global, kind: &[u8], line: &[u8]) -> Result<Event, LineFault>
     ensures { Gives command_of result (begun_at kind.now (words line.now)) }
 {
-    match kind {
-        b"put" => read_put(alloc, line),
-        b"get" => read_get(alloc, line),
-        b"drop" => read_drop(alloc, line),
-        b"audit" => ended(Event::BeginAudit, line),
-        b"repair" => ended(Event::BeginRepair, line),
-        _ => Err(LineFault::Bad),
+    if kind == b"put".as_slice() {
+        read_put(alloc, line)
+    } else if kind == b"get".as_slice() {
+        read_get(alloc, line)
+    } else if kind == b"drop".as_slice() {
+        read_drop(alloc, line)
+    } else if kind == b"audit".as_slice() {
+        ended(Event::BeginAudit, line)
+    } else if kind == b"repair".as_slice() {
+        ended(Event::BeginRepair, line)
+    } else {
+        Err(LineFault::Bad)
     }
 }
 

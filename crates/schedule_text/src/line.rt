@@ -2,7 +2,7 @@
 ghost use Rattle.std.specs.Option.{option_map};
 ghost use Rattle.schedule_text.specs.Grammar.{words};
 ghost use Rattle.schedule_text.specs.Events.{command_of};
-ghost use Rattle.schedule_text.specs.Reading.{Gives, behind_at, line_at};
+ghost use Rattle.schedule_text.specs.Reading.{Gives, apart_at, behind_at, line_at};
 
 use crate::begin::read_begin;
 use crate::event::Event;
@@ -11,22 +11,41 @@ use crate::form::{read_alter, read_init, read_lose, read_run, read_step, read_st
 use crate::word::{ended, take_word};
 use std::alloc::Global;
 
+/// The event whose line begins with this word, where it speaks of no job and of no vault.
+#[tactic(auto, unfolding(crate::specs::Reading::apart_at))]
+fn read_apart(alloc: Global, first: &[u8], line: &[u8]) -> Result<Event, LineFault>
+    ensures { Gives command_of result (apart_at first.now (words line.now)) }
+{
+    if first == b"alter".as_slice() {
+        read_alter(line)
+    } else if first == b"lose".as_slice() {
+        read_lose(line)
+    } else if first == b"stop".as_slice() {
+        read_stop(alloc, line)
+    } else if first == b"list".as_slice() {
+        ended(Event::List, line)
+    } else {
+        Err(LineFault::Bad)
+    }
+}
+
 /// The event whose line begins with this word.
 #[tactic(auto, unfolding(crate::specs::Reading::behind_at))]
 fn read_behind(alloc: Global, first: &[u8], line: &[u8]) -> Result<Event, LineFault>
     ensures { Gives command_of result (behind_at first.now (words line.now)) }
 {
-    match first {
-        b"init" => read_init(line),
-        b"reopen" => ended(Event::Reopen, line),
-        b"begin" => read_begin(alloc, line),
-        b"step" => read_step(line),
-        b"run" => read_run(line),
-        b"alter" => read_alter(line),
-        b"lose" => read_lose(line),
-        b"stop" => read_stop(alloc, line),
-        b"list" => ended(Event::List, line),
-        _ => Err(LineFault::Bad),
+    if first == b"init".as_slice() {
+        read_init(line)
+    } else if first == b"reopen".as_slice() {
+        ended(Event::Reopen, line)
+    } else if first == b"begin".as_slice() {
+        read_begin(alloc, line)
+    } else if first == b"step".as_slice() {
+        read_step(line)
+    } else if first == b"run".as_slice() {
+        read_run(line)
+    } else {
+        read_apart(alloc, first, line)
     }
 }
 
@@ -38,7 +57,7 @@ pub(crate) fn read_line(alloc: Global, line: &[u8]) -> Result<Option<Event>, Lin
     let Ok((first, left)) = take_word(line) else {
         return Ok(None);
     };
-    if first[0] == b'#' {
+    if matches!(first, [b'#', ..]) {
         return Ok(None);
     }
     let event = read_behind(alloc, first, left)?;

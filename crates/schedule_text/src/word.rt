@@ -1,5 +1,5 @@
 // Takes the words of a line from its front.
-ghost use Rattle.std.specs.Prelude.{◌≡◌, ◌≢◌, ◌⊎◌, length, slice_index};
+ghost use Rattle.std.specs.Prelude.{◌≡◌, ◌≢◌, ◌⊎◌, length, slice_index, IfErr};
 ghost use Rattle.schedule_text.specs.Grammar.{words};
 ghost use Rattle.schedule_text.specs.Events.{command_of};
 ghost use Rattle.schedule_text.specs.Reading.{Gives, word_at, ended};
@@ -22,7 +22,8 @@ fn without_spaces(line: &[u8]) -> &[u8]
 
 /// The first word that is left of a line, and what is left behind it.
 pub(crate) fn take_word(line: &[u8]) -> Result<(&[u8], &[u8]), LineFault>
-    ensures { Gives (λ x. (x.0.now, words x.1.now)) result (word_at (words line.now)) }
+    ensures read { Gives (λ x. (x.0.now, words x.1.now)) result (word_at (words line.now)) }
+    ensures bad { IfErr result (λ fault. fault ≡ LineFault.Bad) }
 {
     let left = without_spaces(line);
     if left.is_empty() {

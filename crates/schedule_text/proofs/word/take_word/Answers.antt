@@ -4,16 +4,11 @@ use Rattle.std.proofs.lemmas.List.{take_all}
 use Rattle.std.proofs.lemmas.Bool.Decides.{nat_tests}
 use Rattle.schedule_text.specs.Grammar.{words}
 use Rattle.schedule_text.specs.Reading.{word_at}
-use Rattle.schedule_text.proofs.Pieces.{words-first, words-free, free_from}
+use Rattle.schedule_text.proofs.Pieces.{front_is, words-first, words-free, free_from}
 use Rattle.schedule_text.proofs.word.take_word.Goals as goal
 
--- what is left begins with no space
-front_is : (left : List ℕ) → 0 < length left → (length left ≡ 0) ⊎ (slice_index left 0 ≢ 32) → slice_index left 0 ≢ 32
-front_is left some (inl none) = absurd (omega arith)
-front_is left some (inr other) = other
-
-pub returns-in-Some : goal.returns-in-Some
-returns-in-Some c =
+pub returns-in-Some-clause-read : goal.returns-in-Some-clause-read
+returns-in-Some-clause-read c =
     let left = c.without_spaces-left.result.now in
     let some : 0 < length left = grind (arith, nat_tests) in
     let found = c.in-Some.ensures in
@@ -21,8 +16,8 @@ returns-in-Some c =
     (ap (λ (ws : List (List ℕ)). word_at ws) (sym c.without_spaces-left.ensures.same
         ∙ words-first left c.in-Some.end some (front_is left some c.without_spaces-left.ensures.front) found.0.high found.0.before found.1))
 
-pub returns-in-None : goal.returns-in-None
-returns-in-None c =
+pub returns-in-None-clause-read : goal.returns-in-None-clause-read
+returns-in-None-clause-read c =
     let left = c.without_spaces-left.result.now in
     let some : 0 < length left = grind (arith, nat_tests) in
     ap (λ (ws : List (List ℕ)). word_at ws) (sym c.without_spaces-left.ensures.same
