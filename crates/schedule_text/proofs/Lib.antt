@@ -2,3 +2,5 @@ pub mod Pieces
 pub mod Lines
 pub mod Numbers
 pub mod Keys
+pub mod Fields
+pub mod Forms
