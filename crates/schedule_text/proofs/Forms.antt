@@ -169,7 +169,7 @@ begun-takes kind ws command e = elim (chosen (bytes_eq kind (codes "put")) _ _ _
         (bare-takes (Once (Begin RepairJob)) command (codes "begin" ∷ codes "repair" ∷ []) ws repair.1
         (λ rest none. ap (λ (t : List Word). codes "begin" ∷ codes "repair" ∷ t) none))
   | inr e ↦ absurd (nothing e.1)
-]]]]]
+  ] ] ] ] ]
   where
     nothing : None ≡ Some command → ⊥
     nothing e = cc
@@ -192,7 +192,7 @@ apart-takes first ws command e = elim (chosen (bytes_eq first (codes "alter")) _
   | inl list ↦ subst (λ (f : Word). Spells (f ∷ ws) command) (is_word first _ list.0)
         (bare-takes (Once Names) command (codes "list" ∷ []) ws list.1 (λ rest none. ap (λ (t : List Word). codes "list" ∷ t) none))
   | inr e ↦ absurd (nothing e.1)
-]]]]
+  ] ] ] ]
   where
     nothing : None ≡ Some command → ⊥
     nothing e = cc
@@ -212,4 +212,4 @@ behind-takes first ws command e = elim (chosen (bytes_eq first (codes "init")) _
   | inr e ↦ elim (chosen (bytes_eq first (codes "run")) _ _ _ e.1) [
   | inl run ↦ subst (λ (f : Word). Spells (f ∷ ws) command) (is_word first _ run.0) (run-takes ws command run.1)
   | inr e ↦ apart-takes first ws command e.1
-]]]]]
+  ] ] ] ] ]

@@ -4,3 +4,7 @@ pub mod Numbers
 pub mod Keys
 pub mod Fields
 pub mod Forms
+pub mod Again
+pub mod Texts
+pub mod Plain
+pub mod Spelled

@@ -37,13 +37,13 @@ free-without_return (b ∷ c ∷ line) free =
     subst (Free 10) (sym (without_return-suc b c line)) (free.0, free-without_return (c ∷ line) free.1)
 
 -- a test that does not let pass
-keep : (p q : Bool) (x y : List ℕ) → q ≡ false → cond (p && q) x y ≡ y
+pub keep : (p q : Bool) (x y : List ℕ) → q ≡ false → cond (p && q) x y ≡ y
 keep true true x y fails = absurd cc
 keep true false x y fails = refl
 keep false q x y fails = refl
 
 -- the next byte is no newline
-next : (text : List ℕ) → Free 10 text → (slice_index text 0 == 10) ≡ false
+pub next : (text : List ℕ) → Free 10 text → (slice_index text 0 == 10) ≡ false
 next [] free = refl
 next (c ∷ text) free = differ c 10 free.0
 

@@ -1,5 +1,5 @@
 // Reads a whole text, line by line.
-ghost use Rattle.std.specs.Prelude.{◌≡◌, ◌∷◌, ◌⊎◌, ℕ, List, IfOk, IfErr, MatchResult};
+ghost use Rattle.std.specs.Prelude.{◌≡◌, ◌∷◌, ◌⊎◌, ◌<◌, ℕ, List, length, IfOk, IfSome, IfErr, MatchResult};
 ghost use Rattle.std.specs.Option.{option_map};
 ghost use Rattle.hail_machine.specs.Transcripts.{Command};
 ghost use Rattle.schedule_text.specs.Schedules.{lines, IsSchedule, IsFirstBadLine};
@@ -26,6 +26,7 @@ fn without_return(line: &[u8]) -> &[u8]
 /// The first line of a text, and what is behind its newline, if it has one.
 fn first_line(text: &[u8]) -> (&[u8], Option<&[u8]>)
     ensures lines { lines text.now ≡ result.0.now ∷ lines_behind (option_map (λ behind. behind.now) result.1) }
+    ensures shorter { IfSome (option_map (λ behind. behind.now) result.1) (λ behind. length behind < length text.now) }
 {
     match memchr(b'\n', text) {
         Some(end) => (without_return(&text[..end]), Some(&text[end + 1..])),
@@ -33,14 +34,10 @@ fn first_line(text: &[u8]) -> (&[u8], Option<&[u8]>)
     }
 }
 
-/// The events of a schedule, one for each line that is not skipped, in their order.
-pub fn read_schedule(alloc: Global, text: &[u8]) -> Result<Vec<Event>, ScheduleFault>
+/// The events of the lines of a text.
+fn read_lines(alloc: Global, text: &[u8]) -> Result<Vec<Event>, ScheduleFault>
     ensures ok { IfOk result (λ events. IsSchedule text.now (commands_of events.items)) }
     ensures bad { IfErr result (IsCauseOf text.now) }
-    ensures reads { (commands : List Command) → IsSchedule text.now commands
-        → MatchResult result (λ events. commands_of events.items ≡ commands) (λ fault. fault ≡ faults.Memory) }
-    ensures refuses { (number : ℕ) → IsFirstBadLine text.now number
-        → MatchResult result (λ _. ⊥) (λ fault. (fault ≡ faults.BadLine number) ⊎ (fault ≡ faults.Memory)) }
 {
     let mut events = Vec::new(alloc);
     let mut left = Some(text);
@@ -61,4 +58,16 @@ pub fn read_schedule(alloc: Global, text: &[u8]) -> Result<Vec<Event>, ScheduleF
         left = behind;
     }
     Ok(events)
+}
+
+/// The events of a schedule, one for each line that is not skipped, in their order.
+pub fn read_schedule(alloc: Global, text: &[u8]) -> Result<Vec<Event>, ScheduleFault>
+    ensures ok { IfOk result (λ events. IsSchedule text.now (commands_of events.items)) }
+    ensures bad { IfErr result (IsCauseOf text.now) }
+    ensures reads { (commands : List Command) → IsSchedule text.now commands
+        → MatchResult result (λ events. commands_of events.items ≡ commands) (λ fault. fault ≡ faults.Memory) }
+    ensures refuses { (number : ℕ) → IsFirstBadLine text.now number
+        → MatchResult result (λ _. ⊥) (λ fault. (fault ≡ faults.BadLine number) ⊎ (fault ≡ faults.Memory)) }
+{
+    read_lines(alloc, text)
 }
