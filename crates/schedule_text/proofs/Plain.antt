@@ -7,7 +7,7 @@ use Rattle.std.specs.Fmt.{decimal}
 use Rattle.std.specs.Str.Parse.{IsNumeral, AllDigits, digits_value}
 use Rattle.std.proofs.lemmas.Bool.Decides.{nat_tests}
 use Rattle.std.proofs.lemmas.Fmt.{decimal_is_IsNumeral_wide, decimal_by_steps_wide}
-use Rattle.std.proofs.lemmas.List.{get_or-append}
+use Rattle.std.proofs.lemmas.List.{get_or_append_left}
 use Rattle.std.proofs.lemmas.Str.Parse.{digit_from_value}
 use Rattle.hex.specs.Hex.{encode_with, encode_lower, lower_digits, decode_of, IsBytes}
 use Rattle.hex.proofs.HexLemmas.{decode_of-encode_lower, length-encode_with}
@@ -85,7 +85,7 @@ leading : (n : ℕ) → n < 10 ^ 64 → Leads n (decimal n)
 leading n small = decimal_by_steps_wide Leads
     (λ m few. (omega arith, (λ some. omega arith), (λ few. refl)))
     (λ m ds many so_far. (omega (arith, length-append ds ((48 + m % 10) ∷ [])),
-        (λ some. omega (arith, get_or-append ds ((48 + m % 10) ∷ []) 0 0 so_far.0, so_far.1 (omega arith))),
+        (λ some. omega (arith, get_or_append_left ds ((48 + m % 10) ∷ []) 0 0 so_far.0, so_far.1 (omega arith))),
         (λ few. absurd (omega (arith, few, many))))) n small
 
 pub number_word-decimal : (n : ℕ) → n < 2 ^ 128 → IsNumberWord (decimal n) n
@@ -122,7 +122,7 @@ free_encode table (b ∷ bytes) plain =
     let high = plain_at table (b / 16) plain in
     let low = plain_at table (b % 16) plain in
     let rest = free_encode table bytes plain in
-    ((high.0, low.0, rest.0), (high.1, low.1, rest.1))
+    ((high.0, (low.0, rest.0)), (high.1, (low.1, rest.1)))
 
 pub plain-encode : (bytes : List ℕ) → 0 < length bytes → IsPlain (encode_lower bytes)
 plain-encode bytes some =

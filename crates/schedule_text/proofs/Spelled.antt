@@ -95,12 +95,8 @@ pub record IsSpelling (command : Command) (ws : List Word) : Type 0 where
 
 word_spelling : (command : Command) → CanBeSpelled command → IsSpelling command (words_of command)
 word_spelling (Once (Init s)) can =
-    let n = omega (arith, can.0) in
     record {
-      plain = (plain_by_test (codes "init") (omega arith) refl,
-        plain-decimal s.n (omega (arith, can.0)), plain-decimal s.l (omega (arith, can.1)), plain-decimal s.b (omega (arith, can.2)),
-        plain-decimal s.profile (omega (arith, can.3)), plain-decimal s.rounds (omega (arith, can.4)), plain-decimal s.picks (omega (arith, can.5)),
-        plain-decimal s.tolerance (omega (arith, can.6)), plain-encode s.master (size-master s.master can.7), tt);
+      plain = (plain_by_test (codes "init") (omega arith) refl, (plain-decimal s.n (omega (arith, can.0)), (plain-decimal s.l (omega (arith, can.1)), (plain-decimal s.b (omega (arith, can.2)), (plain-decimal s.profile (omega (arith, can.3)), (plain-decimal s.rounds (omega (arith, can.4)), (plain-decimal s.picks (omega (arith, can.5)), (plain-decimal s.tolerance (omega (arith, can.6)), (plain-encode s.master (size-master s.master can.7), tt)))))))));
       some = omega arith;
       spells = (decimal s.n, decimal s.l, decimal s.b, decimal s.profile, decimal s.rounds, decimal s.picks, decimal s.tolerance, encode_lower s.master, refl,
         number-decimal 8 s.n can.0 (omega (arith, can.0)), number-decimal 8 s.l can.1 (omega (arith, can.1)), number-decimal 8 s.b can.2 (omega (arith, can.2)),
@@ -110,58 +106,56 @@ word_spelling (Once (Init s)) can =
 word_spelling (Once Reopen) can = record { plain = (plain_by_test (codes "reopen") (omega arith) refl, tt); some = omega arith; spells = refl }
 word_spelling (Once Names) can = record { plain = (plain_by_test (codes "list") (omega arith) refl, tt); some = omega arith; spells = refl }
 word_spelling (Once (Begin (PutJob name bytes))) can = record {
-  plain = (plain_by_test (codes "begin") (omega arith) refl, plain_by_test (codes "put") (omega arith) refl, plain-name name can.1, plain-hex_of bytes, tt);
+  plain = (plain_by_test (codes "begin") (omega arith) refl, (plain_by_test (codes "put") (omega arith) refl, (plain-name name can.1, (plain-hex_of bytes, tt))));
   some = omega arith;
   spells = (hex_of bytes, refl, hex-hex_of bytes can.0.1);
 }
 word_spelling (Once (Begin (GetJob name))) can = record {
-  plain = (plain_by_test (codes "begin") (omega arith) refl, plain_by_test (codes "get") (omega arith) refl, plain-name name can.1, tt);
+  plain = (plain_by_test (codes "begin") (omega arith) refl, (plain_by_test (codes "get") (omega arith) refl, (plain-name name can.1, tt)));
   some = omega arith;
   spells = refl;
 }
 word_spelling (Once (Begin (DropJob name))) can = record {
-  plain = (plain_by_test (codes "begin") (omega arith) refl, plain_by_test (codes "drop") (omega arith) refl, plain-name name can.1, tt);
+  plain = (plain_by_test (codes "begin") (omega arith) refl, (plain_by_test (codes "drop") (omega arith) refl, (plain-name name can.1, tt)));
   some = omega arith;
   spells = refl;
 }
 word_spelling (Once (Begin AuditJob)) can = record {
-  plain = (plain_by_test (codes "begin") (omega arith) refl, plain_by_test (codes "audit") (omega arith) refl, tt);
+  plain = (plain_by_test (codes "begin") (omega arith) refl, (plain_by_test (codes "audit") (omega arith) refl, tt));
   some = omega arith;
   spells = refl;
 }
 word_spelling (Once (Begin RepairJob)) can = record {
-  plain = (plain_by_test (codes "begin") (omega arith) refl, plain_by_test (codes "repair") (omega arith) refl, tt);
+  plain = (plain_by_test (codes "begin") (omega arith) refl, (plain_by_test (codes "repair") (omega arith) refl, tt));
   some = omega arith;
   spells = refl;
 }
 word_spelling (Once (Step job)) can = record {
-  plain = (plain_by_test (codes "step") (omega arith) refl, plain-decimal job (omega (arith, can)), tt);
+  plain = (plain_by_test (codes "step") (omega arith) refl, (plain-decimal job (omega (arith, can)), tt));
   some = omega arith;
   spells = (decimal job, refl, number-decimal 32 job can (omega (arith, can)));
 }
 word_spelling (RunJob job) can = record {
-  plain = (plain_by_test (codes "run") (omega arith) refl, plain-decimal job (omega (arith, can)), tt);
+  plain = (plain_by_test (codes "run") (omega arith) refl, (plain-decimal job (omega (arith, can)), tt));
   some = omega arith;
   spells = (decimal job, refl, number-decimal 32 job can (omega (arith, can)));
 }
 word_spelling (Once (Alter provider object stripe place symbol)) can = record {
-  plain = (plain_by_test (codes "alter") (omega arith) refl, plain-decimal provider (omega (arith, can.0)), plain-decimal object (omega (arith, can.1)),
-    plain-decimal stripe (omega (arith, can.2)), plain-decimal place (omega (arith, can.3)), plain-decimal symbol can.4, tt);
+  plain = (plain_by_test (codes "alter") (omega arith) refl, (plain-decimal provider (omega (arith, can.0)), (plain-decimal object (omega (arith, can.1)), (plain-decimal stripe (omega (arith, can.2)), (plain-decimal place (omega (arith, can.3)), (plain-decimal symbol can.4, tt))))));
   some = omega arith;
   spells = (decimal provider, decimal object, decimal stripe, decimal place, decimal symbol, refl,
     number-decimal 32 provider can.0 (omega (arith, can.0)), number-decimal 64 object can.1 (omega (arith, can.1)),
     number-decimal 32 stripe can.2 (omega (arith, can.2)), number-decimal 32 place can.3 (omega (arith, can.3)), number-decimal 128 symbol can.4 can.4);
 }
 word_spelling (Once (Lose provider object stripe)) can = record {
-  plain = (plain_by_test (codes "lose") (omega arith) refl, plain-decimal provider (omega (arith, can.0)), plain-decimal object (omega (arith, can.1)),
-    plain-decimal stripe (omega (arith, can.2)), tt);
+  plain = (plain_by_test (codes "lose") (omega arith) refl, (plain-decimal provider (omega (arith, can.0)), (plain-decimal object (omega (arith, can.1)), (plain-decimal stripe (omega (arith, can.2)), tt))));
   some = omega arith;
   spells = (decimal provider, decimal object, decimal stripe, refl,
     number-decimal 32 provider can.0 (omega (arith, can.0)), number-decimal 64 object can.1 (omega (arith, can.1)),
     number-decimal 32 stripe can.2 (omega (arith, can.2)));
 }
 word_spelling (Once (Stop picks)) can = record {
-  plain = (plain_by_test (codes "stop") (omega arith) refl, plain-hex_of picks, tt);
+  plain = (plain_by_test (codes "stop") (omega arith) refl, (plain-hex_of picks, tt));
   some = omega arith;
   spells = (hex_of picks, refl, hex-hex_of picks can);
 }

@@ -1,11 +1,13 @@
 -- The lines of a text and the commands that they spell.
 use Rattle.std.proofs.Common.{◌≡◌, ℕ, suc, ◌+◌, ◌<◌, ◌≤◌, List, [], ◌∷◌, ◌++◌, length, map, Option, Some, None, refl, sym, ap, subst, ◌∙◌, arith, inl, inr, ◌⊎◌, append_assoc, length-append}
-use Rattle.std.specs.Prelude.{IfSome}
+use Rattle.std.specs.Prelude.{IfSome, IfOk, IfErr, MatchResult, Result, Ok, Err}
 use Rattle.std.specs.List.{AllByRecursion}
 use Rattle.hail_machine.specs.Transcripts.{Command}
 use Rattle.schedule_text.specs.Grammar.{words, Spells, IsSkipped}
 use Rattle.schedule_text.specs.Schedules.{lines, IsLine, AreLines, IsSchedule, IsFirstBadLine}
-use Rattle.schedule_text.specs.Answers.{lines_behind}
+use Rattle.schedule_text.specs.declared.fault.ScheduleFault.{ScheduleFault}
+use Rattle.schedule_text.specs.declared.fault.ScheduleFault.TheVariants as faults
+use Rattle.schedule_text.specs.Answers.{lines_behind, IsCauseOf}
 use Rattle.schedule_text.proofs.Again.{spelled-not_skipped, Spells-once}
 
 -- lines spell one list of commands
@@ -140,3 +142,19 @@ all_read text number commands so_far =
     none : (front : List (List ℕ)) → front ++ [] ≡ front
     none [] = refl
     none (x ∷ front) = ap (λ (ls : List (List ℕ)). x ∷ ls) (none front)
+
+-- ---- what was answered is what must be
+
+pub reads_as : {V : Type 0} (commands_in : V → List Command) (text : List ℕ) (read : Result V ScheduleFault)
+    → IfOk read (λ v. IsSchedule text (commands_in v)) → IfErr read (IsCauseOf text)
+    → (commands : List Command) → IsSchedule text commands → MatchResult read (λ v. commands_in v ≡ commands) (λ fault. fault ≡ faults.Memory)
+reads_as commands_in text (Ok v) ok bad commands is = AreLines-once (lines text) (commands_in v) commands ok is
+reads_as commands_in text (Err (faults.BadLine number)) ok bad commands is = absurd (first_bad_excluded text number commands bad is)
+reads_as commands_in text (Err faults.Memory) ok bad commands is = refl
+
+pub refuses_for : {V : Type 0} (commands_in : V → List Command) (text : List ℕ) (read : Result V ScheduleFault)
+    → IfOk read (λ v. IsSchedule text (commands_in v)) → IfErr read (IsCauseOf text)
+    → (number : ℕ) → IsFirstBadLine text number → MatchResult read (λ _. ⊥) (λ fault. (fault ≡ faults.BadLine number) ⊎ (fault ≡ faults.Memory))
+refuses_for commands_in text (Ok v) ok bad number is = first_bad_excluded text number (commands_in v) is ok
+refuses_for commands_in text (Err (faults.BadLine other)) ok bad number is = inl (ap (λ (n : ℕ). faults.BadLine n) (first_bad-once text other number bad is))
+refuses_for commands_in text (Err faults.Memory) ok bad number is = inr refl

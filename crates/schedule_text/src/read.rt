@@ -46,11 +46,7 @@ fn read_lines(alloc: Global, text: &[u8]) -> Result<Vec<Event>, ScheduleFault>
         let (line, behind) = first_line(rest);
         number += 1;
         match read_line(alloc, line) {
-            Ok(Some(event)) => {
-                if events.push(event).is_err() {
-                    return Err(ScheduleFault::Memory);
-                }
-            }
+            Ok(Some(event)) => events.push(event)?,
             Ok(None) => {}
             Err(LineFault::Bad) => return Err(ScheduleFault::BadLine { number }),
             Err(LineFault::Memory) => return Err(ScheduleFault::Memory),
