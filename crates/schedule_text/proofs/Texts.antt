@@ -2,11 +2,14 @@
 use Rattle.std.proofs.Common.{◌≡◌, ℕ, suc, ◌+◌, ◌<◌, ◌≤◌, List, [], ◌∷◌, ◌++◌, length, map, Option, Some, None, refl, sym, ap, subst, ◌∙◌, arith, inl, inr, ◌⊎◌, append_assoc, length-append}
 use Rattle.std.specs.Prelude.{IfSome, IfOk, IfErr, MatchResult, Result, Ok, Err}
 use Rattle.std.specs.List.{AllByRecursion}
+use Rattle.std.proofs.lemmas.List.{map-append}
 use Rattle.hail_machine.specs.Transcripts.{Command}
 use Rattle.schedule_text.specs.Grammar.{words, Spells, IsSkipped}
 use Rattle.schedule_text.specs.Schedules.{lines, IsLine, AreLines, IsSchedule, IsFirstBadLine}
+use Rattle.schedule_text.specs.declared.event.Event.{Event}
 use Rattle.schedule_text.specs.declared.fault.ScheduleFault.{ScheduleFault}
 use Rattle.schedule_text.specs.declared.fault.ScheduleFault.TheVariants as faults
+use Rattle.schedule_text.specs.Events.{command_of, commands_of}
 use Rattle.schedule_text.specs.Answers.{lines_behind, IsCauseOf}
 use Rattle.schedule_text.proofs.Again.{spelled-not_skipped, Spells-once}
 
@@ -142,6 +145,10 @@ all_read text number commands so_far =
     none : (front : List (List ℕ)) → front ++ [] ≡ front
     none [] = refl
     none (x ∷ front) = ap (λ (ls : List (List ℕ)). x ∷ ls) (none front)
+
+-- the commands of one event more
+pub commands_of-push : (old new : List Event) (event : Event) → new ≡ old ++ event ∷ [] → commands_of old ++ command_of event ∷ [] ≡ commands_of new
+commands_of-push old new event pushed = sym (ap (λ (es : List Event). commands_of es) pushed ∙ map-append command_of old (event ∷ []))
 
 -- ---- what was answered is what must be
 

@@ -12,7 +12,7 @@ returns-else-is_empty c =
     let left = c.without_spaces.result.now in
     let some : 0 < length left = grind (arith, nat_tests) in
     let word = words-some left some (front_is left some c.without_spaces.ensures.front) in
-    none (command_of c.args.event) (words c.args.line.now) word.0 word.1 (sym c.without_spaces.ensures.same ∙ word.2)
+    none (command_of c.args.event) (words c.args.line.now) (words left) word.0 word.1 c.without_spaces.ensures.same word.2
   where
-    none : (command : Command) (ws : List (List ℕ)) (word : List ℕ) (others : List (List ℕ)) → ws ≡ word ∷ others → ended command ws ≡ None
-    none command ws word others is = ap (λ (ws : List (List ℕ)). ended command ws) is
+    none : (command : Command) (ws others : List (List ℕ)) (word : List ℕ) (more : List (List ℕ)) → others ≡ ws → others ≡ word ∷ more → ended command ws ≡ None
+    none command ws others word more same is = ap (λ (ws : List (List ℕ)). ended command ws) (sym same ∙ is)
