@@ -1,15 +1,15 @@
 -- What the words spell is read, and what is read is what they spell.
-use Rattle.std.proofs.Common.{◌≡◌, ℕ, ◌^◌, ◌<◌, Bool, true, false, cond, List, [], ◌∷◌, ◌++◌, length, Option, Some, None, refl, sym, ap, subst, ◌∙◌, arith, inl, inr, ◌⊎◌}
+use Rattle.std.proofs.Common.{◌≡◌, ℕ, false, List, [], ◌∷◌, Option, Some, None, refl, sym, ap, ◌∙◌, inl, inr, ◌⊎◌}
 use Rattle.std.specs.Prelude.{codes, ◌==◌, slice_index}
 use Rattle.std.proofs.lemmas.Bool.{eqb-true}
 use Rattle.hail_records.specs.Records.{Setup}
-use Rattle.hail_machine.specs.Jobs.{Kind, PutJob, GetJob, DropJob, AuditJob, RepairJob}
+use Rattle.hail_machine.specs.Jobs.{PutJob, GetJob, DropJob, AuditJob, RepairJob}
 use Rattle.hail_machine.specs.Events.{Init, Begin, Step, Alter, Lose, Stop, Reopen, Names, Continue}
 use Rattle.hail_machine.specs.Transcripts.{Command, Once, RunJob}
 use Rattle.schedule_text.specs.Grammar.{Word, IsNumber, IsHex, IsKey, Spells, SpellsInit, IsSkipped}
-use Rattle.schedule_text.specs.Reading.{◌>>=◌, word_at, ended, numeral_at, number_at, bytes_at, key_at, setup_at, init_at, put_at, get_at, drop_at, begun_at, begin_at, step_at, run_at, alter_at, lose_at, stop_at, apart_at, behind_at, line_at}
+use Rattle.schedule_text.specs.Reading.{setup_at, init_at, put_at, get_at, drop_at, begun_at, begin_at, step_at, run_at, alter_at, lose_at, stop_at, apart_at, behind_at, line_at}
 use Rattle.schedule_text.proofs.Pieces.{equal}
-use Rattle.schedule_text.proofs.Fields.{bind_some, chosen, some_is, numeral-again, number-again, bytes-again, key-again}
+use Rattle.schedule_text.proofs.Fields.{bind_some, chosen, numeral-again, number-again, bytes-again, key-again}
 use Rattle.schedule_text.proofs.Forms.{behind-takes}
 
 -- a line that is not skipped, by its first word
@@ -25,14 +25,16 @@ init_behind-again : (n l b profile rounds picks tolerance key : Word) (setup : S
     → behind_at (codes "init") (n ∷ l ∷ b ∷ profile ∷ rounds ∷ picks ∷ tolerance ∷ key ∷ []) ≡ Some (Once (Init setup))
 unfolding behind_at init_at setup_at
 init_behind-again n l b profile rounds picks tolerance key setup is_n is_l is_b is_profile is_rounds is_picks is_tolerance is_key =
-    rw (number-again 8 n (l ∷ b ∷ profile ∷ rounds ∷ picks ∷ tolerance ∷ key ∷ []) setup.n is_n,
-        number-again 8 l (b ∷ profile ∷ rounds ∷ picks ∷ tolerance ∷ key ∷ []) setup.l is_l,
-        number-again 8 b (profile ∷ rounds ∷ picks ∷ tolerance ∷ key ∷ []) setup.b is_b,
-        number-again 8 profile (rounds ∷ picks ∷ tolerance ∷ key ∷ []) setup.profile is_profile,
-        number-again 8 rounds (picks ∷ tolerance ∷ key ∷ []) setup.rounds is_rounds,
-        number-again 8 picks (tolerance ∷ key ∷ []) setup.picks is_picks,
-        number-again 16 tolerance (key ∷ []) setup.tolerance is_tolerance,
-        key-again key [] setup.master is_key) refl
+    rw (
+      number-again 8 n (l ∷ b ∷ profile ∷ rounds ∷ picks ∷ tolerance ∷ key ∷ []) setup.n is_n,
+      number-again 8 l (b ∷ profile ∷ rounds ∷ picks ∷ tolerance ∷ key ∷ []) setup.l is_l,
+      number-again 8 b (profile ∷ rounds ∷ picks ∷ tolerance ∷ key ∷ []) setup.b is_b,
+      number-again 8 profile (rounds ∷ picks ∷ tolerance ∷ key ∷ []) setup.profile is_profile,
+      number-again 8 rounds (picks ∷ tolerance ∷ key ∷ []) setup.rounds is_rounds,
+      number-again 8 picks (tolerance ∷ key ∷ []) setup.picks is_picks,
+      number-again 16 tolerance (key ∷ []) setup.tolerance is_tolerance,
+      key-again key [] setup.master is_key,
+    ) refl
 
 init-again : (ws : List Word) (setup : Setup) → SpellsInit ws setup → line_at ws ≡ Some (Some (Once (Init setup)))
 init-again ws setup is =
@@ -67,8 +69,13 @@ alter-again : (p o s k x : Word) (provider object stripe place symbol : ℕ) →
     → behind_at (codes "alter") (p ∷ o ∷ s ∷ k ∷ x ∷ []) ≡ Some (Once (Alter provider object stripe place symbol))
 unfolding behind_at apart_at alter_at
 alter-again p o s k x provider object stripe place symbol is_p is_o is_s is_k is_x =
-    rw (number-again 32 p (o ∷ s ∷ k ∷ x ∷ []) provider is_p, number-again 64 o (s ∷ k ∷ x ∷ []) object is_o,
-        number-again 32 s (k ∷ x ∷ []) stripe is_s, number-again 32 k (x ∷ []) place is_k, numeral-again x [] symbol is_x.0) refl
+    rw (
+      number-again 32 p (o ∷ s ∷ k ∷ x ∷ []) provider is_p,
+      number-again 64 o (s ∷ k ∷ x ∷ []) object is_o,
+      number-again 32 s (k ∷ x ∷ []) stripe is_s,
+      number-again 32 k (x ∷ []) place is_k,
+      numeral-again x [] symbol is_x.0,
+    ) refl
 
 -- a line without a number or bytes
 reopen-again : line_at (codes "reopen" ∷ []) ≡ Some (Some (Once Reopen))

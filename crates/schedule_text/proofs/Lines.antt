@@ -1,5 +1,5 @@
 -- The first line of a text.
-use Rattle.std.proofs.Common.{◌≡◌, ◌≢◌, ℕ, zero, suc, ◌+◌, ◌-◌, ◌<◌, ◌≤◌, Bool, true, false, cond, List, [], ◌∷◌, ◌++◌, length, get_or, take, drop, refl, sym, ◌∙◌, ap, subst, arith, inl, inr, ◌⊎◌, length-drop}
+use Rattle.std.proofs.Common.{◌≡◌, ℕ, suc, ◌+◌, ◌-◌, ◌<◌, Bool, true, false, cond, List, [], ◌∷◌, ◌++◌, length, take, drop, refl, sym, ◌∙◌, ap, subst, arith, length-drop}
 use Rattle.std.specs.Prelude.{◌==◌, slice_index, ◌&&◌}
 use Rattle.std.proofs.Math.Numerals.{add-one}
 use Rattle.std.proofs.lemmas.List.{take_all}
@@ -7,7 +7,7 @@ use Rattle.memchr.specs.Find.{is_byte, Nowhere, Passes}
 use Rattle.schedule_text.specs.Grammar.{pieces}
 use Rattle.schedule_text.specs.Schedules.{without_returns, lines}
 use Rattle.schedule_text.specs.Answers.{without_return}
-use Rattle.schedule_text.proofs.Pieces.{Free, differ, equal, free_before, free_from, around, pieces-free, pieces-append}
+use Rattle.schedule_text.proofs.Pieces.{Free, differ, free_before, free_from, around, pieces-free, pieces-append}
 
 -- a line by the place of its last byte
 without_return-last : (line : List ℕ) (last : ℕ) → length line ≡ suc last → without_return line ≡ cond (slice_index line last == 13) (take last line) line

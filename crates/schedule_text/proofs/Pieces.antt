@@ -1,12 +1,11 @@
 -- The pieces, words and lines of joined lists.
-use Rattle.std.proofs.Common.{◌≡◌, ◌≢◌, ℕ, zero, suc, ◌+◌, ◌-◌, ◌<◌, ◌≤◌, Bool, true, false, cond, List, [], ◌∷◌, ◌++◌, length, get_or, take, drop, refl, sym, ◌∙◌, ap, subst, arith, inl, inr, ◌⊎◌}
-use Rattle.std.specs.Prelude.{◌==◌, slice_index, ◌&&◌}
+use Rattle.std.proofs.Common.{◌≡◌, ◌≢◌, ℕ, zero, suc, ◌<◌, ◌≤◌, Bool, true, false, cond, List, [], ◌∷◌, ◌++◌, length, take, drop, refl, sym, ◌∙◌, ap, arith, inl, inr, ◌⊎◌}
+use Rattle.std.specs.Prelude.{◌==◌, slice_index}
 use Rattle.std.specs.List.{filter}
-use Rattle.std.proofs.lemmas.Bool.{eqb-true, cond-true, cond-false}
+use Rattle.std.proofs.lemmas.Bool.{eqb-true}
 use Rattle.std.proofs.lemmas.Bool.Decides.{nat_tests}
 use Rattle.memchr.specs.Find.{is_byte, Nowhere, Passes}
 use Rattle.schedule_text.specs.Grammar.{begun, pieces, has_bytes, words}
-use Rattle.schedule_text.specs.Schedules.{without_returns, lines}
 
 -- no byte is c
 abbrev pub Free : ℕ → List ℕ → Type 0
@@ -101,7 +100,9 @@ pieces-some c (b ∷ text) = at (b == c) (pieces c text) (pieces-some c text)
 pub words-some : (line : List ℕ) → 0 < length line → slice_index line 0 ≢ 32 → (word : List ℕ) × (others : List (List ℕ)) × (words line ≡ word ∷ others)
 words-some [] some front = absurd (omega arith)
 words-some (b ∷ line) some front =
-    let rest = pieces-some 32 line in
-    (b ∷ rest.0, filter has_bytes rest.1,
-        ap (λ (test : Bool). filter has_bytes (cond test ([] ∷ pieces 32 line) (begun b (pieces 32 line)))) (differ b 32 front)
-        ∙ ap (λ (ps : List (List ℕ)). filter has_bytes (begun b ps)) rest.2)
+    let rest = pieces-some 32 line in (
+      b ∷ rest.0,
+      filter has_bytes rest.1,
+      ap (λ (test : Bool). filter has_bytes (cond test ([] ∷ pieces 32 line) (begun b (pieces 32 line)))) (differ b 32 front)
+          ∙ ap (λ (ps : List (List ℕ)). filter has_bytes (begun b ps)) rest.2,
+    )

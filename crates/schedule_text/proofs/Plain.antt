@@ -1,15 +1,14 @@
 -- Words without a space and without a newline.
-use Rattle.std.proofs.Common.{◌≡◌, ◌≢◌, ℕ, zero, suc, ◌+◌, ◌*◌, ◌/◌, ◌%◌, ◌^◌, ◌<◌, ◌≤◌, Bool, true, false, cond, List, [], ◌∷◌, ◌++◌, length, get_or, refl, sym, ap, subst, ◌∙◌, arith, inl, inr, ◌⊎◌, not, length-append, lit<}
-use Rattle.std.specs.Prelude.{codes, ◌==◌, ◌&&◌, slice_index, Ok, IsTrue}
+use Rattle.std.proofs.Common.{◌≡◌, ◌≢◌, ℕ, zero, suc, ◌+◌, ◌/◌, ◌%◌, ◌^◌, ◌<◌, Bool, true, List, [], ◌∷◌, length, get_or, refl, arith, inl, inr, not, length-append}
+use Rattle.std.specs.Prelude.{codes, ◌==◌, ◌&&◌, slice_index, IsTrue}
 use Rattle.std.specs.List.{AllByRecursion, list_all}
-use Rattle.std.specs.Char.{digit_value}
 use Rattle.std.specs.Fmt.{decimal}
-use Rattle.std.specs.Str.Parse.{IsNumeral, AllDigits, digits_value}
+use Rattle.std.specs.Str.Parse.{AllDigits}
 use Rattle.std.proofs.lemmas.Bool.Decides.{nat_tests}
 use Rattle.std.proofs.lemmas.Fmt.{decimal_is_IsNumeral_wide, decimal_by_steps_wide}
 use Rattle.std.proofs.lemmas.List.{get_or_append_left}
 use Rattle.std.proofs.lemmas.Str.Parse.{digit_from_value}
-use Rattle.hex.specs.Hex.{encode_with, encode_lower, lower_digits, decode_of, IsBytes}
+use Rattle.hex.specs.Hex.{encode_with, encode_lower, lower_digits, IsBytes}
 use Rattle.hex.proofs.HexLemmas.{decode_of-encode_lower, length-encode_with}
 use Rattle.hail_records.specs.Records.{is_byte, is_master}
 use Rattle.hail_commands.specs.Words.{IsNumberWord}
@@ -84,9 +83,11 @@ Leads n ds = (0 < length ds) × (0 < n → 48 < get_or ds 0 0) × (n < 10 → le
 leading : (n : ℕ) → n < 10 ^ 64 → Leads n (decimal n)
 leading n small = decimal_by_steps_wide Leads
     (λ m few. (omega arith, (λ some. omega arith), (λ few. refl)))
-    (λ m ds many so_far. (omega (arith, length-append ds ((48 + m % 10) ∷ [])),
-        (λ some. omega (arith, get_or_append_left ds ((48 + m % 10) ∷ []) 0 0 so_far.0, so_far.1 (omega arith))),
-        (λ few. absurd (omega (arith, few, many))))) n small
+    (λ m ds many so_far. (
+      omega (arith, length-append ds ((48 + m % 10) ∷ [])),
+      (λ some. omega (arith, get_or_append_left ds ((48 + m % 10) ∷ []) 0 0 so_far.0, so_far.1 (omega arith))),
+      (λ few. absurd (omega (arith, few, many))),
+    )) n small
 
 pub number_word-decimal : (n : ℕ) → n < 2 ^ 128 → IsNumberWord (decimal n) n
 number_word-decimal n small =

@@ -1,18 +1,17 @@
 -- The spelling of commands is a schedule of them.
-use Rattle.std.proofs.Common.{◌≡◌, ◌≢◌, ℕ, ◌^◌, ◌<◌, ◌≤◌, Bool, true, false, cond, List, [], ◌∷◌, ◌++◌, length, refl, sym, ap, subst, ◌∙◌, arith, inl, inr, ◌⊎◌, append_assoc, length-append}
+use Rattle.std.proofs.Common.{◌≡◌, ℕ, ◌^◌, ◌<◌, false, List, [], ◌∷◌, ◌++◌, length, refl, sym, ap, subst, ◌∙◌, arith, inl, inr, append_assoc}
 use Rattle.std.specs.Prelude.{codes, ◌==◌, slice_index}
 use Rattle.std.specs.List.{AllByRecursion, flat_map}
 use Rattle.std.specs.Fmt.{decimal}
 use Rattle.hex.specs.Hex.{encode_lower}
-use Rattle.hail_records.specs.Records.{Setup}
-use Rattle.hail_machine.specs.Jobs.{Kind, PutJob, GetJob, DropJob, AuditJob, RepairJob}
+use Rattle.hail_machine.specs.Jobs.{PutJob, GetJob, DropJob, AuditJob, RepairJob}
 use Rattle.hail_machine.specs.Events.{Init, Begin, Step, Alter, Lose, Stop, Reopen, Names, Continue}
 use Rattle.hail_machine.specs.Transcripts.{Command, Once, RunJob}
 use Rattle.schedule_text.specs.Grammar.{Word, pieces, words, Spells}
 use Rattle.schedule_text.specs.Schedules.{without_returns, lines, AreLines, IsSchedule}
-use Rattle.schedule_text.specs.Spelling.{CanBeSpelled, hex_of, words_of, spaced, line_of, spelling}
+use Rattle.schedule_text.specs.Spelling.{CanBeSpelled, hex_of, words_of, spaced, spelling}
 use Rattle.schedule_text.proofs.Pieces.{Free, differ, pieces-append, words-append}
-use Rattle.schedule_text.proofs.Lines.{keep, next}
+use Rattle.schedule_text.proofs.Lines.{keep}
 use Rattle.schedule_text.proofs.Plain.{IsPlain, plain_by_test, plain-name, plain-decimal, plain-encode, plain-hex_of, number-decimal, hex-hex_of, key-encode, size-master}
 
 -- the words of a line
@@ -49,7 +48,7 @@ body-ends word (second ∷ ws) all =
     record {
       front = word ++ 32 ∷ rest.front;
       is = ap (λ (t : List ℕ). (word ++ 32 ∷ []) ++ t) rest.is ∙ append_assoc word (32 ∷ []) (rest.front ++ 32 ∷ [])
-        ∙ sym (append_assoc word (32 ∷ rest.front) (32 ∷ []));
+          ∙ sym (append_assoc word (32 ∷ rest.front) (32 ∷ []));
       free = Free-append 10 word (32 ∷ rest.front) all.0.no_newline ((λ e. omega (arith, e)), rest.free);
     }
 
@@ -98,10 +97,25 @@ word_spelling (Once (Init s)) can =
     record {
       plain = (plain_by_test (codes "init") (omega arith) refl, (plain-decimal s.n (omega (arith, can.0)), (plain-decimal s.l (omega (arith, can.1)), (plain-decimal s.b (omega (arith, can.2)), (plain-decimal s.profile (omega (arith, can.3)), (plain-decimal s.rounds (omega (arith, can.4)), (plain-decimal s.picks (omega (arith, can.5)), (plain-decimal s.tolerance (omega (arith, can.6)), (plain-encode s.master (size-master s.master can.7), tt)))))))));
       some = omega arith;
-      spells = (decimal s.n, decimal s.l, decimal s.b, decimal s.profile, decimal s.rounds, decimal s.picks, decimal s.tolerance, encode_lower s.master, refl,
-        number-decimal 8 s.n can.0 (omega (arith, can.0)), number-decimal 8 s.l can.1 (omega (arith, can.1)), number-decimal 8 s.b can.2 (omega (arith, can.2)),
-        number-decimal 8 s.profile can.3 (omega (arith, can.3)), number-decimal 8 s.rounds can.4 (omega (arith, can.4)),
-        number-decimal 8 s.picks can.5 (omega (arith, can.5)), number-decimal 16 s.tolerance can.6 (omega (arith, can.6)), key-encode s.master can.7);
+      spells = (
+        decimal s.n,
+        decimal s.l,
+        decimal s.b,
+        decimal s.profile,
+        decimal s.rounds,
+        decimal s.picks,
+        decimal s.tolerance,
+        encode_lower s.master,
+        refl,
+        number-decimal 8 s.n can.0 (omega (arith, can.0)),
+        number-decimal 8 s.l can.1 (omega (arith, can.1)),
+        number-decimal 8 s.b can.2 (omega (arith, can.2)),
+        number-decimal 8 s.profile can.3 (omega (arith, can.3)),
+        number-decimal 8 s.rounds can.4 (omega (arith, can.4)),
+        number-decimal 8 s.picks can.5 (omega (arith, can.5)),
+        number-decimal 16 s.tolerance can.6 (omega (arith, can.6)),
+        key-encode s.master can.7,
+      );
     }
 word_spelling (Once Reopen) can = record { plain = (plain_by_test (codes "reopen") (omega arith) refl, tt); some = omega arith; spells = refl }
 word_spelling (Once Names) can = record { plain = (plain_by_test (codes "list") (omega arith) refl, tt); some = omega arith; spells = refl }
@@ -143,16 +157,32 @@ word_spelling (RunJob job) can = record {
 word_spelling (Once (Alter provider object stripe place symbol)) can = record {
   plain = (plain_by_test (codes "alter") (omega arith) refl, (plain-decimal provider (omega (arith, can.0)), (plain-decimal object (omega (arith, can.1)), (plain-decimal stripe (omega (arith, can.2)), (plain-decimal place (omega (arith, can.3)), (plain-decimal symbol can.4, tt))))));
   some = omega arith;
-  spells = (decimal provider, decimal object, decimal stripe, decimal place, decimal symbol, refl,
-    number-decimal 32 provider can.0 (omega (arith, can.0)), number-decimal 64 object can.1 (omega (arith, can.1)),
-    number-decimal 32 stripe can.2 (omega (arith, can.2)), number-decimal 32 place can.3 (omega (arith, can.3)), number-decimal 128 symbol can.4 can.4);
+  spells = (
+    decimal provider,
+    decimal object,
+    decimal stripe,
+    decimal place,
+    decimal symbol,
+    refl,
+    number-decimal 32 provider can.0 (omega (arith, can.0)),
+    number-decimal 64 object can.1 (omega (arith, can.1)),
+    number-decimal 32 stripe can.2 (omega (arith, can.2)),
+    number-decimal 32 place can.3 (omega (arith, can.3)),
+    number-decimal 128 symbol can.4 can.4,
+  );
 }
 word_spelling (Once (Lose provider object stripe)) can = record {
   plain = (plain_by_test (codes "lose") (omega arith) refl, (plain-decimal provider (omega (arith, can.0)), (plain-decimal object (omega (arith, can.1)), (plain-decimal stripe (omega (arith, can.2)), tt))));
   some = omega arith;
-  spells = (decimal provider, decimal object, decimal stripe, refl,
-    number-decimal 32 provider can.0 (omega (arith, can.0)), number-decimal 64 object can.1 (omega (arith, can.1)),
-    number-decimal 32 stripe can.2 (omega (arith, can.2)));
+  spells = (
+    decimal provider,
+    decimal object,
+    decimal stripe,
+    refl,
+    number-decimal 32 provider can.0 (omega (arith, can.0)),
+    number-decimal 64 object can.1 (omega (arith, can.1)),
+    number-decimal 32 stripe can.2 (omega (arith, can.2)),
+  );
 }
 word_spelling (Once (Stop picks)) can = record {
   plain = (plain_by_test (codes "stop") (omega arith) refl, (plain-hex_of picks, tt));

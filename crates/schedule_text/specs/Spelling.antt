@@ -4,13 +4,13 @@
 --   CanBeSpelled command   == its numbers fit their fields, its bytes are bytes, and its name is a word
 --   words_of command       == the words of its line
 --   spelling commands      == the lines of the commands: each word with a space behind it, and a newline
-use Rattle.std.specs.Prelude.{◌≡◌, ◌≢◌, ℕ, ◌^◌, ◌<◌, List, [], ◌∷◌, ◌++◌, length, codes}
+use Rattle.std.specs.Prelude.{◌≢◌, ℕ, ◌^◌, ◌<◌, List, [], ◌∷◌, ◌++◌, length, codes}
 use Rattle.std.specs.List.{AllByRecursion, flat_map}
 use Rattle.std.specs.Fmt.{decimal}
 use Rattle.hex.specs.Hex.{encode_lower}
 use Rattle.hail_records.specs.Records.{Setup}
 use Rattle.hail_machine.specs.Jobs.{Kind, PutJob, GetJob, DropJob, AuditJob, RepairJob}
-use Rattle.hail_machine.specs.Events.{Init, Begin, Step, Alter, Lose, Stop, Reopen, Names, Continue, AreBytes, IsSpelled}
+use Rattle.hail_machine.specs.Events.{Init, Begin, Step, Alter, Lose, Stop, Reopen, Names, Continue, IsSpelled}
 use Rattle.hail_machine.specs.Transcripts.{Command, Once, RunJob}
 use Rattle.schedule_text.specs.Grammar.{Word}
 

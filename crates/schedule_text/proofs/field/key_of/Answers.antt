@@ -1,4 +1,3 @@
-use Rattle.std.proofs.Common.{◌≡◌, ℕ, List, Option, Some, None, length, refl, sym, ◌∙◌, ap, cond, true, false, Bool}
 use Rattle.schedule_text.proofs.Keys.{key_in-read}
 use Rattle.schedule_text.proofs.field.key_of.Goals as goal
 

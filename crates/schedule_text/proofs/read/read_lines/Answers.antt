@@ -1,4 +1,4 @@
-use Rattle.std.proofs.Common.{◌≡◌, ◌+◌, ℕ, List, subst}
+use Rattle.std.proofs.Common.{◌+◌, subst}
 use Rattle.std.specs.Option.{option_map}
 use Rattle.schedule_text.specs.Grammar.{words}
 use Rattle.schedule_text.specs.Events.{command_of, commands_of}
@@ -31,4 +31,4 @@ loop-left-preserved-in_ok-push-in-Ok-Some c =
     let all = commands_of-push c.loop-left.events.items c.push.new.self.items event c.in_ok-push-in-Ok-Some.ensures.items in
     subst (HasRead c.args.text.now behind (c.loop-left.number + 1)) all
     (has_pushed c.args.text.now c.in-Some.rest.now line behind c.loop-left.number (commands_of c.loop-left.events.items) (command_of event) so_far
-        c.first_line.ensures.lines c.first_line.ensures.shorter (spelled-line (words line) (command_of event) (rw c.in-Ok-Some.field-0-is at c.in-Ok-Some.ensures)))
+    c.first_line.ensures.lines c.first_line.ensures.shorter (spelled-line (words line) (command_of event) (rw c.in-Ok-Some.field-0-is at c.in-Ok-Some.ensures)))

@@ -1,4 +1,3 @@
-use Rattle.std.proofs.Common.{◌≡◌, ℕ, length}
 use Rattle.std.specs.Option.{option_map}
 use Rattle.schedule_text.specs.Events.{commands_of}
 use Rattle.schedule_text.proofs.Texts.{HasRead, size_left}

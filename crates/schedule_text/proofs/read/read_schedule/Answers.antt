@@ -1,4 +1,3 @@
-use Rattle.std.proofs.Common.{ℕ, List}
 use Rattle.schedule_text.specs.Events.{commands_of}
 use Rattle.schedule_text.proofs.Texts.{reads_as, refuses_for}
 use Rattle.schedule_text.proofs.read.read_schedule.Goals as goal
