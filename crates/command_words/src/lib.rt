@@ -12,6 +12,7 @@ pub use command::{Command, read_command};
 pub use init::{Numbers, read_setup};
 pub use key::read_key;
 pub use row::Row;
+pub use word::read_number;
 
 #[cfg(test)]
 mod tests;
