@@ -3,7 +3,8 @@
 # It tells each row that goes otherwise, ends with 0 exactly where none does, and leaves nothing behind.
 set -u
 
-hail=$(CDPATH='' cd -P -- "$(dirname "$0")/.." && pwd -P)/hail
+root=$(CDPATH='' cd -P -- "$(dirname "$0")/.." && pwd -P)
+hail=${HAIL:-$root/hail}
 scratch=$(mktemp -d) || exit 1
 trap 'rm -rf "$scratch"' EXIT
 cd "$scratch" || exit 1

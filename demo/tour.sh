@@ -1,9 +1,11 @@
 #!/bin/sh
-# A tour: three files are stored over six folders, one folder is lost and another altered, the files come back, the loss is found and
-# mended. It shows each command with its answer, ends with 0 exactly where each answer was the one due, and leaves nothing behind.
+# A tour: three files are stored over six folders; one folder is lost and another altered, the files come back, the loss is found and
+# mended; another folder lies, and is found and mended too. It shows each command with its answer, ends with 0 exactly where each answer
+# was the one due, and leaves nothing behind. HAIL names another program than the one of this repository.
 set -eu
 
-hail=$(CDPATH='' cd -P -- "$(dirname "$0")/.." && pwd -P)/hail
+root=$(CDPATH='' cd -P -- "$(dirname "$0")/.." && pwd -P)
+hail=${HAIL:-$root/hail}
 scratch=$(mktemp -d)
 trap 'rm -rf "$scratch"' EXIT
 cd "$scratch"
@@ -39,10 +41,25 @@ alter() {
     done
 }
 
+# The audit of this number ends so; the provider after it is flagged with this count, or nobody where it is left out.
+audits() {
+    text="audit $1 undecided 0"
+    for place in 0 1 2 3 4 5; do
+        if [ "$place" = "${2:-none}" ]; then
+            text="$text
+provider $place count $3 flagged"
+        else
+            text="$text
+provider $place count 0 ok"
+        fi
+    done
+    answers 0 "$text" /dev/null audit
+}
+
 echo '# A store over six providers: three hold the file, three hold parity, and one of the six may be wrong.'
 mkdir home
-echo 000102030405060708090a0b0c0d0e0f101112131415161718191a1b1c1d1e1f >key
-answers 0 ready key init 6 3 1 1 4 8 0
+head -c 32 /dev/urandom | od -An -v -tx1 | tr -d ' \n' >key
+answers 0 ready key init 6 3 1 4 4 8 0
 
 echo '# Three files: an empty one, a text, and 1 MiB.'
 : >empty
@@ -65,24 +82,21 @@ comes_back empty
 comes_back notes.txt
 comes_back numbers
 
-echo '# An audit asks each provider for one symbol a round, and finds the loss. Until it is mended no other audit begins.'
-answers 0 'audit 1 undecided 0
-provider 0 count 0 ok
-provider 1 count 0 ok
-provider 2 count 8 flagged
-provider 3 count 0 ok
-provider 4 count 0 ok
-provider 5 count 0 ok' /dev/null audit
+echo '# An audit asks each provider for one symbol a round and file, and finds the loss. Until it is mended no other audit begins.'
+echo '# It does not see the four altered symbols, and need not: a block of this profile bears sixteen.'
+audits 1 2 8
 answers 6 'hail: repair due' /dev/null audit
 answers 0 'repaired 1' /dev/null repair
 diff -r kept home/provider-2 || fail 'the blocks of provider 2 are other ones'
-answers 0 'audit 2 undecided 0
-provider 0 count 0 ok
-provider 1 count 0 ok
-provider 2 count 0 ok
-provider 3 count 0 ok
-provider 4 count 0 ok
-provider 5 count 0 ok' /dev/null audit
+audits 2
+
+echo '# Provider 4 lies: it gives the blocks of provider 3 for its own. The file comes back, and the audit finds who lies.'
+cp -r home/provider-4 kept-4
+for block in home/provider-3/*; do cp "$block" home/provider-4/; done
+comes_back numbers
+audits 3 4 8
+answers 0 'repaired 3' /dev/null repair
+diff -r kept-4 home/provider-4 || fail 'the blocks of provider 4 are other ones'
 
 echo '# A file is dropped; what is left of it on the providers goes too.'
 answers 0 'dropped notes.txt' /dev/null drop notes.txt
@@ -91,7 +105,23 @@ answers 3 'hail: no such name' /dev/null get notes.txt
 answers 0 'empty 0
 numbers 1048576' /dev/null list
 
-echo '# With two folders lost, nothing is given that could be wrong.'
+echo '# With two folders lost, nothing is given that could be wrong. An audit can not tell who lost what, and says undecided.'
+cp -r home/provider-0 kept-0
 rm -r home/provider-0 home/provider-1
 answers 4 'hail: lost row 0' /dev/null get numbers
+answers 0 'audit 4 undecided 4
+provider 0 count 0 ok
+provider 1 count 0 ok
+provider 2 count 0 ok
+provider 3 count 0 ok
+provider 4 count 0 ok
+provider 5 count 0 ok' /dev/null audit
+
+echo '# One of the two comes back, and the store is made whole.'
+mv kept-0 home/provider-0
+comes_back numbers
+audits 5 1 4
+answers 0 'repaired 5' /dev/null repair
+comes_back numbers
+audits 6
 echo '# The tour is done.'

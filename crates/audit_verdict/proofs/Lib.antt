@@ -1,3 +1,4 @@
 mod Places
 mod Picks
 mod RoundLaws
+pub mod Worked

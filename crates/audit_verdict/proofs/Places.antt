@@ -6,7 +6,7 @@ use Rattle.std.proofs.lemmas.List.Edits.{fill_by_more}
 use Rattle.hail_codes.specs.Polynomials.{value, is_seen}
 use Rattle.hail_columns.specs.Objects.{Object}
 use Rattle.hail_columns.specs.Challenges.{Challenge, bare_answer, bare_answers}
-use Rattle.hail_columns.specs.Verdicts.{counted}
+use Rattle.hail_columns.specs.Verdicts.{counts_after}
 
 -- one place more of a list that a function makes
 pub put_more : {X : Type 0} (f : ℕ → X) (xs : List X) (i : ℕ) (x d : X) → i < length xs → x ≡ f i → ((k : ℕ) → k < i → get_or xs k d ≡ f k) →
@@ -23,7 +23,7 @@ get_or-within (x ∷ xs) (suc i) d e h = get_or-within xs i d e (omega (arith, h
 abbrev pub next_count : List ℕ → ℕ → Option ℕ → ℕ → ℕ
 next_count p x answer n = if is_seen (value p x) answer then n else n + 1
 
-pub length-counted : (p xs : List ℕ) (heard : List (Option ℕ)) (counts : List ℕ) → length (counted p xs heard counts) ≡ length counts
+pub length-counted : (p xs : List ℕ) (heard : List (Option ℕ)) (counts : List ℕ) → length (counts_after p xs heard counts) ≡ length counts
 length-counted p [] heard counts = refl
 length-counted p (x ∷ xs) [] counts = refl
 length-counted p (x ∷ xs) (a ∷ heard) [] = refl
@@ -31,7 +31,7 @@ length-counted p (x ∷ xs) (a ∷ heard) (n ∷ counts) = ap suc (length-counte
 
 -- the count of a provider
 pub get_or-counted : (p xs : List ℕ) (heard : List (Option ℕ)) (counts : List ℕ) (k : ℕ) → k < length xs → k < length heard → k < length counts →
-    get_or (counted p xs heard counts) k 0 ≡ next_count p (get_or xs k 0) (get_or heard k None) (get_or counts k 0)
+    get_or (counts_after p xs heard counts) k 0 ≡ next_count p (get_or xs k 0) (get_or heard k None) (get_or counts k 0)
 get_or-counted p [] heard counts k in_xs in_heard in_counts = absurd (omega (arith, in_xs))
 get_or-counted p (x ∷ xs) [] counts k in_xs in_heard in_counts = absurd (omega (arith, in_heard))
 get_or-counted p (x ∷ xs) (a ∷ heard) [] k in_xs in_heard in_counts = absurd (omega (arith, in_counts))
@@ -41,9 +41,9 @@ get_or-counted p (x ∷ xs) (a ∷ heard) (n ∷ counts) (suc k) in_xs in_heard 
 
 -- counts by their places
 pub counted-each : (p xs : List ℕ) (heard : List (Option ℕ)) (old new : List ℕ) (n : ℕ) → length xs ≡ n → length heard ≡ n → length old ≡ n → length new ≡ n →
-    ((k : ℕ) → k < n → get_or new k 0 ≡ next_count p (get_or xs k 0) (get_or heard k None) (get_or old k 0)) → new ≡ counted p xs heard old
+    ((k : ℕ) → k < n → get_or new k 0 ≡ next_count p (get_or xs k 0) (get_or heard k None) (get_or old k 0)) → new ≡ counts_after p xs heard old
 counted-each p xs heard old new n long_xs long_heard long_old long_new each =
-    ext_get_or 0 new (counted p xs heard old) (long_new ∙ sym (length-counted p xs heard old ∙ long_old))
+    ext_get_or 0 new (counts_after p xs heard old) (long_new ∙ sym (length-counted p xs heard old ∙ long_old))
     (λ k below. each k (omega (arith, below, long_new))
     ∙ sym (get_or-counted p xs heard old k (omega (arith, below, long_new, long_xs)) (omega (arith, below, long_new, long_heard)) (omega (arith, below, long_new, long_old))))
 
@@ -69,7 +69,7 @@ bare_answers-each o c heard out long each =
     each k within ∙ ap (λ j. bare_answer o c j (get_or heard k None)) (let e : k ≡ 0 + k = omega arith in e) ∙ sym (get_or-bare_answers o c 0 k heard within))
 
 -- no count rises by more than one
-counted-grow : (p xs : List ℕ) (heard : List (Option ℕ)) (counts rest : List ℕ) (j : ℕ) → get_or (counted p xs heard counts ++ rest) j 0 ≤ get_or (counts ++ rest) j 0 + 1
+counted-grow : (p xs : List ℕ) (heard : List (Option ℕ)) (counts rest : List ℕ) (j : ℕ) → get_or (counts_after p xs heard counts ++ rest) j 0 ≤ get_or (counts ++ rest) j 0 + 1
 counted-grow p [] heard counts rest j = omega arith
 counted-grow p (x ∷ xs) [] counts rest j = omega arith
 counted-grow p (x ∷ xs) (a ∷ heard) [] rest j = omega arith
@@ -77,9 +77,9 @@ counted-grow p (x ∷ xs) (a ∷ heard) (n ∷ counts) rest zero =
     elim (is_seen (value p x) a) as (λ b. (if b then n else n + 1) ≤ n + 1) [ true ↦ omega arith | false ↦ omega arith ]
 counted-grow p (x ∷ xs) (a ∷ heard) (n ∷ counts) rest (suc j) = counted-grow p xs heard counts rest j
 
-pub counts-grow : (p xs : List ℕ) (heard : List (Option ℕ)) (by new : List ℕ) (n j : ℕ) → new ≡ counted p xs heard (take n by) →
+pub counts-grow : (p xs : List ℕ) (heard : List (Option ℕ)) (by new : List ℕ) (n j : ℕ) → new ≡ counts_after p xs heard (take n by) →
     get_or (new ++ drop n by) j 0 ≤ get_or by j 0 + 1
 counts-grow p xs heard by new n j is =
     subst (λ (front : List ℕ). get_or (front ++ drop n by) j 0 ≤ get_or by j 0 + 1) (sym is)
-    (subst (λ (whole : List ℕ). get_or (counted p xs heard (take n by) ++ drop n by) j 0 ≤ get_or whole j 0 + 1) (take-append-drop n by)
+    (subst (λ (whole : List ℕ). get_or (counts_after p xs heard (take n by) ++ drop n by) j 0 ≤ get_or whole j 0 + 1) (take-append-drop n by)
     (counted-grow p xs heard (take n by) (drop n by) j))

@@ -24,7 +24,7 @@ use Rattle.audit_verdict.proofs.Places.{get_or-counted, length-bare_answers, get
 use Rattle.audit_verdict.proofs.Picks.{honest-differ}
 
 -- a value is seen where it is the symbol
-seen-same : (y : ℕ) → is_seen y (Some y) ≡ true
+pub seen-same : (y : ℕ) → is_seen y (Some y) ≡ true
 unfolding is_seen_over
 seen-same y = nim_laws.eq_refl y
 
@@ -47,7 +47,7 @@ right-is o bytes c j None is = cc
 right-is o bytes c j (Some x) is = sym (seen-is x (right_answer o bytes j c) is)
 
 -- an absent answer stays absent
-bare-absent : (o : Object) (c : Challenge) (j : ℕ) → bare_answer o c j None ≡ None
+pub bare-absent : (o : Object) (c : Challenge) (j : ℕ) → bare_answer o c j None ≡ None
 bare-absent o c j = elim (is_primary o j) as (λ b. (if b then None else option_map (λ x. nim_add x (mask_sum o j c)) None) ≡ None) [ true ↦ refl | false ↦ refl ]
 
 -- answers that are one without the mask sum are one
@@ -121,6 +121,11 @@ module _ (o : Object) (bytes : List ℕ) (c : Challenge) (heard : List (Option �
       not-false : (b : Bool) → not b ≡ false → b ≡ true
       not-false true e = refl
       not-false false e = cc
+
+  -- so the polynomial of the right answers decides the round
+  pub right-decides : Decides o c heard (right_row o bytes c)
+  unfolding right bare
+  right-decides = accepted
 
   -- the round is decided
   pub decided : (old new : Sums) → Judges o c heard old new → new.undecided ≡ old.undecided

@@ -1,6 +1,6 @@
 ghost use Rattle.std.specs.Prelude.{◌≡◌, ◌≤◌, ◌<◌, ◌+◌, ◌^◌, ℕ, length, slice_index, if◌then◌else◌};
 ghost use Rattle.hail_codes.specs.Polynomials.{is_seen};
-ghost use Rattle.hail_columns.specs.Verdicts.{counted};
+ghost use Rattle.hail_columns.specs.Verdicts.{counts_after};
 
 use hail_field::Symbol;
 use hail_poly::Work;
@@ -22,7 +22,7 @@ pub fn count_wrong(work: &Work, points: &[Symbol], answers: &[Option<Symbol>], c
     requires answers { length answers.now ≡ length points.now }
     requires counts { length counts.old ≡ length points.now }
     requires small { (j : ℕ) → slice_index counts.old j < 2 ^ 31 }
-    ensures { counts.new ≡ counted work.now.rest points.now answers.now counts.old }
+    ensures { counts.new ≡ counts_after work.now.rest points.now answers.now counts.old }
 {
     for j in 0..points.len() {
         counts[j] = counted_once(answers[j], work.value(points[j]), counts[j]);

@@ -1,4 +1,4 @@
-ghost use Rattle.std.specs.Prelude.{◌≡◌, ◌≤◌, ◌<◌, ◌+◌, ◌*◌, ◌^◌, ℕ, length, slice_index};
+ghost use Rattle.std.specs.Prelude.{◌≡◌, ◌≤◌, ◌<◌, ◌+◌, ◌*◌, ◌^◌, ℕ, drop, length, slice_index};
 ghost use Rattle.hail_columns.specs.Objects.{stripes};
 ghost use Rattle.hail_columns.specs.Challenges.{challenge_of};
 ghost use Rattle.hail_columns.specs.Verdicts.{Judges};
@@ -18,7 +18,7 @@ use record_codec::Counts;
 /// Adds a round of audit `number` to `counts` and `undecided`. `heard` has what the providers answered to the challenge of
 /// the round, which picks `picks` rows of the file. Where a polynomial of degree below `l` agrees with all but `b` of the
 /// answers without their mask sums, each provider whose answer is absent or does not agree counts one more; else the round
-/// is one more undecided one, and nobody counts. The file must have a row (`FileShape::rows`). It takes no memory.
+/// is one more undecided one, and nobody counts. What stands behind the counts of the `n` providers stays. The file must have a row (`FileShape::rows`). It takes no memory.
 pub fn judge_round(
     master: &Master,
     file: &FileShape,
@@ -42,6 +42,7 @@ pub fn judge_round(
         (challenge_of (object_of master.now.0 file.now) file.now.length picks number round) heard.now
         (sums_of counts.old undecided.old) (sums_of counts.new undecided.new) }
     ensures n { counts.new.n ≡ counts.old.n }
+    ensures behind { drop counts.old.n counts.new.by ≡ drop counts.old.n counts.old.by }
     ensures padded { IsPadded counts.old → IsPadded counts.new }
     ensures counts { (j : ℕ) → slice_index counts.new.by j ≤ slice_index counts.old.by j + 1 }
     ensures undecided { undecided.new ≤ undecided.old + 1 }

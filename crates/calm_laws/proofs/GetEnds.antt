@@ -300,7 +300,8 @@ heard_block (Worked o t symbols ∷ more) object s j = heard_block more object s
 heard_block (Fetched i o t block ∷ more) object s j = ap (cond (((i == j) && (o == object)) && (t == s)) block) (heard_block more object s j)
 heard_block (Answered i o r symbol ∷ more) object s j = heard_block more object s j
 
-heard_blocks : (job : Job) (name : List ℕ) (n object s : ℕ) → job.kind ≡ GetJob name → blocks_given (given_to job.number (heard_by (Some job))) n object s ≡ blocks_given job.given n object s
+-- what a get's fetches gave, in a report
+pub heard_blocks : (job : Job) (name : List ℕ) (n object s : ℕ) → job.kind ≡ GetJob name → blocks_given (given_to job.number (heard_by (Some job))) n object s ≡ blocks_given job.given n object s
 heard_blocks job name n object s kind =
     ap (λ es. blocks_given (given_to job.number es) n object s) (ap (heard_by_kind job) kind)
     ∙ (ap (λ g. blocks_given g n object s) (given_back job.number job.given) ∙ map_same (block_given (heard job.given) object s) (block_given job.given object s) (upto n) (λ j. heard_block job.given object s j))

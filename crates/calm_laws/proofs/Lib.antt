@@ -5,3 +5,4 @@ pub mod Onward
 pub mod Fetches
 pub mod Absent
 pub mod Origin
+pub mod Failed

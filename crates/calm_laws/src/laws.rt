@@ -1,5 +1,5 @@
 //! Laws over runs for the second half of the main theorem.
-ghost use Rattle.std.specs.Prelude.{◌≡◌, ◌⊎◌, ℕ, ◌<◌, ◌≤◌, List, ◌∷◌, length, Option, Some, IsTrue};
+ghost use Rattle.std.specs.Prelude.{◌≡◌, ◌⊎◌, ℕ, ◌<◌, ◌≤◌, List, ◌∷◌, ◌++◌, length, Option, Some, IsTrue};
 ghost use Rattle.std.specs.List.{Contains};
 ghost use Rattle.hail_field.specs.Shape.{IsShape};
 ghost use Rattle.hail_codes.specs.Points.{upto, values_at};
@@ -16,6 +16,7 @@ ghost use Rattle.hail_machine.specs.Answers.{Answer, Got, Lost};
 ghost use Rattle.hail_machine.specs.Events.{Begin, Step, Refused, Ended};
 ghost use Rattle.hail_machine.specs.States.{State, IsStart, object_in, file_in};
 ghost use Rattle.hail_machine.specs.Runs.{Moment, IsRun, now, first_moments};
+ghost use Rattle.hail_machine.specs.Failures.{Count, count_in, HasFailures, RoseBy};
 ghost use Rattle.hail_machine.specs.Halves.{IsGetRefusal, AllTell};
 ghost use Rattle.calm_laws.specs.FewWrong.{is_wrong_seen, IsFewWrong};
 ghost use Rattle.hail_machine.specs.Actions.{Fetch};
@@ -81,6 +82,13 @@ pub fn counts_never_fall()
         ((now start ms).providers j).store_faults ≤ (m.state.providers j).store_faults }
     ensures others { (limit : ℕ) (start : State) (m : Moment) (ms : List Moment) (j : ℕ) → IsRun limit start (m ∷ ms) →
         ((now start ms).providers j).other_faults ≤ (m.state.providers j).other_faults }
+{}
+
+/// A device's failed calls are at most as many as its count rose, in any part of a run: of the disk the events that ended in its fault, of
+/// a provider the stores that ended so, and the fetches, asks and removals that gave or left something else than those that go well.
+pub fn failed_calls_are_counted()
+    ensures { (limit : ℕ) (start : State) (later ms : List Moment) (count : Count) (n : ℕ) → IsRun limit start (later ++ ms) →
+        HasFailures count (now start ms) later n → RoseBy (count_in count (now start ms)) (count_in count (now start (later ++ ms))) n }
 {}
 
 /// Where every provider tells what it holds before the first event, every one does at each moment of the run.

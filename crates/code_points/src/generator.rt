@@ -3,12 +3,15 @@ ghost use Rattle.std.specs.List.{range_with_len};
 ghost use Rattle.hail_codes.specs.Polynomials.{value, vanish};
 ghost use Rattle.hail_codes.specs.Points.{upto, multiplier as multiplier_of};
 ghost use Rattle.hail_codes.specs.ServerCode.{IsGeneratorRow};
-ghost use Rattle.code_points.specs.Profile.{plain_profile};
+ghost use Rattle.code_points.specs.Profile.{plain_profile, AreKeptMultipliers};
 
 use crate::bytes::{byte_inverse, byte_product, byte_sum};
 use crate::profile::Profile;
 use crate::table::byte_multiplier;
 use hail_field::Symbol;
+
+/// The most kept symbols of a block.
+const MOST_KEPT: usize = 96;
 
 /// The point at a place, which is a byte.
 fn point(place: u32) -> u8
@@ -50,10 +53,22 @@ fn kept_row(place: usize, out: &mut [Symbol])
     out[place] = Symbol::ONE;
 }
 
-/// The coefficients of a place behind the kept ones, by Lagrange's formula.
-fn parity_row(profile: Profile, place: u32, out: &mut [Symbol])
+/// Fills `out` with the multipliers of the kept points among these, in order: `parity_row` takes them for each row.
+pub fn kept_multipliers(profile: Profile, out: &mut [u8])
+    requires { length out.old ≡ profile.keep }
+    ensures { AreKeptMultipliers profile.keep out.new }
+{
+    for k in 0..profile.keep {
+        out[k as usize] = kept_multiplier(profile, k);
+    }
+}
+
+/// Fills `out` with the coefficients by which the codeword's symbol at a place behind the kept ones is a sum over the kept symbols, by
+/// Lagrange's formula. They are bytes.
+pub fn parity_row(profile: Profile, multipliers: &[u8], place: u32, out: &mut [Symbol])
     requires behind { profile.keep ≤ place }
     requires place { place < profile.size }
+    requires multipliers { AreKeptMultipliers profile.keep multipliers.now }
     requires out { length out.old ≡ profile.keep }
     ensures row { IsGeneratorRow (plain_profile profile) place out.new }
     ensures bytes { EachIndex out.new (λ k. slice_index out.new k < 256) }
@@ -62,9 +77,34 @@ fn parity_row(profile: Profile, place: u32, out: &mut [Symbol])
     for k in 0..profile.keep {
         let gap = byte_sum(point(place), point(k));
         let ratio = byte_product(whole, byte_inverse(gap));
-        let coefficient = byte_product(ratio, kept_multiplier(profile, k));
+        let coefficient = byte_product(ratio, multipliers[k as usize]);
         out[k as usize] = Symbol(u128::from(coefficient));
     }
+}
+
+/// The same, with room for the multipliers.
+fn parity_row_within(profile: Profile, place: u32, multipliers: &mut [u8], out: &mut [Symbol])
+    requires behind { profile.keep ≤ place }
+    requires place { place < profile.size }
+    requires room { length multipliers.old ≡ profile.keep }
+    requires out { length out.old ≡ profile.keep }
+    ensures row { IsGeneratorRow (plain_profile profile) place out.new }
+    ensures bytes { EachIndex out.new (λ k. slice_index out.new k < 256) }
+{
+    kept_multipliers(profile, multipliers);
+    parity_row(profile, multipliers, place, out);
+}
+
+/// The same, in the front of more room.
+fn parity_row_in_front(profile: Profile, place: u32, room: &mut [u8], out: &mut [Symbol])
+    requires behind { profile.keep ≤ place }
+    requires place { place < profile.size }
+    requires room { profile.keep ≤ length room.old }
+    requires out { length out.old ≡ profile.keep }
+    ensures row { IsGeneratorRow (plain_profile profile) place out.new }
+    ensures bytes { EachIndex out.new (λ k. slice_index out.new k < 256) }
+{
+    parity_row_within(profile, place, &mut room[..profile.keep as usize], out);
 }
 
 /// Fills `out` with the coefficients by which the codeword's symbol at `place` is a sum over the kept symbols.
@@ -78,6 +118,6 @@ pub fn generator_row(profile: Profile, place: u32, out: &mut [Symbol])
     if place < profile.keep {
         kept_row(place as usize, out);
     } else {
-        parity_row(profile, place, out);
+        parity_row_in_front(profile, place, &mut [0; MOST_KEPT], out);
     }
 }

@@ -8,7 +8,7 @@ mod table;
 #[cfg(test)]
 mod tests;
 
-pub use bytes::byte_product;
-pub use generator::generator_row;
+pub use bytes::{byte_product, byte_sum};
+pub use generator::{generator_row, kept_multipliers, parity_row};
 pub use profile::{Profile, find_profile};
 pub use table::multiplier;

@@ -3,3 +3,8 @@ mod RowLemmas
 mod WeightLemmas
 mod OpenLemmas
 pub mod PresentLemmas
+mod TableLemmas
+mod KeptLemmas
+mod AgreementLemmas
+mod Choices
+mod Openings

@@ -124,7 +124,7 @@ all_sizes blocks size j x new inside is long each k below = go (nat_eq k j) refl
         ap length (get_or-set_other blocks j k x [] (λ h. grind (arith, differ, h))) ∙ each k (omega (arith, below, length-set blocks j x))
 
 -- the blocks one by one are all of them
-all-open : (o : Object) (stripe a : ℕ) (seen : List SeenBlock) (f : ℕ → SeenBlock) →
+pub all-open : (o : Object) (stripe a : ℕ) (seen : List SeenBlock) (f : ℕ → SeenBlock) →
     ((k : ℕ) → k < length seen → OpensTo o (a + k) stripe (get_or seen k None) (f (a + k))) → AllOpen o stripe a seen (map f (range_with_len a (length seen)))
 all-open o stripe a [] f each = tt
 all-open o stripe a (s ∷ seen) f each = (
@@ -149,7 +149,7 @@ all-points o ps n are e long =
     get_or-take o.shape.n ps i 0 within ∙ are i within ∙ sym (get_or-map-range_with_len (point o) 0 o.shape.n i i 0 within (omega arith)))
 
 -- the symbols seen of a row
-seen-map : (place : ℕ) (f : ℕ → SeenBlock) (xs : List ℕ) → map (λ j. symbol_in place (f j)) xs ≡ map (symbol_in place) (map f xs)
+pub seen-map : (place : ℕ) (f : ℕ → SeenBlock) (xs : List ℕ) → map (λ j. symbol_in place (f j)) xs ≡ map (symbol_in place) (map f xs)
 seen-map place f [] = refl
 seen-map place f (x ∷ xs) = ap (λ (l : List (Option ℕ)). symbol_in place (f x) ∷ l) (seen-map place f xs)
 

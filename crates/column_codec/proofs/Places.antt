@@ -60,3 +60,8 @@ stripe_small n l b keep few some fits small =
     let wide : l ≤ 13 = omega (arith, few, some, fits) in
     let most : l * keep ≤ 13 * 96 = mul-le-mul wide small in
     omega (arith, most)
+
+-- one more behind a list that a function makes
+pub appended_more : {X : Type 0} (out : List X) (f : ℕ → X) (i : ℕ) (x : X) → out ≡ map f (upto i) → x ≡ f i → out ++ x ∷ [] ≡ map f (upto (i + 1))
+appended_more {X} out f i x filled e =
+    ap (λ (l : List X). l ++ x ∷ []) filled ∙ ap (λ (y : X). map f (upto i) ++ y ∷ []) e ∙ sym (map-range_with_len_more f 0 i i (omega arith))

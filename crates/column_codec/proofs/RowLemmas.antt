@@ -162,3 +162,7 @@ columns-sizes o symbols stripe n out is k d below =
     ap length (ap (λ (blocks : List (List ℕ)). get_or blocks k d) is
     ∙ get_or-map-range_with_len f 0 n k k d (omega (arith, below, ap length is, length-map-range_with_len f 0 n)) (omega arith))
     ∙ length-column_of_symbols o symbols k stripe
+
+-- a block has room for the kept symbols and as many more as are corrected
+pub profile_room : (number size keep fix : ℕ) → size ≡ (profile_of number).size → keep ≡ (profile_of number).keep → fix ≡ (profile_of number).fix → keep + fix ≤ size
+profile_room number size keep fix e f g = omega (arith, e, f, g, size_is number)

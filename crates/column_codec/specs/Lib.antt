@@ -3,3 +3,5 @@ pub mod Lending
 pub mod Rows
 pub mod OpenedBlocks
 pub mod PresentBlocks
+pub mod Tables
+pub mod Agreement

@@ -1,5 +1,5 @@
 -- What the keys of an object stand for.
-use Rattle.std.specs.Prelude.{◌≡◌, ◌≤◌, ℕ, ◌<◌, List, [], length, slice_index, slice_index_or}
+use Rattle.std.specs.Prelude.{◌≡◌, ◌≤◌, ℕ, ◌+◌, ◌-◌, ◌*◌, ◌/◌, ◌%◌, ◌<◌, List, [], length, map, slice_index, slice_index_or}
 use Rattle.hail_codes.specs.Points.{upto}
 use Rattle.hail_codes.specs.Polynomials.{value, interpolate}
 use Rattle.hail_codes.specs.Sums.{dot}
@@ -21,3 +21,11 @@ pub record AreWeights (l x : ℕ) (weights : List ℕ) : Type 0 where
 -- each secondary point, of those from l on, has its weights
 abbrev pub HasWeights : ℕ → ℕ → List ℕ → List (List ℕ) → Type 0
 HasWeights n l points weights = (j : ℕ) → l ≤ j → j < n → AreWeights l (slice_index points j) (slice_index_or weights j [])
+
+-- the weights that have tables, one secondary provider after the other: those of its primary ones but the first
+abbrev pub weight_at : ℕ → List (List ℕ) → ℕ → ℕ
+weight_at l weights place = slice_index (slice_index_or weights (l + place / (l - 1)) []) (1 + place % (l - 1))
+
+-- they are all weights that have tables
+abbrev pub AreTabled : ℕ → ℕ → List (List ℕ) → List ℕ → Type 0
+AreTabled n l weights tabled = tabled ≡ map (weight_at l weights) (upto ((n - l) * (l - 1)))

@@ -1,9 +1,9 @@
 -- What was opened so far: a mark for each provider, and the blocks.
-use Rattle.std.specs.Prelude.{◌≡◌, ℕ, ◌+◌, ◌*◌, ◌<◌, Bool, false, List, [], map, slice_index, slice_index_or, Some, None, if◌then◌else◌}
+use Rattle.std.specs.Prelude.{◌≡◌, ℕ, ◌+◌, ◌*◌, ◌<◌, Bool, true, false, List, [], map, slice_index, slice_index_or, Some, None, if◌then◌else◌}
 use Rattle.hail_codes.specs.Polynomials.{value}
 use Rattle.hail_codes.specs.Points.{upto}
 use Rattle.hail_columns.specs.Objects.{Object, row_number}
-use Rattle.hail_columns.specs.Opened.{SeenBlock, AcceptsRow, AcceptsNoRow}
+use Rattle.hail_columns.specs.Opened.{SeenBlock, OpensTo, AcceptsRow, AcceptsNoRow}
 
 -- what the block of a provider opened to
 abbrev pub opened_at : List Bool → List (List ℕ) → ℕ → SeenBlock
@@ -26,3 +26,8 @@ pub record LosesPlace (o : Object) (opened : List SeenBlock) (stripe row : ℕ) 
   pub number : row ≡ row_number o stripe place
   pub lost : AcceptsNoRow o opened place
   pub lowest : (before : ℕ) → before < place → (p : List ℕ) × AcceptsRow o opened before p
+
+-- each block that is marked is what that of its provider opened to
+abbrev pub AreOpened : Object → ℕ → List SeenBlock → List Bool → List (List ℕ) → Type 0
+AreOpened o stripe seen marks blocks =
+    (j : ℕ) → j < o.shape.n → slice_index_or marks j false ≡ true → OpensTo o j stripe (slice_index_or seen j None) (Some (slice_index_or blocks j []))

@@ -1,45 +1,15 @@
-use crate::gather::{add_each, sum_at};
+use crate::gather::add_each;
 use crate::keys::ObjectKeys;
 use hail_field::Symbol;
 use mask_tag::mask_block;
 use server_code::AnyCode;
 
 impl ObjectKeys {
-    ghost use Rattle.std.specs.Prelude.{◌≡◌, ◌≤◌, ◌<◌, ◌*◌, length, map};
-    ghost use Rattle.hail_codes.specs.Points.{upto};
+    ghost use Rattle.std.specs.Prelude.{◌≡◌, ◌≤◌, ◌<◌, ◌*◌, length};
     ghost use Rattle.hail_columns.specs.Columns.{column_of_symbols};
     ghost use Rattle.hail_columns.specs.Opened.{masked};
     ghost use Rattle.file_layout.specs.Files.{object_of};
     ghost use Rattle.server_code.specs.Any.{profile_of};
-    ghost use Rattle.column_codec.specs.Rows.{row_value};
-
-    /// The value of a row's polynomial at a secondary provider's point.
-    fn row_value(&self, symbols: &[Symbol], place: usize, provider: usize) -> Symbol
-        requires secondary { self.now.file.shape.l ≤ provider }
-        requires provider { provider < self.now.file.shape.n }
-        requires symbols { length symbols.now ≡ self.now.file.shape.l * self.now.file.profile.keep }
-        requires place { place < self.now.file.profile.keep }
-        ensures { result ≡ row_value (object_of self.now.master.0 self.now.file) symbols.now provider place }
-    {
-        let l = usize::from(self.file.shape.l);
-        let keep = self.file.profile.keep as usize;
-        let weights = &self.weights[..];
-        sum_at(&weights[provider], symbols, l, keep, place)
-    }
-
-    /// The values of a stripe's kept rows at a secondary provider's point.
-    fn kept_into(&self, symbols: &[Symbol], provider: usize, kept: &mut [Symbol])
-        requires secondary { self.now.file.shape.l ≤ provider }
-        requires provider { provider < self.now.file.shape.n }
-        requires symbols { length symbols.now ≡ self.now.file.shape.l * self.now.file.profile.keep }
-        requires kept { length kept.old ≡ self.now.file.profile.keep }
-        ensures { kept.new ≡ map (row_value (object_of self.now.master.0 self.now.file) symbols.now provider)
-            (upto self.now.file.profile.keep) }
-    {
-        for place in 0..kept.len() {
-            kept[place] = self.row_value(symbols, place, provider);
-        }
-    }
 
     /// Adds a provider's masks to a block of a stripe, which also takes them off.
     pub fn add_masks(&self, stripe: u32, provider: usize, block: &mut [Symbol])

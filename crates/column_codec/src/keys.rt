@@ -1,14 +1,17 @@
-ghost use Rattle.std.specs.Prelude.{◌≡◌, ◌≢◌, ◌≤◌, ◌<◌, ℕ, slice_index};
-ghost use Rattle.column_codec.specs.ObjectKeys.{ArePoints, AreMaskKeys, HasWeights};
+ghost use Rattle.std.specs.Prelude.{◌≡◌, ◌≢◌, ◌≤◌, ◌<◌, ◌-◌, ◌*◌, ℕ, IfOk, IfSome, length, slice_index};
+ghost use Rattle.std.specs.Option.{ForSome};
+ghost use Rattle.column_codec.specs.ObjectKeys.{ArePoints, AreMaskKeys, HasWeights, AreTabled};
 
+use crate::tables::WeightTables;
 use crate::weights::weights;
 use file_layout::FileShape;
-use hail_field::{Shape, Symbol};
+use hail_field::{Memory, Shape, Symbol};
 use key_schedule::{Master, file_key, point};
+use std::alloc::Global;
 
 /// What the columns of one object are made with: its points, the weights of the primary symbols at the points of its
-/// secondary providers, and the keys of its masks. They are derived once, without memory, so keep this for as long as
-/// stripes of the object are made or opened.
+/// secondary providers, and the keys of its masks. They are derived once, so keep this for as long as stripes of the
+/// object are made or opened. With tables of the weights, which take memory, rows take a tenth of the time.
 #[derive(Drop)]
 pub struct ObjectKeys {
     pub master: Master,
@@ -16,8 +19,10 @@ pub struct ObjectKeys {
     pub(crate) points: [Symbol; 16],
     pub(crate) weights: [[Symbol; 16]; 16],
     pub(crate) mask_keys: [[u8; 32]; 16],
+    pub(crate) tables: Option<WeightTables>,
     pub ghost points_are: { ArePoints file.shape.n file.shape.l master.0 file.id points },
     pub ghost has_weights: { HasWeights file.shape.n file.shape.l points weights },
+    pub ghost are_tabled: { ForSome tables (λ all. AreTabled file.shape.n file.shape.l weights all) },
     pub ghost mask_keys_are: { AreMaskKeys file.shape.n master.0 file.id mask_keys },
 }
 
@@ -56,7 +61,7 @@ fn all_weights(shape: Shape, points: &[Symbol; 16]) -> [[Symbol; 16]; 16]
 }
 
 impl ObjectKeys {
-    /// The keys of a file's object under a master key.
+    /// The keys of a file's object under a master key, without tables and so without memory.
     pub fn new(master: &Master, file: &FileShape) -> ObjectKeys
         ensures master { result.master ≡ master.now }
         ensures file { result.file ≡ file.now }
@@ -68,6 +73,58 @@ impl ObjectKeys {
             points,
             weights: all_weights(file.shape, &points),
             mask_keys: mask_keys(master, file),
+            tables: None,
         }
+    }
+
+    /// The same keys with tables of the weights: 8 KiB for each secondary provider and each primary one but the first.
+    pub fn with_tables(
+        alloc: Global,
+        master: &Master,
+        file: &FileShape,
+    ) -> Result<ObjectKeys, Memory>
+        ensures master { IfOk result (λ keys. keys.master ≡ master.now) }
+        ensures file { IfOk result (λ keys. keys.file ≡ file.now) }
+    {
+        let mut keys = ObjectKeys::new(master, file);
+        keys.tables = Some(WeightTables::new(alloc, file.shape, &keys.weights)?);
+        Ok(keys)
+    }
+
+    /// Turns to another object of the same shape and profile. Tables, where there are any, are made anew in their room.
+    pub fn turn_to(&mut self, id: u64)
+        ensures master { self.new.master ≡ self.old.master }
+        ensures id { self.new.file.id ≡ id }
+        ensures length { self.new.file.length ≡ self.old.file.length }
+        ensures shape { self.new.file.shape ≡ self.old.file.shape }
+        ensures profile { self.new.file.profile ≡ self.old.file.profile }
+    {
+        let file = FileShape {
+            id,
+            length: self.file.length,
+            shape: self.file.shape,
+            profile: self.file.profile,
+        };
+        let mut keys = ObjectKeys::new(&self.master, &file);
+        keys.tables = turned(self.tables.take(), file.shape, &keys.weights);
+        *self = keys;
+    }
+}
+
+/// Tables, where there are any, of other weights.
+fn turned(
+    tables: Option<WeightTables>,
+    shape: Shape,
+    weights: &[[Symbol; 16]; 16],
+) -> Option<WeightTables>
+    requires { IfSome tables (λ all. length all ≡ (shape.n - shape.l) * (shape.l - 1)) }
+    ensures { IfSome result (λ all. AreTabled shape.n shape.l weights.now all) }
+{
+    match tables {
+        Some(mut all) => {
+            all.turn_to(shape, weights);
+            Some(all)
+        }
+        None => None,
     }
 }

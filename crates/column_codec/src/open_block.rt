@@ -12,7 +12,7 @@ impl ObjectKeys {
     ghost use Rattle.server_code.specs.Any.{profile_of};
 
     /// Takes a provider's masks off a block of a stripe, which a primary one has none of.
-    fn take_masks_off(&self, stripe: u32, provider: usize, block: &mut [Symbol])
+    pub(crate) fn take_masks_off(&self, stripe: u32, provider: usize, block: &mut [Symbol])
         requires provider { provider < self.now.file.shape.n }
         requires block { length block.old ≡ self.now.file.profile.size }
         ensures { block.new ≡ bare (object_of self.now.master.0 self.now.file) provider stripe block.old }

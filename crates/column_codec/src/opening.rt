@@ -9,6 +9,7 @@ ghost use Rattle.column_codec.specs.OpenedBlocks.{opened_at, opened_of, HasRow, 
 
 use crate::block::Block;
 use crate::keys::ObjectKeys;
+use crate::trust::{Trust, without};
 use dispersal_code::open_row;
 use file_layout::FileShape;
 use hail_field::Symbol;
@@ -123,8 +124,74 @@ impl ObjectKeys {
         }
     }
 
-    /// Fills `rows` with the values of the accepted rows at the kept places, in layout order.
-    pub(crate) fn open_rows(
+    /// Marks as a liar each provider that does not agree with the polynomial that a row is accepted with. False where there
+    /// is none.
+    fn learn(
+        &self,
+        marks: &[bool; 16],
+        blocks: &[Block],
+        place: usize,
+        liars: &mut [bool; 16],
+        work: &mut Work,
+    ) -> bool
+        requires blocks { length blocks.now ≡ self.now.file.shape.n }
+        requires place { (j : ℕ) → j < length blocks.now → place < length (slice_index_or blocks.now j []) }
+        requires room { 16 ≤ work.old.size }
+        ensures room { work.new.size ≡ work.old.size }
+    {
+        if !self.open_place(marks, blocks, place, work) {
+            return false;
+        }
+        for j in 0..blocks.len() {
+            if marks[j] && work.value(self.points[j]) != blocks[j].symbols()[place] {
+                liars[j] = true;
+            }
+        }
+        true
+    }
+
+    /// Looks whether all rows at kept places are accepted, and fills `rows` with their values: guesses them by the providers
+    /// that opened, and again, at most so many times more, without those that do not agree with a row that a guess missed,
+    /// which are then no longer trusted. Where it is false, nothing is said.
+    pub(crate) fn carry(
+        &self,
+        marks: &[bool; 16],
+        blocks: &[Block],
+        more: u8,
+        trust: &mut Trust,
+        rows: &mut [Symbol],
+        work: &mut Work,
+    ) -> bool
+        requires blocks { length blocks.now ≡ self.now.file.shape.n }
+        requires sizes { (j : ℕ) → j < length blocks.now → length (slice_index_or blocks.now j []) ≡ self.now.file.profile.size }
+        requires rows { length rows.old ≡ self.now.file.shape.l * self.now.file.profile.keep }
+        requires room { 16 ≤ work.old.size }
+        ensures carried { OnTrue result ((place : ℕ) → place < self.now.file.profile.keep →
+            HasRow (object_of self.now.master.0 self.now.file) (opened_of marks.now blocks.now self.now.file.shape.n) place rows.new) }
+        ensures room { work.new.size ≡ work.old.size }
+    {
+        let mut liars = [false; 16];
+        for left in (0..=more).rev() {
+            if !self.guess(&without(marks, &liars), blocks, rows) {
+                return false;
+            }
+            match self.uncarried(marks, blocks, rows) {
+                None => {
+                    trust.lose(&liars, self.file.shape.b);
+                    return true;
+                }
+                Some(place) => {
+                    if left == 0 || !self.learn(marks, blocks, place, &mut liars, work) {
+                        return false;
+                    }
+                }
+            }
+        }
+        false
+    }
+
+    /// Fills `rows` with the values of the accepted rows at the kept places, one row after another.
+    fn open_each_row(
         &self,
         stripe: u32,
         marks: &[bool; 16],
@@ -156,6 +223,34 @@ impl ObjectKeys {
         Ok(())
     }
 
+    /// Fills `rows` with the values of the accepted rows at the kept places, in layout order.
+    pub(crate) fn open_rows(
+        &self,
+        stripe: u32,
+        marks: &[bool; 16],
+        blocks: &[Block],
+        trust: &mut Trust,
+        rows: &mut [Symbol],
+        work: &mut Work,
+    ) -> Result<(), RowLost>
+        requires blocks { length blocks.now ≡ self.now.file.shape.n }
+        requires sizes { (j : ℕ) → j < length blocks.now → length (slice_index_or blocks.now j []) ≡ self.now.file.profile.size }
+        requires rows { length rows.old ≡ self.now.file.shape.l * self.now.file.profile.keep }
+        requires room { 16 ≤ work.old.size }
+        ensures ok { OnOk result ((place : ℕ) → place < self.now.file.profile.keep →
+            HasRow (object_of self.now.master.0 self.now.file) (opened_of marks.now blocks.now self.now.file.shape.n) place rows.new) }
+        ensures err { IfErr result (λ lost. LosesPlace (object_of self.now.master.0 self.now.file)
+            (opened_of marks.now blocks.now self.now.file.shape.n) stripe lost.row) }
+        ensures zeros { OnErr result (rows.new ≡ replicate (length rows.old) 0) }
+        ensures room { work.new.size ≡ work.old.size }
+    {
+        if self.carry(marks, blocks, self.file.shape.b, trust, rows, work) {
+            Ok(())
+        } else {
+            self.open_each_row(stripe, marks, blocks, rows, work)
+        }
+    }
+
     /// Opens the seen blocks of a stripe, and fills `rows` with its symbols in layout order. `RowLost` names the lowest row
     /// at a kept place that is not accepted; `rows` is then all zero.
     pub fn open_stripe(
@@ -180,7 +275,7 @@ impl ObjectKeys {
         ensures room { work.new.size ≡ work.old.size }
     {
         let marks = self.open_blocks(code, stripe, seen, scratch, work);
-        self.open_rows(stripe, &marks, scratch, rows, work)
+        self.open_rows(stripe, &marks, scratch, &mut Trust::new(), rows, work)
     }
 }
 

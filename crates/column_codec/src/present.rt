@@ -1,6 +1,7 @@
 use crate::block::Block;
 use crate::keys::ObjectKeys;
 use crate::opening::RowLost;
+use crate::trust::Trust;
 use hail_field::Symbol;
 use hail_poly::Work;
 use server_code::AnyCode;
@@ -116,7 +117,49 @@ impl ObjectKeys {
         ensures blocks { All (λ block. length block ≡ self.now.file.profile.size) scratch.new }
         ensures room { work.new.size ≡ work.old.size }
     {
+        self.open_trusting(
+            code,
+            stripe,
+            seen,
+            present,
+            &mut Trust::new(),
+            rows,
+            scratch,
+            work,
+        )
+    }
+
+    /// The same, begun by the providers that the stripes before left trusted. What it opens to is the same for each trust.
+    pub fn open_trusting(
+        &self,
+        code: &AnyCode,
+        stripe: u32,
+        seen: &[Symbol],
+        present: &[bool],
+        trust: &mut Trust,
+        rows: &mut [Symbol],
+        scratch: &mut [Block],
+        work: &mut Work,
+    ) -> Result<(), RowLost>
+        requires code { profile_of code.now ≡ self.now.file.profile }
+        requires seen { length seen.now ≡ self.now.file.shape.n * self.now.file.profile.size }
+        requires present { length present.now ≡ self.now.file.shape.n }
+        requires rows { length rows.old ≡ self.now.file.shape.l * self.now.file.profile.keep }
+        requires scratch { length scratch.old ≡ self.now.file.shape.n }
+        requires blocks { All (λ block. length block ≡ self.now.file.profile.size) scratch.old }
+        requires room { 128 ≤ work.old.size }
+        ensures ok { OnOk result (GivesSymbols (object_of self.now.master.0 self.now.file) stripe
+            (present_blocks self.now.file.profile.size present.now seen.now) rows.new) }
+        ensures lost { IfErr result (λ lost. LosesRow (object_of self.now.master.0 self.now.file) stripe
+            (present_blocks self.now.file.profile.size present.now seen.now) lost.row) }
+        ensures zeros { OnErr result (rows.new ≡ replicate (length rows.old) 0) }
+        ensures blocks { All (λ block. length block ≡ self.now.file.profile.size) scratch.new }
+        ensures room { work.new.size ≡ work.old.size }
+    {
+        if self.carry_clean(code, stripe, seen, present, trust, rows, scratch, work) {
+            return Ok(());
+        }
         let marks = self.open_present_blocks(code, stripe, seen, present, scratch, work);
-        self.open_rows(stripe, &marks, scratch, rows, work)
+        self.open_rows(stripe, &marks, scratch, trust, rows, work)
     }
 }

@@ -198,3 +198,98 @@ fn blocks_of_one_list_open_with_one_absent(rt: HostRuntime) {
     assert_eq!(rt; answer, Ok(()));
     assert_eq!(rt; opened, [Symbol::ONE, Symbol::ZERO]);
 }
+
+// The codeword of a provider of an object over seven: of a stripe of ones, or of other symbols where it lies.
+fn given(
+    rt: &impl Abort,
+    alloc: Global,
+    keys: &ObjectKeys,
+    provider: usize,
+    lies: bool,
+) -> [Symbol; 6] {
+    let code = AnyCode::new(alloc, keys.file.profile).expect(rt, "memory");
+    let mut block = [Symbol::ZERO; 6];
+    let mut rows = [Symbol(provider as u128 + 2); 4];
+    let (shape, profile) = (keys.file.shape, keys.file.profile);
+    assert!(rt;
+        shape.n == 7 && shape.l == 2 && provider < 7 && profile.size == 6 && profile.keep == 2
+    );
+    if !lies {
+        keys.symbols_into(0, &[1; 64], &mut rows);
+    }
+    keys.column_into(&code, 0, &rows, provider, &mut block);
+    block
+}
+
+// Whether a stripe of ones opens, and opens again by those that are trusted then, where some of seven providers give
+// codewords of other symbols, and one symbol of each block is wrong if all err.
+fn opens_beside(rt: &impl Abort, alloc: Global, liars: [bool; 7], err: bool) -> bool {
+    let profile = find_profile(0).expect(rt, "a profile");
+    let file = FileShape {
+        id: 1,
+        length: 64,
+        shape: Shape::new(7, 2, 2).expect(rt, "a shape"),
+        profile,
+    };
+    let code = AnyCode::new(alloc, profile).expect(rt, "memory");
+    let mut work = Work::new(alloc, 128).expect(rt, "memory");
+    let mut keys = ObjectKeys::with_tables(alloc, &numbered_key(), &file).expect(rt, "memory");
+    keys.turn_to(2);
+    let mut seen = [Symbol::ZERO; 42];
+    for j in 0..7 {
+        let block = given(rt, alloc, &keys, j, liars[j]);
+        for place in 0..6 {
+            seen[6 * j + place] = block[place];
+        }
+        if err {
+            seen[6 * j] = seen[6 * j].add(Symbol::ONE);
+        }
+    }
+    let mut scratch = [
+        zeros(rt, alloc, 6),
+        zeros(rt, alloc, 6),
+        zeros(rt, alloc, 6),
+        zeros(rt, alloc, 6),
+        zeros(rt, alloc, 6),
+        zeros(rt, alloc, 6),
+        zeros(rt, alloc, 6),
+    ];
+    let mut trust = Trust::new();
+    let mut rows = [Symbol::ZERO; 4];
+    let mut again = [Symbol::ZERO; 4];
+    let first = keys.open_trusting(
+        &code,
+        0,
+        &seen,
+        &[true; 7],
+        &mut trust,
+        &mut rows,
+        &mut scratch,
+        &mut work,
+    );
+    let second = keys.open_trusting(
+        &code,
+        0,
+        &seen,
+        &[true; 7],
+        &mut trust,
+        &mut again,
+        &mut scratch,
+        &mut work,
+    );
+    let want = [Symbol(0x0101_0101_0101_0101_0101_0101_0101_0101); 4];
+    first == Ok(()) && second == Ok(()) && rows == want && again == want
+}
+
+#[test]
+fn stripes_open_beside_liars(rt: HostRuntime) {
+    let none = [false; 7];
+    let primary = [true, true, false, false, false, false, false];
+    let both = [false, true, false, false, false, false, true];
+    let three = [true, true, true, false, false, false, false];
+    assert!(rt; opens_beside(&rt, rt.alloc(), primary, false));
+    assert!(rt; opens_beside(&rt, rt.alloc(), both, false));
+    assert!(rt; opens_beside(&rt, rt.alloc(), both, true));
+    assert!(rt; opens_beside(&rt, rt.alloc(), none, true));
+    assert!(rt; !opens_beside(&rt, rt.alloc(), three, false));
+}

@@ -3,3 +3,5 @@ pub mod RightBlocks
 pub mod Counts
 pub mod RightRows
 pub mod OtherRows
+pub mod Exclusive
+pub mod Worked

@@ -21,7 +21,7 @@ use Rattle.column_laws.proofs.Counts.{count_of-within, count_of-parts, count_of-
 use Rattle.column_laws.proofs.RightRows.{symbol-at}
 
 -- the row's polynomial takes the primary row
-values-row : (o : Object) (symbols : List ℕ) (place : ℕ) → values_at (upto o.shape.l) (row_polynomial o symbols place) ≡ primary_row o symbols place
+pub values-row : (o : Object) (symbols : List ℕ) (place : ℕ) → values_at (upto o.shape.l) (row_polynomial o symbols place) ≡ primary_row o symbols place
 values-row o symbols place = go 0 o.shape.l (λ j below. value-row_polynomial o symbols place j (omega (arith, below)))
   where
     go : (a n : ℕ) → ((j : ℕ) → j < a + n → value (row_polynomial o symbols place) j ≡ slice_index (codeword o.profile (kept_by o symbols j)) place) →

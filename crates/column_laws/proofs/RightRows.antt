@@ -1,5 +1,5 @@
 -- Where few blocks of a stripe are wrong, rows are accepted with the file's own polynomials.
-use Rattle.std.specs.Prelude.{◌≡◌, ℕ, zero, suc, ◌+◌, ◌-◌, ◌*◌, ◌<◌, ◌≤◌, Bool, true, false, List, map, drop, nat_lt, get_or, Option, Some}
+use Rattle.std.specs.Prelude.{◌≡◌, ℕ, zero, suc, ◌+◌, ◌-◌, ◌*◌, ◌<◌, ◌≤◌, Bool, true, false, List, map, drop, nat_lt, get_or, slice_get, Option, Some}
 use Rattle.std.proofs.Common.{arith, ap, sym, refl, ◌∙◌, get_or-take, get_or-drop, subst}
 use Rattle.std.proofs.Math.Nat.{mul-le-mul_right}
 use Rattle.std.proofs.lemmas.List.FromFn.{length-map-range_with_len, get_or-map-range_with_len, fill_by_all}
@@ -14,7 +14,7 @@ use Rattle.hail_columns.specs.Objects.{Object, stripe_symbols, symbol_of, symbol
 use Rattle.hail_columns.specs.Columns.{row_polynomial, is_wrong_block}
 use Rattle.hail_columns.specs.Opened.{SeenBlock, AllOpen, OpensTo, symbol_in, block_at, AcceptsRow, GivesSymbols}
 use Rattle.hail_columns.specs.Forgeries.{count_of, is_agreeing}
-use Rattle.hail_columns.proofs.ColumnLaws.{length-row_polynomial, value-row_polynomial, value-interpolate_upto}
+use Rattle.hail_columns.proofs.ColumnLaws.{length-row_polynomial, value-row_polynomial, value-interpolate_upto, slice_get-upto}
 use Rattle.hail_columns.proofs.SecondaryLaws.{length-kept_by}
 use Rattle.column_laws.proofs.UniqueLaws.{accepted-unique, profile-room}
 use Rattle.column_laws.proofs.RightBlocks.{length-symbols_in, symbol-right}
@@ -48,7 +48,7 @@ row-right o bytes number stripe place seen opened is shape few all within =
     }
 
 -- the polynomial of a row takes the file's symbols at the primary points
-row-symbol : (o : Object) (bytes : List ℕ) (stripe place j : ℕ) → place < o.profile.keep → place < o.profile.size → j < o.shape.l →
+pub row-symbol : (o : Object) (bytes : List ℕ) (stripe place j : ℕ) → place < o.profile.keep → place < o.profile.size → j < o.shape.l →
     value (row_polynomial o (symbols_in o bytes stripe) place) j ≡ symbol_of bytes (stripe * stripe_symbols o + (j * o.profile.keep + place))
 row-symbol o bytes stripe place j kept within below =
     let symbols = symbols_in o bytes stripe in
@@ -110,3 +110,30 @@ symbols-right o bytes number stripe seen symbols is shape few given =
         (row-right o bytes number stripe h.place seen given.opened is shape few given.opens within) h.block
         ∙ row-symbol o bytes stripe h.place h.block h.place_in within h.block_in
         ∙ ap (λ k. symbol_of bytes (stripe * stripe_symbols o + k)) (sym h.sum)
+
+-- where few blocks are wrong, what opens gives the file's symbols
+pub given-right : (o : Object) (bytes : List ℕ) (number stripe : ℕ) (seen opened : List SeenBlock) → o.profile ≡ profile_of number →
+    IsShape o.shape.n o.shape.l o.shape.b → count_of (λ j. is_wrong_block o bytes j stripe (block_at seen j)) (upto o.shape.n) ≤ o.shape.b →
+    AllOpen o stripe 0 seen opened → GivesSymbols o stripe seen (symbols_in o bytes stripe)
+given-right o bytes number stripe seen opened is shape few all = record {
+  opened = opened;
+  opens = all;
+  size = length-symbols_in o bytes stripe;
+  accepted = λ place kept. record {
+    row = row_polynomial o (symbols_in o bytes stripe) place;
+    accepted = row-right o bytes number stripe place seen opened is shape few all (within place kept);
+    values = λ j below. at place j kept below;
+  };
+}
+  where
+    within : (place : ℕ) → place < o.profile.keep → place < o.profile.size
+    within place kept = omega (arith, kept, profile-room o number is)
+
+    at : (place j : ℕ) → place < o.profile.keep → j < o.shape.l → slice_get (symbols_in o bytes stripe) (j * o.profile.keep + place)
+        ≡ Some (value (row_polynomial o (symbols_in o bytes stripe) place) j)
+    at place j kept below =
+        let more : suc j * o.profile.keep ≤ o.shape.l * o.profile.keep = mul-le-mul_right o.profile.keep below in
+        let split : suc j * o.profile.keep ≡ j * o.profile.keep + o.profile.keep = grind arith in
+        slice_get-upto (λ i. symbol_of bytes (stripe * stripe_symbols o + i)) (stripe_symbols o) (j * o.profile.keep + place)
+        (omega (arith, kept, more, split))
+        ∙ ap Some (sym (row-symbol o bytes stripe place j kept (within place kept) below))

@@ -1,5 +1,5 @@
 -- From the begin and the steps of a job to what its command tells of it.
-use Rattle.std.proofs.Common.{◌≡◌, ℕ, ◌≤◌, List, length, replicate, drop, Option, Some, None, Ok, Err, refl, ap, sym, subst, ◌∙◌, inl, inr, arith}
+use Rattle.std.proofs.Common.{◌≡◌, ℕ, ◌+◌, ◌≤◌, List, length, replicate, drop, Option, Some, None, Ok, Err, refl, ap, sym, subst, ◌∙◌, inl, inr, arith}
 use Rattle.std.specs.Option.{option_map}
 use Rattle.std.proofs.lemmas.List.{length-replicate}
 use Rattle.hail_devices.specs.Cells.{Cells, reads}
@@ -36,7 +36,8 @@ use Rattle.vault.specs.Stands.{Stands, MakesBegin}
 use Rattle.command_jobs.specs.Opened.{IsFresh}
 use Rattle.command_jobs.specs.Going.{IsOnly, IsUnderWay, GoesToEnd}
 use Rattle.command_jobs.specs.Ends.{IsSeenBefore, IsSeenAfter, IsRefusedOver, EndsOver}
-use Rattle.command_jobs.proofs.Begins.{refusal-of, spelled-begun}
+use Rattle.command_laws.proofs.BeginRefusals.{refusal-of}
+use Rattle.command_jobs.proofs.Begins.{spelled-begun}
 use Rattle.command_jobs.proofs.Fresh.{OpensAll, ThereIsOne, over-opened, just-opened}
 
 -- what the laws on commands say of what is left
@@ -77,23 +78,23 @@ abbrev pub RefusesAs : Vault → Kind → BeginFault → Vault → Type 0
 RefusesAs old kind why new = (w : State) (d : Devices) (moment : ℕ) → Stands old d w → MakesBegin w moment kind (Err why) new d
 
 -- a job that began over a state just opened
-record HasBegun (w : State) (kind : Kind) (number : ℕ) (v : Vault) (d : Devices) : Type 0 where
-  made : MakesBegin w 1 kind (Ok number) v d
+record HasBegun (w : State) (moment : ℕ) (kind : Kind) (number : ℕ) (v : Vault) (d : Devices) : Type 0 where
+  made : MakesBegin w moment kind (Ok number) v d
   spelled : IsSpelledKind kind
   first : number ≡ 1
   only : IsOnly w kind made.state
   unrefused : commands.refusal_of w.records kind ≡ None
 
-has-begun : (w : State) (kind : Kind) (number : ℕ) (old new : Vault) (d : Devices) → IsOpened w → Stands old d w → BeginsAs old kind number new → HasBegun w kind number new d
-has-begun w kind number old new d O stands begins =
-    (let M = begins w d 1 stands in
-    let s = spelled-begun w M.state kind number O.rest.idle.0 M.begins M.stands.core.sound in
-    let b = walk-begin 1 number w M.state kind O s M.begins in
+has-begun : (w : State) (moment : ℕ) (kind : Kind) (number : ℕ) (old new : Vault) (d : Devices) → IsOpened w → Stands old d w → BeginsAs old kind number new → HasBegun w moment kind number new d
+has-begun w moment kind number old new d O stands begins =
+    (let M = begins w d moment stands in
+    let s = spelled-begun w M.state moment kind number O.rest.idle.0 M.begins M.stands.core.sound in
+    let b = walk-begin moment number w M.state kind O s M.begins in
     record {
       made = M;
       spelled = s;
       first = b.0;
-      only = record { opened = O; job = new_job w 1 kind; walked = b.1 };
+      only = record { opened = O; job = new_job w moment kind; walked = b.1 };
       unrefused = sym (refusal-of w kind O.rest.idle.0 O.rest.idle.2) ∙ M.begins.1;
     })
 
@@ -117,7 +118,7 @@ module _ (law : OpensAll) (there : ThereIsOne) (v : Vault) (records : List Recor
   pub under-way : (next : Vault) (kind : Kind) (number : ℕ) (providers : List Provider) → (setup_at records).n ≤ length providers → BeginsAs v kind number next → (number ≡ 1) × IsUnderWay next (devices holds faults providers)
   under-way next kind number providers enough begins =
       (let x = opened-one providers enough in
-      let h = has-begun x.0 kind number v next (devices holds faults providers) x.1.opened x.1.stands begins in
+      let h = has-begun x.0 1 kind number v next (devices holds faults providers) x.1.opened x.1.stands begins in
       (h.first, record { start = x.0; kind = kind; state = h.made.state; only = h.only; stands = h.made.stands }))
 
   memory-is : (why : BeginFault) → refusal_of why ≡ refusal.Memory → why ≡ begin_fault.Memory
@@ -151,18 +152,18 @@ module _ (law : OpensAll) (there : ThereIsOne) (v : Vault) (records : List Recor
     enough : (setup_at records).n ≤ length providers
     enough = subst (λ (ps : List Provider). (setup_at records).n ≤ length ps) B.providers R.enough
 
-    ran-alone : (w : State) → IsOpenedOver w records faults providers → RanAlone records kind (answer_of ended.answer) old new ended.heard faults w
-    ran-alone w over =
+    ran-alone : (w : State) (moment : ℕ) → IsOpenedOver w records faults providers → RanAlone records kind (answer_of ended.answer) old new ended.heard faults w moment
+    ran-alone w moment over =
         (let x = opened-at providers w enough over in
-        let h = has-begun w kind number v next (devices holds faults providers) x.opened x.stands begins in
-        let G = goes w h.made.state kind 2 h.only h.made.stands in
+        let h = has-begun w moment kind number v next (devices holds faults providers) x.opened x.stands begins in
+        let G = goes w h.made.state kind (moment + 1) h.only h.made.stands in
         record {
           last = G.last;
           runs = record {
             begun = h.made.state;
             job = number;
             begins = h.made.begins;
-            goes_on = subst (λ n. GoesOnTo h.made.state 2 n (answer_of ended.answer) ended.heard G.last) (sym h.first) G.goes;
+            goes_on = subst (λ n. GoesOnTo h.made.state (moment + 1) n (answer_of ended.answer) ended.heard G.last) (sym h.first) G.goes;
           };
           images = subst (λ told. StandsForState told G.last) (sym A.disk) G.stands.devices.images;
           faults_are = G.stands.devices.faults ∙ sym A.faults;
@@ -176,11 +177,11 @@ module _ (law : OpensAll) (there : ThereIsOne) (v : Vault) (records : List Recor
     runs-alone = record {
       faults = faults;
       before = B.faults;
-      ran = λ w over. ran-alone w (subst (λ (ps : List Provider). IsOpenedOver w records faults ps) B.providers over);
+      ran = λ w moment over. ran-alone w moment (subst (λ (ps : List Provider). IsOpenedOver w records faults ps) B.providers over);
     }
 
-    begun-one : (w : State) × (HasBegun w kind number next (devices holds faults providers) × (w.records ≡ records))
-    begun-one = (let x = opened-one providers enough in (x.0, (has-begun x.0 kind number v next (devices holds faults providers) x.1.opened x.1.stands begins, x.1.over.records)))
+    begun-one : (w : State) × (HasBegun w 1 kind number next (devices holds faults providers) × (w.records ≡ records))
+    begun-one = (let x = opened-one providers enough in (x.0, (has-begun x.0 1 kind number v next (devices holds faults providers) x.1.opened x.1.stands begins, x.1.over.records)))
 
     left-alone : LeftAlone records kind (answer_of ended.answer) old new ended.heard
     left-alone = leaves records kind (answer_of ended.answer) old new ended.heard R begun-one.1.0.spelled (ap length A.providers ∙ (same ∙ sym (ap length B.providers))) runs-alone

@@ -1,62 +1,17 @@
--- The begin of a job that is the only one: its refusals, and its words.
-use Rattle.std.proofs.Common.{◌≡◌, ℕ, ◌+◌, ◌==◌, ◌||◌, Bool, false, List, [], ◌∷◌, ◌++◌, Some, None, refl, ap, sym, subst, ◌∙◌, not, length, add-zero, sum}
-use Rattle.std.specs.Prelude.{is_some, nat_lt}
+-- The begin of a job that is the only one: its words.
+use Rattle.std.proofs.Common.{◌≡◌, ℕ, ◌==◌, List, [], ◌∷◌, ◌++◌, Some, None, refl, ap, ◌∙◌}
 use Rattle.std.proofs.lemmas.Bool.{eq-eqb}
-use Rattle.hail_records.specs.Records.{is_name, largest_file, largest_journal}
-use Rattle.hail_records.specs.Journal.{text_size}
-use Rattle.hail_records.specs.Table.{file_of, due_of}
-use Rattle.hail_machine.specs.Jobs.{Kind, PutJob, GetJob, DropJob, AuditJob, RepairJob, Job, job_of}
-use Rattle.hail_machine.specs.Refusals as refusal
-use Rattle.hail_machine.specs.Refusals.{Refusal, Cause, first_refusal}
+use Rattle.hail_machine.specs.Jobs.{Kind, job_of}
 use Rattle.hail_machine.specs.Events.{Begun, IsSpelledKind}
-use Rattle.hail_machine.specs.States.{State, setup_in}
-use Rattle.hail_machine.specs.Space.{append_sizes}
-use Rattle.hail_machine.specs.Begins.{Begins, begin_refusal, new_job}
+use Rattle.hail_machine.specs.States.{State}
+use Rattle.hail_machine.specs.Begins.{Begins, new_job}
 use Rattle.hail_machine.proofs.JobLists.{cond_true}
-use Rattle.hail_commands.specs.Opens.{setup_at}
-use Rattle.hail_commands.specs.Refusals as commands
-use Rattle.hail_commands.specs.Refusals.{has_no_number, is_full_for, causes_of, is_crowded_by}
 use Rattle.sound_states.specs.Sound.{IsSound}
-
--- ---- refusals
-
-module _ (w : State) where
-  -- the state with no job, in which jobs go on
-  abbrev alone : State
-  alone = record w { jobs = []; is_barred = false }
-
-  room-alone : (kind : Kind) → nat_lt largest_journal (text_size w.records + 0 + sum (append_sizes (setup_at w.records) kind)) ≡ nat_lt largest_journal (text_size w.records + sum (append_sizes (setup_at w.records) kind))
-  room-alone kind = ap (λ n. nat_lt largest_journal (n + sum (append_sizes (setup_at w.records) kind))) (add-zero (text_size w.records))
-
-  refusal-alone : (kind : Kind) → begin_refusal 8 alone kind ≡ commands.refusal_of w.records kind
-  unfolding setup_in
-  refusal-alone (PutJob name bytes) = ap (λ (b : Bool). first_refusal (
-      record { applies = not (is_name name); refusal = refusal.BadName }
-      ∷ record { applies = nat_lt largest_file (length bytes); refusal = refusal.TooLong }
-      ∷ record { applies = is_crowded_by w.records name; refusal = refusal.TooManyFiles }
-      ∷ record { applies = b || has_no_number w.records (PutJob name bytes); refusal = refusal.JournalFull } ∷ [])) (room-alone (PutJob name bytes))
-  refusal-alone (GetJob name) = refl
-  refusal-alone (DropJob name) = ap (λ (b : Bool). first_refusal (
-      record { applies = not (is_name name); refusal = refusal.BadName }
-      ∷ record { applies = not (is_some (file_of w.records name)); refusal = refusal.NoSuchName }
-      ∷ record { applies = b || has_no_number w.records (DropJob name); refusal = refusal.JournalFull } ∷ [])) (room-alone (DropJob name))
-  refusal-alone AuditJob = ap (λ (b : Bool). first_refusal (
-      record { applies = is_some (due_of w.records); refusal = refusal.RepairDue }
-      ∷ record { applies = b || has_no_number w.records AuditJob; refusal = refusal.JournalFull } ∷ [])) (room-alone AuditJob)
-  refusal-alone RepairJob = ap (λ (b : Bool). first_refusal (
-      record { applies = not (is_some (due_of w.records)); refusal = refusal.NothingDue }
-      ∷ record { applies = b || has_no_number w.records RepairJob; refusal = refusal.JournalFull } ∷ [])) (room-alone RepairJob)
-
-  -- where no job runs, a begin is refused as a command's
-  pub refusal-of : (kind : Kind) → w.jobs ≡ [] → w.is_barred ≡ false → begin_refusal 8 w kind ≡ commands.refusal_of w.records kind
-  refusal-of kind none unbarred =
-      subst (λ (b : Bool). begin_refusal 8 (record w { jobs = w.jobs; is_barred = b }) kind ≡ commands.refusal_of w.records kind) (sym unbarred)
-      (subst (λ (js : List Job). begin_refusal 8 (record w { jobs = js; is_barred = false }) kind ≡ commands.refusal_of w.records kind) (sym none) (refusal-alone kind))
 
 -- ---- words
 
 -- the words of a job that began are bytes
-pub spelled-begun : (w new : State) (kind : Kind) (number : ℕ) → w.jobs ≡ [] → Begins 8 1 w kind (Begun number) new → IsSound 8 new → IsSpelledKind kind
-spelled-begun w new kind number none (opened, allowed, is_number, is) sound =
-    (sound.jobs w.next_job (new_job w 1 kind) (ap (λ (v : State). job_of v.jobs w.next_job) is
-    ∙ (ap (λ js. job_of (js ++ new_job w 1 kind ∷ []) w.next_job) none ∙ cond_true (w.next_job == w.next_job) (Some (new_job w 1 kind)) None (eq-eqb w.next_job w.next_job refl)))).spelled
+pub spelled-begun : (w new : State) (moment : ℕ) (kind : Kind) (number : ℕ) → w.jobs ≡ [] → Begins 8 moment w kind (Begun number) new → IsSound 8 new → IsSpelledKind kind
+spelled-begun w new moment kind number none (opened, allowed, is_number, is) sound =
+    (sound.jobs w.next_job (new_job w moment kind) (ap (λ (v : State). job_of v.jobs w.next_job) is
+    ∙ (ap (λ js. job_of (js ++ new_job w moment kind ∷ []) w.next_job) none ∙ cond_true (w.next_job == w.next_job) (Some (new_job w moment kind)) None (eq-eqb w.next_job w.next_job refl)))).spelled

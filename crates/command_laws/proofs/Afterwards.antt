@@ -36,7 +36,7 @@ reads-resynced : (old new : Cells) → IsResynced old new → reads new ≡ read
 reads-resynced old new (inl same) = ap reads same
 reads-resynced old new (inr after) = ap reads after ∙ reads-firm (reads old)
 
-read-kept : (a b : Option Cells) (records : List Record) → Goes IsResynced a b → is_some a ≡ true → IsRead a records → (is_some b ≡ true) × IsRead b records
+pub read-kept : (a b : Option Cells) (records : List Record) → Goes IsResynced a b → is_some a ≡ true → IsRead a records → (is_some b ≡ true) × IsRead b records
 read-kept None b records g tells R = absurd (false≢true tells)
 read-kept (Some a) None records g tells R = absurd g
 read-kept (Some a) (Some b) records g tells R = (
@@ -103,8 +103,8 @@ job-told kind records old new end (AnswersJob.ended how none runs left by) refus
 
 put-told : (name : List ℕ) (old new : Seen) (end : Ending) → AnswersPut name old new end → is_refusal end.status ≡ true → IsRefused end.status end.at old new end
 put-told name old new end (AnswersPut.unstarted u same) refuses = unstarted-told old new end u
-put-told name old new end (AnswersPut.source_fault records opened rose synced r) refuses = as-told 14 0 old new end r
-put-told name old new end (AnswersPut.no_memory r) refuses = as-told 70 0 old new end r
+put-told name old new end (AnswersPut.source_fault records opened rose synced taken r) refuses = as-told 14 0 old new end r
+put-told name old new end (AnswersPut.no_memory taken r) refuses = as-told 70 0 old new end r
 put-told name old new end (AnswersPut.begun records bytes opened read A) refuses = job-told (PutJob name bytes) records old new end A refuses
 
 alone-told : (kind : Kind) (old new : Seen) (end : Ending) → AnswersAlone kind old new end → is_refusal end.status ≡ true → IsRefused end.status end.at old new end
@@ -126,9 +126,9 @@ disk-told s old new end (InitsDisk.ready R) refuses = absurd (no-text _ old new 
 init-told : (numbers : Numbers) (old new : Seen) (end : Ending) → AnswersInit numbers old new end → is_refusal end.status ≡ true → IsRefused end.status end.at old new end
 init-told numbers old new end (AnswersInit.bad_setup bad same r) refuses = as-told 20 0 old new end r
 init-told numbers old new end (AnswersInit.too_few_providers good few same r) refuses = as-told 22 0 old new end r
-init-told numbers old new end (AnswersInit.source_fault good enough rose r) refuses = as-told 14 0 old new end r
+init-told numbers old new end (AnswersInit.source_fault good enough rose taken r) refuses = as-told 14 0 old new end r
 init-told numbers old new end (AnswersInit.bad_key bytes good enough read bad r) refuses = as-told 18 0 old new end r
-init-told numbers old new end (AnswersInit.no_memory r) refuses = as-told 70 0 old new end r
+init-told numbers old new end (AnswersInit.no_memory taken r) refuses = as-told 70 0 old new end r
 init-told numbers old new end (AnswersInit.keyed bytes key good enough read form D) refuses = disk-told (setup_with numbers key) old new end D refuses
 
 disk-same : (old new : Option Cells) → new ≡ old → Goes IsResynced old new
@@ -200,9 +200,9 @@ sure-same records old new same providers S = record {
 init-providers : (numbers : Numbers) (old new : Seen) (end : Ending) → AnswersInit numbers old new end → new.providers ≡ old.providers
 init-providers numbers old new end (AnswersInit.bad_setup bad same r) = r.providers
 init-providers numbers old new end (AnswersInit.too_few_providers good few same r) = r.providers
-init-providers numbers old new end (AnswersInit.source_fault good enough rose r) = r.providers
+init-providers numbers old new end (AnswersInit.source_fault good enough rose taken r) = r.providers
 init-providers numbers old new end (AnswersInit.bad_key bytes good enough read bad r) = r.providers
-init-providers numbers old new end (AnswersInit.no_memory r) = r.providers
+init-providers numbers old new end (AnswersInit.no_memory taken r) = r.providers
 init-providers numbers old new end (AnswersInit.keyed bytes key good enough read form (InitsDisk.disk_fault rose F)) = F.providers
 init-providers numbers old new end (AnswersInit.keyed bytes key good enough read form (InitsDisk.no_memory F)) = F.providers
 init-providers numbers old new end (AnswersInit.keyed bytes key good enough read form (InitsDisk.bad_journal at is r)) = r.providers

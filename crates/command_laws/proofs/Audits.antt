@@ -502,8 +502,8 @@ module _ (start new : State) (how : Answer) (heard : List Entry) (O : IsOpened s
     fetches = λ j l. ap (λ (g : ℕ → Provider). (g j).fetches) gives.1 ∙ fetches-kept start O E.before E.job E.walked j;
   }
 
-pub audits-leave : (start new : State) (how : Answer) (heard : List Entry) → IsOpened start → RunsJob start AuditJob how heard new → Leaves (ran_from start new heard) AuditJob how
+pub audits-leave : (start new : State) (moment : ℕ) (how : Answer) (heard : List Entry) → IsOpened start → RunsJob start moment AuditJob how heard new → Leaves (ran_from start new heard) AuditJob how
 unfolding setup_in
-audits-leave start new how heard O r =
-    (let E = job-ends start new AuditJob how heard O tt r in
+audits-leave start new moment how heard O r =
+    (let E = job-ends start new moment AuditJob how heard O tt r in
     record { by_kind = audit-leaves start new how heard O E; counts = counts-rise start new AuditJob how heard O E; others = others-stay start new AuditJob how heard O E })

@@ -140,8 +140,8 @@ module _ (old new : Seen) (end : Ending) where
 
   put-causes : (name : List ℕ) → AnswersPut name old new end → FaultsHaveCauses old new end
   put-causes name (AnswersPut.unstarted u same) = unstarted-causes u
-  put-causes name (AnswersPut.source_fault records opened rose synced r) = source-rose r.status_is rose
-  put-causes name (AnswersPut.no_memory r) = none-rose 70 refl r.status_is
+  put-causes name (AnswersPut.source_fault records opened rose synced taken r) = source-rose r.status_is rose
+  put-causes name (AnswersPut.no_memory taken r) = none-rose 70 refl r.status_is
   put-causes name (AnswersPut.begun records bytes opened read A) = job-causes _ records A
 
   alone-causes : (kind : Kind) → AnswersAlone kind old new end → FaultsHaveCauses old new end
@@ -156,14 +156,14 @@ module _ (old new : Seen) (end : Ending) where
   pub init-causes : (numbers : Numbers) → AnswersInit numbers old new end → FaultsHaveCauses old new end
   init-causes numbers (AnswersInit.bad_setup bad same r) = none-rose 20 refl r.status_is
   init-causes numbers (AnswersInit.too_few_providers good few same r) = none-rose 22 refl r.status_is
-  init-causes numbers (AnswersInit.source_fault good enough rose r) = source-rose r.status_is rose
+  init-causes numbers (AnswersInit.source_fault good enough rose taken r) = source-rose r.status_is rose
   init-causes numbers (AnswersInit.bad_key bytes good enough read bad r) = none-rose 18 refl r.status_is
   init-causes numbers (AnswersInit.keyed bytes key good enough read form (InitsDisk.disk_fault rose F)) = disk-rose F.status_is rose
   init-causes numbers (AnswersInit.keyed bytes key good enough read form (InitsDisk.bad_journal at is r)) = none-rose 8 refl r.status_is
   init-causes numbers (AnswersInit.keyed bytes key good enough read form (InitsDisk.already is r)) = none-rose 10 refl r.status_is
   init-causes numbers (AnswersInit.keyed bytes key good enough read form (InitsDisk.no_memory F)) = none-rose 70 refl F.status_is
   init-causes numbers (AnswersInit.keyed bytes key good enough read form (InitsDisk.ready R)) = written-causes _ R.written
-  init-causes numbers (AnswersInit.no_memory r) = none-rose 70 refl r.status_is
+  init-causes numbers (AnswersInit.no_memory taken r) = none-rose 70 refl r.status_is
 
   pub store-causes : (command : Command) → Answers command old new end → opens_store command ≡ true → FaultsHaveCauses old new end
   store-causes (RowOf n l b seen) A opens = absurd (false≢true opens)

@@ -1,5 +1,5 @@
 -- Commands one after the other.
-use Rattle.std.proofs.Common.{◌≡◌, ◌≢◌, ℕ, ◌+◌, ◌≤◌, ◌⊎◌, Bool, true, false, cond, not, List, [], ◌∷◌, length, Option, None, Some, refl, ap, sym, subst, ◌∙◌, inl, inr, arith}
+use Rattle.std.proofs.Common.{◌≡◌, ◌≢◌, ℕ, ◌+◌, ◌<◌, ◌≤◌, ◌⊎◌, Bool, true, false, cond, not, List, [], ◌∷◌, length, Option, None, Some, refl, ap, sym, subst, ◌∙◌, inl, inr, arith}
 use Rattle.std.specs.Prelude.{is_some, nat_lt, ◌&&◌, ◌||◌}
 use Rattle.std.proofs.lemmas.Bool.{cases_Bool, false≢true}
 use Rattle.std.proofs.lemmas.Bool.Decides.{nat_tests}
@@ -64,7 +64,7 @@ get-missing name records old new end A K named none disk = elim (known-always (G
 -- ---- a get after a put
 
 pub put-get : (name bytes : List ℕ) (records : List Record) (spoilt : ℕ → Bool) (c d e f : Seen) (second last : Ending) → AnswersPut name c d second → AnswersAlone (GetJob name) e f last → Follows d e → IsKnown c records →
-    c.source ≡ Some bytes → IsDone second → ((j : ℕ) → spoilt j ≡ false → is_some (provider_at c.providers j).held ≡ true) → IsUntouched (setup_at records).n spoilt d e → IsSteady (setup_at records).n spoilt e f →
+    c.source ≡ Some bytes → IsDone second → ((j : ℕ) → j < (setup_at records).n → spoilt j ≡ false → is_some (provider_at c.providers j).held ≡ true) → IsUntouched (setup_at records).n spoilt d e → IsSteady (setup_at records).n spoilt e f →
     spoilt_below (setup_at records).n spoilt ≤ (setup_at records).b → (Rose e.disk_faults f.disk_faults → ⊥) → (Rose e.sink_faults f.sink_faults → ⊥) → EndsWell bytes e f last
 put-get name bytes records spoilt c d e f second last P G N K source done tells untouched steady few disk sink =
     (let after : List Record = after_put records name (length bytes) in
@@ -74,7 +74,7 @@ put-get name bytes records spoilt c d e f second last P G N K source done tells 
 
 pub init-put-get : (numbers : Numbers) (key name bytes : List ℕ) (spoilt : ℕ → Bool) (a b c d e f : Seen) (first second last : Ending) → AnswersInit numbers a b first → AnswersPut name c d second → AnswersAlone (GetJob name) e f last →
     Follows b c → Follows d e → is_some a.disk ≡ true → ((text : List ℕ) × (a.source ≡ Some text) × IsKeyForm text key) → c.source ≡ Some bytes → IsDone first → IsDone second →
-    ((j : ℕ) → spoilt j ≡ false → is_some (provider_at c.providers j).held ≡ true) → IsUntouched numbers.n spoilt d e → IsSteady numbers.n spoilt e f → spoilt_below numbers.n spoilt ≤ numbers.b →
+    ((j : ℕ) → j < numbers.n → spoilt j ≡ false → is_some (provider_at c.providers j).held ≡ true) → IsUntouched numbers.n spoilt d e → IsSteady numbers.n spoilt e f → spoilt_below numbers.n spoilt ≤ numbers.b →
     (Rose e.disk_faults f.disk_faults → ⊥) → (Rose e.sink_faults f.sink_faults → ⊥) → EndsWell bytes e f last
 init-put-get numbers key name bytes spoilt a b c d e f first second last I P G N M told text source done also tells untouched steady few disk sink =
     (let records : List Record = SetUp (setup_with numbers key) ∷ [] in
@@ -94,7 +94,7 @@ not-less : (a b : ℕ) → b ≤ a → nat_lt a b ≡ false
 not-less a b l = grind (arith, nat_tests, l)
 
 -- over a store that was just set up a put is not refused
-put-begins : (s : Setup) (name bytes : List ℕ) → is_name name ≡ true → length bytes ≤ largest_file → refusal_of (SetUp s ∷ []) (PutJob name bytes) ≡ None
+pub put-begins : (s : Setup) (name bytes : List ℕ) → is_name name ≡ true → length bytes ≤ largest_file → refusal_of (SetUp s ∷ []) (PutJob name bytes) ≡ None
 put-begins s name bytes named short =
     (let long : nat_lt largest_file (length bytes) ≡ false = not-less largest_file (length bytes) short in
     let full : nat_lt largest_journal (51 + (11 + (length name + 14))) ≡ false = not-less largest_journal (51 + (11 + (length name + 14))) (let l = short-name name named in omega (arith, l)) in
@@ -103,7 +103,7 @@ put-begins s name bytes named short =
 
 pub all-whole : (numbers : Numbers) (key name bytes : List ℕ) (spoilt : ℕ → Bool) (cells : Cells) (a b c d e f : Seen) (first second last : Ending) → AnswersInit numbers a b first → AnswersPut name c d second →
     AnswersAlone (GetJob name) e f last → Follows b c → Follows d e → a.disk ≡ Some cells → IsFree cells → IsKeyed numbers key a → c.source ≡ Some bytes → is_name name ≡ true → length bytes ≤ largest_file →
-    ((j : ℕ) → spoilt j ≡ false → is_some (provider_at c.providers j).held ≡ true) → IsUntouched numbers.n spoilt d e → IsSteady numbers.n spoilt e f → spoilt_below numbers.n spoilt ≤ numbers.b →
+    ((j : ℕ) → j < numbers.n → spoilt j ≡ false → is_some (provider_at c.providers j).held ≡ true) → IsUntouched numbers.n spoilt d e → IsSteady numbers.n spoilt e f → spoilt_below numbers.n spoilt ≤ numbers.b →
     IsFaultless a b → IsFaultless c d → IsFaultless e f → first.status ≢ 70 → second.status ≢ 70 → last.status ≢ 70 → (first.status ≡ 0) × (second.status ≡ 0) × Gives bytes e f last
 all-whole numbers key name bytes spoilt cells a b c d e f first second last I P G N M disk free K source named short tells untouched steady few calm quiet still some more most =
     (let records : List Record = SetUp (setup_with numbers key) ∷ [] in
@@ -140,7 +140,7 @@ fewer name bytes records s spoilt later H less = record {
 
 pub repair-get : (name bytes : List ℕ) (records : List Record) (spoilt later : ℕ → Bool) (due : Due) (c d e f : Seen) (second last : Ending) → AnswersAlone RepairJob c d second → AnswersAlone (GetJob name) e f last → Follows d e →
     IsKnown c records → due_of records ≡ Some due → HasFile c records name bytes spoilt → IsDone second → IsSteady (setup_at records).n spoilt c d → spoilt_below (setup_at records).n spoilt ≤ (setup_at records).b →
-    ((j : ℕ) → is_flagged (setup_at records).tolerance due.counts j ≡ true → is_some (provider_at c.providers j).held ≡ true) →
+    ((j : ℕ) → j < (setup_at records).n → is_flagged (setup_at records).tolerance due.counts j ≡ true → is_some (provider_at c.providers j).held ≡ true) →
     ((j : ℕ) → later j ≡ false → (spoilt j && not (is_flagged (setup_at records).tolerance due.counts j)) ≡ false) →
     IsUntouched (setup_at records).n later d e → IsSteady (setup_at records).n later e f → spoilt_below (setup_at records).n later ≤ (setup_at records).b →
     (Rose e.disk_faults f.disk_faults → ⊥) → (Rose e.sink_faults f.sink_faults → ⊥) → EndsWell bytes e f last
@@ -174,12 +174,12 @@ audit-then records undecided counts c d = inr (record { kind = AuditJob; of_comm
 
 pub put-audit-repair-get : (name bytes : List ℕ) (records : List Record) (spoilt : ℕ → Bool) (a b c d e f g h : Seen) (first second third last : Ending) → AnswersPut name a b first → Answers AuditAll c d second →
     AnswersAlone RepairJob e f third → AnswersAlone (GetJob name) g h last → Follows b c → Follows d e → Follows f g → IsKnown a records → a.source ≡ Some bytes → IsDone first → IsDone second → IsDone third →
-    ((j : ℕ) → spoilt j ≡ false → is_some (provider_at a.providers j).held ≡ true) → ((j : ℕ) → is_some (provider_at e.providers j).held ≡ true) →
+    ((j : ℕ) → j < (setup_at records).n → spoilt j ≡ false → is_some (provider_at a.providers j).held ≡ true) →
     IsUntouched (setup_at records).n spoilt b c → IsUntouched (setup_at records).n spoilt d e → IsSteady (setup_at records).n spoilt e f → spoilt_below (setup_at records).n spoilt ≤ (setup_at records).b →
     (undecided : ℕ) × (counts : List ℕ) × IsTold (audit_lines (setup_at records).tolerance (next_audit records) undecided counts) c d second
-    × ((later : ℕ → Bool) → ((j : ℕ) → later j ≡ false → (spoilt j && not (is_flagged (setup_at records).tolerance counts j)) ≡ false) → IsUntouched (setup_at records).n later f g → IsSteady (setup_at records).n later g h →
+    × (((j : ℕ) → j < (setup_at records).n → is_flagged (setup_at records).tolerance counts j ≡ true → is_some (provider_at e.providers j).held ≡ true) → (later : ℕ → Bool) → ((j : ℕ) → later j ≡ false → (spoilt j && not (is_flagged (setup_at records).tolerance counts j)) ≡ false) → IsUntouched (setup_at records).n later f g → IsSteady (setup_at records).n later g h →
     spoilt_below (setup_at records).n later ≤ (setup_at records).b → (Rose g.disk_faults h.disk_faults → ⊥) → (Rose g.sink_faults h.sink_faults → ⊥) → EndsWell bytes g h last)
-put-audit-repair-get name bytes records spoilt a b c d e f g h first second third last P A R G N M L K source put audited repaired told tells one two steady few =
+put-audit-repair-get name bytes records spoilt a b c d e f g h first second third last P A R G N M L K source put audited repaired told one two steady few =
     (let stored : List Record = after_put records name (length bytes) in
     let sure-c = sure-next stored b c (put-sure name bytes records a b first P put K source) N in
     let file-c = next-has name bytes stored spoilt b c (put-has name bytes records spoilt a b first P put K source told) one in
@@ -193,6 +193,6 @@ put-audit-repair-get name bytes records spoilt a b c d e f g h first second thir
       audit.0,
       audit.1,
       audit.3,
-      λ later less untouched calm also disk sink. repair-get name bytes counted spoilt later repair.due e f g h third last R G L sure-e.known is_due file-e repaired steady few (λ j flagged. tells j)
+      λ tells later less untouched calm also disk sink. repair-get name bytes counted spoilt later repair.due e f g h third last R G L sure-e.known is_due file-e repaired steady few (λ j below flagged. tells j below (subst (λ (ks : List ℕ). is_flagged (setup_at records).tolerance ks j ≡ true) same flagged))
           (subst (λ (ks : List ℕ). (j : ℕ) → later j ≡ false → (spoilt j && not (is_flagged (setup_at records).tolerance ks j)) ≡ false) (sym same) less) untouched calm also disk sink,
     ))

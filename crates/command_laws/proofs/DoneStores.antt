@@ -75,7 +75,7 @@ is_some-map : {A B : Type 0} (f : A → B) (o : Option A) → is_some (option_ma
 is_some-map f None = refl
 is_some-map f (Some x) = refl
 
-tells-past : (kind : Kind) (how : Answer) (before rs : List Record) (a b : Option Cells) → SamePast kind how before rs a b → is_some b ≡ is_some a
+pub tells-past : (kind : Kind) (how : Answer) (before rs : List Record) (a b : Option Cells) → SamePast kind how before rs a b → is_some b ≡ is_some a
 tells-past kind answer.Put before rs a b h = sym (is_some-map (past rs) b) ∙ (ap is_some h ∙ is_some-map (past rs) a)
 tells-past kind (answer.Got bytes) before rs a b h = sym (is_some-map (past rs) b) ∙ (ap is_some h ∙ is_some-map (past rs) a)
 tells-past kind answer.Dropped before rs a b h = sym (is_some-map (past rs) b) ∙ (ap is_some h ∙ is_some-map (past rs) a)
@@ -110,9 +110,9 @@ put-over name records old new end K (AnswersPut.unstarted u same) over = elim (u
   | inl (rose, r) ↦ absurd (over-twelve end.status r.status_is over)
   | inr r ↦ absurd (over-memory end.status r.status_is over)
 ]
-put-over name records old new end K (AnswersPut.source_fault other opened rose synced r) over =
+put-over name records old new end K (AnswersPut.source_fault other opened rose synced taken r) over =
     absurd (over-not end.status 14 r.status_is (λ e. omega (arith, e)) (λ e. omega (arith, e)) (λ e. omega (arith, e)) (λ e. omega (arith, e)) over)
-put-over name records old new end K (AnswersPut.no_memory r) over = absurd (over-memory end.status r.status_is over)
+put-over name records old new end K (AnswersPut.no_memory taken r) over = absurd (over-memory end.status r.status_is over)
 put-over name records old new end K (AnswersPut.begun other bytes opened read A) over =
     subst (λ rs. Left rs old new) (known-once old records other K opened.read) (left-over (PutJob name bytes) other old new end opened read.are_bytes A over)
 
@@ -281,8 +281,8 @@ alone-comes kind records old new end K are A = elim (alone-known kind old new en
 
 put-comes : (name : List ℕ) (records : List Record) (old new : Seen) (end : Ending) → IsKnown old records → AnswersPut name old new end → Comes records old new end
 put-comes name records old new end K (AnswersPut.unstarted u same) = unstarted-comes records old new end K u
-put-comes name records old new end K (AnswersPut.source_fault other opened rose synced r) = inl (14, 0, r)
-put-comes name records old new end K (AnswersPut.no_memory r) = inl (70, 0, r)
+put-comes name records old new end K (AnswersPut.source_fault other opened rose synced taken r) = inl (14, 0, r)
+put-comes name records old new end K (AnswersPut.no_memory taken r) = inl (70, 0, r)
 put-comes name records old new end K (AnswersPut.begun other bytes opened read A) =
     subst (λ rs. Comes rs old new end) (known-once old records other K opened.read) (job-comes (PutJob name bytes) other old new end opened read.are_bytes A)
 

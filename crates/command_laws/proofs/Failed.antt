@@ -53,8 +53,8 @@ left-fetches records kind how old new heard left same j = elim (cases_lt j (setu
 
 pub put-fetches : (name : List ℕ) (old new : Seen) (end : Ending) → AnswersPut name old new end → SameFetches old new
 put-fetches name old new end (AnswersPut.unstarted u same) = unstarted-fetches old new end u
-put-fetches name old new end (AnswersPut.source_fault records opened rose after r) = refused-fetches 14 0 old new end r
-put-fetches name old new end (AnswersPut.no_memory r) = refused-fetches 70 0 old new end r
+put-fetches name old new end (AnswersPut.source_fault records opened rose after taken r) = refused-fetches 14 0 old new end r
+put-fetches name old new end (AnswersPut.no_memory taken r) = refused-fetches 70 0 old new end r
 put-fetches name old new end (AnswersPut.begun records bytes opened read (AnswersJob.refused why is after r)) = refused-fetches _ 0 old new end r
 put-fetches name old new end (AnswersPut.begun records bytes opened read (AnswersJob.no_memory after r)) = refused-fetches 70 0 old new end r
 put-fetches name old new end (AnswersPut.begun records bytes opened read (AnswersJob.ended how none runs left by)) =
@@ -82,9 +82,9 @@ list-fetches old new end (AnswersList.listed records opened L) = λ j. ap (λ ps
 pub init-fetches : (numbers : Numbers) (old new : Seen) (end : Ending) → AnswersInit numbers old new end → SameFetches old new
 init-fetches numbers old new end (AnswersInit.bad_setup bad same r) = refused-fetches 20 0 old new end r
 init-fetches numbers old new end (AnswersInit.too_few_providers good few same r) = refused-fetches 22 0 old new end r
-init-fetches numbers old new end (AnswersInit.source_fault good enough rose r) = refused-fetches 14 0 old new end r
+init-fetches numbers old new end (AnswersInit.source_fault good enough rose taken r) = refused-fetches 14 0 old new end r
 init-fetches numbers old new end (AnswersInit.bad_key seen good enough read none r) = refused-fetches 18 0 old new end r
-init-fetches numbers old new end (AnswersInit.no_memory r) = refused-fetches 70 0 old new end r
+init-fetches numbers old new end (AnswersInit.no_memory taken r) = refused-fetches 70 0 old new end r
 init-fetches numbers old new end (AnswersInit.keyed seen key good enough read form (InitsDisk.disk_fault rose F)) = λ j. ap (λ ps. (provider_at ps j).fetches) F.providers
 init-fetches numbers old new end (AnswersInit.keyed seen key good enough read form (InitsDisk.no_memory F)) = λ j. ap (λ ps. (provider_at ps j).fetches) F.providers
 init-fetches numbers old new end (AnswersInit.keyed seen key good enough read form (InitsDisk.bad_journal at is r)) = refused-fetches 8 at old new end r
@@ -158,8 +158,8 @@ put-by name bytes records old new end opened read how left L by is = absurd L
 
 pub put-fails : (name : List ℕ) (old new : Seen) (end : Ending) → AnswersPut name old new end → end.status ≡ 13 → FailsToPut name old new end
 put-fails name old new end (AnswersPut.unstarted u same) is = absurd (unstarted-own 13 old new end u is (inl refl))
-put-fails name old new end (AnswersPut.source_fault records opened rose after r) is = absurd (differ end.status 14 13 r.status_is is (λ e. omega (arith, e)))
-put-fails name old new end (AnswersPut.no_memory r) is = absurd (memory-own 13 end.status r.status_is is (inl refl))
+put-fails name old new end (AnswersPut.source_fault records opened rose after taken r) is = absurd (differ end.status 14 13 r.status_is is (λ e. omega (arith, e)))
+put-fails name old new end (AnswersPut.no_memory taken r) is = absurd (memory-own 13 end.status r.status_is is (inl refl))
 put-fails name old new end (AnswersPut.begun records bytes opened read (AnswersJob.refused why applies after r)) is = absurd (refused-own 13 why end.status r.status_is is (inl refl))
 put-fails name old new end (AnswersPut.begun records bytes opened read (AnswersJob.no_memory after r)) is = absurd (memory-own 13 end.status r.status_is is (inl refl))
 put-fails name old new end (AnswersPut.begun records bytes opened read (AnswersJob.ended how none runs left by)) is =
@@ -338,8 +338,8 @@ alone-4 kind old new end (AnswersAlone.begun records opened A) is = job-4 kind r
 
 put-4 : (name : List ℕ) (old new : Seen) (end : Ending) → AnswersPut name old new end → end.status ≡ 4 → ⊥
 put-4 name old new end (AnswersPut.unstarted u same) is = unstarted-own 4 old new end u is (inr refl)
-put-4 name old new end (AnswersPut.source_fault records opened rose after r) is = differ end.status 14 4 r.status_is is (λ e. omega (arith, e))
-put-4 name old new end (AnswersPut.no_memory r) is = memory-own 4 end.status r.status_is is (inr refl)
+put-4 name old new end (AnswersPut.source_fault records opened rose after taken r) is = differ end.status 14 4 r.status_is is (λ e. omega (arith, e))
+put-4 name old new end (AnswersPut.no_memory taken r) is = memory-own 4 end.status r.status_is is (inr refl)
 put-4 name old new end (AnswersPut.begun records bytes opened read A) is = job-4 (PutJob name bytes) records old new end A is
 
 list-own : (m : ℕ) (old new : Seen) (end : Ending) → AnswersList old new end → end.status ≡ m → IsOwn m → ⊥
@@ -348,12 +348,12 @@ list-own m old new end (AnswersList.no_memory r) is own = memory-own m end.statu
 list-own m old new end (AnswersList.listed records opened L) is own = written-own m _ old new end L.written is own
 
 init-own : (m : ℕ) (numbers : Numbers) (old new : Seen) (end : Ending) → AnswersInit numbers old new end → end.status ≡ m → IsOwn m → ⊥
-init-own m numbers old new end (AnswersInit.no_memory r) is own = memory-own m end.status r.status_is is own
+init-own m numbers old new end (AnswersInit.no_memory taken r) is own = memory-own m end.status r.status_is is own
 init-own m numbers old new end (AnswersInit.keyed seen key good enough read form (InitsDisk.no_memory F)) is own = memory-own m end.status F.status_is is own
 init-own m numbers old new end (AnswersInit.keyed seen key good enough read form (InitsDisk.ready R)) is own = written-own m _ old new end R.written is own
 init-own m numbers old new end (AnswersInit.bad_setup bad same r) is own = differ end.status 20 m r.status_is is (λ e. elim own [ inl k ↦ omega (arith, k, e) | inr k ↦ omega (arith, k, e) ])
 init-own m numbers old new end (AnswersInit.too_few_providers good few same r) is own = differ end.status 22 m r.status_is is (λ e. elim own [ inl k ↦ omega (arith, k, e) | inr k ↦ omega (arith, k, e) ])
-init-own m numbers old new end (AnswersInit.source_fault good enough rose r) is own = differ end.status 14 m r.status_is is (λ e. elim own [ inl k ↦ omega (arith, k, e) | inr k ↦ omega (arith, k, e) ])
+init-own m numbers old new end (AnswersInit.source_fault good enough rose taken r) is own = differ end.status 14 m r.status_is is (λ e. elim own [ inl k ↦ omega (arith, k, e) | inr k ↦ omega (arith, k, e) ])
 init-own m numbers old new end (AnswersInit.bad_key seen good enough read none r) is own = differ end.status 18 m r.status_is is (λ e. elim own [ inl k ↦ omega (arith, k, e) | inr k ↦ omega (arith, k, e) ])
 init-own m numbers old new end (AnswersInit.keyed seen key good enough read form (InitsDisk.disk_fault rose F)) is own = differ end.status 12 m F.status_is is (λ e. elim own [ inl k ↦ omega (arith, k, e) | inr k ↦ omega (arith, k, e) ])
 init-own m numbers old new end (AnswersInit.keyed seen key good enough read form (InitsDisk.bad_journal at cause r)) is own = differ end.status 8 m r.status_is is (λ e. elim own [ inl k ↦ omega (arith, k, e) | inr k ↦ omega (arith, k, e) ])

@@ -223,8 +223,8 @@ module _ (name other : List ℕ) (records : List Record) (file : File) (sound : 
 
 put-command : (name other bytes : List ℕ) (records : List Record) (spoilt : ℕ → Bool) (old new : Seen) (end : Ending) → other ≢ name → IsKnown old records → (H : HasFile old records name bytes spoilt) → AnswersPut other old new end → KeepsObject records H.file.id old new
 put-command name other bytes records spoilt old new end differ K H (AnswersPut.unstarted u same) = (let r = unstarted-refused old new end u in refused-keeps r.0 r.1 records H.file.id old new end r.3)
-put-command name other bytes records spoilt old new end differ K H (AnswersPut.source_fault rs opened rose synced r) = refused-keeps 14 0 records H.file.id old new end r
-put-command name other bytes records spoilt old new end differ K H (AnswersPut.no_memory r) = refused-keeps 70 0 records H.file.id old new end r
+put-command name other bytes records spoilt old new end differ K H (AnswersPut.source_fault rs opened rose synced taken r) = refused-keeps 14 0 records H.file.id old new end r
+put-command name other bytes records spoilt old new end differ K H (AnswersPut.no_memory taken r) = refused-keeps 70 0 records H.file.id old new end r
 put-command name other bytes records spoilt old new end differ K H (AnswersPut.begun rs seen opened read A) =
     put-job name other records H.file (sound-accepted records K.opened.read.accepted) H.in_effect differ seen old new end (subst (λ l. AnswersJob (PutJob other seen) l old new end) (known-once old records rs K opened.read) A)
 
@@ -287,7 +287,7 @@ repaired-goes id old new end P j below = (
 
 pub repair-has : (name bytes : List ℕ) (records : List Record) (due : Due) (spoilt : ℕ → Bool) (old new : Seen) (end : Ending) → AnswersAlone RepairJob old new end → IsDone end → IsKnown old records → due_of records ≡ Some due →
     HasFile old records name bytes spoilt → IsSteady (setup_at records).n spoilt old new → spoilt_below (setup_at records).n spoilt ≤ (setup_at records).b →
-    ((j : ℕ) → is_flagged (setup_at records).tolerance due.counts j ≡ true → is_some (provider_at old.providers j).held ≡ true) →
+    ((j : ℕ) → j < (setup_at records).n → is_flagged (setup_at records).tolerance due.counts j ≡ true → is_some (provider_at old.providers j).held ≡ true) →
     HasFile new (after_repair records due) name bytes (λ j. spoilt j && not (is_flagged (setup_at records).tolerance due.counts j))
 repair-has name bytes records due spoilt old new end A done K is_due H steady few tells = record {
   file = H.file;
@@ -306,7 +306,7 @@ repair-has name bytes records due spoilt old new end A done K is_due H steady fe
     right : (j : ℕ) → j < (setup_at records).n → (spoilt j && not (is_flagged (setup_at records).tolerance due.counts j)) ≡ false →
         is_wrong_told (object_of (setup_at records) H.file.id) bytes j (provider_at new.providers j).held ≡ false
     right j below clean = (let g = goes j below in elim (cases_Bool (is_flagged (setup_at records).tolerance due.counts j)) [
-      | inl flagged ↦ columns-right (setup_at records) H.file bytes j (provider_at new.providers j).held H.size (g.1 (tells j flagged))
+      | inl flagged ↦ columns-right (setup_at records) H.file bytes j (provider_at new.providers j).held H.size (g.1 (tells j below flagged))
           (repair-right name bytes records H.file due j old new end A K done is_due H.in_effect H.size (let b = bad-few name bytes records spoilt old new H steady in omega (arith, b, few)) below flagged)
       | inr free ↦ wrong-same (object_of (setup_at records) H.file.id) bytes j (provider_at old.providers j).held (provider_at new.providers j).held
           (g.0 free)

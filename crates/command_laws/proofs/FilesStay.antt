@@ -43,24 +43,25 @@ stored-right o bytes older rose j (Some a) (Some b) tells g = each-not-wrong o b
 
 -- ---- a put that is done
 
-put-file : (name : List ℕ) (spoilt : ℕ → Bool) (old new : Seen) (end : Ending) (P : IsPut name old new end) → ((j : ℕ) → spoilt j ≡ false → is_some (provider_at old.providers j).held ≡ true) →
+put-file : (name : List ℕ) (spoilt : ℕ → Bool) (old new : Seen) (end : Ending) (P : IsPut name old new end) → ((j : ℕ) → j < (setup_at P.records).n → spoilt j ≡ false → is_some (provider_at old.providers j).held ≡ true) →
     HasFile new (after_put P.records name (length P.bytes)) name P.bytes spoilt
 put-file name spoilt old new end P tells = record {
   file = record { name = name; id = next_id P.records; size = length P.bytes };
   in_effect = P.in_effect;
   are_bytes = P.are_bytes;
   size = refl;
-  right = λ j below clean. stored-right (object_of (setup_at P.records) (next_id P.records)) P.bytes (file_of P.records name) _ j (provider_at old.providers j).held (provider_at new.providers j).held (tells j clean) (P.stored j below);
+  right = λ j below clean. stored-right (object_of (setup_at P.records) (next_id P.records)) P.bytes (file_of P.records name) _ j (provider_at old.providers j).held (provider_at new.providers j).held (tells j below clean) (P.stored j below);
 }
 
 pub put-has : (name bytes : List ℕ) (records : List Record) (spoilt : ℕ → Bool) (old new : Seen) (end : Ending) → AnswersPut name old new end → IsDone end → IsKnown old records → old.source ≡ Some bytes →
-    ((j : ℕ) → spoilt j ≡ false → is_some (provider_at old.providers j).held ≡ true) → HasFile new (after_put records name (length bytes)) name bytes spoilt
+    ((j : ℕ) → j < (setup_at records).n → spoilt j ≡ false → is_some (provider_at old.providers j).held ≡ true) → HasFile new (after_put records name (length bytes)) name bytes spoilt
 put-has name bytes records spoilt old new end A done K source tells =
     (let P = put-done name old new end A done in
     let same = known-once old records P.records K P.opened.read in
     let read = whole-read (largest_file + 1) old.source new.source bytes P.bytes source P.read P.whole in
     subst (λ rs. HasFile new (after_put rs name (length bytes)) name bytes spoilt) same
-    (subst (λ bs. HasFile new (after_put P.records name (length bs)) name bs spoilt) read (put-file name spoilt old new end P tells)))
+    (subst (λ bs. HasFile new (after_put P.records name (length bs)) name bs spoilt) read (put-file name spoilt old new end P
+    (subst (λ rs. (j : ℕ) → j < (setup_at rs).n → spoilt j ≡ false → is_some (provider_at old.providers j).held ≡ true) (sym same) tells))))
 
 -- ---- between two commands
 

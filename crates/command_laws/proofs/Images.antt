@@ -202,8 +202,8 @@ of-job command kind records old new opened is (inr images) = LeavesImages.ran re
 
 put-images : (name : List ℕ) (old new : Seen) (end : Ending) → AnswersPut name old new end → LeavesImages (PutUnder name) old new
 put-images name old new end (AnswersPut.unstarted u same) = LeavesImages.kept (unstarted-keeps old new end u)
-put-images name old new end (AnswersPut.source_fault records opened rose after r) = LeavesImages.kept (refused-keeps 14 0 old new end r)
-put-images name old new end (AnswersPut.no_memory r) = LeavesImages.kept (refused-keeps 70 0 old new end r)
+put-images name old new end (AnswersPut.source_fault records opened rose after taken r) = LeavesImages.kept (refused-keeps 14 0 old new end r)
+put-images name old new end (AnswersPut.no_memory taken r) = LeavesImages.kept (refused-keeps 70 0 old new end r)
 put-images name old new end (AnswersPut.begun records bytes opened read A) =
     of-job (PutUnder name) (PutJob name bytes) records old new opened (bytes, read, refl) (job-images (PutJob name bytes) records old new end opened A)
 
@@ -297,9 +297,9 @@ refused-init numbers status at old new end r = ([], inr (kept-left numbers [] ol
 pub init-images : (numbers : Numbers) (old new : Seen) (end : Ending) → AnswersInit numbers old new end → InitImages numbers old new
 init-images numbers old new end (AnswersInit.bad_setup bad same r) = refused-init numbers 20 0 old new end r
 init-images numbers old new end (AnswersInit.too_few_providers good few same r) = refused-init numbers 22 0 old new end r
-init-images numbers old new end (AnswersInit.source_fault good enough rose r) = refused-init numbers 14 0 old new end r
+init-images numbers old new end (AnswersInit.source_fault good enough rose taken r) = refused-init numbers 14 0 old new end r
 init-images numbers old new end (AnswersInit.bad_key bytes good enough read bad r) = refused-init numbers 18 0 old new end r
-init-images numbers old new end (AnswersInit.no_memory r) = refused-init numbers 70 0 old new end r
+init-images numbers old new end (AnswersInit.no_memory taken r) = refused-init numbers 70 0 old new end r
 init-images numbers old new end (AnswersInit.keyed bytes key good enough read form (InitsDisk.disk_fault rose F)) = (key, inr F.images)
 init-images numbers old new end (AnswersInit.keyed bytes key good enough read form (InitsDisk.no_memory F)) = (key, inr F.images)
 init-images numbers old new end (AnswersInit.keyed bytes key good enough read form (InitsDisk.bad_journal at is r)) = refused-init numbers 8 at old new end r

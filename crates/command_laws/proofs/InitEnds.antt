@@ -110,9 +110,9 @@ already-free cells long set_up (inr none) = subst BeginsWithSetup (one_meaning (
 pub init-done : (numbers : Numbers) (old new : Seen) (end : Ending) → AnswersInit numbers old new end → IsDone end → IsInit numbers old new end
 init-done numbers old new end (AnswersInit.bad_setup bad same r) done = absurd (not-done end.status 20 r.status_is (λ e. omega (arith, e)) (λ e. omega (arith, e)) done)
 init-done numbers old new end (AnswersInit.too_few_providers good few same r) done = absurd (not-done end.status 22 r.status_is (λ e. omega (arith, e)) (λ e. omega (arith, e)) done)
-init-done numbers old new end (AnswersInit.source_fault good enough rose r) done = absurd (not-done end.status 14 r.status_is (λ e. omega (arith, e)) (λ e. omega (arith, e)) done)
+init-done numbers old new end (AnswersInit.source_fault good enough rose taken r) done = absurd (not-done end.status 14 r.status_is (λ e. omega (arith, e)) (λ e. omega (arith, e)) done)
 init-done numbers old new end (AnswersInit.bad_key seen good enough read none r) done = absurd (not-done end.status 18 r.status_is (λ e. omega (arith, e)) (λ e. omega (arith, e)) done)
-init-done numbers old new end (AnswersInit.no_memory r) done = absurd (not-done end.status 70 r.status_is (λ e. omega (arith, e)) (λ e. omega (arith, e)) done)
+init-done numbers old new end (AnswersInit.no_memory taken r) done = absurd (not-done end.status 70 r.status_is (λ e. omega (arith, e)) (λ e. omega (arith, e)) done)
 init-done numbers old new end (AnswersInit.keyed seen key good enough read form (InitsDisk.disk_fault rose F)) done = absurd (not-done end.status 12 F.status_is (λ e. omega (arith, e)) (λ e. omega (arith, e)) done)
 init-done numbers old new end (AnswersInit.keyed seen key good enough read form (InitsDisk.bad_journal at is r)) done = absurd (not-done end.status 8 r.status_is (λ e. omega (arith, e)) (λ e. omega (arith, e)) done)
 init-done numbers old new end (AnswersInit.keyed seen key good enough read form (InitsDisk.already is r)) done = absurd (not-done end.status 10 r.status_is (λ e. omega (arith, e)) (λ e. omega (arith, e)) done)
@@ -143,9 +143,9 @@ written-not text old new end m (inr (inr w)) is zero sink memory = memory (sym w
 pub setup-only : (numbers : Numbers) (old new : Seen) (end : Ending) → AnswersInit numbers old new end → end.status ≡ 20 → is_setup (setup_with numbers []) ≡ false
 setup-only numbers old new end (AnswersInit.bad_setup bad same r) is_20 = bad
 setup-only numbers old new end (AnswersInit.too_few_providers good few same r) is_20 = absurd (status-not end.status 22 20 r.status_is is_20 (λ e. omega (arith, e)))
-setup-only numbers old new end (AnswersInit.source_fault good enough rose r) is_20 = absurd (status-not end.status 14 20 r.status_is is_20 (λ e. omega (arith, e)))
+setup-only numbers old new end (AnswersInit.source_fault good enough rose taken r) is_20 = absurd (status-not end.status 14 20 r.status_is is_20 (λ e. omega (arith, e)))
 setup-only numbers old new end (AnswersInit.bad_key seen good enough read none r) is_20 = absurd (status-not end.status 18 20 r.status_is is_20 (λ e. omega (arith, e)))
-setup-only numbers old new end (AnswersInit.no_memory r) is_20 = absurd (status-not end.status 70 20 r.status_is is_20 (λ e. omega (arith, e)))
+setup-only numbers old new end (AnswersInit.no_memory taken r) is_20 = absurd (status-not end.status 70 20 r.status_is is_20 (λ e. omega (arith, e)))
 setup-only numbers old new end (AnswersInit.keyed seen key good enough read form (InitsDisk.disk_fault rose F)) is_20 = absurd (status-not end.status 12 20 F.status_is is_20 (λ e. omega (arith, e)))
 setup-only numbers old new end (AnswersInit.keyed seen key good enough read form (InitsDisk.bad_journal at is r)) is_20 = absurd (status-not end.status 8 20 r.status_is is_20 (λ e. omega (arith, e)))
 setup-only numbers old new end (AnswersInit.keyed seen key good enough read form (InitsDisk.already is r)) is_20 = absurd (status-not end.status 10 20 r.status_is is_20 (λ e. omega (arith, e)))
@@ -155,9 +155,9 @@ setup-only numbers old new end (AnswersInit.keyed seen key good enough read form
 pub few-only : (numbers : Numbers) (old new : Seen) (end : Ending) → AnswersInit numbers old new end → end.status ≡ 22 → (is_setup (setup_with numbers []) ≡ true) × (length old.providers < numbers.n)
 few-only numbers old new end (AnswersInit.bad_setup bad same r) is_22 = absurd (status-not end.status 20 22 r.status_is is_22 (λ e. omega (arith, e)))
 few-only numbers old new end (AnswersInit.too_few_providers good few same r) is_22 = (good, few)
-few-only numbers old new end (AnswersInit.source_fault good enough rose r) is_22 = absurd (status-not end.status 14 22 r.status_is is_22 (λ e. omega (arith, e)))
+few-only numbers old new end (AnswersInit.source_fault good enough rose taken r) is_22 = absurd (status-not end.status 14 22 r.status_is is_22 (λ e. omega (arith, e)))
 few-only numbers old new end (AnswersInit.bad_key seen good enough read none r) is_22 = absurd (status-not end.status 18 22 r.status_is is_22 (λ e. omega (arith, e)))
-few-only numbers old new end (AnswersInit.no_memory r) is_22 = absurd (status-not end.status 70 22 r.status_is is_22 (λ e. omega (arith, e)))
+few-only numbers old new end (AnswersInit.no_memory taken r) is_22 = absurd (status-not end.status 70 22 r.status_is is_22 (λ e. omega (arith, e)))
 few-only numbers old new end (AnswersInit.keyed seen key good enough read form (InitsDisk.disk_fault rose F)) is_22 = absurd (status-not end.status 12 22 F.status_is is_22 (λ e. omega (arith, e)))
 few-only numbers old new end (AnswersInit.keyed seen key good enough read form (InitsDisk.bad_journal at is r)) is_22 = absurd (status-not end.status 8 22 r.status_is is_22 (λ e. omega (arith, e)))
 few-only numbers old new end (AnswersInit.keyed seen key good enough read form (InitsDisk.already is r)) is_22 = absurd (status-not end.status 10 22 r.status_is is_22 (λ e. omega (arith, e)))
@@ -167,9 +167,9 @@ few-only numbers old new end (AnswersInit.keyed seen key good enough read form (
 pub key-only : (numbers : Numbers) (bytes spelled : List ℕ) (old new : Seen) (end : Ending) → old.source ≡ Some bytes → IsKeyForm bytes spelled → AnswersInit numbers old new end → end.status ≡ 18 → ⊥
 key-only numbers bytes spelled old new end told spells (AnswersInit.bad_setup bad same r) is_18 = absurd (status-not end.status 20 18 r.status_is is_18 (λ e. omega (arith, e)))
 key-only numbers bytes spelled old new end told spells (AnswersInit.too_few_providers good few same r) is_18 = absurd (status-not end.status 22 18 r.status_is is_18 (λ e. omega (arith, e)))
-key-only numbers bytes spelled old new end told spells (AnswersInit.source_fault good enough rose r) is_18 = absurd (status-not end.status 14 18 r.status_is is_18 (λ e. omega (arith, e)))
+key-only numbers bytes spelled old new end told spells (AnswersInit.source_fault good enough rose taken r) is_18 = absurd (status-not end.status 14 18 r.status_is is_18 (λ e. omega (arith, e)))
 key-only numbers bytes spelled old new end told spells (AnswersInit.bad_key seen good enough read none r) is_18 = none spelled (form-seen old.source new.source bytes seen spelled told read spells)
-key-only numbers bytes spelled old new end told spells (AnswersInit.no_memory r) is_18 = absurd (status-not end.status 70 18 r.status_is is_18 (λ e. omega (arith, e)))
+key-only numbers bytes spelled old new end told spells (AnswersInit.no_memory taken r) is_18 = absurd (status-not end.status 70 18 r.status_is is_18 (λ e. omega (arith, e)))
 key-only numbers bytes spelled old new end told spells (AnswersInit.keyed seen key good enough read form (InitsDisk.disk_fault rose F)) is_18 = absurd (status-not end.status 12 18 F.status_is is_18 (λ e. omega (arith, e)))
 key-only numbers bytes spelled old new end told spells (AnswersInit.keyed seen key good enough read form (InitsDisk.bad_journal at is r)) is_18 = absurd (status-not end.status 8 18 r.status_is is_18 (λ e. omega (arith, e)))
 key-only numbers bytes spelled old new end told spells (AnswersInit.keyed seen key good enough read form (InitsDisk.already is r)) is_18 = absurd (status-not end.status 10 18 r.status_is is_18 (λ e. omega (arith, e)))
@@ -179,9 +179,9 @@ key-only numbers bytes spelled old new end told spells (AnswersInit.keyed seen k
 pub journal-only : (numbers : Numbers) (cells : Cells) (old new : Seen) (end : Ending) → old.disk ≡ Some cells → AnswersInit numbers old new end → end.status ≡ 8 → (9 < length (journal_read cells)) × IsBadInit (journal_read cells) end.at
 journal-only numbers cells old new end tells (AnswersInit.bad_setup bad same r) is_8 = absurd (status-not end.status 20 8 r.status_is is_8 (λ e. omega (arith, e)))
 journal-only numbers cells old new end tells (AnswersInit.too_few_providers good few same r) is_8 = absurd (status-not end.status 22 8 r.status_is is_8 (λ e. omega (arith, e)))
-journal-only numbers cells old new end tells (AnswersInit.source_fault good enough rose r) is_8 = absurd (status-not end.status 14 8 r.status_is is_8 (λ e. omega (arith, e)))
+journal-only numbers cells old new end tells (AnswersInit.source_fault good enough rose taken r) is_8 = absurd (status-not end.status 14 8 r.status_is is_8 (λ e. omega (arith, e)))
 journal-only numbers cells old new end tells (AnswersInit.bad_key seen good enough read none r) is_8 = absurd (status-not end.status 18 8 r.status_is is_8 (λ e. omega (arith, e)))
-journal-only numbers cells old new end tells (AnswersInit.no_memory r) is_8 = absurd (status-not end.status 70 8 r.status_is is_8 (λ e. omega (arith, e)))
+journal-only numbers cells old new end tells (AnswersInit.no_memory taken r) is_8 = absurd (status-not end.status 70 8 r.status_is is_8 (λ e. omega (arith, e)))
 journal-only numbers cells old new end tells (AnswersInit.keyed seen key good enough read form (InitsDisk.disk_fault rose F)) is_8 = absurd (status-not end.status 12 8 F.status_is is_8 (λ e. omega (arith, e)))
 journal-only numbers cells old new end tells (AnswersInit.keyed seen key good enough read form (InitsDisk.bad_journal at is r)) is_8 = subst (λ k. (9 < length (journal_read cells)) × IsBadInit (journal_read cells) k) (sym r.place) (subst (λ d. IfSome d (λ c. (9 < length (journal_read c)) × IsBadInit (journal_read c) at)) tells is)
 journal-only numbers cells old new end tells (AnswersInit.keyed seen key good enough read form (InitsDisk.already is r)) is_8 = absurd (status-not end.status 10 8 r.status_is is_8 (λ e. omega (arith, e)))
@@ -191,9 +191,9 @@ journal-only numbers cells old new end tells (AnswersInit.keyed seen key good en
 pub already-only : (numbers : Numbers) (cells : Cells) (old new : Seen) (end : Ending) → old.disk ≡ Some cells → AnswersInit numbers old new end → end.status ≡ 10 → (9 < length (journal_read cells)) × IsSetUpAlready (journal_read cells)
 already-only numbers cells old new end tells (AnswersInit.bad_setup bad same r) is_10 = absurd (status-not end.status 20 10 r.status_is is_10 (λ e. omega (arith, e)))
 already-only numbers cells old new end tells (AnswersInit.too_few_providers good few same r) is_10 = absurd (status-not end.status 22 10 r.status_is is_10 (λ e. omega (arith, e)))
-already-only numbers cells old new end tells (AnswersInit.source_fault good enough rose r) is_10 = absurd (status-not end.status 14 10 r.status_is is_10 (λ e. omega (arith, e)))
+already-only numbers cells old new end tells (AnswersInit.source_fault good enough rose taken r) is_10 = absurd (status-not end.status 14 10 r.status_is is_10 (λ e. omega (arith, e)))
 already-only numbers cells old new end tells (AnswersInit.bad_key seen good enough read none r) is_10 = absurd (status-not end.status 18 10 r.status_is is_10 (λ e. omega (arith, e)))
-already-only numbers cells old new end tells (AnswersInit.no_memory r) is_10 = absurd (status-not end.status 70 10 r.status_is is_10 (λ e. omega (arith, e)))
+already-only numbers cells old new end tells (AnswersInit.no_memory taken r) is_10 = absurd (status-not end.status 70 10 r.status_is is_10 (λ e. omega (arith, e)))
 already-only numbers cells old new end tells (AnswersInit.keyed seen key good enough read form (InitsDisk.disk_fault rose F)) is_10 = absurd (status-not end.status 12 10 F.status_is is_10 (λ e. omega (arith, e)))
 already-only numbers cells old new end tells (AnswersInit.keyed seen key good enough read form (InitsDisk.bad_journal at is r)) is_10 = absurd (status-not end.status 8 10 r.status_is is_10 (λ e. omega (arith, e)))
 already-only numbers cells old new end tells (AnswersInit.keyed seen key good enough read form (InitsDisk.already is r)) is_10 = subst (λ d. IfSome d (λ c. (9 < length (journal_read c)) × IsSetUpAlready (journal_read c))) tells is
@@ -205,39 +205,39 @@ already-only numbers cells old new end tells (AnswersInit.keyed seen key good en
 pub setup-always : (numbers : Numbers) (old new : Seen) (end : Ending) → AnswersInit numbers old new end → is_setup (setup_with numbers []) ≡ false → (end.status ≡ 20) ⊎ (end.status ≡ 70)
 setup-always numbers old new end (AnswersInit.bad_setup bad same r) is = inl r.status_is
 setup-always numbers old new end (AnswersInit.too_few_providers good few same r) is = absurd (false≢true (sym is ∙ good))
-setup-always numbers old new end (AnswersInit.source_fault good enough rose r) is = absurd (false≢true (sym is ∙ good))
+setup-always numbers old new end (AnswersInit.source_fault good enough rose taken r) is = absurd (false≢true (sym is ∙ good))
 setup-always numbers old new end (AnswersInit.bad_key seen good enough read none r) is = absurd (false≢true (sym is ∙ good))
 setup-always numbers old new end (AnswersInit.keyed seen key good enough read form D) is = absurd (false≢true (sym is ∙ good))
-setup-always numbers old new end (AnswersInit.no_memory r) is = inr r.status_is
+setup-always numbers old new end (AnswersInit.no_memory taken r) is = inr r.status_is
 
 pub few-always : (numbers : Numbers) (old new : Seen) (end : Ending) → AnswersInit numbers old new end → is_setup (setup_with numbers []) ≡ true → length old.providers < numbers.n →
     (end.status ≡ 22) ⊎ (end.status ≡ 70)
 few-always numbers old new end (AnswersInit.bad_setup bad same r) good is = absurd (false≢true (sym bad ∙ good))
 few-always numbers old new end (AnswersInit.too_few_providers fine few same r) good is = inl r.status_is
-few-always numbers old new end (AnswersInit.source_fault fine enough rose r) good is = absurd (omega (arith, enough, is))
+few-always numbers old new end (AnswersInit.source_fault fine enough rose taken r) good is = absurd (omega (arith, enough, is))
 few-always numbers old new end (AnswersInit.bad_key seen fine enough read none r) good is = absurd (omega (arith, enough, is))
 few-always numbers old new end (AnswersInit.keyed seen key fine enough read form D) good is = absurd (omega (arith, enough, is))
-few-always numbers old new end (AnswersInit.no_memory r) good is = inr r.status_is
+few-always numbers old new end (AnswersInit.no_memory taken r) good is = inr r.status_is
 
 pub key-always : (numbers : Numbers) (bytes : List ℕ) (old new : Seen) (end : Ending) → AnswersInit numbers old new end → is_setup (setup_with numbers []) ≡ true → numbers.n ≤ length old.providers →
     old.source ≡ Some bytes → ((key : List ℕ) → IsKeyForm bytes key → ⊥) → (Rose old.source_faults new.source_faults → ⊥) → (end.status ≡ 18) ⊎ (end.status ≡ 70)
 key-always numbers bytes old new end (AnswersInit.bad_setup bad same r) good enough told none calm = absurd (false≢true (sym bad ∙ good))
 key-always numbers bytes old new end (AnswersInit.too_few_providers fine few same r) good enough told none calm = absurd (omega (arith, enough, few))
-key-always numbers bytes old new end (AnswersInit.source_fault fine also rose r) good enough told none calm = absurd (calm rose)
+key-always numbers bytes old new end (AnswersInit.source_fault fine also rose taken r) good enough told none calm = absurd (calm rose)
 key-always numbers bytes old new end (AnswersInit.bad_key seen fine also read lacks r) good enough told none calm = inl r.status_is
 key-always numbers bytes old new end (AnswersInit.keyed seen key fine also read form D) good enough told none calm = absurd (none key (form-all old.source new.source bytes seen key told read form))
-key-always numbers bytes old new end (AnswersInit.no_memory r) good enough told none calm = inr r.status_is
+key-always numbers bytes old new end (AnswersInit.no_memory taken r) good enough told none calm = inr r.status_is
 
 -- an init with a key comes to its disk, or finds no memory
 keyed-disk : (numbers : Numbers) (key : List ℕ) (old new : Seen) (end : Ending) → AnswersInit numbers old new end → IsKeyed numbers key old → (Rose old.source_faults new.source_faults → ⊥) →
     InitsDisk (setup_with numbers key) old new end ⊎ IsRefused 70 0 old new end
 keyed-disk numbers key old new end (AnswersInit.bad_setup bad same r) K calm = absurd (false≢true (sym bad ∙ K.good))
 keyed-disk numbers key old new end (AnswersInit.too_few_providers fine few same r) K calm = absurd (let e = K.enough in omega (arith, e, few))
-keyed-disk numbers key old new end (AnswersInit.source_fault fine also rose r) K calm = absurd (calm rose)
+keyed-disk numbers key old new end (AnswersInit.source_fault fine also rose taken r) K calm = absurd (calm rose)
 keyed-disk numbers key old new end (AnswersInit.bad_key seen fine also read lacks r) K calm = absurd (lacks key (form-seen old.source new.source K.bytes seen key K.source read K.form))
 keyed-disk numbers key old new end (AnswersInit.keyed seen other fine also read form D) K calm =
     inl (subst (λ k. InitsDisk (setup_with numbers k) old new end) (key-once K.bytes other key (form-all old.source new.source K.bytes seen other K.source read form) K.form) D)
-keyed-disk numbers key old new end (AnswersInit.no_memory r) K calm = inr r
+keyed-disk numbers key old new end (AnswersInit.no_memory taken r) K calm = inr r
 
 -- one that is done set it up on a free disk
 ready-free : (s : Setup) (cells : Cells) (old new : Option Cells) → old ≡ Some cells → Goes (IsSetUpOn s) old new → IsFree cells

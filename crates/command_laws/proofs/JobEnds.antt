@@ -84,7 +84,7 @@ refused-done why status is (inl done) = refused-not why 0 refl (λ e. omega (ari
 refused-done why status is (inr done) = refused-not why 15 refl (λ e. omega (arith, e)) (sym is ∙ done)
 
 -- a calm disk was calm once it was opened
-calm-disk : (records : List Record) (kind : Kind) (how : Answer) (old new : Seen) (heard : List Entry) (left : LeftAlone records kind how old new heard) → (Rose old.disk_faults new.disk_faults → ⊥) → Rose left.faults new.disk_faults → ⊥
+pub calm-disk : (records : List Record) (kind : Kind) (how : Answer) (old new : Seen) (heard : List Entry) (left : LeftAlone records kind how old new heard) → (Rose old.disk_faults new.disk_faults → ⊥) → Rose left.faults new.disk_faults → ⊥
 calm-disk records kind how old new heard left calm rose = calm (rose-before old.disk_faults left.faults new.disk_faults left.before left.leaves.counts.disk rose)
 
 -- ---- puts
@@ -126,8 +126,8 @@ put-by name bytes records old new end opened read begins how left L by done = ab
 
 pub put-done : (name : List ℕ) (old new : Seen) (end : Ending) → AnswersPut name old new end → IsDone end → IsPut name old new end
 put-done name old new end (AnswersPut.unstarted u same) done = absurd (unstarted-done old new end u done)
-put-done name old new end (AnswersPut.source_fault records opened rose synced r) done = absurd (not-done end.status 14 r.status_is (λ e. omega (arith, e)) (λ e. omega (arith, e)) done)
-put-done name old new end (AnswersPut.no_memory r) done = absurd (not-done end.status 70 r.status_is (λ e. omega (arith, e)) (λ e. omega (arith, e)) done)
+put-done name old new end (AnswersPut.source_fault records opened rose synced taken r) done = absurd (not-done end.status 14 r.status_is (λ e. omega (arith, e)) (λ e. omega (arith, e)) done)
+put-done name old new end (AnswersPut.no_memory taken r) done = absurd (not-done end.status 70 r.status_is (λ e. omega (arith, e)) (λ e. omega (arith, e)) done)
 put-done name old new end (AnswersPut.begun records bytes opened read (AnswersJob.refused why is synced r)) done = absurd (refused-done why end.status r.status_is done)
 put-done name old new end (AnswersPut.begun records bytes opened read (AnswersJob.no_memory synced r)) done = absurd (not-done end.status 70 r.status_is (λ e. omega (arith, e)) (λ e. omega (arith, e)) done)
 put-done name old new end (AnswersPut.begun records bytes opened read (AnswersJob.ended how none runs left by)) done =
@@ -164,8 +164,8 @@ put-well name bytes records old new end (AnswersPut.unstarted u same) K is begin
   | inl (rose, r) ↦ absurd (disk rose)
   | inr r ↦ memory-well (stored_line name (length bytes)) old new end r
 ]
-put-well name bytes records old new end (AnswersPut.source_fault other opened rose synced r) K is begins disk stores source sink = absurd (source rose)
-put-well name bytes records old new end (AnswersPut.no_memory r) K is begins disk stores source sink = memory-well (stored_line name (length bytes)) old new end r
+put-well name bytes records old new end (AnswersPut.source_fault other opened rose synced taken r) K is begins disk stores source sink = absurd (source rose)
+put-well name bytes records old new end (AnswersPut.no_memory taken r) K is begins disk stores source sink = memory-well (stored_line name (length bytes)) old new end r
 put-well name bytes records old new end (AnswersPut.begun other seen opened read A) K is begins disk stores source sink =
     (let same = known-once old records other K opened.read in
     let all = read-all old.source new.source bytes seen is (not-long records name bytes begins) read in
@@ -204,8 +204,8 @@ put-only name bytes records old new end why (AnswersPut.unstarted u same) K is o
   | inl (rose, r) ↦ absurd (own-status end why 12 refl r.status_is own e)
   | inr r ↦ absurd (own-status end why 70 refl r.status_is own e)
 ]
-put-only name bytes records old new end why (AnswersPut.source_fault other opened rose synced r) K is own e = absurd (own-status end why 14 refl r.status_is own e)
-put-only name bytes records old new end why (AnswersPut.no_memory r) K is own e = absurd (own-status end why 70 refl r.status_is own e)
+put-only name bytes records old new end why (AnswersPut.source_fault other opened rose synced taken r) K is own e = absurd (own-status end why 14 refl r.status_is own e)
+put-only name bytes records old new end why (AnswersPut.no_memory taken r) K is own e = absurd (own-status end why 70 refl r.status_is own e)
 put-only name bytes records old new end why (AnswersPut.begun other seen opened read A) K is own e =
     sym (read-same records name old.source new.source bytes seen is read)
     ∙ refused-only (PutJob name seen) records old new end why (subst (λ rs. AnswersJob (PutJob name seen) rs old new end) (known-once old records other K opened.read) A) own e
@@ -217,8 +217,8 @@ put-always name bytes records old new end why (AnswersPut.unstarted u same) K is
   | inl (rose, r) ↦ absurd (disk rose)
   | inr r ↦ inr r
 ]
-put-always name bytes records old new end why (AnswersPut.source_fault other opened rose synced r) K is disk source applies = absurd (source rose)
-put-always name bytes records old new end why (AnswersPut.no_memory r) K is disk source applies = inr r
+put-always name bytes records old new end why (AnswersPut.source_fault other opened rose synced taken r) K is disk source applies = absurd (source rose)
+put-always name bytes records old new end why (AnswersPut.no_memory taken r) K is disk source applies = inr r
 put-always name bytes records old new end why (AnswersPut.begun other seen opened read A) K is disk source applies =
     refused-always (PutJob name seen) records old new end why (subst (λ rs. AnswersJob (PutJob name seen) rs old new end) (known-once old records other K opened.read) A)
     (read-same records name old.source new.source bytes seen is read ∙ applies)
@@ -293,11 +293,11 @@ audit-done old new end (AnswersAlone.begun records opened (AnswersJob.no_memory 
 audit-done old new end (AnswersAlone.begun records opened (AnswersJob.ended how none runs left by)) done = audit-by records old new end opened how left left.leaves.by_kind.gives by done
 
 -- a text that was written whole, or cut for want of memory
-zero-or-memory : (text : List ℕ) (old new : Seen) (end : Ending) → EndsWell text old new end → (end.status ≡ 0) ⊎ (end.status ≡ 70)
+pub zero-or-memory : (text : List ℕ) (old new : Seen) (end : Ending) → EndsWell text old new end → (end.status ≡ 0) ⊎ (end.status ≡ 70)
 zero-or-memory text old new end (inl w) = inl w.0
 zero-or-memory text old new end (inr w) = inr w.0
 
-in-order : (command : Command) (old new : Seen) (end : Ending) → (end.status ≡ 0) ⊎ (end.status ≡ 70) → EndsInOrder command old new end
+pub in-order : (command : Command) (old new : Seen) (end : Ending) → (end.status ≡ 0) ⊎ (end.status ≡ 70) → EndsInOrder command old new end
 in-order command old new end (inl is) = EndsInOrder.done is
 in-order command old new end (inr is) = EndsInOrder.no_memory is
 
@@ -376,8 +376,8 @@ pub put-order : (name : List ℕ) (old new : Seen) (end : Ending) → AnswersPut
     ((j : ℕ) → Rose (provider_at old.providers j).store_faults (provider_at new.providers j).store_faults → ⊥) →
     (Rose old.source_faults new.source_faults → ⊥) → (Rose old.sink_faults new.sink_faults → ⊥) → EndsInOrder (PutUnder name) old new end
 put-order name old new end (AnswersPut.unstarted u same) disk stores source sink = EndsInOrder.unstarted u
-put-order name old new end (AnswersPut.source_fault other opened rose synced r) disk stores source sink = absurd (source rose)
-put-order name old new end (AnswersPut.no_memory r) disk stores source sink = EndsInOrder.no_memory r.status_is
+put-order name old new end (AnswersPut.source_fault other opened rose synced taken r) disk stores source sink = absurd (source rose)
+put-order name old new end (AnswersPut.no_memory taken r) disk stores source sink = EndsInOrder.no_memory r.status_is
 put-order name old new end (AnswersPut.begun records bytes opened read (AnswersJob.refused why is synced r)) disk stores source sink =
     EndsInOrder.refused records (PutJob name bytes) why opened (bytes, read, refl) is r
 put-order name old new end (AnswersPut.begun records bytes opened read (AnswersJob.no_memory synced r)) disk stores source sink = EndsInOrder.no_memory r.status_is

@@ -5,7 +5,7 @@ use Rattle.hail_field.specs.Shape.{IsShape}
 use Rattle.hail_codes.specs.Polynomials.{value, is_seen}
 use Rattle.hail_columns.specs.Objects.{Object, point, points}
 use Rattle.hail_columns.specs.Challenges.{Challenge, bare_answers}
-use Rattle.hail_columns.specs.Verdicts.{Sums, Judges, counted}
+use Rattle.hail_columns.specs.Verdicts.{Sums, Judges, counts_after}
 use Rattle.hail_columns.proofs.PointLaws.{Apart-points}
 use Rattle.column_laws.proofs.UniqueLaws.{often_same}
 use Rattle.hail_records.specs.Records.{Setup}
@@ -24,7 +24,7 @@ use Rattle.command_laws.proofs.Asked.{questions_in}
 
 -- ---- one verdict
 
-counted-same : (p q points : List ℕ) (heard : List (Option ℕ)) (counts : List ℕ) → ((x : ℕ) → value p x ≡ value q x) → counted p points heard counts ≡ counted q points heard counts
+counted-same : (p q points : List ℕ) (heard : List (Option ℕ)) (counts : List ℕ) → ((x : ℕ) → value p x ≡ value q x) → counts_after p points heard counts ≡ counts_after q points heard counts
 counted-same p q [] heard counts h = refl
 counted-same p q (x ∷ xs) [] counts h = refl
 counted-same p q (x ∷ xs) (answer ∷ more) [] h = refl

@@ -111,7 +111,7 @@ sure-good s d cells rs is good enough has = record { known = known-good s d cell
 
 -- ---- the last state of a job
 
-none-up : (rs : List Record) → is_some (setup_of rs) ≡ true → rs ≢ []
+pub none-up : (rs : List Record) → is_some (setup_of rs) ≡ true → rs ≢ []
 none-up rs up none = false≢true (let e : false ≡ true = sym (ap (λ l. is_some (setup_of l)) none) ∙ up in e)
 
 last-good : (start last : State) → IsLast start last → (image : List ℕ) → StandsOrIsEmpty image last.records ⊎ StandsWithDoubt last image → (rs : List Record) × IsGood (setup_in start) image rs
@@ -183,6 +183,6 @@ unfolding setup_in
 ran-good records kind how old new heard R spelled A =
     (let w : State = opened_state records A.faults old.providers in
     let over = state-over records A.faults old.providers R.read.accepted in
-    let ran = A.ran w over in
-    let L = last-state w ran.last kind how heard (over-opened w old records A.faults R over) spelled ran.runs in
+    let ran = A.ran w 1 over in
+    let L = last-state w ran.last 1 kind how heard (over-opened w old records A.faults R over) spelled ran.runs in
     (images-good w ran.last new.disk L ran.images, (let a = L.handed in let b = ran.handed.count in let c = over.handed.count in let e = R.enough in omega (arith, a, b, c, e))))

@@ -65,12 +65,12 @@ last-of start w kind job new W sound stay = record {
   handed = stay.1 ∙ W.handed;
 }
 
-pub last-state : (start new : State) (kind : Kind) (how : Answer) (heard : List Entry) → IsOpened start → IsSpelledKind kind → RunsJob start kind how heard new → IsLast start new
-last-state start new kind how heard O spelled r =
-    (let b = walk-begin 1 r.job start r.begun kind O spelled r.begins in
-    let g : GoesOnTo r.begun 2 1 how heard new = subst (λ n. GoesOnTo r.begun 2 n how heard new) b.0 r.goes_on in
-    let last = walk-steps start r.begun kind (new_job start 1 kind) 2 g.steps O b.1 g.are_steps in
-    let a = walk-last start O kind (now r.begun g.steps) last.0 last.1 (2 + length g.steps) new how g.ends in
+pub last-state : (start new : State) (moment : ℕ) (kind : Kind) (how : Answer) (heard : List Entry) → IsOpened start → IsSpelledKind kind → RunsJob start moment kind how heard new → IsLast start new
+last-state start new moment kind how heard O spelled r =
+    (let b = walk-begin moment r.job start r.begun kind O spelled r.begins in
+    let g : GoesOnTo r.begun (moment + 1) 1 how heard new = subst (λ n. GoesOnTo r.begun (moment + 1) n how heard new) b.0 r.goes_on in
+    let last = walk-steps start r.begun kind (new_job start moment kind) (moment + 1) g.steps O b.1 g.are_steps in
+    let a = walk-last start O kind (now r.begun g.steps) last.0 last.1 ((moment + 1) + length g.steps) new how g.ends in
     last-of start (now r.begun g.steps) kind last.0 new last.1
-    (events-sound 8 (2 + length g.steps) (now r.begun g.steps) last.1.sound (Step 1) (Ended how) new (omega arith) g.ends)
+    (events-sound 8 ((moment + 1) + length g.steps) (now r.begun g.steps) last.1.sound (Step 1) (Ended how) new (omega arith) g.ends)
     (acts-stay (now r.begun g.steps) last.0 new a.0 how a.3))

@@ -45,3 +45,13 @@ pub mod RepairInEffect
 pub mod AuditInEffect
 pub mod Chains
 pub mod Emptied
+pub mod BeginRefusals
+pub mod GoingOn
+pub mod Between
+pub mod EndStatuses
+pub mod AnyDisk
+pub mod Samples
+pub mod PutSample
+pub mod AuditSample
+pub mod RepairSample
+pub mod InitSample

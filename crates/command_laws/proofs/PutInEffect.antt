@@ -47,7 +47,7 @@ tells-back new next N tells = elim N.disk [
     stopped-at (Some a) b told g = refl
 
 module _ (name bytes : List ℕ) (records : List Record) (spoilt : ℕ → Bool) (old new next : Seen) (end : Ending) (S : IsSure old records) (N : Follows new next)
-    (F : IsKnown next (after_put records name (length bytes))) (tells : (j : ℕ) → spoilt j ≡ false → is_some (provider_at old.providers j).held ≡ true) where
+    (F : IsKnown next (after_put records name (length bytes))) (tells : (j : ℕ) → j < (setup_at records).n → spoilt j ≡ false → is_some (provider_at old.providers j).held ≡ true) where
   -- an image stands for fewer records than those with both of the put
   abbrev Fewer : List ℕ → Type 0
   Fewer image = (rs : List Record) × StandsFor image rs × (length rs ≤ length records + 1)
@@ -91,7 +91,7 @@ module _ (name bytes : List ℕ) (records : List Record) (spoilt : ℕ → Bool)
     in_effect = put-in_effect records name (length bytes);
     are_bytes = are;
     size = refl;
-    right = λ j below clean. stored-right (object_of (setup_at records) (next_id records)) bytes older (rose j) j (provider_at old.providers j).held (provider_at new.providers j).held (tells j clean) (stored j below);
+    right = λ j below clean. stored-right (object_of (setup_at records) (next_id records)) bytes older (rose j) j (provider_at old.providers j).held (provider_at new.providers j).held (tells j below clean) (stored j below);
   }
 
   module _ (are : AreBytes bytes) (how : Answer) (left : LeftAlone records (PutJob name bytes) how old new end.heard) where
@@ -129,10 +129,10 @@ module _ (name bytes : List ℕ) (records : List Record) (spoilt : ℕ → Bool)
 -- ---- the command
 
 pub put-in-effect : (name bytes : List ℕ) (records : List Record) (spoilt : ℕ → Bool) (old new next : Seen) (end : Ending) → AnswersPut name old new end → IsSure old records → old.source ≡ Some bytes →
-    Follows new next → IsKnown next (after_put records name (length bytes)) → ((j : ℕ) → spoilt j ≡ false → is_some (provider_at old.providers j).held ≡ true) → HasFile new (after_put records name (length bytes)) name bytes spoilt
+    Follows new next → IsKnown next (after_put records name (length bytes)) → ((j : ℕ) → j < (setup_at records).n → spoilt j ≡ false → is_some (provider_at old.providers j).held ≡ true) → HasFile new (after_put records name (length bytes)) name bytes spoilt
 put-in-effect name bytes records spoilt old new next end (AnswersPut.unstarted u same) S source N F tells = absurd (let r = unstarted-refused old new end u in refused-not name bytes records spoilt old new next end S N F tells r.0 r.1 r.3)
-put-in-effect name bytes records spoilt old new next end (AnswersPut.source_fault rs opened rose synced r) S source N F tells = absurd (refused-not name bytes records spoilt old new next end S N F tells 14 0 r)
-put-in-effect name bytes records spoilt old new next end (AnswersPut.no_memory r) S source N F tells = absurd (refused-not name bytes records spoilt old new next end S N F tells 70 0 r)
+put-in-effect name bytes records spoilt old new next end (AnswersPut.source_fault rs opened rose synced taken r) S source N F tells = absurd (refused-not name bytes records spoilt old new next end S N F tells 14 0 r)
+put-in-effect name bytes records spoilt old new next end (AnswersPut.no_memory taken r) S source N F tells = absurd (refused-not name bytes records spoilt old new next end S N F tells 70 0 r)
 put-in-effect name bytes records spoilt old new next end (AnswersPut.begun rs seen opened read A) S source N F tells =
     job (subst (λ l. AnswersJob (PutJob name seen) l old new end) (known-once old records rs S.known opened.read) A)
   where

@@ -37,7 +37,7 @@ use Rattle.command_laws.proofs.PutInEffect.{tells-back}
 
 module _ (name bytes : List ℕ) (records : List Record) (due : Due) (spoilt : ℕ → Bool) (old new next : Seen) (end : Ending) (S : IsSure old records) (is_due : due_of records ≡ Some due) (N : Follows new next)
     (F : IsKnown next (after_repair records due)) (H : HasFile old records name bytes spoilt) (steady : IsSteady (setup_at records).n spoilt old new) (few : spoilt_below (setup_at records).n spoilt ≤ (setup_at records).b)
-    (tells : (j : ℕ) → is_flagged (setup_at records).tolerance due.counts j ≡ true → is_some (provider_at old.providers j).held ≡ true) where
+    (tells : (j : ℕ) → j < (setup_at records).n → is_flagged (setup_at records).tolerance due.counts j ≡ true → is_some (provider_at old.providers j).held ≡ true) where
   -- the file, right also on each flagged provider
   abbrev Mended : Type 0
   Mended = HasFile new (after_repair records due) name bytes (λ j. spoilt j && not (is_flagged (setup_at records).tolerance due.counts j))
@@ -92,7 +92,7 @@ module _ (name bytes : List ℕ) (records : List Record) (due : Due) (spoilt : �
         right : (j : ℕ) → j < (setup_at records).n → (spoilt j && not (is_flagged (setup_at records).tolerance due.counts j)) ≡ false →
             is_wrong_told (object_of (setup_at records) H.file.id) bytes j (provider_at new.providers j).held ≡ false
         right j below clean = elim (cases_Bool (is_flagged (setup_at records).tolerance due.counts j)) [
-          | inl flagged ↦ columns-right (setup_at records) H.file bytes j (provider_at new.providers j).held H.size (goes-tells _ (provider_at old.providers j).held (provider_at new.providers j).held (tells j flagged) (W.held j below))
+          | inl flagged ↦ columns-right (setup_at records) H.file bytes j (provider_at new.providers j).held H.size (goes-tells _ (provider_at old.providers j).held (provider_at new.providers j).held (tells j below flagged) (W.held j below))
               (λ stripe within. holds-right x (shape-at old records S.known.opened) due W name H.file bytes H.in_effect H.size fewer stripe within j below flagged)
           | inr free ↦ wrong-same (object_of (setup_at records) H.file.id) bytes j (provider_at old.providers j).held (provider_at new.providers j).held
               (flag-off H.file.id (is_flagged (setup_at records).tolerance due.counts j) _ (provider_at old.providers j).held (provider_at new.providers j).held free (W.held j below))

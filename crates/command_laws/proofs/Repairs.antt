@@ -531,10 +531,10 @@ module _ (start new : State) (how : Answer) (heard : List Entry) (O : IsOpened s
   pub repair-silent : heard ≡ []
   repair-silent = E.heard_is ∙ ap (heard_by_kind E.job) E.walked.kind_is
 
-pub repairs-leave : (start new : State) (how : Answer) (heard : List Entry) → IsOpened start → RunsJob start RepairJob how heard new → Leaves (ran_from start new heard) RepairJob how
+pub repairs-leave : (start new : State) (moment : ℕ) (how : Answer) (heard : List Entry) → IsOpened start → RunsJob start moment RepairJob how heard new → Leaves (ran_from start new heard) RepairJob how
 unfolding setup_in
-repairs-leave start new how heard O r =
-    (let E = job-ends start new RepairJob how heard O tt r in
+repairs-leave start new moment how heard O r =
+    (let E = job-ends start new moment RepairJob how heard O tt r in
     let due = is_some-at (due_of start.records) (begun-repair 8 start RepairJob r.begins.1 refl) in
     record {
       by_kind = (record { due = due.0; is_due = due.1; gives = repair-gives start new how heard O E due.0 due.1 }, repair-silent start new how heard O E due.0 due.1);

@@ -37,12 +37,12 @@ walk-steps start w kind job moment [] O W h = (job, W)
 walk-steps start w kind job moment (m ∷ ms) O W (event, outcome, happens, rest) =
     (let r = walk-steps start w kind job moment ms O W rest in walk-step start O kind (now w ms) r.0 r.1 (moment + length ms) m.state happens)
 
-pub job-ends : (start new : State) (kind : Kind) (answer : Answer) (heard : List Entry) → IsOpened start → IsSpelledKind kind → RunsJob start kind answer heard new → Ends start kind answer heard new
-job-ends start new kind answer heard O spelled r =
-    (let b = walk-begin 1 r.job start r.begun kind O spelled r.begins in
-    let g : GoesOnTo r.begun 2 1 answer heard new = subst (λ n. GoesOnTo r.begun 2 n answer heard new) b.0 r.goes_on in
-    let last = walk-steps start r.begun kind (new_job start 1 kind) 2 g.steps O b.1 g.are_steps in
-    let a = walk-last start O kind (now r.begun g.steps) last.0 last.1 (2 + length g.steps) new answer g.ends in
+pub job-ends : (start new : State) (moment : ℕ) (kind : Kind) (answer : Answer) (heard : List Entry) → IsOpened start → IsSpelledKind kind → RunsJob start moment kind answer heard new → Ends start kind answer heard new
+job-ends start new moment kind answer heard O spelled r =
+    (let b = walk-begin moment r.job start r.begun kind O spelled r.begins in
+    let g : GoesOnTo r.begun (moment + 1) 1 answer heard new = subst (λ n. GoesOnTo r.begun (moment + 1) n answer heard new) b.0 r.goes_on in
+    let last = walk-steps start r.begun kind (new_job start moment kind) (moment + 1) g.steps O b.1 g.are_steps in
+    let a = walk-last start O kind (now r.begun g.steps) last.0 last.1 ((moment + 1) + length g.steps) new answer g.ends in
     record {
       before = now r.begun g.steps;
       job = last.0;

@@ -133,7 +133,7 @@ state-over records faults providers accepted = record {
 
 -- ---- what is left of the run
 
-module _ (records : List Record) (kind : Kind) (answer : Answer) (old new : Seen) (heard : List Entry) (law : (w last : State) → IsOpened w → RunsJob w kind answer heard last → Leaves (ran_from w last heard) kind answer)
+module _ (records : List Record) (kind : Kind) (answer : Answer) (old new : Seen) (heard : List Entry) (law : (w last : State) (moment : ℕ) → IsOpened w → RunsJob w moment kind answer heard last → Leaves (ran_from w last heard) kind answer)
     (R : opens.IsOpened old records) (same : length new.providers ≡ length old.providers) (A : RunsAlone records kind answer old new heard) where
   abbrev w : State
   w = opened_state records A.faults old.providers
@@ -141,11 +141,11 @@ module _ (records : List Record) (kind : Kind) (answer : Answer) (old new : Seen
   over : IsOpenedOver w records A.faults old.providers
   over = state-over records A.faults old.providers R.read.accepted
 
-  ran : RanAlone records kind answer old new heard A.faults w
-  ran = A.ran w over
+  ran : RanAlone records kind answer old new heard A.faults w 1
+  ran = A.ran w 1 over
 
   left-by : Leaves (ran_from w ran.last heard) kind answer
-  left-by = law w ran.last (over-opened w old records A.faults R over) ran.runs
+  left-by = law w ran.last 1 (over-opened w old records A.faults R over) ran.runs
 
   provider-is : (j : ℕ) → ran.last.providers j ≡ provider_at new.providers j
   provider-is j = elim (cases_lt j (length new.providers)) [
@@ -181,10 +181,10 @@ module _ (records : List Record) (kind : Kind) (answer : Answer) (old new : Seen
 
 -- ---- each kind of job
 
-pub jobs-leave : (kind : Kind) (w last : State) (answer : Answer) (heard : List Entry) → IsSpelledKind kind → IsOpened w → RunsJob w kind answer heard last → Leaves (ran_from w last heard) kind answer
-jobs-leave (PutJob name bytes) w last answer heard spelled O r = put-leaves w last name bytes answer heard O (job-ends w last (PutJob name bytes) answer heard O spelled r)
-jobs-leave (GetJob name) w last answer heard spelled O r = all-leaves w last name answer heard O (job-ends w last (GetJob name) answer heard O spelled r)
-jobs-leave (DropJob name) w last answer heard spelled O r =
-    (let f = drop-has 8 w name r.begins.1 in drop-leaves w last name answer heard O (job-ends w last (DropJob name) answer heard O spelled r) f.0 f.1)
-jobs-leave AuditJob w last answer heard spelled O r = audits-leave w last answer heard O r
-jobs-leave RepairJob w last answer heard spelled O r = repairs-leave w last answer heard O r
+pub jobs-leave : (kind : Kind) (w last : State) (moment : ℕ) (answer : Answer) (heard : List Entry) → IsSpelledKind kind → IsOpened w → RunsJob w moment kind answer heard last → Leaves (ran_from w last heard) kind answer
+jobs-leave (PutJob name bytes) w last moment answer heard spelled O r = put-leaves w last name bytes answer heard O (job-ends w last moment (PutJob name bytes) answer heard O spelled r)
+jobs-leave (GetJob name) w last moment answer heard spelled O r = all-leaves w last name answer heard O (job-ends w last moment (GetJob name) answer heard O spelled r)
+jobs-leave (DropJob name) w last moment answer heard spelled O r =
+    (let f = drop-has 8 w name r.begins.1 in drop-leaves w last name answer heard O (job-ends w last moment (DropJob name) answer heard O spelled r) f.0 f.1)
+jobs-leave AuditJob w last moment answer heard spelled O r = audits-leave w last moment answer heard O r
+jobs-leave RepairJob w last moment answer heard spelled O r = repairs-leave w last moment answer heard O r

@@ -25,8 +25,8 @@ data Opening (old new : Seen) (end : Ending) : Type 0 where
 
 put-opening : (name : List ℕ) (old new : Seen) (end : Ending) → AnswersPut name old new end → Opening old new end
 put-opening name old new end (AnswersPut.unstarted u same) = Opening.before u
-put-opening name old new end (AnswersPut.source_fault records opened rose synced r) = Opening.over records opened (ap is_unopened r.status_is)
-put-opening name old new end (AnswersPut.no_memory r) = Opening.no_room r.status_is
+put-opening name old new end (AnswersPut.source_fault records opened rose synced taken r) = Opening.over records opened (ap is_unopened r.status_is)
+put-opening name old new end (AnswersPut.no_memory taken r) = Opening.no_room r.status_is
 put-opening name old new end (AnswersPut.begun records bytes opened read A) = Opening.over records opened (job-opened _ records old new end A)
 
 alone-opening : (kind : Kind) (old new : Seen) (end : Ending) → AnswersAlone kind old new end → Opening old new end

@@ -4,6 +4,7 @@
 --   Follows new next           == the next command finds the disk as the last one left it, or as a stop then left it, and as many providers
 --   IsThen command records old new after == the records after a command: those before it, or these with the first few of its job's
 --   is_refusal status          == the status tells that a command was refused, or that its source failed
+--   is_ending status          == the status is one with which a command ends whose words have a form
 --   is_wrong_at records s id bytes j == provider j is wrong for an object of these bytes, or does not tell what it holds
 --   HasFile s records name bytes spoilt == a file of these bytes is in effect, and each provider that is not spoilt is right for it
 --   IsUntouched n spoilt new next == each of n providers that is not spoilt holds what it held
@@ -60,6 +61,11 @@ abbrev pub is_refusal : ℕ → Bool
 is_refusal status =
     (status == 3) || (status == 6) || (status == 7) || (status == 8) || (status == 9) || (status == 10) || (status == 11)
     || (status == 14) || (status == 16) || (status == 17) || (status == 18) || (status == 20) || (status == 21) || (status == 22)
+
+-- the statuses with which a command ends whose words have a form: done, a row lost, faults, want of memory, and refusals
+abbrev pub is_ending : ℕ → Bool
+is_ending status =
+    (status == 0) || (status == 4) || (status == 12) || (status == 13) || (status == 15) || (status == 70) || is_refusal status
 
 -- a provider with this content is wrong for an object of these bytes
 abbrev pub is_wrong_told : Object → List ℕ → ℕ → Option Held → Bool

@@ -1,6 +1,6 @@
 //! What a user may believe between two commands: the store is known again, by the status of the last one, and so the next one is
 //! spoken of. No run of a job and no state stands in these clauses.
-ghost use Rattle.std.specs.Prelude.{◌≡◌, ◌≢◌, ◌⊎◌, ℕ, ◌+◌, ◌≤◌, ◌&&◌, true, false, Bool, not, List, [], ◌∷◌, length, Option, Some, None, is_some};
+ghost use Rattle.std.specs.Prelude.{◌≡◌, ◌≢◌, ◌⊎◌, ℕ, ◌+◌, ◌<◌, ◌≤◌, ◌&&◌, true, false, Bool, not, List, [], ◌∷◌, length, Option, Some, None, is_some};
 ghost use Rattle.hail_columns.specs.Verdicts.{is_flagged};
 ghost use Rattle.hail_devices.specs.Cells.{Cells};
 ghost use Rattle.hail_devices.specs.Faults.{Rose};
@@ -75,12 +75,12 @@ pub fn done_commands_leave_known_stores()
 pub fn files_stay()
     ensures put { (name bytes : List ℕ) (records : List Record) (spoilt : ℕ → Bool) (old new : Seen) (end : Ending) →
         Answers (PutUnder name) old new end → IsDone end → IsKnown old records → old.source ≡ Some bytes →
-        ((j : ℕ) → spoilt j ≡ false → is_some (provider_at old.providers j).held ≡ true) →
+        ((j : ℕ) → j < (setup_at records).n → spoilt j ≡ false → is_some (provider_at old.providers j).held ≡ true) →
         HasFile new (after_put records name (length bytes)) name bytes spoilt }
     ensures put_in_effect { (name bytes : List ℕ) (records : List Record) (spoilt : ℕ → Bool) (old new next : Seen) (end : Ending) →
         Answers (PutUnder name) old new end → IsSure old records → old.source ≡ Some bytes → Follows new next →
         IsKnown next (after_put records name (length bytes)) →
-        ((j : ℕ) → spoilt j ≡ false → is_some (provider_at old.providers j).held ≡ true) →
+        ((j : ℕ) → j < (setup_at records).n → spoilt j ≡ false → is_some (provider_at old.providers j).held ≡ true) →
         HasFile new (after_put records name (length bytes)) name bytes spoilt }
     ensures next { (name bytes : List ℕ) (records : List Record) (spoilt : ℕ → Bool) (new next : Seen) → HasFile new records name bytes spoilt →
         IsUntouched (setup_at records).n spoilt new next → HasFile next records name bytes spoilt }
@@ -95,13 +95,13 @@ pub fn files_stay()
     ensures repair { (name bytes : List ℕ) (records : List Record) (due : Due) (spoilt : ℕ → Bool) (old new : Seen) (end : Ending) →
         Answers RepairDue old new end → IsDone end → IsKnown old records → due_of records ≡ Some due → HasFile old records name bytes spoilt →
         IsSteady (setup_at records).n spoilt old new → spoilt_below (setup_at records).n spoilt ≤ (setup_at records).b →
-        ((j : ℕ) → is_flagged (setup_at records).tolerance due.counts j ≡ true → is_some (provider_at old.providers j).held ≡ true) →
+        ((j : ℕ) → j < (setup_at records).n → is_flagged (setup_at records).tolerance due.counts j ≡ true → is_some (provider_at old.providers j).held ≡ true) →
         HasFile new (after_repair records due) name bytes (λ j. spoilt j && not (is_flagged (setup_at records).tolerance due.counts j)) }
     ensures repair_in_effect { (name bytes : List ℕ) (records : List Record) (due : Due) (spoilt : ℕ → Bool) (old new next : Seen) (end : Ending) →
         Answers RepairDue old new end → IsSure old records → due_of records ≡ Some due → Follows new next →
         IsKnown next (after_repair records due) → HasFile old records name bytes spoilt →
         IsSteady (setup_at records).n spoilt old new → spoilt_below (setup_at records).n spoilt ≤ (setup_at records).b →
-        ((j : ℕ) → is_flagged (setup_at records).tolerance due.counts j ≡ true → is_some (provider_at old.providers j).held ≡ true) →
+        ((j : ℕ) → j < (setup_at records).n → is_flagged (setup_at records).tolerance due.counts j ≡ true → is_some (provider_at old.providers j).held ≡ true) →
         HasFile new (after_repair records due) name bytes (λ j. spoilt j && not (is_flagged (setup_at records).tolerance due.counts j)) }
 {}
 
@@ -141,19 +141,19 @@ pub fn put_files_are_got()
     ensures whole { (numbers : Numbers) (key name bytes : List ℕ) (spoilt : ℕ → Bool) (cells : Cells) (a b c d e f : Seen) (first second last : Ending) →
         Answers (InitWith numbers) a b first → Answers (PutUnder name) c d second → Answers (GetOf name) e f last → Follows b c → Follows d e →
         a.disk ≡ Some cells → IsFree cells → IsKeyed numbers key a → c.source ≡ Some bytes → is_name name ≡ true → length bytes ≤ largest_file →
-        ((j : ℕ) → spoilt j ≡ false → is_some (provider_at c.providers j).held ≡ true) →
+        ((j : ℕ) → j < numbers.n → spoilt j ≡ false → is_some (provider_at c.providers j).held ≡ true) →
         IsUntouched numbers.n spoilt d e → IsSteady numbers.n spoilt e f → spoilt_below numbers.n spoilt ≤ numbers.b →
         IsFaultless a b → IsFaultless c d → IsFaultless e f → first.status ≢ 70 → second.status ≢ 70 → last.status ≢ 70 →
         (first.status ≡ 0) × (second.status ≡ 0) × Gives bytes e f last }
     ensures got { (numbers : Numbers) (key name bytes : List ℕ) (spoilt : ℕ → Bool) (a b c d e f : Seen) (first second last : Ending) →
         Answers (InitWith numbers) a b first → Answers (PutUnder name) c d second → Answers (GetOf name) e f last → Follows b c → Follows d e →
         is_some a.disk ≡ true → ((text : List ℕ) × (a.source ≡ Some text) × IsKeyForm text key) → c.source ≡ Some bytes →
-        IsDone first → IsDone second → ((j : ℕ) → spoilt j ≡ false → is_some (provider_at c.providers j).held ≡ true) →
+        IsDone first → IsDone second → ((j : ℕ) → j < numbers.n → spoilt j ≡ false → is_some (provider_at c.providers j).held ≡ true) →
         IsUntouched numbers.n spoilt d e → IsSteady numbers.n spoilt e f → spoilt_below numbers.n spoilt ≤ numbers.b →
         (Rose e.disk_faults f.disk_faults → ⊥) → (Rose e.sink_faults f.sink_faults → ⊥) → EndsWell bytes e f last }
     ensures again { (name bytes : List ℕ) (records : List Record) (spoilt : ℕ → Bool) (c d e f : Seen) (second last : Ending) →
         Answers (PutUnder name) c d second → Answers (GetOf name) e f last → Follows d e → IsKnown c records → c.source ≡ Some bytes →
-        IsDone second → ((j : ℕ) → spoilt j ≡ false → is_some (provider_at c.providers j).held ≡ true) →
+        IsDone second → ((j : ℕ) → j < (setup_at records).n → spoilt j ≡ false → is_some (provider_at c.providers j).held ≡ true) →
         IsUntouched (setup_at records).n spoilt d e → IsSteady (setup_at records).n spoilt e f →
         spoilt_below (setup_at records).n spoilt ≤ (setup_at records).b →
         (Rose e.disk_faults f.disk_faults → ⊥) → (Rose e.sink_faults f.sink_faults → ⊥) → EndsWell bytes e f last }
@@ -164,7 +164,7 @@ pub fn put_files_are_got()
         Answers RepairDue c d second → Answers (GetOf name) e f last → Follows d e → IsKnown c records → due_of records ≡ Some due →
         HasFile c records name bytes spoilt → IsDone second → IsSteady (setup_at records).n spoilt c d →
         spoilt_below (setup_at records).n spoilt ≤ (setup_at records).b →
-        ((j : ℕ) → is_flagged (setup_at records).tolerance due.counts j ≡ true → is_some (provider_at c.providers j).held ≡ true) →
+        ((j : ℕ) → j < (setup_at records).n → is_flagged (setup_at records).tolerance due.counts j ≡ true → is_some (provider_at c.providers j).held ≡ true) →
         ((j : ℕ) → later j ≡ false → (spoilt j && not (is_flagged (setup_at records).tolerance due.counts j)) ≡ false) →
         IsUntouched (setup_at records).n later d e → IsSteady (setup_at records).n later e f →
         spoilt_below (setup_at records).n later ≤ (setup_at records).b →
@@ -172,12 +172,11 @@ pub fn put_files_are_got()
     ensures mended { (name bytes : List ℕ) (records : List Record) (spoilt : ℕ → Bool) (a b c d e f g h : Seen) (first second third last : Ending) →
         Answers (PutUnder name) a b first → Answers AuditAll c d second → Answers RepairDue e f third → Answers (GetOf name) g h last →
         Follows b c → Follows d e → Follows f g → IsKnown a records → a.source ≡ Some bytes → IsDone first → IsDone second → IsDone third →
-        ((j : ℕ) → spoilt j ≡ false → is_some (provider_at a.providers j).held ≡ true) →
-        ((j : ℕ) → is_some (provider_at e.providers j).held ≡ true) →
+        ((j : ℕ) → j < (setup_at records).n → spoilt j ≡ false → is_some (provider_at a.providers j).held ≡ true) →
         IsUntouched (setup_at records).n spoilt b c → IsUntouched (setup_at records).n spoilt d e → IsSteady (setup_at records).n spoilt e f →
         spoilt_below (setup_at records).n spoilt ≤ (setup_at records).b →
         (undecided : ℕ) × (counts : List ℕ) × IsTold (audit_lines (setup_at records).tolerance (next_audit records) undecided counts) c d second
-        × ((later : ℕ → Bool) →
+        × (((j : ℕ) → j < (setup_at records).n → is_flagged (setup_at records).tolerance counts j ≡ true → is_some (provider_at e.providers j).held ≡ true) → (later : ℕ → Bool) →
         ((j : ℕ) → later j ≡ false → (spoilt j && not (is_flagged (setup_at records).tolerance counts j)) ≡ false) →
         IsUntouched (setup_at records).n later f g → IsSteady (setup_at records).n later g h →
         spoilt_below (setup_at records).n later ≤ (setup_at records).b →

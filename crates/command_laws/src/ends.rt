@@ -22,10 +22,12 @@ ghost use Rattle.hail_commands.specs.Jobs.{AnswersJob};
 ghost use Rattle.hail_commands.specs.Commands.{AnswersAlone, Answers};
 ghost use Rattle.command_laws.specs.Failing.{bad_seen};
 ghost use Rattle.command_laws.specs.Ends.{IsDone, IsKnown, EndsWell, EndsInOrder, SameHolds, opens_store, FaultsHaveCauses, AreSafe, HoldsFile, IsPut, IsDropped, IsAudited, IsRepaired};
+ghost use Rattle.command_laws.specs.Kept.{LosesFile, LosesRepair};
 
 /// A get of a file gives it whole, or finds no memory, where at most b providers are wrong for the file or failed, unless the disk or the
 /// sink failed. With at most b + 1 such providers what it heard holds no forgery, it never gives a wrong byte, and at status 0 it gave
-/// the file. However many there are, a wrong byte means that what it heard holds a forgery.
+/// the file. However many there are, a wrong byte means that what it heard holds a forgery. Over any devices, also such as tell nothing, a get
+/// ends with its text, or finds no memory, or is refused with its cause, or has found a row lost, unless the disk or the sink failed.
 pub fn gets_give_the_file()
     ensures complete { (name bytes : List ℕ) (records : List Record) (file : File) (old new : Seen) (end : Ending) → Answers (GetOf name) old new end →
         IsKnown old records → file_of records name ≡ Some file → AreBytes bytes → length bytes ≡ file.size →
@@ -46,6 +48,8 @@ pub fn gets_give_the_file()
     ensures forged_front { (name bytes : List ℕ) (records : List Record) (file : File) (old new : Seen) (end : Ending) → Answers (GetOf name) old new end →
         IsKnown old records → file_of records name ≡ Some file → AreBytes bytes → length bytes ≡ file.size →
         TakesFront old.sink new.sink bytes ⊎ HoldsForgery (object_of (setup_at records) file.id) bytes 1 end.heard }
+    ensures ends { (name : List ℕ) (old new : Seen) (end : Ending) → Answers (GetOf name) old new end → (Rose old.disk_faults new.disk_faults → ⊥) →
+        (Rose old.sink_faults new.sink_faults → ⊥) → EndsInOrder (GetOf name) old new end ⊎ LosesFile name old new end }
 {}
 
 /// A get, a list and an audit leave what each provider holds, at any status.
@@ -94,7 +98,8 @@ pub fn audits_count_what_they_hear()
 
 /// A repair of status 0 or 15 has written each flagged provider anew, from what the fetches gave; of each file for which at most b providers are
 /// wrong or failed, whatever is of the others, these are the very blocks. A repair that is not refused ends so, or finds
-/// no memory, where it is so of each file, unless a count of faults rose: the disk's, that of a provider's stores, or the sink's.
+/// no memory, where it is so of each file, unless a count of faults rose: the disk's, that of a provider's stores, or the sink's. Over any
+/// devices a repair ends so, or finds no memory, or is refused with its cause, or has found a row lost, unless such a count rose.
 pub fn repairs_write_anew()
     ensures done { (old new : Seen) (end : Ending) → Answers RepairDue old new end → IsDone end → IsRepaired old new end }
     ensures ends_well { (records : List Record) (old new : Seen) (end : Ending) (bytes : ℕ → List ℕ) → Answers RepairDue old new end →
@@ -106,6 +111,9 @@ pub fn repairs_write_anew()
         Answers RepairDue old new end → IsKnown old records → IsDone end → due_of records ≡ Some due → file_of records name ≡ Some file →
         length bytes ≡ file.size → bad_seen records old new file.id bytes ≤ (setup_at records).b → j < (setup_at records).n →
         is_flagged (setup_at records).tolerance due.counts j ≡ true → HoldsFile records new bytes file j }
+    ensures ends { (old new : Seen) (end : Ending) → Answers RepairDue old new end → (Rose old.disk_faults new.disk_faults → ⊥) →
+        ((j : ℕ) → Rose (provider_at old.providers j).store_faults (provider_at new.providers j).store_faults → ⊥) →
+        (Rose old.sink_faults new.sink_faults → ⊥) → EndsInOrder RepairDue old new end ⊎ LosesRepair old new end }
 {}
 
 /// A job has the status of a refusal only where that is the first of its refusals to apply; and where one applies, the command ends with its

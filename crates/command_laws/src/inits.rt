@@ -11,7 +11,7 @@ ghost use Rattle.hail_commands.specs.Openings.{journal_read, IsBadInit, IsSetUpA
 ghost use Rattle.hail_commands.specs.Inits.{setup_with};
 ghost use Rattle.hail_commands.specs.Lines.{ready_line, list_lines};
 ghost use Rattle.hail_commands.specs.Commands.{Answers};
-ghost use Rattle.command_laws.specs.Ends.{IsDone, IsKnown, EndsWell};
+ghost use Rattle.command_laws.specs.Ends.{IsDone, IsKnown, EndsWell, EndsInOrder};
 ghost use Rattle.command_laws.specs.Opened.{IsKeyed, IsInit, IsListed};
 
 /// An init of status 0 or 15 has read its source to the end, a key, and has set a store up with it. With a key, over a disk that
@@ -57,7 +57,8 @@ pub fn init_refusals_are_exact()
 {}
 
 /// A list of status 0 or 15 has written the lines of the files in effect, or a part of them at 15. Over a disk that tells a list ends with
-/// all of them, or finds no memory, unless the disk or the sink failed; where there is no file, never in a fault of the sink.
+/// all of them, or finds no memory, unless the disk or the sink failed; where there is no file, never in a fault of the sink. Over any
+/// devices a list ends with its lines, or finds no memory, or its store is not opened, with the cause, unless the sink failed.
 pub fn lists_give_the_files()
     ensures done { (old new : Seen) (end : Ending) → Answers ListAll old new end → IsDone end → IsListed old new end }
     ensures ends_well { (records : List Record) (old new : Seen) (end : Ending) → Answers ListAll old new end → IsKnown old records →
@@ -65,4 +66,6 @@ pub fn lists_give_the_files()
         EndsWell (list_lines (files_of records)) old new end }
     ensures empty { (records : List Record) (old new : Seen) (end : Ending) → Answers ListAll old new end → IsKnown old records →
         files_of records ≡ [] → end.status ≢ 15 }
+    ensures ends { (old new : Seen) (end : Ending) → Answers ListAll old new end → (Rose old.sink_faults new.sink_faults → ⊥) →
+        EndsInOrder ListAll old new end }
 {}

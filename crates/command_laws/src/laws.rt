@@ -27,18 +27,18 @@ pub fn opened_states_are_opened()
 
 /// What an audit leaves, however it ends.
 pub fn audits_leave()
-    ensures { (w new : State) (answer : Answer) (heard : List Entry) → IsOpened w → RunsJob w AuditJob answer heard new →
+    ensures { (w new : State) (moment : ℕ) (answer : Answer) (heard : List Entry) → IsOpened w → RunsJob w moment AuditJob answer heard new →
         Leaves (ran_from w new heard) AuditJob answer }
 {}
 
 /// What a repair leaves, however it ends.
 pub fn repairs_leave()
-    ensures { (w new : State) (answer : Answer) (heard : List Entry) → IsOpened w → RunsJob w RepairJob answer heard new →
+    ensures { (w new : State) (moment : ℕ) (answer : Answer) (heard : List Entry) → IsOpened w → RunsJob w moment RepairJob answer heard new →
         Leaves (ran_from w new heard) RepairJob answer }
 {}
 
 /// What a job of any kind leaves, however it ends.
 pub fn jobs_leave()
-    ensures { (w new : State) (kind : Kind) (answer : Answer) (heard : List Entry) → IsOpened w → IsSpelledKind kind →
-        RunsJob w kind answer heard new → Leaves (ran_from w new heard) kind answer }
+    ensures { (w new : State) (moment : ℕ) (kind : Kind) (answer : Answer) (heard : List Entry) → IsOpened w → IsSpelledKind kind →
+        RunsJob w moment kind answer heard new → Leaves (ran_from w new heard) kind answer }
 {}

@@ -6,5 +6,8 @@ pub mod alone;
 pub mod ends;
 pub mod files;
 pub mod inits;
+pub mod instances;
 pub mod kept;
 pub mod laws;
+pub mod pieces;
+pub mod statuses;

@@ -1,4 +1,4 @@
-pub mod AgreementSteps
-pub mod SearchSteps
+pub mod PresentSteps
+pub mod Erasures
 pub mod Unique
 pub mod RowSteps

@@ -1,11 +1,10 @@
 //! The dispersal code across providers: the symbols of a row, and the row that enough of them agree on.
 #![tactic(auto)]
 
-mod agreements;
-mod choice;
 mod encode;
 pub mod laws;
 mod open;
+mod present;
 #[cfg(test)]
 mod tests;
 

@@ -1,6 +1,6 @@
 use crate::case::Case;
 use crate::row::{done, refused};
-use crate::store::{KEY, four, three};
+use crate::store::{KEY, Store, four, three};
 use std::test::Fail;
 
 // Setting up syncs, asks the length, writes the empty journal and syncs, and appends one record in four calls.
@@ -37,6 +37,26 @@ fn a_put_stands_from_its_last_sync_on(rt: HostRuntime) -> Result<(), Fail> {
         with: &[done("get a", b"", b"abc"), done("list", b"", b"a 3\n")],
     };
     assert_eq!(rt; case.first_wrong_call(rt.alloc()), None);
+    Ok(())
+}
+
+// The first record of a put, which draws its number, stands from the call 6 on; the next put then takes the number 2.
+#[test]
+fn a_put_cut_off_uses_its_number_once_it_is_begun(rt: HostRuntime) -> Result<(), Fail> {
+    for call in 0..12u64 {
+        let mut store = Store::after(rt.alloc(), &[four()]).expect(&rt, "a store is set up");
+        assert!(rt; store.disk_fails_at(&[call]), "call {call}");
+        let first = if call < 11 {
+            refused("put a", b"abc", 12, 0)
+        } else {
+            three()
+        };
+        assert_eq!(rt; store.first_wrong(&[first]), None, "call {call}");
+        assert!(rt; store.disk_fails_at(&[]), "call {call}");
+        assert_eq!(rt; store.first_wrong(&[three()]), None, "call {call}");
+        assert_eq!(rt; store.has_object(0, 2), call >= 6, "call {call}");
+        assert_eq!(rt; store.has_object(0, 3), false, "call {call}");
+    }
     Ok(())
 }
 

@@ -50,6 +50,23 @@ fn another_failed_call_is_as_if_nothing_came(rt: HostRuntime) -> Result<(), Fail
     Ok(())
 }
 
+// The second put stores under 2 and then removes the object 1, in the call 2 of each provider.
+#[test]
+fn a_block_whose_removal_fails_is_left_there(rt: HostRuntime) -> Result<(), Fail> {
+    let mut store = Store::new(rt.alloc(), &[2]).expect(&rt, "devices");
+    let rows = [four(), three(), three(), done("get a", b"", b"abc")];
+    assert_eq!(rt; store.first_wrong(&rows), None);
+    for provider in 0..4usize {
+        assert!(rt; store.has_object(provider, 2), "provider {provider}");
+        assert_eq!(rt;
+            store.has_object(provider, 1),
+            provider == 2,
+            "provider {provider}"
+        );
+    }
+    Ok(())
+}
+
 /// A file of three stripes.
 const LONG: &[u8] = &[b'l'; 1000];
 

@@ -137,4 +137,12 @@ impl Store {
             None => false,
         }
     }
+
+    /// Whether a provider holds the first block of an object.
+    pub fn has_object(&self, provider: usize, object: u64) -> bool {
+        match self.providers.get(provider) {
+            Some(provider) => provider.held(object, 0).is_some(),
+            None => false,
+        }
+    }
 }

@@ -1,4 +1,3 @@
 pub mod ByteLemmas
-pub mod NameLemmas
 pub mod ReadLemmas
 pub mod SeenLemmas

@@ -1,5 +1,5 @@
-ghost use Rattle.std.specs.Prelude.{◌≡◌, ◌↔◌, ◌∷◌, ◌++◌, string_bytes, IfOk, OnOk, IsTrue};
-ghost use Rattle.hail_adapters.specs.BlockNames.{block_name, IsBlockName};
+ghost use Rattle.std.specs.Prelude.{◌≡◌, ◌∷◌, ◌++◌, string_bytes, OnOk};
+ghost use Rattle.hail_adapters.specs.BlockNames.{block_name};
 
 use std::alloc::AllocError;
 
@@ -21,19 +21,4 @@ pub fn put_path(out: &mut String, folder: &str, object: u64, stripe: u32) -> Res
     out.push_str(folder)?;
     out.push('/')?;
     push_name(out, object, stripe)
-}
-
-/// Whether a file's name is that of a block of the object. It spells what it compares with into `scratch`.
-pub fn is_name_of(name: &str, object: u64, scratch: &mut String) -> Result<bool, AllocError>
-    ensures { IfOk result (λ is. IsTrue is ↔ IsBlockName object name.now) }
-{
-    let Some((_, stripe)) = name.split_once('-') else {
-        return Ok(false);
-    };
-    let Ok(stripe) = stripe.parse::<u32>() else {
-        return Ok(false);
-    };
-    scratch.clear();
-    push_name(scratch, object, stripe)?;
-    Ok(name == scratch.as_str())
 }

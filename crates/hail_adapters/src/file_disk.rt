@@ -3,22 +3,25 @@ ghost use Rattle.stream_model.specs.declared.fault.WriteFault.TheVariants as wri
 ghost use Rattle.hail_devices.specs.Faults.{one_more};
 
 use crate::kept_file::KeptFile;
+use crate::provider_folders::ProviderFolders;
 use crate::tried::{tried, tried_writing};
 use disk_model::Disk;
 use hail_field::Memory;
 use std::alloc::Global;
+use std::fs::Files;
+use std::io;
 use std::marker::Model;
-use std::rt::Runtime;
 use stream_model::{Failed, WriteFault};
 
 /// A file as a disk, seen in contracts as its count of faults. It tells nothing of what it holds.
 #[derive(Drop)]
-pub struct FileDisk<R: Runtime> {
+pub struct FileDisk<R: Files + Clone + Drop> {
     file: KeptFile<R>,
+    folders: Option<ProviderFolders<R>>,
     faults: u64,
 }
 
-impl<R: Runtime> Model for FileDisk<R> {
+impl<R: Files + Clone + Drop> Model for FileDisk<R> {
     ghost use Rattle.std.specs.Prelude.{ℕ};
 
     ghost Value = { ℕ };
@@ -26,19 +29,42 @@ impl<R: Runtime> Model for FileDisk<R> {
     ghost view = { λ disk. disk.faults };
 }
 
-impl<R: Runtime> FileDisk<R> {
+impl<R: Files + Clone + Drop> FileDisk<R> {
     /// The file at this path, which may be missing. Opens nothing; want of memory is its one refusal.
     pub fn new(rt: &R, alloc: Global, path: &str) -> Result<FileDisk<R>, Memory>
         ensures { IfOk result (λ disk. disk ≡ 0) }
     {
+        FileDisk::after(rt, alloc, path, None)
+    }
+
+    /// The same, where each write comes after the sync of these folders.
+    pub fn after(
+        rt: &R,
+        alloc: Global,
+        path: &str,
+        folders: Option<ProviderFolders<R>>,
+    ) -> Result<FileDisk<R>, Memory>
+        ensures { IfOk result (λ disk. disk ≡ 0) }
+    {
         Ok(FileDisk {
             file: KeptFile::new(rt, alloc, path)?,
+            folders,
             faults: 0,
         })
     }
+
+    /// Writes to the file, behind the folders' names.
+    fn write(&mut self, at: u64, bytes: &[u8]) -> io::Result<()>
+        ensures { self.new ≡ self.old }
+    {
+        if let Some(folders) = &mut self.folders {
+            folders.sync()?;
+        }
+        self.file.write_at(at, bytes)
+    }
 }
 
-impl<R: Runtime> Disk for FileDisk<R> {
+impl<R: Files + Clone + Drop> Disk for FileDisk<R> {
     ghost holds = { λ _. None };
 
     ghost faults = { λ disk. disk };
@@ -63,7 +89,8 @@ impl<R: Runtime> Disk for FileDisk<R> {
         ensures failed { IsErrOf result write_fault.Failed → self.new ≡ one_more self.old }
         ensures memory { IsErrOf result write_fault.Memory → self.new ≡ self.old }
     {
-        tried_writing(self.file.write_at(at, bytes), &mut self.faults)
+        let written = self.write(at, bytes);
+        tried_writing(written, &mut self.faults)
     }
 
     fn sync(&mut self) -> Result<(), Failed>

@@ -2,61 +2,115 @@
 ghost use Rattle.std.specs.Prelude.{◌≡◌, ◌≤◌, ◌<◌, false, length, IfOk, OnErr};
 
 use crate::block_bytes::{BLOCK_BYTES, SYMBOL_BYTES, put_symbols, symbol_of, take_symbols};
-use crate::block_name::{NAME_BYTES, is_name_of, put_path};
-use crate::found::found;
+use crate::block_name::{NAME_BYTES, put_path};
+use crate::found::{found, is_missing};
+use crate::plain::{folder_of, open_plain, sync_folder, to_make, to_read, to_write};
+use crate::provider_folders::Mark;
 use crate::seen_rows::answer_of;
 use crate::transfer::fill;
 use challenge::Challenge;
 use hail_field::{Memory, Symbol};
 use std::alloc::Global;
-use std::fs::{self, DirEntry, OpenFile, OpenOptions};
+use std::fs::{self, DirBuilder, Files, OpenFile};
 use std::io::{self, ErrorKind, Seek, SeekFrom, Write};
-use std::rt::Runtime;
+use std::os::unix::fs::DirBuilderExt;
+
+/// So many stripes in a row that are not there end a removal.
+const MISSES: u32 = 4096;
+
+/// Only the owner of a folder that is made enters it.
+const OWN_FOLDER: u32 = 0o700;
 
 /// A folder with a file for each block. It is made at the first store; one that isn't there holds nothing.
 #[derive(Drop)]
-pub struct Folder<R: Runtime> {
+pub struct Folder<R: Files + Clone + Drop> {
     rt: R,
     path: String,
     block_path: String,
+    new_path: String,
+    unsynced: Option<Mark>,
 }
 
-impl<R: Runtime> Folder<R> {
-    /// Opens nothing, and makes room for the path of a block, so that no later call has to.
-    pub fn new(rt: &R, alloc: Global, path: &str) -> Result<Folder<R>, Memory> {
+impl<R: Files + Clone + Drop> Folder<R> {
+    /// Opens nothing, and makes room for the path of a block, so that no later call has to. A store marks the folder as
+    /// unsynced; where there is no mark it syncs the folder itself.
+    pub fn new(
+        rt: &R,
+        alloc: Global,
+        path: &str,
+        unsynced: Option<Mark>,
+    ) -> Result<Folder<R>, Memory> {
         let mut block_path = String::from_str(alloc, path)?;
         block_path.reserve(NAME_BYTES)?;
         Ok(Folder {
             rt: rt.clone()?,
             path: String::from_str(alloc, path)?,
             block_path,
+            new_path: format!(in alloc; "{path}/new")?,
+            unsynced,
         })
     }
 
-    /// Opens the file of a block to read it; none where there is none.
+    /// Opens the file of a block to read it; none where there is no plain file.
     fn open(&mut self, object: u64, stripe: u32) -> io::Result<Option<R::File>> {
         put_path(&mut self.block_path, &self.path, object, stripe)?;
-        found(fs::open(&self.rt, &self.block_path))
+        open_plain(&self.rt, &self.block_path, &to_read())
     }
 
-    /// Makes the file of a block, and the folder where it is missing. What stood in the file is gone.
-    fn create(&mut self, object: u64, stripe: u32) -> io::Result<R::File> {
-        put_path(&mut self.block_path, &self.path, object, stripe)?;
-        if let Some(file) = found(fs::create(&self.rt, &self.block_path))? {
-            return Ok(file);
+    /// Makes the folder for its owner alone, and brings its name to the medium.
+    fn make(&self) -> io::Result<()> {
+        let mut how = DirBuilder::new();
+        how.mode(OWN_FOLDER);
+        how.create(&self.rt, &self.path)?;
+        sync_folder(&self.rt, folder_of(&self.path))
+    }
+
+    /// Makes the new file, which is not there: what stands in its place goes, and a missing folder is made.
+    fn make_new(&self) -> io::Result<R::File> {
+        match to_make().open(&self.rt, &self.new_path) {
+            Err(error) if error.kind() == ErrorKind::AlreadyExists => {
+                fs::remove_file(&self.rt, &self.new_path)?;
+            }
+            Err(error) if is_missing(error.kind()) => self.make()?,
+            answer => return answer,
         }
-        fs::create_dir(&self.rt, &self.path)?;
-        fs::create(&self.rt, &self.block_path)
+        to_make().open(&self.rt, &self.new_path)
     }
 
-    /// Writes the file of a block.
+    /// Writes the new file and brings it to the medium.
+    fn write_new(&self, bytes: &[u8]) -> io::Result<()> {
+        let mut file = self.make_new()?;
+        file.write_all(bytes)?;
+        file.sync_all()
+    }
+
+    /// Gives the new file the name of a block, which another file may have had.
+    fn name_new(&self) -> io::Result<()> {
+        fs::rename(&self.rt, &self.new_path, &self.block_path)?;
+        match &self.unsynced {
+            Some(mark) => {
+                mark.set();
+                Ok(())
+            }
+            None => sync_folder(&self.rt, &self.path),
+        }
+    }
+
+    /// Writes the file of a block. Where that fails, the block is as it was.
     pub fn store(&mut self, object: u64, stripe: u32, block: &[Symbol]) -> io::Result<()>
         requires { length block.now ≤ 128 }
     {
         let mut buffer = [0; BLOCK_BYTES];
         let bytes = &mut buffer[..SYMBOL_BYTES * block.len()];
         put_symbols(block, bytes);
-        self.create(object, stripe)?.write_all(bytes)
+        put_path(&mut self.block_path, &self.path, object, stripe)?;
+        match self.write_new(bytes) {
+            Ok(()) => self.name_new(),
+            Err(error) => {
+                let _ = fs::remove_file(&self.rt, &self.new_path);
+                Err(error)
+            }
+        }
     }
 
     /// Reads a block of as many symbols as `out` has, and says whether the file has one.
@@ -114,33 +168,33 @@ impl<R: Runtime> Folder<R> {
         Ok(answer_of(challenge, &rows[..challenge.picks as usize]))
     }
 
-    /// Removes the files of an object's blocks, and no other file. Lists the folder once.
-    pub fn remove(&mut self, object: u64) -> io::Result<()> {
-        let Some(entries) = found(fs::read_dir(&self.rt, &self.path))? else {
-            return Ok(());
-        };
-        for entry in entries {
-            self.remove_entry(object, entry)?;
-        }
-        Ok(())
+    /// Removes the file of a block, and says whether there was one.
+    fn remove_one(&mut self, object: u64, stripe: u32) -> io::Result<bool> {
+        put_path(&mut self.block_path, &self.path, object, stripe)?;
+        let removed = found(fs::remove_file(&self.rt, &self.block_path))?;
+        Ok(removed.is_some())
     }
 
-    /// Removes a file of the folder if it is a block of the object. A name that is no text is no block's.
-    fn remove_entry(
-        &mut self,
-        object: u64,
-        entry: io::Result<DirEntry<R, R::A>>,
-    ) -> io::Result<()> {
-        match entry {
-            Ok(entry) => {
-                if is_name_of(entry.file_name(), object, &mut self.block_path)? {
-                    found(fs::remove_file(&self.rt, entry.path()))?;
+    /// Removes the files of an object's blocks, and no other file, by their numbers, and goes on past one that cannot be
+    /// removed. It ends behind 4,096 stripes in a row of which none was removed: a longer hole hides what is behind it. The
+    /// answer is the last error.
+    pub fn remove(&mut self, object: u64) -> io::Result<()> {
+        let mut misses = 0;
+        let mut answer = Ok(());
+        for stripe in 0..u32::MAX {
+            match self.remove_one(object, stripe) {
+                Ok(true) => misses = 0,
+                Ok(false) => misses += 1,
+                Err(error) => {
+                    misses += 1;
+                    answer = Err(error);
                 }
-                Ok(())
             }
-            Err(error) if error.kind() == ErrorKind::InvalidFilename => Ok(()),
-            Err(error) => Err(error),
+            if misses >= MISSES {
+                return answer;
+            }
         }
+        answer
     }
 
     /// Puts a symbol at a place of a block, and says whether it has the place.
@@ -152,9 +206,7 @@ impl<R: Runtime> Folder<R> {
         symbol: Symbol,
     ) -> io::Result<bool> {
         put_path(&mut self.block_path, &self.path, object, stripe)?;
-        let mut how = OpenOptions::new();
-        how.write(true);
-        let Some(mut file) = found(how.open(&self.rt, &self.block_path))? else {
+        let Some(mut file) = open_plain(&self.rt, &self.block_path, &to_write())? else {
             return Ok(false);
         };
         let at = 16 * u64::from(place);
@@ -170,7 +222,7 @@ impl<R: Runtime> Folder<R> {
     /// Removes the file of a block, and says whether there was a block.
     pub fn lose(&mut self, object: u64, stripe: u32) -> io::Result<bool> {
         put_path(&mut self.block_path, &self.path, object, stripe)?;
-        let Some(metadata) = found(fs::metadata(&self.rt, &self.block_path))? else {
+        let Some(metadata) = found(fs::symlink_metadata(&self.rt, &self.block_path))? else {
             return Ok(false);
         };
         if !metadata.is_file() || metadata.len() % 16 != 0 {

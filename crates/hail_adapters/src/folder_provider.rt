@@ -3,26 +3,27 @@ ghost use Rattle.provider_model.specs.declared.fault.StoreFault.TheVariants as s
 ghost use Rattle.hail_adapters.specs.FolderCounts.{no_counts, with_store_fault, with_other_fault, with_fetch};
 
 use crate::folder::Folder;
+use crate::provider_folders::Mark;
 use crate::tried::{tried, tried_writing};
 use challenge::Challenge;
 use hail_field::{Memory, Symbol};
 use provider_model::{Provider, StoreFault, Tamper};
 use std::alloc::Global;
+use std::fs::Files;
 use std::marker::Model;
-use std::rt::Runtime;
 use stream_model::{Failed, WriteFault};
 
 /// A folder as a provider, seen in contracts as its counts. It tells nothing of what it holds. The block of object I and
 /// stripe S is the file `I-S` in it, 16 bytes a symbol.
 #[derive(Drop)]
-pub struct FolderProvider<R: Runtime> {
+pub struct FolderProvider<R: Files + Clone + Drop> {
     folder: Folder<R>,
     store_faults: u64,
     other_faults: u64,
     fetches: u64,
 }
 
-impl<R: Runtime> Model for FolderProvider<R> {
+impl<R: Files + Clone + Drop> Model for FolderProvider<R> {
     ghost use Rattle.hail_adapters.specs.FolderCounts.{FolderCounts};
 
     ghost Value = { FolderCounts };
@@ -34,13 +35,26 @@ impl<R: Runtime> Model for FolderProvider<R> {
     } };
 }
 
-impl<R: Runtime> FolderProvider<R> {
-    /// The folder at this path, which the first store makes. Opens nothing; want of memory is its one refusal.
+impl<R: Files + Clone + Drop> FolderProvider<R> {
+    /// The folder at this path, which the first store makes. Each store syncs it. Opens nothing; want of memory is its one
+    /// refusal.
     pub fn new(rt: &R, alloc: Global, path: &str) -> Result<FolderProvider<R>, Memory>
         ensures { IfOk result (λ provider. provider ≡ no_counts) }
     {
+        FolderProvider::marking(rt, alloc, path, None)
+    }
+
+    /// The same, where a store sets this mark in place of the sync of the folder.
+    pub fn marking(
+        rt: &R,
+        alloc: Global,
+        path: &str,
+        unsynced: Option<Mark>,
+    ) -> Result<FolderProvider<R>, Memory>
+        ensures { IfOk result (λ provider. provider ≡ no_counts) }
+    {
         Ok(FolderProvider {
-            folder: Folder::new(rt, alloc, path)?,
+            folder: Folder::new(rt, alloc, path, unsynced)?,
             store_faults: 0,
             other_faults: 0,
             fetches: 0,
@@ -48,7 +62,7 @@ impl<R: Runtime> FolderProvider<R> {
     }
 }
 
-impl<R: Runtime> Provider for FolderProvider<R> {
+impl<R: Files + Clone + Drop> Provider for FolderProvider<R> {
     ghost held = { λ _. None };
 
     ghost store_faults = { λ provider. provider.store_faults };
@@ -100,7 +114,7 @@ impl<R: Runtime> Provider for FolderProvider<R> {
     }
 }
 
-impl<R: Runtime> Tamper for FolderProvider<R> {
+impl<R: Files + Clone + Drop> Tamper for FolderProvider<R> {
     /// Where a call of std fails this counts as a fault, and the answer is false.
     fn alter(&mut self, object: u64, stripe: u32, place: u32, symbol: Symbol) -> bool
         ensures there { IsTrue result → self.new ≡ self.old }

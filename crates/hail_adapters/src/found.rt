@@ -5,7 +5,7 @@ use std::io;
 use std::io::ErrorKind;
 
 /// Nothing is at a path, or what should be a folder on the way to it is a file.
-fn is_missing(kind: ErrorKind) -> bool
+pub fn is_missing(kind: ErrorKind) -> bool
     ensures { IsTrue result ↔ ((kind ≡ ErrorKind.NotFound) ⊎ (kind ≡ ErrorKind.NotADirectory)) }
 {
     matches!(kind, ErrorKind::NotFound | ErrorKind::NotADirectory)

@@ -1,18 +1,17 @@
 ghost use Rattle.std.specs.Prelude.{◌≤◌, length, IfOk};
 
 use crate::found::found;
+use crate::plain::{folder_of, is_there, sync_folder, to_write_or_make};
 use crate::transfer::fill;
 use hail_field::Memory;
 use std::alloc::Global;
-use std::fs::{self, OpenFile, OpenOptions};
+use std::fs::{self, Files, OpenFile};
 use std::io::{self, Seek, SeekFrom, Write};
-use std::path::Path;
-use std::rt::Runtime;
 
-/// A file that is opened when it is first needed, and then kept open. One that isn't there reads as empty, and the first
-/// write makes it.
+/// A plain file that is opened when it is first needed, and then kept open. One that isn't there reads as empty, and the first
+/// write makes it, for its owner alone. A folder, a pipe or a device in its place is an error.
 #[derive(Drop)]
-pub struct KeptFile<R: Runtime> {
+pub struct KeptFile<R: Files + Clone + Drop> {
     rt: R,
     path: String,
     reading: Option<R::File>,
@@ -20,7 +19,7 @@ pub struct KeptFile<R: Runtime> {
     has_synced_name: bool,
 }
 
-impl<R: Runtime> KeptFile<R> {
+impl<R: Files + Clone + Drop> KeptFile<R> {
     /// Opens nothing.
     pub fn new(rt: &R, alloc: Global, path: &str) -> Result<KeptFile<R>, Memory> {
         Ok(KeptFile {
@@ -33,7 +32,7 @@ impl<R: Runtime> KeptFile<R> {
     }
 
     fn open_to_read(&mut self) -> io::Result<()> {
-        if self.reading.is_none() {
+        if self.reading.is_none() && is_there(&self.rt, &self.path)? {
             self.reading = found(fs::open(&self.rt, &self.path))?;
         }
         Ok(())
@@ -41,10 +40,8 @@ impl<R: Runtime> KeptFile<R> {
 
     fn open_to_write(&mut self) -> io::Result<()> {
         if self.writing.is_none() {
-            let mut how = OpenOptions::new();
-            how.write(true);
-            how.create(true);
-            self.writing = Some(how.open(&self.rt, &self.path)?);
+            is_there(&self.rt, &self.path)?;
+            self.writing = Some(to_write_or_make().open(&self.rt, &self.path)?);
         }
         Ok(())
     }
@@ -101,18 +98,10 @@ impl<R: Runtime> KeptFile<R> {
     /// Brings the file's name to the medium, once.
     fn sync_name(&mut self) -> io::Result<()> {
         if !self.has_synced_name {
-            fs::open(&self.rt, folder_of(&self.path))?.sync_all()?;
+            sync_folder(&self.rt, folder_of(&self.path))?;
             self.has_synced_name = true;
         }
         Ok(())
-    }
-}
-
-/// The folder of a path to a file.
-fn folder_of(path: &str) -> &str {
-    match Path::new(path).parent() {
-        Some(folder) if !folder.as_str().is_empty() => folder.as_str(),
-        _ => ".",
     }
 }
 

@@ -9,6 +9,8 @@ mod folder_provider;
 mod found;
 mod home;
 mod kept_file;
+mod plain;
+mod provider_folders;
 mod seen_rows;
 mod std_sink;
 mod std_source;
@@ -18,6 +20,7 @@ mod tried;
 pub use file_disk::FileDisk;
 pub use folder_provider::FolderProvider;
 pub use home::{folder_providers, journal_disk};
+pub use provider_folders::Unsynced;
 pub use std_sink::StdSink;
 pub use std_source::StdSource;
 

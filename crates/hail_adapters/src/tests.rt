@@ -3,125 +3,207 @@ use crate::transfer::{fill, write_some};
 use challenge::Challenge;
 use disk_model::Disk;
 use hail_field::Symbol;
-use provider_model::{Provider, StoreFault, Tamper};
+use provider_model::{Provider, Tamper};
 use std::fmt::Display;
+use std::fs::Files;
 use std::io::{ErrorKind, Print, Read};
+use std::os::unix::fs::{PermissionsExt, symlink};
 use std::test::Fail;
 use std::{fs, io};
-use stream_model::{Sink, Source, WriteFault, write_all};
+use stream_model::{Sink, Source, write_all};
+
+/// The most bytes of a journal.
+const LARGEST: u64 = 1 << 24;
+
+// What a test calls, each with no clause: a test is proved to be safe, and shows the rest by running.
+
+fn len<D: Disk>(disk: &mut D) -> Option<u64> {
+    disk.len().ok()
+}
+
+fn writes<D: Disk>(disk: &mut D, at: u64, bytes: &[u8]) -> bool {
+    at <= LARGEST && bytes.len() as u64 <= LARGEST - at && disk.write_at(at, bytes).is_ok()
+}
+
+fn syncs<D: Disk>(disk: &mut D) -> bool {
+    disk.sync().is_ok()
+}
+
+// What is read of eight bytes that were all 9.
+fn reads<D: Disk>(disk: &mut D, at: u64) -> Option<[u8; 8]> {
+    let mut out = [9; 8];
+    disk.read_at(at, &mut out).ok()?;
+    Some(out)
+}
+
+fn stores<P: Provider>(provider: &mut P, object: u64, stripe: u32, block: &[Symbol]) -> bool {
+    !block.is_empty() && block.len() <= 128 && provider.store(object, stripe, block).is_ok()
+}
+
+// The block of so many symbols, or none.
+fn block<P: Provider, const N: usize>(
+    provider: &mut P,
+    object: u64,
+    stripe: u32,
+) -> Option<[Symbol; N]> {
+    let mut out = [Symbol(0); N];
+    if out.is_empty() || out.len() > 128 {
+        return None;
+    }
+    match provider.fetch(object, stripe, &mut out) {
+        Ok(true) => Some(out),
+        _ => None,
+    }
+}
+
+fn removes<P: Provider>(provider: &mut P, object: u64) -> bool {
+    provider.remove(object).is_ok()
+}
+
+fn asked<P: Provider>(provider: &mut P, challenge: &Challenge) -> Option<Option<Symbol>> {
+    provider.ask(1, challenge).ok()
+}
+
+fn alters<P: Tamper>(provider: &mut P, object: u64, stripe: u32, place: u32) -> bool {
+    provider.alter(object, stripe, place, Symbol(5))
+}
+
+fn loses<P: Tamper>(provider: &mut P, object: u64, stripe: u32) -> bool {
+    provider.lose(object, stripe)
+}
+
+fn is_file<R: Files>(rt: &R, path: &str) -> bool {
+    match fs::symlink_metadata(rt, path) {
+        Ok(metadata) => metadata.is_file(),
+        Err(_) => false,
+    }
+}
+
+fn mode<R: Files>(rt: &R, path: &str) -> Option<u32> {
+    let metadata = fs::metadata(rt, path).ok()?;
+    Some(metadata.permissions().mode() % 512)
+}
 
 #[test]
 fn a_file_is_a_disk(rt: HostRuntime) -> Result<(), Fail> {
     let mut disk = FileDisk::new(&rt, rt.alloc(), "journal")?;
-    let mut out = [9; 8];
-    assert_eq!(rt; disk.len(), Ok(0));
-    assert_eq!(rt; disk.read_at(0, &mut out), Ok(0));
-    assert_eq!(rt; disk.sync(), Ok(()));
-    assert_eq!(rt; fs::exists(&rt, "journal")?, false);
-
-    assert_eq!(rt; disk.write_at(2, b"abcd"), Ok(()));
-    assert_eq!(rt; disk.write_at(3, b"x"), Ok(()));
-    assert_eq!(rt; disk.len(), Ok(6));
-    assert_eq!(rt; disk.read_at(1, &mut out), Ok(5));
-    assert_eq!(rt; out, [0, b'a', b'x', b'c', b'd', 9, 9, 9]);
-    assert_eq!(rt; disk.read_at(7, &mut out), Ok(0));
-    assert_eq!(rt; disk.write_at(8, &[]), Ok(()));
-    assert_eq!(rt; disk.sync(), Ok(()));
-    disk.stop(&[1, 2]);
+    let empty = (len(&mut disk), reads(&mut disk, 0), syncs(&mut disk));
+    assert_eq!(rt; empty, (Some(0), Some([9; 8]), true));
+    assert_eq!(rt; is_file(&rt, "journal"), false);
+    assert_eq!(rt;
+        [writes(&mut disk, 2, b"abcd"), writes(&mut disk, 3, b"x")],
+        [true; 2]
+    );
+    let begun = (len(&mut disk), reads(&mut disk, 1), reads(&mut disk, 7));
+    let bytes = [0, b'a', b'x', b'c', b'd', 9, 9, 9];
+    assert_eq!(rt; begun, (Some(6), Some(bytes), Some([9; 8])));
+    assert_eq!(rt; [writes(&mut disk, 8, &[]), syncs(&mut disk)], [true; 2]);
 
     let mut again = FileDisk::new(&rt, rt.alloc(), "journal")?;
-    assert_eq!(rt; again.sync(), Ok(()));
-    assert_eq!(rt; again.read_at(0, &mut out), Ok(8));
-    assert_eq!(rt; out, [0, 0, b'a', b'x', b'c', b'd', 0, 0]);
+    let bytes = [0, 0, b'a', b'x', b'c', b'd', 0, 0];
+    assert_eq!(rt;
+        (syncs(&mut again), reads(&mut again, 0)),
+        (true, Some(bytes))
+    );
+    assert_eq!(rt; mode(&rt, "journal"), Some(0o600));
     fs::remove_file(&rt, "journal")?;
 
     let mut nowhere = FileDisk::new(&rt, rt.alloc(), "nowhere/journal")?;
-    assert_eq!(rt; nowhere.len(), Ok(0));
-    assert_eq!(rt; nowhere.write_at(0, b"a"), Err(WriteFault::Failed));
+    assert_eq!(rt;
+        (len(&mut nowhere), writes(&mut nowhere, 0, b"a")),
+        (Some(0), false)
+    );
     Ok(())
 }
 
 #[test]
 fn blocks_are_files(rt: HostRuntime) -> Result<(), Fail> {
-    let block = [Symbol(513), Symbol(1 << 127)];
-    let mut out = [Symbol(0); 2];
+    let own = [Symbol(513), Symbol(1 << 127)];
     let mut provider = FolderProvider::new(&rt, rt.alloc(), "blocks")?;
-    assert_eq!(rt; provider.fetch(7, 12, &mut out), Ok(false));
+    assert_eq!(rt; block::<_, 2>(&mut provider, 7, 12), None);
     assert_eq!(rt; fs::exists(&rt, "blocks")?, false);
 
-    assert_eq!(rt; provider.store(7, 12, &block), Ok(()));
+    assert_eq!(rt; stores(&mut provider, 7, 12, &own), true);
     let mut bytes = [0; 32];
     (bytes[0], bytes[1], bytes[31]) = (1, 2, 128);
     assert_eq!(rt; fs::read(&rt, "blocks/7-12")?.as_slice(), bytes.as_slice());
-    assert_eq!(rt; provider.fetch(7, 12, &mut [Symbol(0)]), Ok(false));
-    assert_eq!(rt; provider.fetch(7, 12, &mut [Symbol(0); 3]), Ok(false));
-    assert_eq!(rt; provider.fetch(7, 12, &mut out), Ok(true));
-    assert_eq!(rt; out, block);
+    assert_eq!(rt;
+        [mode(&rt, "blocks"), mode(&rt, "blocks/7-12")],
+        [Some(0o700), Some(0o600)]
+    );
+    assert_eq!(rt; block::<_, 1>(&mut provider, 7, 12), None);
+    assert_eq!(rt; block::<_, 3>(&mut provider, 7, 12), None);
+    assert_eq!(rt; block(&mut provider, 7, 12), Some(own));
 
-    let mut shorter = [Symbol(0)];
-    assert_eq!(rt; provider.store(7, 12, &[Symbol(5)]), Ok(()));
-    assert_eq!(rt; provider.fetch(7, 12, &mut shorter), Ok(true));
-    assert_eq!(rt; shorter, [Symbol(5)]);
-    assert_eq!(rt; provider.remove(7), Ok(()));
+    assert_eq!(rt; stores(&mut provider, 7, 12, &own[..1]), true);
+    assert_eq!(rt; block(&mut provider, 7, 12), Some([Symbol(513)]));
+    assert_eq!(rt; removes(&mut provider, 7), true);
     fs::remove_dir(&rt, "blocks")?;
     Ok(())
 }
 
 #[test]
 fn blocks_are_altered_and_lost(rt: HostRuntime) -> Result<(), Fail> {
-    let mut out = [Symbol(0); 2];
     let mut provider = FolderProvider::new(&rt, rt.alloc(), "altered")?;
-    assert_eq!(rt; provider.store(7, 12, &[Symbol(513), Symbol(9)]), Ok(()));
-    assert_eq!(rt; provider.alter(7, 12, 1, Symbol(5)), true);
-    assert_eq!(rt; provider.alter(7, 12, 2, Symbol(5)), false);
-    assert_eq!(rt; provider.alter(7, 11, 0, Symbol(5)), false);
-    assert_eq!(rt; provider.fetch(7, 12, &mut out), Ok(true));
-    assert_eq!(rt; out, [Symbol(513), Symbol(5)]);
+    assert_eq!(rt;
+        stores(&mut provider, 7, 12, &[Symbol(513), Symbol(9)]),
+        true
+    );
+    let altered = [(12, 1), (12, 2), (11, 0)].map(|at| alters(&mut provider, 7, at.0, at.1));
+    assert_eq!(rt; altered, [true, false, false]);
+    assert_eq!(rt; block(&mut provider, 7, 12), Some([Symbol(513), Symbol(5)]));
 
     fs::write(&rt, "altered/7-13", [0; 17])?;
-    assert_eq!(rt; provider.fetch(7, 13, &mut [Symbol(0)]), Ok(false));
-    assert_eq!(rt; provider.alter(7, 13, 0, Symbol(5)), false);
-    assert_eq!(rt; provider.lose(7, 13), false);
-    assert_eq!(rt; provider.lose(7, 12), true);
-    assert_eq!(rt; provider.lose(7, 12), false);
-    assert_eq!(rt; provider.fetch(7, 12, &mut out), Ok(false));
-    assert_eq!(rt; provider.remove(7), Ok(()));
+    assert_eq!(rt; block::<_, 1>(&mut provider, 7, 13), None);
+    assert_eq!(rt; alters(&mut provider, 7, 13, 0), false);
+    let lost = [13, 12, 12].map(|stripe| loses(&mut provider, 7, stripe));
+    assert_eq!(rt; lost, [false, true, false]);
+    assert_eq!(rt; block::<_, 2>(&mut provider, 7, 12), None);
+    assert_eq!(rt; removes(&mut provider, 7), true);
     fs::remove_dir(&rt, "altered")?;
     Ok(())
 }
 
+// A hole of 4,095 stripes hides nothing; an entry that is no file is a fault, behind which the removal goes on.
 #[test]
 fn only_blocks_of_the_object_are_removed(rt: HostRuntime) -> Result<(), Fail> {
     let mut provider = FolderProvider::new(&rt, rt.alloc(), "removed")?;
-    assert_eq!(rt; provider.remove(7), Ok(()));
-    for stripe in [0, 30, u32::MAX] {
-        assert_eq!(rt; provider.store(7, stripe, &[Symbol(1)]), Ok(()));
+    assert_eq!(rt; removes(&mut provider, 7), true);
+    let stored = [0, 4096].map(|stripe| stores(&mut provider, 7, stripe, &[Symbol(1)]));
+    assert_eq!(rt; stored, [true; 2]);
+    assert_eq!(rt; stores(&mut provider, u64::MAX, 0, &[Symbol(1)]), true);
+    fs::create_dir(&rt, "removed/7-9")?;
+    for name in ["removed/7-00", "removed/77-1", "removed/7-+1"] {
+        fs::write(&rt, name, "")?;
     }
-    assert_eq!(rt; provider.store(u64::MAX, 0, &[Symbol(1)]), Ok(()));
-    let others = [
-        "7",
-        "7-",
-        "-7",
-        "7-00",
-        "07-0",
-        "7-+1",
-        "+7-1",
-        "7-1x",
-        "7--1",
-        "7-1-1",
-        "77-1",
-        "7-4294967296",
-    ];
-    for name in others {
-        fs::write(&rt, &*format!(in rt.alloc(); "removed/{name}")?, "")?;
-    }
-    assert_eq!(rt; provider.remove(7), Ok(()));
-    assert_eq!(rt; fs::read_dir(&rt, "removed")?.count(), others.len() + 1);
-    for name in others {
-        fs::remove_file(&rt, &*format!(in rt.alloc(); "removed/{name}")?)?;
-    }
-    assert_eq!(rt; provider.remove(u64::MAX), Ok(()));
-    fs::remove_dir(&rt, "removed")?;
+    assert_eq!(rt; removes(&mut provider, 7), false);
+    assert_eq!(rt; fs::read_dir(&rt, "removed")?.count(), 5);
+    assert_eq!(rt; removes(&mut provider, u64::MAX), true);
+    fs::remove_dir_all(&rt, "removed")?;
+    Ok(())
+}
+
+// A link is not followed, and a store puts a block in its place, and in that of what a cut store left.
+#[test]
+fn only_plain_files_are_blocks(rt: HostRuntime) -> Result<(), Fail> {
+    let mut provider = FolderProvider::new(&rt, rt.alloc(), "linked")?;
+    assert_eq!(rt; stores(&mut provider, 1, 0, &[Symbol(1)]), true);
+    symlink(&rt, "1-0", "linked/2-0")?;
+    symlink(&rt, "1-0", "linked/new")?;
+    assert_eq!(rt; block::<_, 1>(&mut provider, 2, 0), None);
+    assert_eq!(rt;
+        [alters(&mut provider, 2, 0, 0), loses(&mut provider, 2, 0)],
+        [false; 2]
+    );
+    assert_eq!(rt; stores(&mut provider, 2, 0, &[Symbol(2)]), true);
+    assert_eq!(rt; is_file(&rt, "linked/2-0"), true);
+    assert_eq!(rt; block(&mut provider, 1, 0), Some([Symbol(1)]));
+
+    fs::create_dir(&rt, "linked/3-0")?;
+    assert_eq!(rt; stores(&mut provider, 3, 0, &[Symbol(3)]), false);
+    let mut disk = FileDisk::new(&rt, rt.alloc(), "linked/3-0")?;
+    assert_eq!(rt; (len(&mut disk), writes(&mut disk, 0, b"a")), (None, false));
+    fs::remove_dir_all(&rt, "linked")?;
     Ok(())
 }
 
@@ -142,18 +224,19 @@ fn challenges_are_answered(rt: HostRuntime) -> Result<(), Fail> {
         picks: 4,
     };
     let weight = Symbol(65_912_960_681_525_404_807_291_868_634_059_098_642);
-    let mut block = [Symbol(0); 6];
+    let mut own = [Symbol(0); 6];
     let mut provider = FolderProvider::new(&rt, rt.alloc(), "asked")?;
-    assert_eq!(rt; provider.ask(1, &challenge), Ok(None));
-    for stripe in [1, 4, 11] {
-        assert_eq!(rt; provider.store(1, stripe, &block), Ok(()));
-    }
-    block[1] = Symbol(1);
-    assert_eq!(rt; provider.store(1, 3, &block), Ok(()));
-    assert_eq!(rt; provider.ask(1, &challenge), Ok(Some(weight)));
-    assert_eq!(rt; provider.store(1, 4, &block[..5]), Ok(()));
-    assert_eq!(rt; provider.ask(1, &challenge), Ok(None));
-    assert_eq!(rt; provider.remove(1), Ok(()));
+    assert_eq!(rt; asked(&mut provider, &challenge), Some(None));
+    let stored = [1, 4, 11].map(|stripe| stores(&mut provider, 1, stripe, &own));
+    own[1] = Symbol(1);
+    assert_eq!(rt;
+        (stored, stores(&mut provider, 1, 3, &own)),
+        ([true; 3], true)
+    );
+    assert_eq!(rt; asked(&mut provider, &challenge), Some(Some(weight)));
+    assert_eq!(rt; stores(&mut provider, 1, 4, &own[..5]), true);
+    assert_eq!(rt; asked(&mut provider, &challenge), Some(None));
+    assert_eq!(rt; removes(&mut provider, 1), true);
     fs::remove_dir(&rt, "asked")?;
     Ok(())
 }
@@ -162,51 +245,53 @@ fn challenges_are_answered(rt: HostRuntime) -> Result<(), Fail> {
 fn a_folder_that_is_a_file_holds_nothing(rt: HostRuntime) -> Result<(), Fail> {
     fs::write(&rt, "plain", "")?;
     let mut provider = FolderProvider::new(&rt, rt.alloc(), "plain")?;
-    let challenge = Challenge {
-        seed: SEED,
-        rows: 1,
-        size: 1,
-        picks: 1,
-    };
-    assert_eq!(rt; provider.store(1, 0, &[Symbol(1)]), Err(StoreFault::Failed));
-    assert_eq!(rt; provider.fetch(1, 0, &mut [Symbol(0)]), Ok(false));
-    assert_eq!(rt; provider.ask(1, &challenge), Ok(None));
-    assert_eq!(rt; provider.remove(1), Ok(()));
-    assert_eq!(rt; provider.lose(1, 0), false);
+    let stored = stores(&mut provider, 1, 0, &[Symbol(1)]);
+    let lost = loses(&mut provider, 1, 0);
+    assert_eq!(rt;
+        (stored, lost, removes(&mut provider, 1)),
+        (false, false, true)
+    );
+    assert_eq!(rt; block::<_, 1>(&mut provider, 1, 0), None);
     fs::remove_file(&rt, "plain")?;
     Ok(())
 }
 
 #[test]
 fn a_home_has_a_journal_and_sixteen_providers(rt: HostRuntime) -> Result<(), Fail> {
-    let mut providers = folder_providers(&rt, rt.alloc(), "home")?;
+    let unsynced = Unsynced::new(rt.alloc())?;
+    let mut providers = folder_providers(&rt, rt.alloc(), "home", &unsynced)?;
+    let mut disk = journal_disk(&rt, rt.alloc(), "home", &unsynced)?;
     assert_eq!(rt; providers.len(), 16);
     let last = &mut providers[15];
-    assert_eq!(rt; last.store(1, 0, &[Symbol(1)]), Err(StoreFault::Failed));
-    let mut disk = journal_disk(&rt, rt.alloc(), "home")?;
-    assert_eq!(rt; disk.write_at(0, b"a"), Err(WriteFault::Failed));
+    let no_home = [stores(last, 1, 0, &[Symbol(1)]), writes(&mut disk, 0, b"a")];
+    assert_eq!(rt; no_home, [false; 2]);
     fs::create_dir(&rt, "home")?;
-    assert_eq!(rt; disk.write_at(0, b"a"), Ok(()));
-    fs::remove_file(&rt, "home/journal")?;
-    assert_eq!(rt; last.store(1, 0, &[Symbol(1)]), Ok(()));
-    assert_eq!(rt; fs::exists(&rt, "home/provider-15/1-0")?, true);
-    assert_eq!(rt; last.remove(1), Ok(()));
-    fs::remove_dir(&rt, "home/provider-15")?;
-    fs::remove_dir(&rt, "home")?;
+    let own = [stores(last, 1, 0, &[Symbol(1)]), writes(&mut disk, 0, b"a")];
+    assert_eq!(rt; own, [true; 2]);
+    assert_eq!(rt; is_file(&rt, "home/journal"), true);
+    assert_eq!(rt; is_file(&rt, "home/provider-15/1-0"), true);
+    fs::remove_dir_all(&rt, "home")?;
     Ok(())
 }
 
 #[test]
 fn standard_streams_give_and_take(rt: HostRuntime) -> Result<(), Fail> {
     let mut source = StdSource::new(&rt)?;
-    assert_eq!(rt; source.read(&mut []), Ok(0));
     let mut sink = StdSink::new(&rt)?;
-    assert_eq!(rt; sink.write(&[]), Ok(0));
+    let line = b"standard output has this line\n";
     assert_eq!(rt;
-        write_all(&mut sink, b"standard output has this line\n"),
-        Ok(())
+        (reads_nothing(&mut source), takes(&mut sink, line)),
+        (true, true)
     );
     Ok(())
+}
+
+fn reads_nothing<S: Source>(source: &mut S) -> bool {
+    source.read(&mut []) == Ok(0)
+}
+
+fn takes<K: Sink>(sink: &mut K, bytes: &[u8]) -> bool {
+    write_all(sink, bytes).is_ok()
 }
 
 // Is cut off at its first call, gives one byte at the next two, and fails at the fourth.
@@ -249,13 +334,20 @@ impl Print for Full {
     }
 }
 
+// The first bytes that are read into room for so many; none where the read fails.
+fn filled<const N: usize>() -> Option<[u8; N]> {
+    let mut out = [0; N];
+    fill(&mut ShortReads(0), &mut out).ok()?;
+    Some(out)
+}
+
 #[test]
 fn a_signal_is_no_fault_and_nothing_taken_is_one(rt: HostRuntime) -> Result<(), Fail> {
-    let mut out = [0; 2];
-    assert_eq!(rt; fill(&mut ShortReads(0), &mut out)?, 2);
-    assert_eq!(rt; out, [2, 3]);
-    assert_eq!(rt; fill(&mut ShortReads(0), &mut [0; 3]).is_err(), true);
-    assert_eq!(rt; write_some(&Full, b"a").is_err(), true);
-    assert_eq!(rt; write_some(&Full, b"")?, 0);
+    assert_eq!(rt; (filled(), filled::<3>()), (Some([2, 3]), None));
+    let taken = [
+        write_some(&Full, b"a").is_ok(),
+        write_some(&Full, b"").is_ok(),
+    ];
+    assert_eq!(rt; taken, [false, true]);
     Ok(())
 }

@@ -1,3 +1,4 @@
 pub mod Mixing
 mod StripeLemmas
 pub mod Spoiling
+pub mod WordSteps

@@ -1,11 +1,12 @@
 -- The steps of the works on stripes.
 use Rattle.std.specs.Prelude.{◌≡◌, ℕ, zero, suc, ◌+◌, ◌-◌, ◌*◌, ◌/◌, ◌%◌, ◌<◌, ◌≤◌, ◌==◌, ◌||◌, Bool, true, false, not, nat_lt, nat_eq, List, [], ◌∷◌, ◌++◌, length, map, take, drop, replicate, Some, None, option_and_then, if◌then◌else◌}
-use Rattle.std.proofs.Common.{arith, ap, sym, refl, ◌∙◌, get_or, add-one, eqb-true, append-nil}
+use Rattle.std.proofs.Common.{arith, ap, sym, refl, ◌∙◌, get_or, set, subst, add-one, eqb-true, append-nil}
 use Rattle.std.specs.List.{range_with_len}
 use Rattle.std.proofs.Math.Nat.{mod-add-mod, mul-le-mul_right}
 use Rattle.std.proofs.Math.Seq.{drop-append_seam, take-append_seam}
 use Rattle.std.proofs.lemmas.Nat.{div-mul-add, mod-mul-add}
-use Rattle.std.proofs.lemmas.List.{take_more, take-append-le, drop-append-le, length-append, length-drop, drop-drop, drop-take, get_or-take, get_or-replicate, length-take-le}
+use Rattle.std.proofs.lemmas.List.{take_more, take-append-le, drop-append-le, length-append, length-drop, drop-drop, drop-take, get_or-take, get_or-replicate, length-take-le, get_or-set_other}
+use Rattle.std.proofs.lemmas.Grind.{get_or-set_at}
 use Rattle.std.proofs.lemmas.Option.{slice_get-get_or}
 use Rattle.hail_field.specs.Shape.{IsShape}
 use Rattle.hail_codes.specs.Points.{upto}
@@ -21,11 +22,22 @@ use Rattle.column_laws.proofs.RightRows.{symbols-right}
 use Rattle.column_codec.specs.PresentBlocks.{present_blocks}
 use Rattle.column_codec.proofs.PresentLemmas.{length-present_blocks, get_or-present_blocks}
 use Rattle.hail_bench.specs.Blocks.{mixed_all}
-use Rattle.hail_bench.specs.Stripes.{byte_at, mixed_blocks, making_checksum, opening_checksum, HoldsColumns}
+use Rattle.hail_bench.specs.Checksum.{number_at, number_after}
+use Rattle.hail_bench.specs.Stripes.{mixed_blocks, making_checksum, opening_checksum, HoldsNear}
 
--- the next byte
-pub next_byte : (n next : ℕ) → next ≡ byte_at n → (next * 5 % 256 + 1) % 256 ≡ byte_at (n + 1)
-next_byte n next e = mod-add-mod (next * 5) 256 1 ∙ ap (λ b. (b * 5 + 1) % 256) e ∙ ap byte_at (sym (add-one n))
+-- the next number
+pub next_number : (n next : ℕ) → next ≡ number_at n → number_after next ≡ number_at (n + 1)
+next_number n next e = ap number_after e ∙ ap number_at (sym (add-one n))
+
+-- one place more is filled
+pub place_more : (xs : List ℕ) (i k x : ℕ) (f : ℕ → ℕ) → i < length xs → ((j : ℕ) → j < i → get_or xs j 0 ≡ f j) → x ≡ f i → k < i + 1 → get_or (set xs i x) k 0 ≡ f k
+place_more xs i k x f inside filled is below = go (nat_eq k i) refl
+  where
+    go : (t : Bool) → nat_eq k i ≡ t → get_or (set xs i x) k 0 ≡ f k
+    go true same = get_or-set_at xs i k x 0 (eqb-true k i same) inside ∙ is ∙ ap f (sym (eqb-true k i same))
+    go false differ =
+        let other : k ≡ i → ⊥ = λ h. grind (arith, differ, h) in
+        get_or-set_other xs i k x 0 other ∙ filled k (let n : k ≡ i → ⊥ = other in omega arith)
 
 -- the checksum of no block
 pub mixed_blocks-none : (sum : ℕ) → sum ≡ mixed_blocks sum []
@@ -62,49 +74,74 @@ block_within i count size below =
     omega (arith, more, split)
 
 -- one block more lies behind the others
-pub holds-none : (o : Object) (bytes : List ℕ) → HoldsColumns o bytes 0 []
-holds-none o bytes = record { whole = omega arith; each = λ i below. absurd (omega (arith, below)) }
+pub holds-none : (o : Object) (bytes : List ℕ) (liars : ℕ) → HoldsNear o bytes 0 liars []
+holds-none o bytes liars = record { whole = omega arith; each = λ i below honest. absurd (omega (arith, below)) }
 
-pub holds-more : (o : Object) (bytes : List ℕ) (i : ℕ) (seen block : List ℕ) → block ≡ columns o bytes (i % o.shape.n) (i / o.shape.n) → HoldsColumns o bytes i seen →
-    HoldsColumns o bytes (i + 1) (seen ++ block)
-holds-more o bytes i seen block is holds = record {
+pub holds-more : (o : Object) (bytes : List ℕ) (i liars : ℕ) (seen block : List ℕ) → length block ≡ o.profile.size →
+    (liars ≤ i % o.shape.n → differences block (columns o bytes (i % o.shape.n) (i / o.shape.n)) ≤ o.profile.fix) → HoldsNear o bytes i liars seen →
+    HoldsNear o bytes (i + 1) liars (seen ++ block)
+holds-more o bytes i liars seen block size near holds = record {
   whole = length-append seen block ∙ (λ t. holds.whole t + size t) ∙ split;
   each = λ k below. go k (nat_eq k i) refl below;
 }
   where
-    size : length block ≡ o.profile.size
-    size = ap length is ∙ length-column_of_symbols o (symbols_in o bytes (i / o.shape.n)) (i % o.shape.n) (i / o.shape.n)
-
     split : i * o.profile.size + o.profile.size ≡ (i + 1) * o.profile.size
     split = grind arith
 
-    go : (k : ℕ) (b : Bool) → nat_eq k i ≡ b → k < i + 1 → take o.profile.size (drop (k * o.profile.size) (seen ++ block)) ≡ columns o bytes (k % o.shape.n) (k / o.shape.n)
-    go k true same below =
-        let e : k ≡ i = eqb-true k i same in
-        ap (λ n. take o.profile.size (drop (n * o.profile.size) (seen ++ block))) e
-        ∙ (λ t. take (sym size t) (drop (sym holds.whole t) (seen ++ block)))
+    here : take o.profile.size (drop (i * o.profile.size) (seen ++ block)) ≡ block
+    here =
+        (λ t. take (sym size t) (drop (sym holds.whole t) (seen ++ block)))
         ∙ ap (take (length block)) (drop-append_seam seen block)
         ∙ ap (take (length block)) (sym (append-nil block)) ∙ take-append_seam block []
-        ∙ is ∙ ap (λ n. columns o bytes (n % o.shape.n) (n / o.shape.n)) (sym e)
-    go k false differ below =
+
+    go : (k : ℕ) (b : Bool) → nat_eq k i ≡ b → k < i + 1 → liars ≤ k % o.shape.n →
+        differences (take o.profile.size (drop (k * o.profile.size) (seen ++ block))) (columns o bytes (k % o.shape.n) (k / o.shape.n)) ≤ o.profile.fix
+    go k true same below honest =
+        let e : k ≡ i = eqb-true k i same in
+        subst (λ (m : ℕ). differences (take o.profile.size (drop (m * o.profile.size) (seen ++ block))) (columns o bytes (m % o.shape.n) (m / o.shape.n)) ≤ o.profile.fix) (sym e)
+        (subst (λ (xs : List ℕ). differences xs (columns o bytes (i % o.shape.n) (i / o.shape.n)) ≤ o.profile.fix) (sym here)
+        (near (subst (λ (m : ℕ). liars ≤ m % o.shape.n) e honest)))
+    go k false differ below honest =
         let less : k < i = (let other : k ≡ i → ⊥ = (λ h. grind (arith, differ, h)) in omega arith) in
         let within : k * o.profile.size + o.profile.size ≤ length seen = omega (arith, holds.whole, block_within k i o.profile.size less) in
+        let front : take o.profile.size (drop (k * o.profile.size) (seen ++ block)) ≡ take o.profile.size (drop (k * o.profile.size) seen) =
         ap (take o.profile.size) (drop-append-le (k * o.profile.size) seen block (omega (arith, within)))
-        ∙ take-append-le o.profile.size (drop (k * o.profile.size) seen) block (omega (arith, within, length-drop (k * o.profile.size) seen))
-        ∙ holds.each k less
+        ∙ take-append-le o.profile.size (drop (k * o.profile.size) seen) block (omega (arith, within, length-drop (k * o.profile.size) seen)) in
+        subst (λ (xs : List ℕ). differences xs (columns o bytes (k % o.shape.n) (k / o.shape.n)) ≤ o.profile.fix) (sym front) (holds.each k less honest)
 
 -- none passes
-count_of-none : (passes : ℕ → Bool) (a n : ℕ) → ((j : ℕ) → j < a + n → passes j ≡ false) → count_of passes (range_with_len a n) ≡ 0
+count_of-none : (passes : ℕ → Bool) (a n : ℕ) → ((j : ℕ) → a ≤ j → j < a + n → passes j ≡ false) → count_of passes (range_with_len a n) ≡ 0
 count_of-none passes a zero none = refl
 count_of-none passes a (suc n) none =
-    let rest = count_of-none passes (a + 1) n (λ j below. none j (omega (arith, below))) in
-    rw (none a (omega arith)) (omega (arith, rest))
+    let rest = count_of-none passes (a + 1) n (λ j above below. none j (omega (arith, above)) (omega (arith, below))) in
+    rw (none a (omega arith) (omega arith)) (omega (arith, rest))
 
--- the provider's own block is not wrong
-own-block : (o : Object) (bytes : List ℕ) (j stripe : ℕ) → is_wrong_block o bytes j stripe (Some (columns o bytes j stripe)) ≡ false
-own-block o bytes j stripe =
-    let same : (length (columns o bytes j stripe) == o.profile.size) ≡ true = grind (arith, length-column_of_symbols o (symbols_in o bytes stripe) j stripe) in
-    let few : nat_lt o.profile.fix (differences (columns o bytes j stripe) (columns o bytes j stripe)) ≡ false = grind (arith, differences-same (columns o bytes j stripe)) in
+-- one counts at most once
+at_most_one : (t : Bool) → (if t then 1 else 0) ≤ 1
+at_most_one true = omega arith
+at_most_one false = omega arith
+
+-- only numbers below one pass
+count_of-few : (passes : ℕ → Bool) (m a n : ℕ) → a ≤ m → ((j : ℕ) → m ≤ j → j < a + n → passes j ≡ false) → count_of passes (range_with_len a n) + a ≤ m
+count_of-few passes m a zero within none = omega (arith, within)
+count_of-few passes m a (suc n) within none =
+    go (nat_eq a m) refl (λ less. count_of-few passes m (a + 1) n (omega (arith, less)) (λ j above below. none j above (omega (arith, below))))
+  where
+    go : (t : Bool) → nat_eq a m ≡ t → (a < m → count_of passes (range_with_len (a + 1) n) + (a + 1) ≤ m) → count_of passes (range_with_len a (suc n)) + a ≤ m
+    go true same rest =
+        let e : a ≡ m = eqb-true a m same in
+        let zero_here = count_of-none passes a (suc n) (λ j above below. none j (omega (arith, e, above)) below) in
+        omega (arith, e, zero_here)
+    go false differ rest =
+        let less : a < m = grind (arith, differ, within) in
+        omega (arith, rest less, at_most_one (passes a))
+
+-- a block that differs at few places is not wrong
+near-block : (o : Object) (bytes block : List ℕ) (j stripe : ℕ) → length block ≡ o.profile.size → differences block (columns o bytes j stripe) ≤ o.profile.fix →
+    is_wrong_block o bytes j stripe (Some block) ≡ false
+near-block o bytes block j stripe size near =
+    let same : (length block == o.profile.size) ≡ true = grind (arith, size) in
+    let few : nat_lt o.profile.fix (differences block (columns o bytes j stripe)) ≡ false = grind (arith, near) in
     (λ i. not (same i) || few i)
 
 -- the blocks of a stripe among all blocks
@@ -146,20 +183,30 @@ pub length-part : (start whole : ℕ) (seen : List ℕ) → start + whole ≤ le
 length-part start whole seen within = length-take-le whole (drop start seen) (omega (arith, within, length-drop start seen))
 
 -- what they give are the stripe's symbols
-pub opened-right : (o : Object) (bytes : List ℕ) (number count stripe : ℕ) (seen part symbols : List ℕ) (flags : List Bool) → o.profile ≡ profile_of number →
-    IsShape o.shape.n o.shape.l o.shape.b → HoldsColumns o bytes (count * o.shape.n) seen → stripe < count → flags ≡ take o.shape.n (replicate 16 true) →
+pub opened-right : (o : Object) (bytes : List ℕ) (number count stripe liars : ℕ) (seen part symbols : List ℕ) (flags : List Bool) → o.profile ≡ profile_of number →
+    IsShape o.shape.n o.shape.l o.shape.b → HoldsNear o bytes (count * o.shape.n) liars seen → liars ≤ o.shape.b → stripe < count → flags ≡ take o.shape.n (replicate 16 true) →
     part ≡ take (o.shape.n * o.profile.size) (drop (stripe * (o.shape.n * o.profile.size)) seen) →
     GivesSymbols o stripe (present_blocks o.profile.size flags part) symbols → symbols ≡ symbols_in o bytes stripe
-opened-right o bytes number count stripe seen part symbols flags is shape holds below flags_are part_is gives =
+opened-right o bytes number count stripe liars seen part symbols flags is shape holds few below flags_are part_is gives =
     symbols-right o bytes number stripe (present_blocks o.profile.size flags part) symbols is shape
-    (let none = count_of-none (λ j. is_wrong_block o bytes j stripe (block_at (present_blocks o.profile.size flags part) j)) 0 o.shape.n
-    (λ j less. ap (is_wrong_block o bytes j stripe) (block-is j (omega (arith, less))) ∙ own-block o bytes j stripe) in omega (arith, none))
+    (let wrong = count_of-few (λ j. is_wrong_block o bytes j stripe (block_at (present_blocks o.profile.size flags part) j)) liars 0 o.shape.n (omega arith) honest in omega (arith, wrong, few))
     gives
   where
-    block-is : (j : ℕ) → j < o.shape.n → block_at (present_blocks o.profile.size flags part) j ≡ Some (columns o bytes j stripe)
+    block-is : (j : ℕ) → j < o.shape.n → block_at (present_blocks o.profile.size flags part) j ≡ Some (take o.profile.size (drop ((stripe * o.shape.n + j) * o.profile.size) seen))
     block-is j less =
-        let place : stripe * o.shape.n + j < count * o.shape.n = omega (arith, less, block_within stripe count o.shape.n below) in
         (λ i. block_at (present_blocks o.profile.size (flags_are i) (part_is i)) j)
         ∙ present-at o.shape.n o.profile.size j (take (o.shape.n * o.profile.size) (drop (stripe * (o.shape.n * o.profile.size)) seen)) less shape.1
-        ∙ ap Some (part-block o.shape.n o.profile.size stripe j seen less ∙ holds.each (stripe * o.shape.n + j) place
-        ∙ (λ i. columns o bytes (mod-mul-add stripe o.shape.n j less i) (div-mul-add stripe o.shape.n j less i)))
+        ∙ ap Some (part-block o.shape.n o.profile.size stripe j seen less)
+
+    honest : (j : ℕ) → liars ≤ j → j < 0 + o.shape.n → is_wrong_block o bytes j stripe (block_at (present_blocks o.profile.size flags part) j) ≡ false
+    honest j above inside =
+        let less : j < o.shape.n = omega (arith, inside) in
+        let place : stripe * o.shape.n + j < count * o.shape.n = omega (arith, less, block_within stripe count o.shape.n below) in
+        let row : (stripe * o.shape.n + j) % o.shape.n ≡ j = mod-mul-add stripe o.shape.n j less in
+        let column : (stripe * o.shape.n + j) / o.shape.n ≡ stripe = div-mul-add stripe o.shape.n j less in
+        let size = length-part ((stripe * o.shape.n + j) * o.profile.size) o.profile.size seen (omega (arith, holds.whole, block_within (stripe * o.shape.n + j) (count * o.shape.n) o.profile.size place)) in
+        let near = holds.each (stripe * o.shape.n + j) place (omega (arith, row, above)) in
+        ap (is_wrong_block o bytes j stripe) (block-is j less)
+        ∙ near-block o bytes (take o.profile.size (drop ((stripe * o.shape.n + j) * o.profile.size) seen)) j stripe size
+        (subst (λ (m : ℕ). differences (take o.profile.size (drop ((stripe * o.shape.n + j) * o.profile.size) seen)) (columns o bytes m stripe) ≤ o.profile.fix) row
+        (subst (λ (m : ℕ). differences (take o.profile.size (drop ((stripe * o.shape.n + j) * o.profile.size) seen)) (columns o bytes ((stripe * o.shape.n + j) % o.shape.n) m) ≤ o.profile.fix) column near))

@@ -1,3 +1,4 @@
 pub mod Checksum
 pub mod Blocks
 pub mod Stripes
+pub mod Words

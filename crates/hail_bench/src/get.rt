@@ -3,26 +3,30 @@ ghost use Rattle.std.specs.Prelude.{◌≡◌, ◌≤◌, ◌<◌, ◌+◌, ◌*
 ghost use Rattle.hail_columns.specs.Objects.{stripes, symbols_in};
 ghost use Rattle.hail_columns.specs.Columns.{columns};
 ghost use Rattle.file_layout.specs.Files.{object_of};
-ghost use Rattle.hail_bench.specs.Stripes.{file_bytes, opening_checksum, HoldsColumns};
+ghost use Rattle.hail_bench.specs.Stripes.{file_bytes, opening_checksum, HoldsNear};
 ghost use Rattle.hail_bench.specs.declared.stripes.TheConstants.{MASTER};
 
 use crate::blocks::mix_all;
 use crate::failure::Failure;
 use crate::outcome::Outcome;
+use crate::spoilt::Spoilt;
 use crate::stripes::{Coded, MASTER};
-use column_codec::{Block, ObjectKeys};
+use column_codec::{Block, ObjectKeys, Trust};
 use hail_field::Symbol;
 use hail_poly::Work;
 use std::alloc::Global;
 use std::fmt::{self, Display, Formatter, Write};
 
-/// Opening of each stripe of a file, from the blocks of all providers as they were made, which lie one after the other.
+/// Opening of each stripe of a file, from the blocks of all providers as they were made, or spoilt, which lie one after the
+/// other.
 #[derive(Drop)]
 pub struct GetWork {
     coded: Coded,
+    spoilt: Spoilt,
     seen: Vec<Symbol>,
-    ghost seen_are: { HoldsColumns (object_of MASTER.0 coded.file) (file_bytes coded.file.length)
-        (stripes (object_of MASTER.0 coded.file) coded.file.length * coded.file.shape.n) seen.items },
+    ghost seen_are: { HoldsNear (object_of MASTER.0 coded.file) (file_bytes coded.file.length)
+        (stripes (object_of MASTER.0 coded.file) coded.file.length * coded.file.shape.n) spoilt.liars seen.items },
+    ghost few: { spoilt.liars ≤ coded.file.shape.b },
 }
 
 /// The `count` symbols from a place on.
@@ -59,6 +63,7 @@ fn append_all(
     coded: &Coded,
     keys: &ObjectKeys,
     bytes: &[u8],
+    spoilt: Spoilt,
     rows: &mut [Symbol],
     block: &mut [Symbol],
     seen: &mut Vec<Symbol>,
@@ -67,21 +72,22 @@ fn append_all(
     requires rows { length rows.old ≡ coded.now.file.shape.l * coded.now.file.profile.keep }
     requires block { length block.old ≡ coded.now.file.profile.size }
     requires seen { seen.old.items ≡ [] }
-    ensures { OnOk result (HoldsColumns (object_of keys.now.master.0 coded.now.file) bytes.now
-        (stripes (object_of keys.now.master.0 coded.now.file) coded.now.file.length * coded.now.file.shape.n) seen.new.items) }
+    ensures { OnOk result (HoldsNear (object_of keys.now.master.0 coded.now.file) bytes.now
+        (stripes (object_of keys.now.master.0 coded.now.file) coded.now.file.length * coded.now.file.shape.n) spoilt.liars seen.new.items) }
 {
     let n = u32::from(coded.file.shape.n);
     for i in 0..coded.file.stripes() * n {
         make(coded, keys, bytes, i / n, i % n, rows, block);
+        spoilt.spoil(coded, keys, i / n, i % n, rows, block);
         seen.extend_from_slice(block)?;
     }
     Ok(())
 }
 
 /// The blocks of all stripes of a file, by stripe and then by provider.
-fn made_all(alloc: Global, coded: &Coded) -> Result<Vec<Symbol>, Failure>
-    ensures { IfOk result (λ seen. HoldsColumns (object_of MASTER.0 coded.now.file) (file_bytes coded.now.file.length)
-        (stripes (object_of MASTER.0 coded.now.file) coded.now.file.length * coded.now.file.shape.n) seen.items) }
+fn made_all(alloc: Global, coded: &Coded, spoilt: Spoilt) -> Result<Vec<Symbol>, Failure>
+    ensures { IfOk result (λ seen. HoldsNear (object_of MASTER.0 coded.now.file) (file_bytes coded.now.file.length)
+        (stripes (object_of MASTER.0 coded.now.file) coded.now.file.length * coded.now.file.shape.n) spoilt.liars seen.items) }
 {
     let bytes = coded.bytes(alloc)?;
     let keys = ObjectKeys::new(&MASTER, &coded.file);
@@ -89,24 +95,44 @@ fn made_all(alloc: Global, coded: &Coded) -> Result<Vec<Symbol>, Failure>
     let zero = Symbol::ZERO;
     let mut block = vec![in alloc; zero; coded.file.profile.size as usize]?;
     let mut seen = Vec::new(alloc);
-    append_all(coded, &keys, &bytes, &mut rows, &mut block, &mut seen)?;
+    append_all(
+        coded, &keys, &bytes, spoilt, &mut rows, &mut block, &mut seen,
+    )?;
     Ok(seen)
 }
 
 impl GetWork {
-    /// The work that these words name: `get-stripes`, a shape, a profile and a count of bytes. Makes the code and the blocks.
+    /// The work that these words name: `get-stripes`, or `get-spoilt`, how the first providers spoil their blocks and how many
+    /// of them do, and then a shape, a profile and a count of bytes. Makes the code and the blocks.
     pub fn from_words(alloc: Global, words: &[String]) -> Result<Option<GetWork>, Failure> {
-        let [name, rest @ ..] = words else {
+        match words {
+            [name, rest @ ..] if name.as_str() == "get-stripes" => {
+                GetWork::ready(alloc, Spoilt::NONE, rest)
+            }
+            [name, way, count, rest @ ..] if name.as_str() == "get-spoilt" => {
+                match Spoilt::from_words(way, count) {
+                    Some(spoilt) => GetWork::ready(alloc, spoilt, rest),
+                    None => Ok(None),
+                }
+            }
+            _ => Ok(None),
+        }
+    }
+
+    /// The work on the file that these words name.
+    fn ready(alloc: Global, spoilt: Spoilt, words: &[String]) -> Result<Option<GetWork>, Failure> {
+        let Some(coded) = Coded::from_words(alloc, words)? else {
             return Ok(None);
         };
-        if name.as_str() != "get-stripes" {
+        if !spoilt.fits(coded.file.shape) {
             return Ok(None);
         }
-        let Some(coded) = Coded::from_words(alloc, rest)? else {
-            return Ok(None);
-        };
-        let seen = made_all(alloc, &coded)?;
-        Ok(Some(GetWork { coded, seen }))
+        let seen = made_all(alloc, &coded, spoilt)?;
+        Ok(Some(GetWork {
+            coded,
+            spoilt,
+            seen,
+        }))
     }
 
     /// The blocks of a stripe, one after the other.
@@ -125,6 +151,7 @@ impl GetWork {
         &self,
         keys: &ObjectKeys,
         stripe: u32,
+        trust: &mut Trust,
         rows: &mut [Symbol],
         scratch: &mut [Block],
         work: &mut Work,
@@ -144,7 +171,16 @@ impl GetWork {
         let present = [true; 16];
         let present = &present[..usize::from(self.coded.file.shape.n)];
         let seen = self.blocks(stripe);
-        match keys.open_present(&self.coded.code, stripe, seen, present, rows, scratch, work) {
+        match keys.open_trusting(
+            &self.coded.code,
+            stripe,
+            seen,
+            present,
+            trust,
+            rows,
+            scratch,
+            work,
+        ) {
             Ok(()) => Ok(()),
             Err(_) => Err(Failure::Fault),
         }
@@ -169,9 +205,10 @@ impl GetWork {
         ensures { IfOk result (λ sum. sum
             ≡ opening_checksum (object_of MASTER.0 self.now.coded.file) (file_bytes self.now.coded.file.length) count) }
     {
+        let mut trust = Trust::new();
         let mut sum = 0;
         for stripe in 0..count {
-            self.open(keys, stripe, rows, scratch, work)?;
+            self.open(keys, stripe, &mut trust, rows, scratch, work)?;
             sum = mix_all(sum, rows);
         }
         Ok(sum)
@@ -184,7 +221,7 @@ impl GetWork {
         ensures checksum { IfOk result (λ outcome. outcome.checksum
             ≡ opening_checksum (object_of MASTER.0 self.now.coded.file) (file_bytes self.now.coded.file.length) outcome.count) }
     {
-        let keys = ObjectKeys::new(&MASTER, &self.coded.file);
+        let keys = ObjectKeys::with_tables(alloc, &MASTER, &self.coded.file)?;
         let mut work = Work::new(alloc, 128)?;
         let mut rows = self.coded.rows(alloc)?;
         let mut scratch = self.coded.zeros(alloc)?;
@@ -196,6 +233,6 @@ impl GetWork {
 
 impl Display for GetWork {
     fn fmt<W: Write>(&self, f: &mut Formatter<W>) -> fmt::Result {
-        write!(f, "get-stripes {}", self.coded)
+        write!(f, "{} {}", self.spoilt, self.coded)
     }
 }

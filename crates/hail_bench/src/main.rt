@@ -4,6 +4,7 @@
 mod audit;
 mod blocks;
 mod decode;
+mod decoders;
 mod encode;
 mod failure;
 mod field;
@@ -11,6 +12,7 @@ mod get;
 mod numbers;
 mod outcome;
 mod put;
+mod spoilt;
 mod stripes;
 mod work;
 

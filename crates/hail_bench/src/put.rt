@@ -58,7 +58,7 @@ impl PutWork {
         ensures checksum { IfOk result (λ outcome. outcome.checksum
             ≡ making_checksum (object_of MASTER.0 self.now.coded.file) (file_bytes self.now.coded.file.length) outcome.count) }
     {
-        let keys = ObjectKeys::new(&MASTER, &self.coded.file);
+        let keys = ObjectKeys::with_tables(alloc, &MASTER, &self.coded.file)?;
         let mut blocks = self.coded.zeros(alloc)?;
         let count = self.coded.file.stripes();
         let checksum = self.make_all(&keys, count, &mut blocks);

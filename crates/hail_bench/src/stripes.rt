@@ -5,6 +5,7 @@ ghost use Rattle.hail_bench.specs.Stripes.{file_bytes, mixed_blocks};
 
 use crate::blocks::{mix_all, profile_named};
 use crate::failure::Failure;
+use crate::numbers::after;
 use column_codec::Block;
 use file_layout::FileShape;
 use hail_field::{Shape, Symbol};
@@ -61,7 +62,7 @@ impl Coded {
         Ok(vec![in alloc; zero; count]?)
     }
 
-    /// The bytes of the file: 7, and then each 5 times the one before plus 1, modulo 256.
+    /// The bytes of the file: the highest byte of each number of the fixed row.
     pub fn bytes(&self, alloc: Global) -> Result<Vec<u8>, Failure>
         ensures { IfOk result (λ bytes. bytes.items ≡ file_bytes self.now.file.length) }
     {
@@ -86,10 +87,10 @@ impl Display for Coded {
 fn fill_bytes(bytes: &mut [u8])
     ensures { bytes.new ≡ file_bytes (length bytes.old) }
 {
-    let mut next: u8 = 7;
+    let mut next: u128 = 1;
     for place in 0..bytes.len() {
-        bytes[place] = next;
-        next = next.wrapping_mul(5).wrapping_add(1);
+        bytes[place] = (next >> 120) as u8;
+        next = after(next);
     }
 }
 

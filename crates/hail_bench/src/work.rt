@@ -1,5 +1,6 @@
 use crate::audit::AuditWork;
 use crate::decode::DecodeWork;
+use crate::decoders::DecodersWork;
 use crate::encode::EncodeWork;
 use crate::failure::Failure;
 use crate::field::FieldWork;
@@ -11,7 +12,7 @@ use std::fmt::{self, Display, Formatter, Write};
 
 /// The forms of a command line, a kind of work after another.
 pub const FORMS: &str =
-    "product|square|inverse COUNT, encode PROFILE BLOCKS, decode PROFILE BLOCKS ERRORS, put-stripes|get-stripes N L B PROFILE BYTES, or audit N L B ROUNDS PICKS";
+    "product|square|inverse COUNT, encode PROFILE BLOCKS, decode|decode-gao|decode-syndromes PROFILE BLOCKS ERRORS, put-stripes|get-stripes N L B PROFILE BYTES, get-spoilt codewords|garbage|errors COUNT N L B PROFILE BYTES, or audit N L B ROUNDS PICKS";
 
 /// A piece of work that the words of a command line name. Each kind of work stands in a file of its own, as a type with `from_words`,
 /// `run` and `Display`; a further kind is one more variant here, and its forms in `FORMS`.
@@ -23,6 +24,8 @@ pub enum Work {
     Encode(EncodeWork),
     /// Correcting of blocks.
     Decode(DecodeWork),
+    /// Decoding of words by one of the two decoders.
+    Decoders(DecodersWork),
     /// Making of a file's blocks.
     Put(PutWork),
     /// Opening of a file's stripes.
@@ -43,6 +46,9 @@ impl Work {
         if let Some(work) = DecodeWork::from_words(alloc, words)? {
             return Ok(Some(Work::Decode(work)));
         }
+        if let Some(work) = DecodersWork::from_words(alloc, words)? {
+            return Ok(Some(Work::Decoders(work)));
+        }
         if let Some(work) = PutWork::from_words(alloc, words)? {
             return Ok(Some(Work::Put(work)));
         }
@@ -61,6 +67,7 @@ impl Work {
             Work::Field(work) => Ok(work.run()),
             Work::Encode(work) => work.run(alloc),
             Work::Decode(work) => work.run(alloc),
+            Work::Decoders(work) => work.run(alloc),
             Work::Put(work) => work.run(alloc),
             Work::Get(work) => work.run(alloc),
             Work::Audit(work) => work.run(alloc),
@@ -74,6 +81,7 @@ impl Display for Work {
             Work::Field(work) => write!(f, "{work}"),
             Work::Encode(work) => write!(f, "{work}"),
             Work::Decode(work) => write!(f, "{work}"),
+            Work::Decoders(work) => write!(f, "{work}"),
             Work::Put(work) => write!(f, "{work}"),
             Work::Get(work) => write!(f, "{work}"),
             Work::Audit(work) => write!(f, "{work}"),
@@ -84,10 +92,23 @@ impl Display for Work {
 #[cfg(test)]
 mod tests {
     use super::*;
+    use std::test::Fail;
+
+    /// The checksum of the work that these words name; None where they name none.
+    fn checksum_of(alloc: Global, words: &[&str]) -> Result<Option<u128>, Fail> {
+        let mut owned = Vec::new(alloc);
+        for word in words {
+            owned.push(String::from_str(alloc, word)?)?;
+        }
+        match Work::from_words(alloc, &owned)? {
+            Some(work) => Ok(Some(work.run(alloc)?.checksum)),
+            None => Ok(None),
+        }
+    }
 
     #[test]
-    fn does_the_work_that_is_named(rt: HostRuntime) {
-        let rows: [(&[&str], Option<u128>); 18] = [
+    fn does_the_work_on_words_that_is_named(rt: HostRuntime) -> Result<(), Fail> {
+        let rows: [(&[&str], Option<u128>); 11] = [
             (&["product", "60"], Some(0xe7978f9a0a8b55eba3b120ca83c1579f)),
             (&["square", "60"], Some(0xf24dc31f95ee265573f96b936b77cfc9)),
             (
@@ -114,14 +135,36 @@ mod tests {
             ),
             (&["decode", "1", "2", "5"], None),
             (&["decode", "256", "1", "0"], None),
+        ];
+        for (words, want) in rows {
+            assert_eq!(rt; checksum_of(rt.alloc(), words)?, want);
+        }
+        Ok(())
+    }
+
+    #[test]
+    fn does_the_work_on_files_that_is_named(rt: HostRuntime) -> Result<(), Fail> {
+        let rows: [(&[&str], Option<u128>); 10] = [
             (&["put-stripes", "4", "1", "1", "0", "0"], Some(0)),
             (
                 &["get-stripes", "4", "1", "1", "0", "33"],
-                Some(0x1653e1af53e8be3373ac8e9f9a14da9f),
+                Some(0x6a592e90057a96de7bc4ce553c837602),
             ),
             (&["put-stripes", "5", "2", "2", "0", "1"], None),
             (&["put-stripes", "4", "1", "1", "5", "1"], None),
             (&["get-stripes", "4", "1", "1", "0", "4194305"], None),
+            (
+                &["get-spoilt", "codewords", "1", "4", "1", "1", "0", "33"],
+                Some(0x6a592e90057a96de7bc4ce553c837602),
+            ),
+            (
+                &["get-spoilt", "errors", "4", "4", "1", "1", "0", "33"],
+                Some(0x6a592e90057a96de7bc4ce553c837602),
+            ),
+            (
+                &["get-spoilt", "garbage", "2", "4", "1", "1", "0", "33"],
+                None,
+            ),
             (
                 &["audit", "4", "1", "1", "2", "3"],
                 Some(0x884a4135d531b39a05c9c968222a5b5e),
@@ -129,17 +172,8 @@ mod tests {
             (&["audit", "4", "1", "1", "65", "3"], None),
         ];
         for (words, want) in rows {
-            let mut owned = Vec::new(rt.alloc());
-            for word in words {
-                let text = String::from_str(rt.alloc(), word).expect(&rt, "no memory");
-                owned.push(text).expect(&rt, "no memory");
-            }
-            let work = Work::from_words(rt.alloc(), &owned).expect(&rt, "no fault");
-            let checksum = match work {
-                Some(work) => Some(work.run(rt.alloc()).expect(&rt, "no fault").checksum),
-                None => None,
-            };
-            assert_eq!(rt; checksum, want);
+            assert_eq!(rt; checksum_of(rt.alloc(), words)?, want);
         }
+        Ok(())
     }
 }

@@ -1,6 +1,9 @@
 //! `hail`: keeps files on several providers.
 #![tactic(auto)]
 
+ghost use Rattle.std.specs.Prelude.{◌≡◌, ◌⊎◌, IfErr};
+
+mod guard;
 mod run;
 mod text;
 
@@ -11,7 +14,9 @@ use std::process::ExitCode;
 use text::{has_place, text_of};
 
 /// The words after the program's name. Words that are no text are a faulty command line.
-fn words(rt: &(impl Env + AllocGlobal)) -> Result<Vec<String>, u8> {
+fn words(rt: &(impl Env + AllocGlobal)) -> Result<Vec<String>, u8>
+    ensures { IfErr result (λ status. (status ≡ 2) ⊎ (status ≡ 70)) }
+{
     let Ok(all) = env::args(rt) else {
         return Err(USAGE);
     };

@@ -1,7 +1,8 @@
 // The command over the devices that the first word names.
+use crate::guard::{hold_streams, lock_home};
 use disk_model::{Disk, SureDisk};
-use hail_adapters::{StdSink, StdSource, folder_providers, journal_disk};
-use hail_top::{NO_MEMORY, hail};
+use hail_adapters::{StdSink, StdSource, Unsynced, folder_providers, journal_disk};
+use hail_top::{DISK_FAULT, NO_MEMORY, hail};
 use provider_model::{SureProvider, Tamper};
 use std::alloc::Global;
 use stream_model::{Sink, Source};
@@ -61,8 +62,9 @@ fn run_in_memory(rt: &HostRuntime, words: &[String]) -> Option<Told> {
 /// Answers the words over the journal and the providers of a home. Want of memory for the devices is the one refusal.
 fn run_at_home(rt: &HostRuntime, home: &str, words: &[String]) -> Option<Told> {
     let alloc = rt.alloc();
-    let mut disk = journal_disk(rt, alloc, home).ok()?;
-    let mut providers = folder_providers(rt, alloc, home).ok()?;
+    let unsynced = Unsynced::new(alloc).ok()?;
+    let mut disk = journal_disk(rt, alloc, home, &unsynced).ok()?;
+    let mut providers = folder_providers(rt, alloc, home, &unsynced).ok()?;
     let mut source = StdSource::new(rt).ok()?;
     let mut sink = StdSink::new(rt).ok()?;
     Some(answer(
@@ -75,12 +77,28 @@ fn run_at_home(rt: &HostRuntime, home: &str, words: &[String]) -> Option<Told> {
     ))
 }
 
+/// Answers the words over a home that no other program is at work in meanwhile. A home that cannot be locked is a fault of the
+/// disk, and then nothing is touched.
+fn run_alone(rt: &HostRuntime, home: &str, words: &[String]) -> Option<Told> {
+    let fault = Told {
+        status: DISK_FAULT,
+        at: 0,
+    };
+    let Ok(_streams) = hold_streams(rt) else {
+        return Some(fault);
+    };
+    let Ok(_lock) = lock_home(rt, home, words) else {
+        return Some(fault);
+    };
+    run_at_home(rt, home, words)
+}
+
 /// Answers the words of a command line: the first is `-` for memory, or else a home. No words are answered as no command.
 pub fn run(rt: &HostRuntime, words: &[String]) -> Told {
     let told = match words {
         [] => run_in_memory(rt, words),
         [place, command @ ..] if place.as_str() == IN_MEMORY => run_in_memory(rt, command),
-        [home, command @ ..] => run_at_home(rt, home.as_str(), command),
+        [home, command @ ..] => run_alone(rt, home.as_str(), command),
     };
     told.unwrap_or(Told {
         status: NO_MEMORY,

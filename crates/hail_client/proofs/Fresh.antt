@@ -1,7 +1,7 @@
 -- A disk before its first use, and the state before the first event.
-use Rattle.std.proofs.Common.{◌≡◌, ◌⊎◌, inl, inr, ℕ, zero, suc, ◌<◌, true, false, List, [], ◌∷◌, length, Option, Some, refl, ap, sym, subst, arith}
+use Rattle.std.proofs.Common.{◌≡◌, ◌⊎◌, inl, inr, ℕ, zero, suc, ◌<◌, true, false, List, [], ◌∷◌, length, Option, Some, None, refl, ap, sym, subst, arith}
 use Rattle.hail_devices.specs.Cells.{Cells, reads, firm, loose_from}
-use Rattle.std.specs.Prelude.{IsTrue, slice_get}
+use Rattle.std.specs.Prelude.{IsTrue, IsSome, slice_get}
 use Rattle.std.specs.List.{list_all}
 use Rattle.hail_devices.specs.Providers.{Provider}
 use Rattle.hail_records.specs.Records.{Record, Setup, SetUp, is_in_grammar}
@@ -9,7 +9,7 @@ use Rattle.hail_records.specs.Journal.{StandsFor, StandsOrIsEmpty}
 use Rattle.hail_machine.specs.States.{State, IsStart, AreFirst}
 use Rattle.hail_machine.specs.Stands.{IsFresh, StandsForState}
 use Rattle.vault.specs.Devices.{Devices, AreDevices}
-use Rattle.hail_client.specs.Start.{provider_at, start_of}
+use Rattle.hail_client.specs.Start.{provider_at, start_of, TellAll}
 use Rattle.hail_client.proofs.Settled.{firm-stands}
 
 -- cells of which none is loose
@@ -39,10 +39,16 @@ fresh-first bytes rs (inr (s, one, stands)) = inr (s, spelled (subst (λ (l : Li
 pub is-start : (d : Devices) (cells : Cells) (rs : List Record) → d.holds ≡ Some cells → IsFresh cells rs → IsStart (start_of d rs)
 is-start d cells rs told fresh = record { records = fresh-first (reads cells) rs fresh.stands; jobs = refl; first_job = refl; append = refl; doubt = refl; closed = refl; unbarred = refl }
 
-each-at : (ps : List Provider) (j : ℕ) → j < length ps → slice_get ps j ≡ Some (provider_at ps j)
+pub each-at : (ps : List Provider) (j : ℕ) → j < length ps → slice_get ps j ≡ Some (provider_at ps j)
 each-at [] j l = absurd (omega (arith, l))
 each-at (p ∷ ps) zero l = refl
 each-at (p ∷ ps) (suc j) l = each-at ps j (omega (arith, l))
+
+-- where each provider handed in tells, so does each
+pub start-tells : (ps : List Provider) → TellAll ps → (j : ℕ) → IsSome (provider_at ps j).held
+start-tells [] tell j = refl
+start-tells (p ∷ ps) tell zero = tell zero p refl
+start-tells (p ∷ ps) tell (suc j) = start-tells ps (λ k q h. tell (suc k) q h) j
 
 pub are-devices : (d : Devices) (cells : Cells) (rs : List Record) → d.holds ≡ Some cells → IsFresh cells rs → AreDevices d (start_of d rs)
 are-devices d cells rs told fresh = record {
@@ -50,6 +56,17 @@ are-devices d cells rs told fresh = record {
   faults = refl;
   providers = record { count = refl; each = each-at d.providers };
 }
+
+-- a disk that tells nothing
+pub untold-start : (d : Devices) (rs : List Record) → d.holds ≡ None → AreFirst rs → IsStart (start_of d rs) × AreDevices d (start_of d rs)
+untold-start d rs none first = (
+  record { records = first; jobs = refl; first_job = refl; append = refl; doubt = refl; closed = refl; unbarred = refl },
+  record {
+    images = subst (λ (o : Option Cells). StandsForState o (start_of d rs)) (sym none) tt;
+    faults = refl;
+    providers = record { count = refl; each = each-at d.providers };
+  },
+)
 
 -- a disk that reads nothing
 pub started : (d : Devices) (cells : Cells) → d.holds ≡ Some cells → cells ≡ [] → (w : State) × IsStart w × AreDevices d w

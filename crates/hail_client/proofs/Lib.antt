@@ -9,3 +9,7 @@ pub mod Fresh
 pub mod Begun
 pub mod Reopening
 pub mod Runs
+pub mod Held
+pub mod Anew
+pub mod Kept
+pub mod Examples

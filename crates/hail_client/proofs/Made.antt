@@ -1,7 +1,10 @@
 -- Begins, steps and lists of files, as events of the machine.
-use Rattle.std.proofs.Common.{◌≡◌, ℕ, ◌<◌, ◌^◌, Option, Some, None, Result, refl, sym, subst}
+use Rattle.std.proofs.Common.{◌≡◌, ℕ, ◌<◌, ◌^◌, false, Option, Some, None, Result, refl, sym, subst}
 use Rattle.std.specs.Option.{option_map}
-use Rattle.hail_machine.specs.Events.{Begin, Step, Names, Closed, IsSpelledKind}
+use Rattle.hail_machine.specs.Events.{Begin, Step, Names, Closed, Ended, IsSpelledKind}
+use Rattle.hail_machine.specs.Answers as answers
+use Rattle.hail_machine.specs.Steps.{Steps}
+use Rattle.journal_core.proofs.BeyondLemmas.{goes_still}
 use Rattle.hail_machine.specs.Events as events
 use Rattle.hail_machine.specs.Heard.{heard_by}
 use Rattle.hail_machine.specs.Jobs.{Kind, job_of}
@@ -14,10 +17,11 @@ use Rattle.vault.specs.declared.vault.Vault.{Vault}
 use Rattle.vault.specs.Devices.{Devices}
 use Rattle.vault.specs.Outcomes.{IfEnded}
 use Rattle.vault.specs.Seen.{table_of}
-use Rattle.vault.specs.Stands.{Stands, MakesBegin, MakesStep}
+use Rattle.vault.specs.Stands.{Stands, MakesBegin}
+use Rattle.vault.specs.Stands as vault
 use Rattle.hail_client.specs.declared.client.Client.{Client}
-use Rattle.hail_client.specs.Outcomes.{begin_outcome, step_outcome, names_outcome}
-use Rattle.hail_client.specs.Stands.{StandsBy, ClientStands, Makes}
+use Rattle.hail_client.specs.Outcomes.{begin_outcome, names_outcome}
+use Rattle.hail_client.specs.Stands.{StandsBy, ClientStands, Makes, MakesStep}
 
 -- an open vault makes them
 pub begin-of : (c : Client) (v next : Vault) (kind : Kind) (result : Result ℕ BeginFault) → c.vault ≡ Some v → IsSpelledKind kind → ((w : State) (d : Devices) (moment : ℕ) → Stands v d w → MakesBegin w moment kind result next d) →
@@ -26,15 +30,33 @@ begin-of c v next kind result is spelled makes w d moment S =
     (let M = makes w d moment (subst (λ (o : Option Vault). StandsBy o c.next_job d w) is S) in
     record { state = M.state; spelled = spelled; happens = M.begins; stands = M.stands })
 
-module _ (c : Client) (v next : Vault) (number : ℕ) (turn : Turn) (old new : Devices) (is : c.vault ≡ Some v) (makes : (w : State) (moment : ℕ) → Stands v old w → MakesStep w moment number turn next old new) where
+module _ (c : Client) (v next : Vault) (number : ℕ) (turn : Turn) (old new : Devices) (is : c.vault ≡ Some v) (makes : (w : State) (moment : ℕ) → Stands v old w → vault.MakesStep w moment number turn next old new) where
   opened : (w : State) → ClientStands c old w → Stands v old w
   opened w S = subst (λ (o : Option Vault). StandsBy o c.next_job old w) is S
 
-  pub step-of : number < 2 ^ 32 → (w : State) (moment : ℕ) → ClientStands c old w → Makes w moment (Step number) (step_outcome (Some turn)) (record { vault = Some next; next_job = c.next_job }) new
-  step-of spelled w moment S = (let M = makes w moment (opened w S) in record { state = M.state; spelled = spelled; happens = M.happens; stands = M.stands })
+  pub step-of : number < 2 ^ 32 → (w : State) (moment : ℕ) → ClientStands c old w → MakesStep w moment number (Some turn) (record { vault = Some next; next_job = c.next_job }) old new
+  step-of spelled w moment S = (let M = makes w moment (opened w S) in
+      record { makes = record { state = M.state; spelled = spelled; happens = M.happens; stands = M.stands }; beyond = M.beyond; torn = M.torn })
 
   pub heard-of : (w : State) → ClientStands c old w → IfEnded turn (λ ended. ended.heard ≡ heard_by (job_of w.jobs number))
   heard-of w S = (makes w 0 (opened w S)).heard
+
+-- none does where no vault is open
+closed-by : (o : Option Vault) (next : ℕ) (w : State) (d : Devices) → o ≡ None → StandsBy o next d w → w.is_open ≡ false
+closed-by (Some v) next w d none S = absurd cc
+closed-by None next w d none S = S.closed
+
+pub step-closed : (c : Client) (number : ℕ) (d : Devices) → c.vault ≡ None → number < 2 ^ 32 → (w : State) (moment : ℕ) → ClientStands c d w → MakesStep w moment number None c d d
+step-closed c number d none spelled w moment S = record {
+  makes = record {
+    state = w;
+    spelled = spelled;
+    happens = subst (λ b. Steps w number b Closed w) (sym (closed-by c.vault c.next_job w d none S)) refl;
+    stands = S;
+  };
+  beyond = λ ended. goes_still _ d.holds d.holds refl;
+  torn = λ ended. absurd (let e : Closed ≡ Ended answers.DiskFault = ended in cc);
+}
 
 -- the files in effect are listed
 names-by : (o : Option Vault) (next : ℕ) (w : State) (d : Devices) → StandsBy o next d w → Lists w w.is_open (names_outcome (option_map table_of o)) w

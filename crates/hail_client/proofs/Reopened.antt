@@ -44,7 +44,7 @@ each-anyone (suc n) zero l = refl
 each-anyone (suc n) (suc j) l = each-anyone n j (omega (arith, l))
 
 -- accepted records, of which there is one, have a setup
-has-setup : (w : State) → AreKept w w.records → IsSound 8 w → w.records ≢ [] → IsSetUp w
+pub has-setup : (w : State) → AreKept w w.records → IsSound 8 w → w.records ≢ [] → IsSetUp w
 has-setup w kept sound some = elim (cases_Bool (is_some (setup_of w.records))) [
   | inl up ↦ up
   | inr down ↦ absurd (some (none-set_up w.records sound.accepted down))

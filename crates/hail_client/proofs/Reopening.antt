@@ -30,7 +30,7 @@ use Rattle.hail_client.proofs.Standing.{devices-of, sound-of, next-of}
 use Rattle.hail_client.proofs.Reopened as reopened
 use Rattle.hail_client.proofs.Reopened.{without_vault}
 
-err-is : {T E : Type 0} (r : Result T E) (x : E) → IsErrAnd r (λ e. e ≡ x) → r ≡ Err x
+pub err-is : {T E : Type 0} (r : Result T E) (x : E) → IsErrAnd r (λ e. e ≡ x) → r ≡ Err x
 err-is (Ok t) x is = absurd is
 err-is (Err e) x is = ap (λ y. Err y) is
 

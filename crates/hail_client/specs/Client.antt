@@ -4,11 +4,19 @@
 --   uses c         == how many providers a step uses; 0 where no vault is open
 --   left_of c job  == how many steps of a job may remain at most; 0 where it does not run
 --   is_open c      == a vault is open
+--   names_of c     == the table that has the files in effect; None where no vault is open
+--   coming_of c job == what comes next for a job; it is no job where no vault is open
+--   entry_of c job == the record that its append writes, by the open vault
+--   closed_gate_of c == the offset of the closed gate behind the records in effect; 0 where no vault is open
 --   IsSame old new == nothing changed but spare room of the open vault
 use Rattle.std.specs.Prelude.{◌≡◌, ℕ, Bool, Option, Some, None, is_some}
+use Rattle.hail_records.specs.Records.{Record}
+use Rattle.vault_core.specs.Coming.{Coming, IsNoJob}
+use Rattle.std.specs.Option.{option_map}
 use Rattle.vault.specs.declared.vault.Vault.{Vault}
 use Rattle.vault.specs.Seen.{provider_count, IsUnchanged}
 use Rattle.vault.specs.Seen as seen
+use Rattle.vault_table.specs.Values.{Kept}
 use Rattle.hail_client.specs.declared.client.Client.{Client}
 
 -- the number of the next job of an open vault, or else this one
@@ -38,9 +46,40 @@ left_by None job = 0
 abbrev pub left_of : Client → ℕ → ℕ
 left_of c job = left_by c.vault job
 
+-- what comes next for a job of an open vault; it is no job where none is open
+abbrev pub coming_by : Option Vault → ℕ → Coming
+coming_by (Some v) job = seen.coming_of v job
+coming_by None job = IsNoJob
+
+-- what comes next for a job
+abbrev pub coming_of : Client → ℕ → Coming
+coming_of c job = coming_by c.vault job
+
+-- the record that the append of a job of an open vault writes
+abbrev pub entry_by : Option Vault → ℕ → Option Record
+entry_by (Some v) job = seen.entry_of v job
+entry_by None job = None
+
+-- the record that the append of a job writes
+abbrev pub entry_of : Client → ℕ → Option Record
+entry_of c job = entry_by c.vault job
+
+-- the offset of the closed gate of an open vault
+abbrev pub closed_gate_by : Option Vault → ℕ
+closed_gate_by (Some v) = seen.closed_gate_of v
+closed_gate_by None = 0
+
+-- the offset of the closed gate behind the records in effect
+abbrev pub closed_gate_of : Client → ℕ
+closed_gate_of c = closed_gate_by c.vault
+
 -- a vault is open
 abbrev pub is_open : Client → Bool
 is_open c = is_some c.vault
+
+-- the table that has the files in effect
+abbrev pub names_of : Client → Option Kept
+names_of c = option_map seen.table_of c.vault
 
 -- no vault came or went, and nothing of an open one changed but spare room
 abbrev pub IsSameVault : Option Vault → Option Vault → Type 0

@@ -2,3 +2,4 @@ pub mod Client
 pub mod Outcomes
 pub mod Stands
 pub mod Start
+pub mod Examples

@@ -5,6 +5,7 @@
 --   step_outcome result    == of a step
 --   is_more result         == the job of a step goes on
 --   reopen_outcome result  == of a reopening
+--   UnlessBadJournal result P == P holds unless what the reopening read was no journal, which is no outcome of the machine
 --   replace_outcome result == of an alteration or a loss
 --   names_outcome files    == of a list of the files in effect, by the table that has them
 use Rattle.std.specs.Prelude.{ℕ, Bool, true, false, Option, Some, None, Result, Ok, Err}
@@ -58,6 +59,11 @@ reopen_refusal reopen_fault.TooFewProviders = refusal.TooFewProviders
 abbrev pub reopen_outcome : Result Unit ReopenFault → Outcome
 reopen_outcome (Ok done) = events.Opened
 reopen_outcome (Err why) = events.Refused (reopen_refusal why)
+
+-- a fact of a reopening, unless what it read was no journal
+abbrev pub UnlessBadJournal : Result Unit ReopenFault → Type 0 → Type 0
+UnlessBadJournal (Err (reopen_fault.NotOpened (start_fault.BadJournal at))) P = Unit {0}
+UnlessBadJournal result P = P
 
 -- the outcome of an alteration or a loss
 abbrev pub replace_outcome : Bool → Outcome

@@ -1,16 +1,17 @@
 -- The state at the start of a run over devices.
 --
---   provider_at ps j  == what is seen of the provider of a number; one of which nothing is told where none is handed in
+--   provider_at ps j  == what is seen of the provider of a number; one that tells that it holds nothing where none is handed in
 --   start_of d rs     == the state before the first event over these devices, where the disk stands for these records
-use Rattle.std.specs.Prelude.{ℕ, zero, suc, false, List, [], ◌∷◌, length, None}
+--   TellAll ps        == each provider handed in tells what it holds
+use Rattle.std.specs.Prelude.{◌≡◌, ℕ, zero, suc, false, List, [], ◌∷◌, length, slice_get, None, Some, IsSome}
 use Rattle.hail_devices.specs.Providers.{Provider}
 use Rattle.hail_records.specs.Records.{Record}
 use Rattle.hail_machine.specs.States.{State}
 use Rattle.vault.specs.Devices.{Devices}
 
--- a provider of which nothing is told
+-- a provider that tells that it holds nothing, and counts nothing: it stands at each place past those handed in
 abbrev pub anyone : Provider
-anyone = record { held = None; store_faults = 0; other_faults = 0; fetches = 0 }
+anyone = record { held = Some (λ object stripe. None); store_faults = 0; other_faults = 0; fetches = 0 }
 
 -- the provider of a number
 abbrev pub provider_at : List Provider → ℕ → Provider
@@ -34,3 +35,7 @@ start_of d rs = record {
   is_open = false;
   is_barred = false;
 }
+
+-- each provider handed in tells what it holds
+abbrev pub TellAll : List Provider → Type 0
+TellAll ps = (j : ℕ) (p : Provider) → slice_get ps j ≡ Some p → IsSome p.held

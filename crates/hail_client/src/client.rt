@@ -3,7 +3,7 @@ ghost use Rattle.hail_machine.specs.Events.{Names};
 ghost use Rattle.hail_machine.specs.States.{State, IsStart, continued};
 ghost use Rattle.sound_states.specs.Sound.{IsSound};
 ghost use Rattle.vault.specs.Devices.{Devices, AreDevices};
-ghost use Rattle.hail_client.specs.Client.{is_open, next_job_of, uses};
+ghost use Rattle.hail_client.specs.Client.{is_open, next_job_of, names_of, uses};
 ghost use Rattle.hail_client.specs.Outcomes.{names_outcome};
 ghost use Rattle.hail_client.specs.Stands.{ClientStands, Makes};
 
@@ -63,6 +63,7 @@ impl Client {
 
     /// The files in effect, in byte order of their names; None where no vault is open.
     pub fn names(&self) -> Option<&Table>
+        ensures table { option_copied result ≡ names_of self.now }
         ensures machine { (w : State) (d : Devices) (moment : ℕ) → ClientStands self.now d w
             → Makes w moment Names (names_outcome (option_copied result)) self.now d }
     {

@@ -1,17 +1,22 @@
 //! What holds of every client, and of the runs that its calls make.
-ghost use Rattle.std.specs.Prelude.{◌≡◌, ◌≤◌, ℕ, List, [], ◌∷◌, Option, Some, length};
+ghost use Rattle.std.specs.Prelude.{◌≡◌, ◌≤◌, ℕ, List, [], ◌∷◌, Option, Some, None, codes, length};
 ghost use Rattle.hail_devices.specs.Cells.{Cells};
+ghost use Rattle.hail_devices.specs.Images.{EachImage};
 ghost use Rattle.hail_records.specs.Records.{Record};
+ghost use Rattle.hail_records.specs.Table.{File};
 ghost use Rattle.hail_machine.specs.Events.{Event, Outcome};
 ghost use Rattle.hail_machine.specs.Runs.{Moment, now};
+ghost use Rattle.hail_machine.specs.Halves.{AllTell};
 ghost use Rattle.hail_machine.specs.Stands.{IsFresh, StandsForState};
-ghost use Rattle.hail_machine.specs.States.{State, IsStart};
+ghost use Rattle.hail_machine.specs.States.{State, IsStart, AreFirst};
+ghost use Rattle.hail_machine.specs.Survival.{IsKept};
 ghost use Rattle.sound_states.specs.Sound.{IsSound};
 ghost use Rattle.vault.specs.Devices.{Devices, AreDevices};
 ghost use Rattle.hail_client.specs.declared.client.Client.{Client};
 ghost use Rattle.hail_client.specs.Client.{next_job_of, uses};
-ghost use Rattle.hail_client.specs.Start.{start_of};
-ghost use Rattle.hail_client.specs.Stands.{ClientStands, Makes, IsReached, moment_of};
+ghost use Rattle.hail_client.specs.Examples.{closed_client, fresh, hidden, stored, stored_state, notes};
+ghost use Rattle.hail_client.specs.Start.{start_of, TellAll};
+ghost use Rattle.hail_client.specs.Stands.{ClientStands, Makes, IsReached, HasFile, moment_of};
 
 /// The devices of a client are those of each state that it stands for, which is sound; no more providers are used than are handed
 /// in, and the numbers of jobs are the same.
@@ -22,15 +27,24 @@ pub fn what_a_client_stands_for()
     ensures next_job { (c : Client) (d : Devices) (w : State) → ClientStands c d w → w.next_job ≡ next_job_of c }
 {}
 
+/// Each image of the disk of a client stands for records that have every file which is kept: in effect, also with the record in
+/// doubt added.
+pub fn images_have_the_files()
+    ensures { (c : Client) (d : Devices) (w : State) (name : List ℕ) (file : File) → ClientStands c d w → IsKept w name file →
+        EachImage d.holds (HasFile name file) }
+{}
+
 /// A disk before its first use stands for each state over the records that it reads.
 pub fn fresh_disks_stand()
     ensures { (cells : Cells) (rs : List Record) (w : State) → IsFresh cells rs → w.records ≡ rs → StandsForState (Some cells) w }
 {}
 
-/// So there is a state before the first event for every disk that tells, before its first use, and for all providers.
+/// So there is a state before the first event for every disk that tells, before its first use, and for all providers; for a disk that
+/// tells nothing there is one over each list of first records.
 pub fn there_is_a_start()
     ensures start { (d : Devices) (cells : Cells) (rs : List Record) → d.holds ≡ Some cells → IsFresh cells rs → IsStart (start_of d rs) }
     ensures devices { (d : Devices) (cells : Cells) (rs : List Record) → d.holds ≡ Some cells → IsFresh cells rs → AreDevices d (start_of d rs) }
+    ensures untold { (d : Devices) (rs : List Record) → d.holds ≡ None → AreFirst rs → IsStart (start_of d rs) × AreDevices d (start_of d rs) }
 {}
 
 /// A client that stands for a state has made the run of no event from there, and a run goes on by each call that is an event.
@@ -39,4 +53,28 @@ pub fn runs_go_on()
     ensures goes_on { (start : State) (ms : List Moment) (c next : Client) (old new : Devices) (event : Event) (outcome : Outcome)
         → IsReached start ms c old → (m : Makes (now start ms) (length ms) event outcome next new)
         → IsReached start (moment_of m ∷ ms) next new }
+{}
+
+/// Where every provider that is handed in tells what it holds, so does every provider of the state before the first event.
+pub fn told_providers_tell()
+    ensures { (d : Devices) (rs : List Record) → TellAll d.providers → AllTell (start_of d rs) }
+{}
+
+/// A client with no vault open over a disk that reads nothing and four providers that hold nothing: there is a start, all its providers
+/// tell, the client stands for it, and its list of files is a run of one moment. The same over devices of no known state.
+pub fn a_fresh_disk_has_a_start()
+    ensures fresh { IsFresh [] [] × (fresh.holds ≡ Some []) }
+    ensures start { IsStart (start_of fresh []) × AreDevices fresh (start_of fresh []) }
+    ensures tell { TellAll fresh.providers × AllTell (start_of fresh []) }
+    ensures stands { ClientStands closed_client fresh (start_of fresh []) }
+    ensures run { (m : Moment) × IsReached (start_of fresh []) (m ∷ []) closed_client fresh }
+    ensures hidden { IsStart (start_of hidden []) × AreDevices hidden (start_of hidden []) × ClientStands closed_client hidden (start_of hidden []) }
+{}
+
+/// A client with no vault open over a disk that reads a journal with one file stands for a state in which the file is kept, so each
+/// image of the disk has it.
+pub fn a_stored_file_is_kept()
+    ensures stands { ClientStands closed_client stored stored_state }
+    ensures kept { IsKept stored_state (codes "notes.txt") notes }
+    ensures images { EachImage stored.holds (HasFile (codes "notes.txt") notes) }
 {}

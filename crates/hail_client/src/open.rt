@@ -1,21 +1,24 @@
-ghost use Rattle.std.specs.Prelude.{◌≡◌, ℕ, true, false, List, Err, IsSome, IsTrue, IfSome, IfErr, OnOk, IsErrOf, is_ok, is_some, length};
+ghost use Rattle.std.specs.Prelude.{◌≡◌, ◌↔◌, ℕ, true, false, List, Err, IsSome, IsTrue, IfSome, IfErr, OnOk, OnErr, IsErrOf, is_ok, is_some, length};
+ghost use Rattle.std.specs.Option.{option_map};
+ghost use Rattle.hail_devices.specs.Disks.{synced};
 ghost use Rattle.hail_devices.specs.Faults.{HasCause};
+ghost use Rattle.hail_devices.specs.Images.{EachImage};
 ghost use Rattle.hail_devices.specs.Providers.{Provider};
 ghost use Rattle.hail_devices.specs.Told.{Goes};
 ghost use Rattle.hail_machine.specs.Events.{Init, Reopen, Stop, Stopped, IsSpelled};
-ghost use Rattle.hail_records.specs.Records.{is_master};
+ghost use Rattle.hail_records.specs.Records.{is_master, is_setup};
 ghost use Rattle.hail_machine.specs.States.{State};
 ghost use Rattle.record_codec.specs.Entries.{with_master};
 ghost use Rattle.vault.specs.Devices.{devices};
-ghost use Rattle.vault.specs.Openings.{journal_read, IsInitFault, IsStartFault, IsSetUpOn, IsResynced};
+ghost use Rattle.vault.specs.Openings.{journal_read, IsInitFault, IsStartFault, IsNoWrite, IsSetUpOn, IsResynced, LiesInJournal, MayBeLeft};
 ghost use Rattle.vault.specs.declared.fault.InitFault.TheVariants as init_fault;
 ghost use Rattle.vault.specs.declared.fault.StartFault.{StartFault as StartFaultData};
 ghost use Rattle.vault.specs.declared.fault.StartFault.TheVariants as start_fault;
 ghost use Rattle.hail_client.specs.declared.fault.ReopenFault.TheVariants as reopen_fault;
 ghost use Rattle.vault.specs.Outcomes.{init_outcome};
 ghost use Rattle.hail_client.specs.Client.{is_open, next_job_of};
-ghost use Rattle.hail_client.specs.Outcomes.{reopen_outcome};
-ghost use Rattle.hail_client.specs.Stands.{ClientStands, Makes};
+ghost use Rattle.hail_client.specs.Outcomes.{reopen_outcome, UnlessBadJournal};
+ghost use Rattle.hail_client.specs.Stands.{ClientStands, Makes, IsMadeAnew, IsStanding, OpensOver};
 
 use crate::begin::bytes_are_bytes;
 use crate::client::Client;
@@ -65,6 +68,11 @@ impl Client {
         ensures ok { OnOk result (Goes (IsSetUpOn (with_master setup.now master.now.0)) (D.holds disk.old) (D.holds disk.new)) }
         ensures refused { is_open self.now ≡ false
             → IfErr result (λ why. IfSome (D.holds disk.old) (λ cells. IsInitFault (journal_read cells) (with_master setup.now master.now.0) why)) }
+        ensures bad_setup { is_open self.now ≡ false → IsErrOf result init_fault.BadSetup ↔ (is_setup (with_master setup.now master.now.0) ≡ false) }
+        ensures looked { IfErr result (λ why. IsNoWrite why → Goes IsResynced (D.holds disk.old) (D.holds disk.new)) }
+        ensures left { OnErr result (IfSome (D.holds disk.old) (λ cells. EachImage (D.holds disk.new) (MayBeLeft (with_master setup.now master.now.0) cells))) }
+        ensures standing { (providers : List Provider) → IsStanding self.now (devices (D.holds disk.old) (D.faults disk.old) providers)
+            → IsStanding self.now (devices (D.holds disk.new) (D.faults disk.new) providers) }
         ensures tells { is_some (D.holds disk.new) ≡ is_some (D.holds disk.old) }
         ensures cause { HasCause (D.faults disk.old) (D.faults disk.new) (IsErrOf result init_fault.DiskFault) }
     {
@@ -86,9 +94,20 @@ impl Client {
         ensures machine { (w : State) (providers : List Provider) (moment : ℕ) → IsSome (D.holds disk.old) → length providers ≡ handed
             → ClientStands self.old (devices (D.holds disk.old) (D.faults disk.old) providers) w
             → Makes w moment Reopen (reopen_outcome result) self.new (devices (D.holds disk.new) (D.faults disk.new) providers) }
+        ensures opened { OnOk result (OpensOver (D.holds disk.old) (next_job_of self.old) handed self.new (D.holds disk.new) (D.faults disk.new)) }
+        ensures anew { (providers : List Provider) (moment : ℕ) → is_some (D.holds disk.old) ≡ false → length providers ≡ handed
+            → UnlessBadJournal result (IsMadeAnew moment (next_job_of self.old) Reopen (reopen_outcome result) self.new
+            (devices (D.holds disk.old) (D.faults disk.old) providers) (devices (D.holds disk.new) (D.faults disk.new) providers)) }
+        ensures standing { (providers : List Provider) → length providers ≡ handed
+            → IsStanding self.old (devices (D.holds disk.old) (D.faults disk.old) providers)
+            → IsStanding self.new (devices (D.holds disk.new) (D.faults disk.new) providers) }
         ensures opens { is_open self.new ≡ is_ok result }
         ensures next_job { next_job_of self.new ≡ next_job_of self.old }
         ensures refused { (why : StartFaultData) → IsErrOf result (reopen_fault.NotOpened why) → IfSome (D.holds disk.old) (λ cells. IsStartFault (journal_read cells) why) }
+        ensures synced { OnOk result (D.holds disk.new ≡ option_map synced (D.holds disk.old)) }
+        ensures resynced { (why : StartFaultData) → IsErrOf result (reopen_fault.NotOpened why) → LiesInJournal why
+            → D.holds disk.new ≡ option_map synced (D.holds disk.old) }
+        ensures few { IsErrOf result reopen_fault.TooFewProviders → D.holds disk.new ≡ option_map synced (D.holds disk.old) }
         ensures disk { Goes IsResynced (D.holds disk.old) (D.holds disk.new) }
         ensures cause { HasCause (D.faults disk.old) (D.faults disk.new) (IsErrOf result (reopen_fault.NotOpened start_fault.DiskFault)) }
     {
@@ -109,6 +128,7 @@ impl Client {
             → Makes w moment (Stop picks.now) Stopped self.new (devices (D.holds disk.new) (D.faults disk.new) providers) }
         ensures closed { is_open self.new ≡ false }
         ensures next_job { next_job_of self.new ≡ next_job_of self.old }
+        ensures count { D.faults disk.new ≡ D.faults disk.old }
         ensures tells { is_some (D.holds disk.new) ≡ is_some (D.holds disk.old) }
     {
         bytes_are_bytes(picks);

@@ -1,9 +1,10 @@
-ghost use Rattle.std.specs.Prelude.{◌≡◌, ◌≢◌, ◌≤◌, List, Some, IfSome, is_some, length, map};
+ghost use Rattle.std.specs.Prelude.{◌≡◌, ◌≢◌, List, true, Some, IfSome, is_some, length, map};
 ghost use Rattle.hail_machine.specs.Runs.{Moment};
 ghost use Rattle.hail_machine.specs.States.{State};
 ghost use Rattle.vault.specs.declared.turn.Turn.TheVariants as turn;
 ghost use Rattle.vault.specs.Devices.{as_seen, devices};
 ghost use Rattle.vault.specs.Outcomes.{IfEnded, HasPaddedCounts};
+ghost use Rattle.hail_client.specs.Client.{is_open};
 ghost use Rattle.hail_client.specs.Outcomes.{is_more};
 ghost use Rattle.hail_client.specs.Stands.{IsStanding, IsReached, RunsJobOn};
 
@@ -21,19 +22,20 @@ fn goes_on(answer: &Option<Turn>) -> bool
 
 impl Client {
     /// Makes as many steps of a job as it takes until the answer is not that it goes on; None where no vault is open. Condition:
-    /// client and devices stand for some state, as they do at each moment of a run.
+    /// where a vault is open, client and devices stand for some state, as they do at each moment of a run.
     pub fn run<D: Disk, P: Provider>(
         &mut self,
         job: u32,
         disk: &mut D,
         providers: &mut [P],
     ) -> Option<Turn>
-        requires standing { IsStanding self.old (devices (D.holds disk.old) (D.faults disk.old) (map (as_seen P.held P.store_faults P.other_faults P.fetches) providers.old)) }
+        requires standing { is_open self.old ≡ true → IsStanding self.old (devices (D.holds disk.old) (D.faults disk.old) (map (as_seen P.held P.store_faults P.other_faults P.fetches) providers.old)) }
         ensures machine { (start : State) (ms : List Moment)
             → IsReached start ms self.old (devices (D.holds disk.old) (D.faults disk.old) (map (as_seen P.held P.store_faults P.other_faults P.fetches) providers.old))
             → RunsJobOn start ms job result self.new
             (devices (D.holds disk.new) (D.faults disk.new) (map (as_seen P.held P.store_faults P.other_faults P.fetches) providers.new)) }
         ensures over { result ≢ Some turn.More }
+        ensures count { length providers.new ≡ length providers.old }
         ensures tells { is_some (D.holds disk.new) ≡ is_some (D.holds disk.old) }
         ensures padded { IfSome result (λ turn. IfEnded turn (λ ended. HasPaddedCounts ended.answer)) }
     {

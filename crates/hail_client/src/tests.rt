@@ -1,4 +1,4 @@
-ghost use Rattle.std.specs.Prelude.{◌≡◌, List, IsSome, length, map};
+ghost use Rattle.std.specs.Prelude.{◌≡◌, List, length, map};
 ghost use Rattle.hail_devices.specs.Providers.{Provider as ProviderData};
 ghost use Rattle.hail_machine.specs.States.{State, IsStart};
 ghost use Rattle.vault.specs.Devices.{Devices, as_seen, devices, AreDevices};
@@ -39,8 +39,7 @@ fn set_up(answer: Result<(), InitFault>) -> &'static str {
 
 /// A word for the init of four providers.
 fn init<D: Disk>(client: &Client, alloc: Global, disk: &mut D) -> &'static str
-    ensures told { IsSome (D.holds disk.old) → IsSome (D.holds disk.new) }
-    ensures stands { (ps : List ProviderData) → IsSome (D.holds disk.old) → IsStanding client.now (devices (D.holds disk.old) (D.faults disk.old) ps)
+    ensures stands { (ps : List ProviderData) → IsStanding client.now (devices (D.holds disk.old) (D.faults disk.old) ps)
         → IsStanding client.now (devices (D.holds disk.new) (D.faults disk.new) ps) }
 {
     let master = Master([7; 32]);
@@ -59,7 +58,7 @@ fn opened(answer: Result<(), ReopenFault>) -> &'static str {
 
 /// A word for a reopening over so many providers.
 fn reopen<D: Disk>(client: &mut Client, alloc: Global, disk: &mut D, handed: usize) -> &'static str
-    ensures stands { (ps : List ProviderData) → IsSome (D.holds disk.old) → length ps ≡ handed
+    ensures stands { (ps : List ProviderData) → length ps ≡ handed
         → IsStanding client.old (devices (D.holds disk.old) (D.faults disk.old) ps)
         → IsStanding client.new (devices (D.holds disk.new) (D.faults disk.new) ps) }
 {
@@ -326,7 +325,6 @@ fn put_from_start<D: Disk, P: Provider>(
     providers: &mut [P],
     bytes: Bytes,
 ) -> &'static str
-    requires told { IsSome (D.holds disk.old) }
     requires start { (w : State) × IsStart w
         × AreDevices (devices (D.holds disk.old) (D.faults disk.old) (map (as_seen P.held P.store_faults P.other_faults P.fetches) providers.old)) w }
 {

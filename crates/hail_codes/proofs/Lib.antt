@@ -3,3 +3,5 @@ pub mod Lagrange
 pub mod Profiles
 pub mod Generators
 pub mod Codewords
+pub mod Worked
+pub mod Symbols

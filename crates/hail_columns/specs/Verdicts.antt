@@ -2,7 +2,7 @@
 --
 -- s.counts, .undecided             == the sums of an audit so far: how often each provider was counted, and how many rounds were undecided
 -- Decides o c heard p              == p decides a round: of degree below l, it agrees with all but b of the answers without their mask sums
--- counted p points answers counts  == the counts after a round that p decides: one more where an answer is absent or does not agree
+-- counts_after p points answers counts == the counts after a round that p decides: one more where an answer is absent or does not agree
 -- Judges o c heard old new         == a round turns these sums into those
 -- is_flagged tolerance counts j    == the count of provider j exceeds the tolerance
 -- flags_some tolerance counts      == some count does
@@ -27,15 +27,15 @@ abbrev pub DecidesNone : Object → Challenge → List (Option ℕ) → Type 0
 DecidesNone o c heard = AcceptsNone (points o) (bare_answers o c 0 heard) o.shape.l o.shape.b
 
 -- each provider whose answer is absent or does not agree counts one more
-abbrev pub counted : List ℕ → List ℕ → List (Option ℕ) → List ℕ → List ℕ
-counted p (x ∷ xs) (answer ∷ more) (n ∷ ns) = (if is_seen (value p x) answer then n else n + 1) ∷ counted p xs more ns
-counted p xs heard counts = counts
+abbrev pub counts_after : List ℕ → List ℕ → List (Option ℕ) → List ℕ → List ℕ
+counts_after p (x ∷ xs) (answer ∷ more) (n ∷ ns) = (if is_seen (value p x) answer then n else n + 1) ∷ counts_after p xs more ns
+counts_after p xs heard counts = counts
 
 -- a round is decided by a polynomial, or by none and then nobody counts
 abbrev pub Judges : Object → Challenge → List (Option ℕ) → Sums → Sums → Type 0
 Judges o c heard old new =
     ((p : List ℕ) × Decides o c heard p
-    × (new ≡ record { counts = counted p (points o) (bare_answers o c 0 heard) old.counts; undecided = old.undecided }))
+    × (new ≡ record { counts = counts_after p (points o) (bare_answers o c 0 heard) old.counts; undecided = old.undecided }))
     ⊎ (DecidesNone o c heard × (new ≡ record old { undecided = old.undecided + 1 }))
 
 -- a provider is flagged by its count

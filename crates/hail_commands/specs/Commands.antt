@@ -13,7 +13,7 @@ use Rattle.hail_records.specs.Records.{Record, largest_file}
 use Rattle.hail_records.specs.Table.{files_of}
 use Rattle.hail_machine.specs.Jobs.{Kind, PutJob, GetJob, DropJob, AuditJob, RepairJob}
 use Rattle.hail_commands.specs.Forms.{Command, RowOf, InitWith, PutUnder, GetOf, DropOf, ListAll, AuditAll, RepairDue}
-use Rattle.hail_commands.specs.Seen.{Seen, Ending, IsSynced, SameSource, ReadsUpTo, IsRefused, sinking}
+use Rattle.hail_commands.specs.Seen.{Seen, Ending, IsSynced, SameSource, ReadsAtMost, ReadsUpTo, IsRefused, sinking}
 use Rattle.hail_commands.specs.Sinking.{Refuses, Writes}
 use Rattle.hail_commands.specs.Opens.{IsOpened, Unstarted}
 use Rattle.hail_commands.specs.Lines.{list_lines}
@@ -34,8 +34,8 @@ pub record TouchesSink (old new : Seen) (end : Ending) : Type 0 where
 pub data AnswersPut (name : List ℕ) (old new : Seen) (end : Ending) : Type 0 where
   unstarted : Unstarted old new end → SameSource old new → AnswersPut name old new end
   source_fault : (records : List Record) → IsOpened old records → Rose old.source_faults new.source_faults → IsSynced old new →
-      IsRefused 14 0 old new end → AnswersPut name old new end
-  no_memory : IsRefused 70 0 old new end → AnswersPut name old new end
+      ReadsAtMost (largest_file + 1) old.source new.source → IsRefused 14 0 old new end → AnswersPut name old new end
+  no_memory : ReadsAtMost (largest_file + 1) old.source new.source → IsRefused 70 0 old new end → AnswersPut name old new end
   begun : (records : List Record) (bytes : List ℕ) → IsOpened old records → ReadsUpTo (largest_file + 1) old.source new.source bytes →
       AnswersJob (PutJob name bytes) records old new end → AnswersPut name old new end
 

@@ -10,7 +10,7 @@ use Rattle.hail_records.specs.Records.{Setup, is_setup}
 use Rattle.hail_commands.specs.Openings.{journal_read, IsBadInit, IsSetUpAlready, IsSetUpOn, MayBeLeft}
 use Rattle.hail_commands.specs.Forms.{Numbers}
 use Rattle.hail_commands.specs.Keys.{IsKeyForm, longest_key}
-use Rattle.hail_commands.specs.Seen.{Seen, Ending, IsRefused, ReadsUpTo, SameSource, sinking}
+use Rattle.hail_commands.specs.Seen.{Seen, Ending, IsRefused, ReadsAtMost, ReadsUpTo, SameSource, sinking}
 use Rattle.hail_commands.specs.Sinking.{Writes}
 use Rattle.hail_commands.specs.Lines.{ready_line}
 
@@ -58,11 +58,11 @@ pub data AnswersInit (numbers : Numbers) (old new : Seen) (end : Ending) : Type 
   too_few_providers : is_setup (setup_with numbers []) ≡ true → length old.providers < numbers.n → SameSource old new → IsRefused 22 0 old new end →
       AnswersInit numbers old new end
   source_fault : is_setup (setup_with numbers []) ≡ true → numbers.n ≤ length old.providers → Rose old.source_faults new.source_faults →
-      IsRefused 14 0 old new end → AnswersInit numbers old new end
+      ReadsAtMost longest_key old.source new.source → IsRefused 14 0 old new end → AnswersInit numbers old new end
   bad_key : (bytes : List ℕ) → is_setup (setup_with numbers []) ≡ true → numbers.n ≤ length old.providers →
       ReadsUpTo longest_key old.source new.source bytes → ((key : List ℕ) → IsKeyForm bytes key → ⊥) → IsRefused 18 0 old new end →
       AnswersInit numbers old new end
   keyed : (bytes key : List ℕ) → is_setup (setup_with numbers []) ≡ true → numbers.n ≤ length old.providers →
       ReadsUpTo longest_key old.source new.source bytes → IsKeyForm bytes key → InitsDisk (setup_with numbers key) old new end →
       AnswersInit numbers old new end
-  no_memory : IsRefused 70 0 old new end → AnswersInit numbers old new end
+  no_memory : ReadsAtMost longest_key old.source new.source → IsRefused 70 0 old new end → AnswersInit numbers old new end

@@ -4,8 +4,8 @@
 --   IsOpenedOver w rs faults ps == a state whose vault was just opened over these records; the files in effect have some bytes of the
 --                              recorded lengths
 --   AreSteps w moment job ms == steps of the job that all answered more, from this state on, after so many events; the newest first
---   RunsJob w kind answer heard new  == the job of this kind begins in the state, the next after the opening, and its steps come to this
---                              answer and leave the new state; it heard these entries
+--   RunsJob w moment kind answer heard new  == the job of this kind begins in the state, after so many events, and its steps come to
+--                              this answer and leave the new state; it heard these entries
 use Rattle.std.specs.Prelude.{◌≡◌, ℕ, ◌+◌, ◌<◌, true, false, List, [], ◌∷◌, length, slice_get, None, Some}
 use Rattle.hail_devices.specs.Providers.{Provider}
 use Rattle.hail_records.specs.Records.{Record}
@@ -50,9 +50,9 @@ pub record GoesOnTo (w : State) (moment job : ℕ) (answer : Answer) (heard : Li
   pub ends : Happens 8 (moment + length steps) (now w steps) (Step job) (Ended answer) new
   pub heard_is : heard ≡ heard_by (job_of (now w steps).jobs job)
 
--- a job begins in a state, the next event after its opening, and goes on to its end
-pub record RunsJob (w : State) (kind : Kind) (answer : Answer) (heard : List Entry) (new : State) : Type 0 where
+-- a job begins in a state, after so many events, and goes on to its end
+pub record RunsJob (w : State) (moment : ℕ) (kind : Kind) (answer : Answer) (heard : List Entry) (new : State) : Type 0 where
   pub begun : State
   pub job : ℕ
-  pub begins : Begins 8 1 w kind (Begun job) begun
-  pub goes_on : GoesOnTo begun 2 job answer heard new
+  pub begins : Begins 8 moment w kind (Begun job) begun
+  pub goes_on : GoesOnTo begun (moment + 1) job answer heard new

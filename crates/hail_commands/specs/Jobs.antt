@@ -87,21 +87,21 @@ SamePast kind Memory before after old new = SameBehind kind before after old new
 SamePast kind answer before after old new = option_map (past after) new ≡ option_map (past after) old
 
 -- a job that ran alone, whatever bytes of the recorded lengths the files have: it is a run of the machine from any state just opened over
--- these records and devices, and the devices are those of its last state; past the text of its records, with the one that was being
+-- these records and devices, after any number of events, and the devices are those of its last state; past the text of its records, with the one that was being
 -- appended where it was cut short, the disk reads as before
-pub record RanAlone (records : List Record) (kind : Kind) (answer : Answer) (old new : Seen) (heard : List Entry) (faults : ℕ) (w : State) : Type 0 where
+pub record RanAlone (records : List Record) (kind : Kind) (answer : Answer) (old new : Seen) (heard : List Entry) (faults : ℕ) (w : State) (moment : ℕ) : Type 0 where
   pub last : State
-  pub runs : RunsJob w kind answer heard last
+  pub runs : RunsJob w moment kind answer heard last
   pub images : StandsForState new.disk last
   pub faults_are : last.disk_faults ≡ new.disk_faults
   pub handed : AreHanded new.providers last
   pub past_text : SamePast kind answer records last.records old.disk new.disk
 
--- so it is from every such state, with what the disk's count of faults was once it was opened
+-- so it is from every such state and moment, with what the disk's count of faults was once it was opened
 pub record RunsAlone (records : List Record) (kind : Kind) (answer : Answer) (old new : Seen) (heard : List Entry) : Type 0 where
   pub faults : ℕ
   pub before : old.disk_faults ≤ faults
-  pub ran : (w : State) → IsOpenedOver w records faults old.providers → RanAlone records kind answer old new heard faults w
+  pub ran : (w : State) (moment : ℕ) → IsOpenedOver w records faults old.providers → RanAlone records kind answer old new heard faults w moment
 
 -- what a job left that ran alone over these records, without its run: the records then in effect, and the one in doubt, for which the
 -- disk's images stand

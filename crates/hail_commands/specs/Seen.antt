@@ -8,6 +8,7 @@
 --   KeepsDisk old new      == the disk was synced, or was left as it was; so all its images were images before
 --   IsSynced old new       == the disk was synced, and nothing else was done to it
 --   SameSource old new     == the source was not read
+--   ReadsAtMost most old new == some bytes were read of a source, at most so many
 --   ReadsUpTo most old new bytes  == these bytes were read of a source, at most so many; where they are fewer, it is at its end
 --   Ending                 == how a command ended: its status, the place that the status speaks of, and what its job heard
 --   IsRefused status at old new end  == the command ended so: nothing was heard or written, the disk was at most synced, and the
@@ -68,6 +69,12 @@ IsSynced old new = new.disk ≡ option_map synced old.disk
 -- the source was not read
 abbrev pub SameSource : Seen → Seen → Type 0
 SameSource old new = (new.source ≡ old.source) × (new.source_faults ≡ old.source_faults)
+
+-- some bytes were read of a source, at most so many
+pub record ReadsAtMost (most : ℕ) (old new : Option (List ℕ)) : Type 0 where
+  pub bytes : List ℕ
+  pub front : old ≡ then_told bytes new
+  pub few : length bytes ≤ most
 
 -- these bytes were read of a source, at most so many; it is at its end where they are fewer
 pub record ReadsUpTo (most : ℕ) (old new : Option (List ℕ)) (bytes : List ℕ) : Type 0 where

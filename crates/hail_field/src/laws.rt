@@ -1,5 +1,5 @@
 //! The laws of the field.
-ghost use Rattle.std.specs.Prelude.{◌≡◌, ◌≢◌, ◌≤◌, ◌<◌, ◌+◌, ◌^◌, ℕ, All, map, slice_index};
+ghost use Rattle.std.specs.Prelude.{◌≡◌, ◌≢◌, ◌≤◌, ◌<◌, ◌+◌, ◌*◌, ◌/◌, ◌^◌, ℕ, All, map, slice_index};
 ghost use Rattle.std.specs.Int.{w128, from_le_bytes, to_le_bytes};
 ghost use Rattle.field_laws.specs.Field.{IsField, IsEndless};
 ghost use Rattle.hail_field.specs.Shape.{IsShape};
@@ -114,6 +114,27 @@ pub fn product_keeps_width(level: u8, above: u8, a: u128, b: u128)
     requires b_fits { b < 2 ^ width level }
     ensures within { nim_mul a b < 2 ^ width level }
     ensures same { product above a b ≡ nim_mul a b }
+{}
+
+/// Each number below 2^(2^level) that is not 0 has an inverse below that bound. Levels 0 to 7 are the widths 1, 2, 4, 8, 16, 32, 64
+/// and 128.
+pub fn inverse_keeps_width()
+    ensures within { (level a : ℕ) → a < 2 ^ width level → nim_inv a < 2 ^ width level }
+    ensures inverse { (level a : ℕ) → a < 2 ^ width level → a ≢ 0 → nim_mul a (nim_inv a) ≡ 1 }
+{}
+
+/// `F = 2^(2^level)`, the first number past a level, times a smaller number is their product as numbers, and F times F is F xor F / 2.
+pub fn products_by_level_bound()
+    ensures smaller { (level x : ℕ) → x < 2 ^ width level → nim_mul (2 ^ width level) x ≡ 2 ^ width level * x }
+    ensures square { (level : ℕ) → nim_mul (2 ^ width level) (2 ^ width level) ≡ nim_add (2 ^ width level) (2 ^ width level / 2) }
+{}
+
+/// An instance: 2 is below 2^(2^1) and not 0, its inverse is 3; and 256 = 2^(2^3) times 200 is 51,200, 256 times 256 is 384.
+pub fn two_and_256_are_multiplied()
+    ensures premise { (2 < 2 ^ width 1) × (200 < 2 ^ width 3) }
+    ensures inverse { nim_inv 2 ≡ 3 }
+    ensures smaller { nim_mul 256 200 ≡ 51200 }
+    ensures square { nim_mul 256 256 ≡ 384 }
 {}
 
 /// A symbol comes back from its bytes.

@@ -9,7 +9,7 @@ use Rattle.poly_laws.proofs.Trim.{value-trim, length-trim}
 use Rattle.hail_codes.specs.Polynomials.{value, trim}
 use Rattle.hail_poly.specs.Quotient.{IsQuotient, HasNoQuotient}
 use Rattle.hail_poly.proofs.Decoding.{IsFound, decoded, none_decodes}
-use Rattle.hail_gao.specs.Decoding.{matches, IsDecoded, NoneDecodes}
+use Rattle.hail_poly.specs.Decoding.{matches, IsDecoded, NoneDecodes}
 
 module _ (points values : List ℕ) (even : length points ≡ length values) (apart : Apart points) (below keep fix : ℕ) (r f : List ℕ)
     (row : IsFound points values even apart below r f) (wide : length points + keep ≤ 2 * below) (narrow : below + fix ≤ length points) (some : 0 < keep) where

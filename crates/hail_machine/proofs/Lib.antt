@@ -18,3 +18,4 @@ pub mod Survive
 pub mod Acknowledged
 pub mod Stripes
 pub mod Gets
+pub mod Reports

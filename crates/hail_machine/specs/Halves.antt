@@ -18,7 +18,7 @@ use Rattle.hail_machine.specs.Refusals as refusal
 use Rattle.hail_machine.specs.Refusals.{Refusal}
 use Rattle.hail_machine.specs.Answers.{Answer, Got}
 use Rattle.hail_machine.specs.Events.{Event, Begin, Step, Outcome, Refused, Ended}
-use Rattle.hail_machine.specs.States.{State, IsStart, IsLimit, setup_in, object_in, file_in}
+use Rattle.hail_machine.specs.States.{State, IsStart, setup_in, object_in, file_in}
 use Rattle.hail_machine.specs.Runs.{Moment, now, first_moments, IsRun}
 use Rattle.hail_machine.specs.Calm.{IsCalm, since, relies}
 use Rattle.hail_machine.specs.Missed.{NoneMissed}
@@ -102,7 +102,7 @@ SecondHalf start (m ∷ ms) = KeepsSecondHalf start ms m.event m.outcome m.state
 
 -- the first half, of every run
 abbrev pub FirstHalfHolds : Type 0
-FirstHalfHolds = (limit : ℕ) (start : State) (ms : List Moment) → IsLimit limit → IsStart start → IsRun limit start ms → FirstHalf start ms
+FirstHalfHolds = (limit : ℕ) (start : State) (ms : List Moment) → IsStart start → IsRun limit start ms → FirstHalf start ms
 
 -- every provider tells what it holds
 abbrev pub AllTell : State → Type 0
@@ -110,7 +110,7 @@ AllTell w = (j : ℕ) → IsSome (w.providers j).held
 
 -- the second half, of every calm run in which no audit missed damage
 abbrev pub SecondHalfHolds : Type 0
-SecondHalfHolds = (limit : ℕ) (start : State) (ms : List Moment) → IsLimit limit → IsStart start → AllTell start →
+SecondHalfHolds = (limit : ℕ) (start : State) (ms : List Moment) → IsStart start → AllTell start →
     IsRun limit start ms → IsCalm relies (since start) ms → NoneMissed start ms → SecondHalf start ms
 
 -- a get gave the bytes that what it fetched opens to, of the file that was in effect under its name at its begin

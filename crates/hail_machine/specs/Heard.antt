@@ -1,15 +1,19 @@
--- What a run's report has: what the fetches of gets and the asks of audits gave, job by job in the order of their ends.
+-- What a report has: what the fetches of gets and the asks of audits gave, job by job in the order of their ends.
 --
 --   Entry                   == an entry of a report: which job heard it, and what its step gave
 --   heard_by job            == what a job heard, the oldest first: a get its fetches, an audit its asks, others nothing
---   heard_in start ms       == what all jobs heard that ended by a step of the run
+--   reported_after event entries == what stays in a report after an event: a later call of the program begins it anew
+--   heard_in start ms       == what all jobs heard that ended by a step since the last call of the program began
+--   NoneContinues ms        == in none of these moments a later call of the program began
+--   EndsJob start m ms job  == a step ended this job
 --   given_to job entries    == of the entries of a report those of a job, the newest first
 --   HoldsForgery o bytes job entries  == the fetched entries of a job hold a forgery against a file
-use Rattle.std.specs.Prelude.{ℕ, ◌==◌, List, [], ◌∷◌, ◌++◌, Option, None, Some, if◌then◌else◌}
+use Rattle.std.specs.Prelude.{◌≡◌, ◌≢◌, ℕ, ◌==◌, List, [], ◌∷◌, ◌++◌, Option, None, Some, if◌then◌else◌}
 use Rattle.hail_columns.specs.Objects.{Object}
 use Rattle.hail_columns.specs.Forgeries.{IsForgery}
 use Rattle.hail_machine.specs.Jobs.{Kind, GetJob, AuditJob, Given, Worked, Job, job_of}
-use Rattle.hail_machine.specs.Events.{Event, Step, Outcome, Ended}
+use Rattle.hail_machine.specs.Answers.{Answer}
+use Rattle.hail_machine.specs.Events.{Event, Step, Continue, Outcome, Ended}
 use Rattle.hail_machine.specs.States.{State}
 use Rattle.hail_machine.specs.Given.{blocks_given}
 use Rattle.hail_machine.specs.Runs.{Moment, now}
@@ -41,10 +45,27 @@ abbrev pub heard_at : State → Event → Outcome → List Entry
 heard_at old (Step number) (Ended answer) = heard_by (job_of old.jobs number)
 heard_at old event outcome = []
 
--- what all jobs heard that a run ended by a step
+-- what stays in a report after an event: a later call of the program, whose jobs are numbered from 1 again, begins it anew
+abbrev pub reported_after : Event → List Entry → List Entry
+reported_after Continue entries = []
+reported_after event entries = entries
+
+-- what all jobs heard that ended by a step since the last call of the program began
 abbrev pub heard_in : State → List Moment → List Entry
 heard_in start [] = []
-heard_in start (m ∷ ms) = heard_in start ms ++ heard_at (now start ms) m.event m.outcome
+heard_in start (m ∷ ms) = reported_after m.event (heard_in start ms) ++ heard_at (now start ms) m.event m.outcome
+
+-- in none of these moments a later call of the program began
+abbrev pub NoneContinues : List Moment → Type 0
+NoneContinues [] = Unit {0}
+NoneContinues (m ∷ ms) = (m.event ≢ Continue) × NoneContinues ms
+
+-- a step ended this job
+pub record EndsJob (start : State) (m : Moment) (ms : List Moment) (job : Job) : Type 0 where
+  pub answer : Answer
+  pub event : m.event ≡ Step job.number
+  pub outcome : m.outcome ≡ Ended answer
+  pub runs : job_of (now start ms).jobs job.number ≡ Some job
 
 -- what a job was given by the entries of a report
 abbrev pub given_to : ℕ → List Entry → List Given

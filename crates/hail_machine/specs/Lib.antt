@@ -24,5 +24,6 @@ pub mod Transcripts
 pub mod Stands
 pub mod Halves
 pub mod Deeds
+pub mod Failures
 pub mod Survival
 pub mod Examples

@@ -13,7 +13,6 @@
 --   ProviderCall old j call left new  == a call of provider j that leaves this state but for that provider
 --   Settles old new         == a record in doubt is now in effect, or is not; none is in doubt
 --   IsStart w               == a state before the first event
---   IsLimit limit           == a limit of running jobs: 1 to 8
 --
 -- The setup, the files in effect, the started puts, the next numbers and the audits that run or are due are what the
 -- records in effect fold to. Beside these a state keeps whose bytes an object number stands for, when an audit number
@@ -116,8 +115,3 @@ pub record IsStart (w : State) : Type 0 where
   pub doubt : w.doubt ≡ None
   pub closed : w.is_open ≡ false
   pub unbarred : w.is_barred ≡ false
-
--- limits of running jobs
-pub record IsLimit (limit : ℕ) : Type 0 where
-  pub at_least : 1 ≤ limit
-  pub at_most : limit ≤ 8

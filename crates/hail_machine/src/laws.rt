@@ -1,6 +1,7 @@
 //! Worked values of the definitions, and laws that follow from them alone.
-ghost use Rattle.std.specs.Prelude.{◌≡◌, ℕ, ◌≤◌, ◌<◌, false, List, ◌∷◌, Option, Some};
+ghost use Rattle.std.specs.Prelude.{◌≡◌, ◌↔◌, ℕ, ◌≤◌, ◌<◌, false, List, ◌∷◌, ◌++◌, Option, Some};
 ghost use Rattle.std.specs.List.{Contains};
+ghost use Rattle.hail_columns.specs.Objects.{Object};
 ghost use Rattle.hail_columns.specs.Columns.{columns};
 ghost use Rattle.hail_records.specs.Table.{next_id, next_audit, started_as};
 ghost use Rattle.hail_machine.specs.Jobs.{PutJob, AuditJob, Pinned, Job, job_of};
@@ -8,6 +9,7 @@ ghost use Rattle.hail_machine.specs.States.{State, IsStart, setup_in, object_in}
 ghost use Rattle.hail_machine.specs.Runs.{Moment, IsRun, now, first_moments, is_replaced_since};
 ghost use Rattle.hail_machine.specs.Calm.{IsCalm, since, relies};
 ghost use Rattle.hail_machine.specs.Missed.{NoneMissed};
+ghost use Rattle.hail_machine.specs.Heard.{EndsJob, NoneContinues, heard_by, heard_in, given_to, HoldsForgery};
 ghost use Rattle.hail_machine.specs.Halves.{GotIsOpened};
 ghost use Rattle.hail_machine.specs.Survival.{IsAcknowledged, Survives};
 ghost use Rattle.hail_machine.specs.Deeds.{HasStored, HasAsked, HasMadeStore, told_block};
@@ -83,4 +85,15 @@ pub fn acknowledged_files_survive()
 /// under its name at its begin, in layout order and cut to that file's length.
 pub fn got_bytes_are_opened()
     ensures { GotIsOpened }
+{}
+
+/// What a report has of a job, from the job's end on until a later call of the program begins, is what that job heard, however many
+/// jobs ended besides; so where its fetches hold a forgery the report's entries hold it, and the other way round.
+pub fn reports_have_what_jobs_heard()
+    ensures given { (limit : ℕ) (start : State) (later ms : List Moment) (m : Moment) (job : Job) → IsStart start →
+        IsRun limit start (later ++ m ∷ ms) → EndsJob start m ms job → NoneContinues later →
+        given_to job.number (heard_in start (later ++ m ∷ ms)) ≡ given_to job.number (heard_by (Some job)) }
+    ensures forgeries { (limit : ℕ) (start : State) (later ms : List Moment) (m : Moment) (job : Job) (o : Object) (bytes : List ℕ) →
+        IsStart start → IsRun limit start (later ++ m ∷ ms) → EndsJob start m ms job → NoneContinues later →
+        HoldsForgery o bytes job.number (heard_by (Some job)) ↔ HoldsForgery o bytes job.number (heard_in start (later ++ m ∷ ms)) }
 {}

@@ -43,9 +43,9 @@ module _ (points values : List ℕ) (even : length points ≡ length values) (ap
     pub decoded : (p q : List ℕ) → Decodes nim points values keep fix p → IsQuotient r f q → q ≡ trim p
     decoded p q is quotient =
         quotient.trimmed ∙ same_from_values nim nim_laws nim_endless q p
-        ((decode_exact nim nim_laws nim_endless points values keep fix below one_not_zero even apart row wide narrow some p is).1 q quotient.product)
+        ((decode_exact nim nim_laws nim_endless points values keep fix below one_not_zero even apart row (omega arith) narrow some p is).1 q quotient.product)
 
     -- where there is no quotient, no polynomial decodes the values
     pub none_decodes : (p : List ℕ) → HasNoQuotient r f → Decodes nim points values keep fix p → ⊥
     none_decodes p none is =
-        none.none p ((decode_exact nim nim_laws nim_endless points values keep fix below one_not_zero even apart row wide narrow some p is).0)
+        none.none p ((decode_exact nim nim_laws nim_endless points values keep fix below one_not_zero even apart row (omega arith) narrow some p is).0)

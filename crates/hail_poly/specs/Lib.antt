@@ -3,3 +3,5 @@ pub mod Rows
 pub mod RowState
 pub mod GoesOn
 pub mod Quotient
+pub mod Decoding
+pub mod Key

@@ -19,7 +19,7 @@ pub record IsWork (size : ℕ) (whole : List ℕ) (whole_len : ℕ) (row spare :
   pub row_room : row.room ≡ size + 1
   pub spare_room : spare.room ≡ size + 1
 
--- as load leaves them: the rest is shorter than the whole, and the factor is 1
+-- as load and load_key leave them: the rest is shorter than the whole, and the factor is 1
 pub record IsLoaded (work : Registers) : Type 0 where
   pub shorter : length work.rest < length work.whole
   pub one : work.factor ≡ 1 ∷ []

@@ -4,7 +4,7 @@ ghost use Rattle.hail_poly.specs.GoesOn.{CanGoOn, IsFirst};
 use crate::euclid::reduce;
 use crate::load::interpolate_within;
 use crate::read::used;
-use crate::slices::{clear, put_front};
+use crate::slices::{clear, put_front, put_reversed};
 use hail_field::Symbol;
 use std::alloc::{AllocError, Global};
 use std::marker::Model;
@@ -35,7 +35,7 @@ impl Model for Row {
 }
 
 impl Row {
-    ghost use Rattle.std.specs.Prelude.{◌≡◌, ◌≢◌, ◌<◌, ◌≤◌, ◌+◌, ◌-◌, ◌∷◌, [], length, take, slice_index, IfOk};
+    ghost use Rattle.std.specs.Prelude.{◌≡◌, ◌≢◌, ◌<◌, ◌≤◌, ◌+◌, ◌-◌, ◌∷◌, [], length, take, slice_index, reverse, IfOk};
     ghost use Rattle.field_laws.specs.Field.{Apart};
     ghost use Rattle.hail_codes.specs.Polynomials.{vanish, interpolate, trim};
     ghost use Rattle.hail_poly.specs.Rows.{Reduces};
@@ -88,6 +88,15 @@ impl Row {
     {
         put_front(&mut self.rest, coefficients);
         self.rest_len = used(coefficients);
+    }
+
+    /// The remainder becomes the polynomial of these coefficients, highest first.
+    pub fn set_reversed(&mut self, coefficients: &[Symbol])
+        requires { length coefficients.now ≤ self.old.room }
+        ensures { self.new ≡ record { room = self.old.room; rest = trim (reverse coefficients.now); factor = self.old.factor } }
+    {
+        put_reversed(&mut self.rest, coefficients);
+        self.rest_len = used(&self.rest[..coefficients.len()]);
     }
 
     /// The cofactor becomes 0.

@@ -1,5 +1,6 @@
-ghost use Rattle.std.specs.Prelude.{◌≡◌, ◌<◌, ◌≤◌, ◌^◌, ◌+◌, ◌++◌, ◌∷◌, [], length, take, drop, replicate};
+ghost use Rattle.std.specs.Prelude.{◌≡◌, ◌<◌, ◌≤◌, ◌^◌, ◌+◌, ◌++◌, ◌∷◌, [], length, take, drop, replicate, reverse};
 ghost use Rattle.hail_codes.specs.Polynomials.{value, plus, scale, root_times};
+ghost use Rattle.hail_poly.specs.Key.{power};
 
 use hail_field::Symbol;
 
@@ -49,4 +50,23 @@ pub fn clear(into: &mut [Symbol])
     ensures { into.new ≡ replicate (length into.old) 0 }
 {
     into.fill(Symbol::ZERO);
+}
+
+/// Copies coefficients to the front, the last of them first.
+pub fn put_reversed(into: &mut [Symbol], from: &[Symbol])
+    requires { length from.now ≤ length into.old }
+    ensures { into.new ≡ reverse from.now ++ drop (length from.now) into.old }
+{
+    put_front(into, from);
+    into[..from.len()].reverse();
+}
+
+/// Makes the power of x at the front.
+#[tactic(auto, using(crate::proofs::KeySteps::power_made))]
+pub fn put_power(into: &mut [Symbol], exponent: usize)
+    requires { exponent < length into.old }
+    ensures { take (exponent + 1) into.new ≡ power exponent }
+{
+    clear(into);
+    into[exponent] = Symbol::ONE;
 }

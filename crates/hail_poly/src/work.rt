@@ -1,5 +1,6 @@
 use crate::read::eval;
 use crate::row::{Row, go_on};
+use crate::slices::put_power;
 use hail_field::{Memory, Symbol};
 use std::alloc::Global;
 use std::marker::Model;
@@ -8,7 +9,8 @@ use std::marker::Model;
 pub const MOST: usize = 128;
 
 /// The registers of a decoder: three polynomials `whole`, `rest` and `factor`, in memory that `new` reserves.
-/// No other call takes any. For Gao's decoder (A new algorithm for decoding Reed-Solomon codes, 2003).
+/// No other call takes any. For Gao's decoder (A new algorithm for decoding Reed-Solomon codes, 2003), and for the decoder by
+/// syndromes (Sugiyama and others, A method for solving key equation for decoding Goppa codes, 1975).
 #[derive(Drop)]
 pub struct Work {
     size: usize,
@@ -41,6 +43,7 @@ impl Work {
     ghost use Rattle.poly_laws.specs.Poly.{FirstRow};
     ghost use Rattle.hail_field.specs.Nim.{nim};
     ghost use Rattle.hail_codes.specs.Polynomials.{value, vanish, interpolate, trim};
+    ghost use Rattle.hail_poly.specs.Key.{power, key};
     ghost use Rattle.hail_poly.specs.Registers.{IsLoaded};
     ghost use Rattle.hail_poly.specs.Quotient.{IsQuotient, HasNoQuotient, IsCombination};
 
@@ -62,6 +65,14 @@ impl Work {
         })
     }
 
+    /// For how many points there is room.
+    pub fn size(&self) -> usize
+        ensures is { result ≡ self.now.size }
+        ensures bound { result ≤ 128 }
+    {
+        self.size
+    }
+
     /// `whole` becomes the product of all x + point, `rest` the polynomial of degree below the number of points
     /// that takes the values at the points, and `factor` 1.
     pub fn load(&mut self, points: &[Symbol], values: &[Symbol])
@@ -80,7 +91,23 @@ impl Work {
         self.whole_len = points.len() + 1;
     }
 
-    /// Runs Euclid's algorithm on `whole` and `rest`, which `load` has made: `rest` and `factor` become the remainder
+    /// For m syndromes, `whole` becomes x^m, `rest` the sum of syndrome k times x^(m - 1 - k), and `factor` 1.
+    pub fn load_key(&mut self, syndromes: &[Symbol])
+        requires { length syndromes.now ≤ self.old.size }
+        ensures { self.new ≡ record {
+          size = self.old.size;
+          whole = power (length syndromes.now);
+          rest = key syndromes.now;
+          factor = 1 ∷ [];
+        } }
+    {
+        self.row.set_reversed(syndromes);
+        self.row.start_factor();
+        put_power(&mut self.whole, syndromes.len());
+        self.whole_len = syndromes.len() + 1;
+    }
+
+    /// Runs Euclid's algorithm on `whole` and `rest`, which `load` or `load_key` has made: `rest` and `factor` become the remainder
     /// and its cofactor of the first row after `whole` itself whose remainder has degree below `below`.
     pub fn euclid(&mut self, below: usize)
         requires { IsLoaded self.old }
@@ -142,5 +169,12 @@ impl Work {
         ensures { result ≡ value self.now.rest x }
     {
         eval(self.row.rest(), x)
+    }
+
+    /// The value of `factor` at x.
+    pub fn factor_at(&self, x: Symbol) -> Symbol
+        ensures { result ≡ value self.now.factor x }
+    {
+        eval(self.row.factor(), x)
     }
 }

@@ -1,10 +1,10 @@
 -- The list of files in effect ascends, and accepted records have few files.
-use Rattle.std.specs.Prelude.{◌≡◌, ℕ, ◌+◌, ◌≤◌, true, false, Bool, List, [], ◌∷◌, length, Option, Some, None, nat_le, is_some, not, ◌&&◌}
+use Rattle.std.specs.Prelude.{◌≡◌, ◌≢◌, ℕ, ◌+◌, ◌-◌, ◌^◌, ◌≤◌, ◌<◌, true, false, Bool, List, [], ◌∷◌, length, Option, Some, None, nat_le, is_some, not, ◌&&◌}
 use Rattle.std.specs.List.{list_all}
 use Rattle.std.proofs.Common.{refl, arith}
 use Rattle.std.proofs.lemmas.Bool.Decides.{nat_tests}
 use Rattle.hail_records.specs.Records.{Record, SetUp, PutStart, PutDone, Drop, AuditStart, AuditDone, RepairDone, most_files}
-use Rattle.hail_records.specs.Table.{File, is_same_name, is_name_before, started_as, with_file, without_file, with_put, files_of, find_file, are_ordered}
+use Rattle.hail_records.specs.Table.{File, next_id, next_audit, is_same_name, is_name_before, started_as, with_file, without_file, with_put, files_of, find_file, are_ordered}
 use Rattle.hail_records.specs.Acceptance.{refused, AreAccepted}
 use Rattle.hail_records.proofs.FilesLaws.{same-refl, find-files_of, find-without}
 
@@ -102,3 +102,33 @@ few-files_of (Drop name ∷ rs) a = omega (arith, length-without_le (files_of rs
 few-files_of (AuditStart number ∷ rs) a = few-files_of rs a.1
 few-files_of (AuditDone number undecided counts ∷ rs) a = few-files_of rs a.1
 few-files_of (RepairDone number ∷ rs) a = few-files_of rs a.1
+
+-- ---- the next numbers
+
+-- an accepted start of a put takes the next number, which is not the last one
+started-id : (rs : List Record) (id : ℕ) (name : List ℕ) → refused rs (PutStart id name) ≡ None → next_id rs ≢ 2 ^ 64 - 1
+started-id rs id name p = grind (arith, nat_tests, p)
+
+-- an accepted start of an audit does so too
+started-audit : (rs : List Record) (number : ℕ) → refused rs (AuditStart number) ≡ None → next_audit rs ≢ 2 ^ 64 - 1
+started-audit rs number p = grind (arith, nat_tests, p)
+
+pub next_id-fits : (rs : List Record) → AreAccepted rs → next_id rs < 2 ^ 64
+next_id-fits [] a = omega arith
+next_id-fits (SetUp s ∷ rs) a = next_id-fits rs a.1
+next_id-fits (PutStart id name ∷ rs) a = omega (arith, started-id rs id name a.0, next_id-fits rs a.1)
+next_id-fits (PutDone id size ∷ rs) a = next_id-fits rs a.1
+next_id-fits (Drop name ∷ rs) a = next_id-fits rs a.1
+next_id-fits (AuditStart number ∷ rs) a = next_id-fits rs a.1
+next_id-fits (AuditDone number undecided counts ∷ rs) a = next_id-fits rs a.1
+next_id-fits (RepairDone number ∷ rs) a = next_id-fits rs a.1
+
+pub next_audit-fits : (rs : List Record) → AreAccepted rs → next_audit rs < 2 ^ 64
+next_audit-fits [] a = omega arith
+next_audit-fits (SetUp s ∷ rs) a = next_audit-fits rs a.1
+next_audit-fits (PutStart id name ∷ rs) a = next_audit-fits rs a.1
+next_audit-fits (PutDone id size ∷ rs) a = next_audit-fits rs a.1
+next_audit-fits (Drop name ∷ rs) a = next_audit-fits rs a.1
+next_audit-fits (AuditStart number ∷ rs) a = omega (arith, started-audit rs number a.0, next_audit-fits rs a.1)
+next_audit-fits (AuditDone number undecided counts ∷ rs) a = next_audit-fits rs a.1
+next_audit-fits (RepairDone number ∷ rs) a = next_audit-fits rs a.1

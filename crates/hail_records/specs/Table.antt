@@ -1,4 +1,5 @@
--- What a list of records folds to. Each value is read off the list from its newest record, which is the first.
+-- What a list of records folds to. Each value is read off the list from its newest record, which is the first. Each kind of record
+-- is spelled out, so that a new kind has to be thought of.
 --
 --   setup_of rs           the setup, if there is one
 --   next_id rs            the number that the next put takes: 1 and the puts that were started
@@ -31,26 +32,45 @@ pub record Due : Type 0 where
 abbrev pub setup_of : List Record → Option Setup
 setup_of [] = None
 setup_of (SetUp s ∷ rs) = Some s
-setup_of (r ∷ rs) = setup_of rs
+setup_of (PutStart id name ∷ rs) = setup_of rs
+setup_of (PutDone id size ∷ rs) = setup_of rs
+setup_of (Drop name ∷ rs) = setup_of rs
+setup_of (AuditStart number ∷ rs) = setup_of rs
+setup_of (AuditDone number undecided counts ∷ rs) = setup_of rs
+setup_of (RepairDone number ∷ rs) = setup_of rs
 
 -- the next object number
 abbrev pub next_id : List Record → ℕ
 next_id [] = 1
 next_id (PutStart id name ∷ rs) = suc (next_id rs)
-next_id (r ∷ rs) = next_id rs
+next_id (SetUp s ∷ rs) = next_id rs
+next_id (PutDone id size ∷ rs) = next_id rs
+next_id (Drop name ∷ rs) = next_id rs
+next_id (AuditStart number ∷ rs) = next_id rs
+next_id (AuditDone number undecided counts ∷ rs) = next_id rs
+next_id (RepairDone number ∷ rs) = next_id rs
 
 -- the next audit number
 abbrev pub next_audit : List Record → ℕ
 next_audit [] = 1
 next_audit (AuditStart number ∷ rs) = suc (next_audit rs)
-next_audit (r ∷ rs) = next_audit rs
+next_audit (SetUp s ∷ rs) = next_audit rs
+next_audit (PutStart id name ∷ rs) = next_audit rs
+next_audit (PutDone id size ∷ rs) = next_audit rs
+next_audit (Drop name ∷ rs) = next_audit rs
+next_audit (AuditDone number undecided counts ∷ rs) = next_audit rs
+next_audit (RepairDone number ∷ rs) = next_audit rs
 
 -- the name under which an object number is started and not done
 abbrev pub started_as : List Record → ℕ → Option (List ℕ)
 started_as [] id = None
 started_as (PutStart k name ∷ rs) id = if k == id then Some name else started_as rs id
 started_as (PutDone k size ∷ rs) id = if k == id then None else started_as rs id
-started_as (r ∷ rs) id = started_as rs id
+started_as (SetUp s ∷ rs) id = started_as rs id
+started_as (Drop name ∷ rs) id = started_as rs id
+started_as (AuditStart number ∷ rs) id = started_as rs id
+started_as (AuditDone number undecided counts ∷ rs) id = started_as rs id
+started_as (RepairDone number ∷ rs) id = started_as rs id
 
 -- two names are equal
 abbrev pub is_same_name : List ℕ → List ℕ → Bool
@@ -75,7 +95,11 @@ abbrev pub file_of : List Record → List ℕ → Option File
 file_of [] name = None
 file_of (PutDone id size ∷ rs) name = if is_start_of name (started_as rs id) then Some (record { name = name; id = id; size = size }) else file_of rs name
 file_of (Drop dropped ∷ rs) name = if is_same_name dropped name then None else file_of rs name
-file_of (r ∷ rs) name = file_of rs name
+file_of (SetUp s ∷ rs) name = file_of rs name
+file_of (PutStart id started ∷ rs) name = file_of rs name
+file_of (AuditStart number ∷ rs) name = file_of rs name
+file_of (AuditDone number undecided counts ∷ rs) name = file_of rs name
+file_of (RepairDone number ∷ rs) name = file_of rs name
 
 -- files in byte order of their names, without that of a name
 abbrev pub without_file : List File → List ℕ → List File
@@ -97,7 +121,11 @@ abbrev pub files_of : List Record → List File
 files_of [] = []
 files_of (PutDone id size ∷ rs) = with_put (files_of rs) (started_as rs id) id size
 files_of (Drop name ∷ rs) = without_file (files_of rs) name
-files_of (r ∷ rs) = files_of rs
+files_of (SetUp s ∷ rs) = files_of rs
+files_of (PutStart id name ∷ rs) = files_of rs
+files_of (AuditStart number ∷ rs) = files_of rs
+files_of (AuditDone number undecided counts ∷ rs) = files_of rs
+files_of (RepairDone number ∷ rs) = files_of rs
 
 -- each file's name comes before those of all files behind it
 abbrev pub are_ordered : List File → Bool
@@ -114,7 +142,11 @@ abbrev pub running_audit : List Record → Option ℕ
 running_audit [] = None
 running_audit (AuditStart number ∷ rs) = Some number
 running_audit (AuditDone number undecided counts ∷ rs) = None
-running_audit (r ∷ rs) = running_audit rs
+running_audit (SetUp s ∷ rs) = running_audit rs
+running_audit (PutStart id name ∷ rs) = running_audit rs
+running_audit (PutDone id size ∷ rs) = running_audit rs
+running_audit (Drop name ∷ rs) = running_audit rs
+running_audit (RepairDone number ∷ rs) = running_audit rs
 
 -- some count exceeds the tolerance of the setup
 abbrev pub exceeds : Option Setup → List ℕ → Bool
@@ -126,4 +158,8 @@ abbrev pub due_of : List Record → Option Due
 due_of [] = None
 due_of (AuditDone number undecided counts ∷ rs) = if exceeds (setup_of rs) counts then Some (record { number = number; counts = counts }) else due_of rs
 due_of (RepairDone number ∷ rs) = None
-due_of (r ∷ rs) = due_of rs
+due_of (SetUp s ∷ rs) = due_of rs
+due_of (PutStart id name ∷ rs) = due_of rs
+due_of (PutDone id size ∷ rs) = due_of rs
+due_of (Drop name ∷ rs) = due_of rs
+due_of (AuditStart number ∷ rs) = due_of rs

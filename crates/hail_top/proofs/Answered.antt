@@ -4,6 +4,7 @@ use Rattle.hail_devices.specs.Told.{TakesFront}
 use Rattle.hail_codes.specs.Points.{upto, values_at}
 use Rattle.hail_commands.specs.Forms.{Command as Spelled}
 use Rattle.hail_commands.specs.Forms.{RowOf, InitWith, PutUnder, GetOf, DropOf, ListAll, AuditAll, RepairDue}
+use Rattle.hail_commands.specs.Keys.{longest_key}
 use Rattle.hail_commands.specs.Seen.{Seen, Ending, IsRefused, sinking}
 use Rattle.hail_commands.specs.Line.{values_line, no_row_line}
 use Rattle.hail_commands.specs.Row.{AnswersRow}
@@ -14,6 +15,7 @@ use Rattle.hail_commands.specs.Commands.{Answers}
 use Rattle.command_words.specs.declared.command.Command.{Command}
 use Rattle.command_words.specs.Commands.{command_of}
 use Rattle.hail_top.specs.Endings.{ends}
+use Rattle.hail_top.proofs.Taken.{none-taken}
 use Rattle.hail_top.proofs.Refused.{refused-told}
 use Rattle.hail_top.proofs.Told.{left}
 use Rattle.hail_top.proofs.AnswerTexts.{front-none}
@@ -42,8 +44,8 @@ no_memory-told command same end is = subst (λ (e : Ending). Answers command sam
     by_command : (command : Spelled) → Answers command same same (ends 70 0)
     by_command (RowOf n l b symbols) =
         (row n l b symbols, record { disk = refl; disk_faults = refl; providers = refl; source = (refl, refl); place = refl; heard = refl })
-    by_command (InitWith numbers) = inits.no_memory refused
-    by_command (PutUnder name) = commands.no_memory refused
+    by_command (InitWith numbers) = inits.no_memory (none-taken longest_key same.source) refused
+    by_command (PutUnder name) = commands.unstarted (opens.no_memory refused) (refl, refl)
     by_command (GetOf name) = (commands.unstarted (opens.no_memory refused), (refl, refl))
     by_command (DropOf name) = (commands.unstarted (opens.no_memory refused), (refl, refl))
     by_command ListAll = (commands.no_memory refused, (refl, refl))

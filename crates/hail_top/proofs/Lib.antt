@@ -13,3 +13,4 @@ mod PutEnds
 mod ListEnds
 mod Answered
 mod Told
+mod Taken

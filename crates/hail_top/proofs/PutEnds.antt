@@ -5,7 +5,7 @@ use Rattle.hail_devices.specs.Disks.{synced}
 use Rattle.hail_devices.specs.Faults.{Rose}
 use Rattle.hail_records.specs.Records.{Record, largest_file}
 use Rattle.hail_machine.specs.Jobs.{PutJob}
-use Rattle.hail_commands.specs.Seen.{Seen, Ending, KeepsDisk, IsSynced, ReadsUpTo}
+use Rattle.hail_commands.specs.Seen.{Seen, Ending, KeepsDisk, IsSynced, ReadsAtMost, ReadsUpTo}
 use Rattle.hail_commands.specs.Opens.{IsOpened}
 use Rattle.hail_commands.specs.Commands.{AnswersPut, begun, source_fault, no_memory}
 use Rattle.vault.specs.Devices.{Devices}
@@ -27,10 +27,10 @@ begun-put name bytes records old new end left is opened read over = record {
 }
 
 -- the source was not read
-pub unread-put : (name : List ℕ) (records : List Record) (old new : Seen) (d : Devices) (end : Ending) (fault : ReadFault) (count : ℕ) → old.source_faults ≡ count
+pub unread-put : (name : List ℕ) (records : List Record) (old new : Seen) (d : Devices) (end : Ending) (fault : ReadFault) (count : ℕ) (left : Option (List ℕ)) → old.source_faults ≡ count → old.source ≡ left → ReadsAtMost (largest_file + 1) left new.source
     → IsOpened old records → IsSeenBefore old d → d.holds ≡ option_map synced old.disk → end ≡ unread_ending fault → (fault ≡ read_fault.Failed → Rose count new.source_faults)
     → new.disk ≡ d.holds → new.disk_faults ≡ d.faults → new.providers ≡ d.providers → new.sink ≡ old.sink → PutsOver name old new end
-unread-put name records old new d end fault count is_count opened before was_synced is rose disk faults providers silent = record {
+unread-put name records old new d end fault count left is_count is_left few opened before was_synced is rose disk faults providers silent = record {
   answers = by_fault fault is rose;
   counts = untouched old new d before faults providers;
 }
@@ -44,7 +44,10 @@ unread-put name records old new d end fault count is_count opened before was_syn
     same_providers : new.providers ≡ old.providers
     same_providers = providers ∙ sym before.providers
 
+    taken : ReadsAtMost (largest_file + 1) old.source new.source
+    taken = subst (λ (told : Option (List ℕ)). ReadsAtMost (largest_file + 1) told new.source) (sym is_left) few
+
     by_fault : (fault : ReadFault) → end ≡ unread_ending fault → (fault ≡ read_fault.Failed → Rose count new.source_faults) → AnswersPut name old new end
     by_fault read_fault.Failed is rose =
-        source_fault records opened (subst (λ (n : ℕ). Rose n new.source_faults) (sym is_count) (rose refl)) synced_here (refused-told 14 0 old new end is kept same_providers silent)
-    by_fault read_fault.Memory is rose = no_memory (refused-told 70 0 old new end is kept same_providers silent)
+        source_fault records opened (subst (λ (n : ℕ). Rose n new.source_faults) (sym is_count) (rose refl)) synced_here taken (refused-told 14 0 old new end is kept same_providers silent)
+    by_fault read_fault.Memory is rose = no_memory taken (refused-told 70 0 old new end is kept same_providers silent)

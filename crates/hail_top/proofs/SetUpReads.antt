@@ -5,7 +5,7 @@ use Rattle.hail_records.specs.Records.{is_setup}
 use Rattle.hail_records.specs.Records.{Setup as SetupData}
 use Rattle.hail_commands.specs.Forms.{Numbers}
 use Rattle.hail_commands.specs.Keys.{IsKeyForm, longest_key}
-use Rattle.hail_commands.specs.Seen.{Seen, Ending, ReadsUpTo, SameSource}
+use Rattle.hail_commands.specs.Seen.{Seen, Ending, ReadsAtMost, ReadsUpTo, SameSource}
 use Rattle.hail_commands.specs.Inits.{setup_with, InitsDisk, AnswersInit, bad_setup, too_few_providers, source_fault, bad_key, keyed, no_memory}
 use Rattle.record_codec.specs.declared.setup.Setup.{Setup}
 use Rattle.record_codec.specs.Entries.{with_master}
@@ -32,12 +32,12 @@ bad_key-told setup numbers old new end bytes for reads none is same_disk same si
 
 -- the source was not read
 pub unread-told : (setup : Setup) (numbers : Numbers) (old new : Seen) (end : Ending) (fault : ReadFault) → IsSetupFor setup numbers (length old.providers)
-    → end ≡ unread_ending fault → (fault ≡ read_fault.Failed → Rose old.source_faults new.source_faults)
+    → ReadsAtMost longest_key old.source new.source → end ≡ unread_ending fault → (fault ≡ read_fault.Failed → Rose old.source_faults new.source_faults)
     → new.disk ≡ old.disk → new.providers ≡ old.providers → new.sink ≡ old.sink → AnswersInit numbers old new end
-unread-told setup numbers old new end read_fault.Failed for is rose same_disk same silent =
-    source_fault for.fits for.enough (rose refl) (refused-told 14 0 old new end is (untouched old.disk new.disk same_disk) same silent)
-unread-told setup numbers old new end read_fault.Memory for is rose same_disk same silent =
-    no_memory (refused-told 70 0 old new end is (untouched old.disk new.disk same_disk) same silent)
+unread-told setup numbers old new end read_fault.Failed for few is rose same_disk same silent =
+    source_fault for.fits for.enough (rose refl) few (refused-told 14 0 old new end is (untouched old.disk new.disk same_disk) same silent)
+unread-told setup numbers old new end read_fault.Memory for few is rose same_disk same silent =
+    no_memory few (refused-told 70 0 old new end is (untouched old.disk new.disk same_disk) same silent)
 
 -- the numbers make no setup
 pub bad_setup-told : (numbers : Numbers) (old new : Seen) (end : Ending) → is_setup (setup_with numbers []) ≡ false → end ≡ ends 20 0

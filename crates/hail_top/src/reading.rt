@@ -2,7 +2,7 @@
 ghost use Rattle.std.specs.Prelude.{◌≡◌, IfOk, IsErrOf};
 ghost use Rattle.hail_devices.specs.Faults.{HasCause};
 ghost use Rattle.hail_machine.specs.Events.{AreBytes};
-ghost use Rattle.hail_commands.specs.Seen.{ReadsUpTo};
+ghost use Rattle.hail_commands.specs.Seen.{ReadsAtMost, ReadsUpTo};
 ghost use Rattle.hail_top.specs.declared.reading.ReadFault.TheVariants as read_fault;
 
 use std::alloc::{AllocError, Global};
@@ -50,9 +50,10 @@ fn bytes_of(items: Vec<u8>) -> Bytes
     Bytes::from_vec(items)
 }
 
-/// Reads at most so many bytes, up to the end of the source.
+/// Reads at most so many bytes, up to the end of the source; no more are taken also where it fails.
 pub fn read_up_to<S: Source>(alloc: Global, most: usize, source: &mut S) -> Result<Bytes, ReadFault>
     ensures bytes { IfOk result (λ bytes. ReadsUpTo most (S.left source.old) (S.left source.new) bytes) }
+    ensures at_most { ReadsAtMost most (S.left source.old) (S.left source.new) }
     ensures cause { HasCause (S.faults source.old) (S.faults source.new) (IsErrOf result read_fault.Failed) }
 {
     let mut piece = vec![in alloc; 0u8; most.min(PIECE)]?;

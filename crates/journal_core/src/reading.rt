@@ -1,4 +1,4 @@
-ghost use Rattle.std.specs.Prelude.{◌≡◌, ◌↔◌, ◌≤◌, ◌^◌, All, length, take, IfOk, IfErr, IsTrue};
+ghost use Rattle.std.specs.Prelude.{◌≡◌, ◌↔◌, All, take, IfOk, IfErr, IsTrue};
 ghost use Rattle.hail_records.specs.Journal.{magic, StandsFor};
 ghost use Rattle.record_codec.specs.Entries.{IsInGrammar};
 ghost use Rattle.journal_core.specs.Lists.{newest_first};
@@ -17,9 +17,8 @@ fn has_magic(bytes: &[u8]) -> bool
 }
 
 /// The records that the bytes stand for, in the order of writing; `Bad` exactly where the bytes stand for none, with the
-/// first place at which they fail to be a journal. Bytes may be any, up to 2^24; the time is linear in their number.
+/// first place at which they fail to be a journal. Bytes may be any; the time is linear in their number.
 pub fn read_journal(alloc: Global, bytes: &[u8]) -> Result<Vec<Record>, JournalFault>
-    requires { length bytes.now ≤ 2 ^ 24 }
     ensures records { IfOk result (λ v. StandsFor bytes.now (newest_first v.items)) }
     ensures in_grammar { IfOk result (λ v. All IsInGrammar v.items) }
     ensures fault { IfErr result (IsFaultOf bytes.now) }

@@ -7,6 +7,7 @@ pub mod EveryRun
 pub mod Points
 pub mod Audits
 pub mod Readers
+pub mod NoForgery
 pub mod SecondHalf
 pub mod InRuns
 pub mod InDoubt

@@ -1,7 +1,7 @@
 -- Where moves and works stand in the lists of actions of puts and repairs.
-use Rattle.std.proofs.Common.{◌≡◌, ℕ, zero, suc, ◌+◌, ◌-◌, ◌<◌, ◌≤◌, ◌==◌, ◌&&◌, Bool, false, cond, List, [], ◌∷◌, ◌++◌, length, Some, None, refl, ap, sym, subst, ◌∙◌, inl, inr, arith}
+use Rattle.std.proofs.Common.{◌≡◌, ℕ, zero, suc, ◌+◌, ◌-◌, ◌<◌, ◌≤◌, ◌==◌, ◌&&◌, Bool, true, false, cond, List, [], ◌∷◌, ◌++◌, length, Some, None, refl, ap, sym, subst, ◌∙◌, inl, inr, arith}
 use Rattle.std.specs.Prelude.{not, is_some, slice_get}
-use Rattle.std.proofs.lemmas.Bool.{and_left, ne_eqb}
+use Rattle.std.proofs.lemmas.Bool.{and_left, ne_eqb, false≢true}
 use Rattle.std.specs.List.{flat_map}
 use Rattle.hail_codes.specs.Points.{upto}
 use Rattle.hail_records.specs.Records.{Setup}
@@ -11,6 +11,7 @@ use Rattle.hail_machine.specs.Actions.{Action, WriteBody, SyncBody, WriteGate, S
 use Rattle.hail_machine.specs.Setups.{stripes_of}
 use Rattle.hail_machine.specs.States.{State, setup_in, file_in}
 use Rattle.hail_machine.specs.Steps.{next_action, is_idle_drop}
+use Rattle.hail_machine.specs.Calm.{relies}
 use Rattle.hail_machine.proofs.ActionLists.{Each, each_get, each_append, each_map, each_flat, split_get}
 use Rattle.hail_machine.proofs.Numbers.{next_by, next_is_by}
 use Rattle.hail_machine.proofs.RecordFacts.{In}
@@ -89,6 +90,14 @@ read_within w job name o s kind h =
     ((f, i, refl, upto_in (stripes_of (setup_in w) (length f.bytes)) st l), tt))))
     (tt, tt))
     (by_kind (setup_in w) job (GetJob name) job.place (Work o s) kind (next_stands w job (Work o s) h (λ e. cc)))
+
+-- so is that of each job that relies on providers
+pub works_within : (w : State) (job : Job) (o s : ℕ) (kind : Kind) → job.kind ≡ kind → relies kind ≡ true → next_action w job ≡ Some (Work o s) → (f : Pinned) × In f job.pinned × (f.id ≡ o) × (s < stripes_of (setup_in w) (length f.bytes))
+works_within w job o s (GetJob name) is reads h = read_within w job name o s is h
+works_within w job o s RepairJob is reads h = work_within w job o s is h
+works_within w job o s (PutJob name bytes) is reads h = absurd (false≢true reads)
+works_within w job o s (DropJob name) is reads h = absurd (false≢true reads)
+works_within w job o s AuditJob is reads h = absurd (false≢true reads)
 
 -- the actions of a repair hang on its files and on what it flags
 abbrev repair_list : Setup → (ℕ → Bool) → List Pinned → List Action

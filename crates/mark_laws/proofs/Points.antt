@@ -12,7 +12,7 @@ use Rattle.hail_machine.specs.States.{State, Doubt, IsStart, setup_in, object_in
 use Rattle.hail_machine.specs.Given.{symbols_given}
 use Rattle.hail_machine.specs.Steps.{next_action, block_to_store}
 use Rattle.hail_machine.specs.Runs.{Moment, now, first_moments, is_replacement, is_replaced_since, IsRun}
-use Rattle.hail_machine.specs.Calm.{Mark}
+use Rattle.hail_machine.specs.Calm.{Mark, relies}
 use Rattle.hail_machine.specs.Halves.{begun_of}
 use Rattle.hail_machine.specs.Deeds.{told_block, HasMadeStore}
 use Rattle.hail_machine.proofs.Changes.{Block_is, Changes}
@@ -52,7 +52,7 @@ pub record Facts (mark : Mark) (start : State) (ms : List Moment) : Type 0 where
       s < stripes_of (setup_in (now start ms)) (length ((now start ms).bytes f.id)) → In (Fetched i f.id s block) j.given →
       is_wrong_block (object_in (now start ms) f.id) ((now start ms).bytes f.id) i s block ≡ true →
       IsReplaced (mark_of mark ms j) i ms ⊎ ((block ≡ None) × RoseSince (begin_of start ms j) (now start ms) i)
-  pub rows : (k : ℕ) (j : Job) (o s : ℕ) (symbols : List ℕ) → job_of (now start ms).jobs k ≡ Some j → j.kind ≡ RepairJob → In (Worked o s symbols) j.given →
+  pub rows : (k : ℕ) (j : Job) (o s : ℕ) (symbols : List ℕ) → job_of (now start ms).jobs k ≡ Some j → relies j.kind ≡ true → In (Worked o s symbols) j.given →
       (o < next_id (now start ms).records) × (symbols ≡ symbols_in (object_in (now start ms) o) ((now start ms).bytes o) s)
   pub rewrote : (k : ℕ) (j : Job) (i o s : ℕ) (b : Option (List ℕ)) → job_of (now start ms).jobs k ≡ Some j → j.kind ≡ RepairJob → HasMadeStore (setup_in (now start ms)) j i o s →
       is_replaced_since j.begun i ms ≡ false → told_block (now start ms) i o s ≡ Some b → b ≡ Some (columns (object_in (now start ms) o) ((now start ms).bytes o) i s)
@@ -73,7 +73,7 @@ module _ (limit : ℕ) (mark : Mark) (start : State) (m : Moment) (ms : List Mom
         ev.put_column limit start m ms A U I E X T x name bytes i o s b runs next_is kind o_is b_is
     | inr repairs ↦
         (let g = made_work_gave limit start clean ms run x.number x o s runs (worked_before_store (now start ms) x i o s repairs next_is).0 in
-        let rows = (F.rows x.number x o s (symbols_given x.given o s) runs repairs (given_symbols x.given o s g.0 g.1)).1 in
+        let rows = (F.rows x.number x o s (symbols_given x.given o s) runs (ap relies repairs) (given_symbols x.given o s g.0 g.1)).1 in
         b_is ∙ (ap (λ kd. Some (block_to_store (now start ms) x kd i o s)) repairs ∙ ap (λ l. Some (column_of_symbols (object_in (now start ms) o) l i s)) rows))
   ]
 

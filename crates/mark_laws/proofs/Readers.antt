@@ -1,6 +1,6 @@
 -- What gets and repairs read, in a calm run in which no audit missed damage.
 use Rattle.std.proofs.Common.{◌≡◌, ℕ, suc, ◌+◌, ◌≤◌, ◌<◌, ◌==◌, true, false, ◌⊎◌, ◌&&◌, List, [], ◌∷◌, length, Option, Some, None, refl, ap, sym, subst, ◌∙◌, inl, inr, arith}
-use Rattle.std.specs.Prelude.{IsTrue, IsSome, is_some, slice_get, option_and_then}
+use Rattle.std.specs.Prelude.{IsTrue, IsSome, slice_get, option_and_then}
 use Rattle.std.specs.Option.{option_map}
 use Rattle.std.proofs.lemmas.Bool.{cases_Bool, cases_lt, and_parts, eqb-true, false≢true}
 use Rattle.hail_field.specs.Shape.{IsShape}
@@ -10,14 +10,13 @@ use Rattle.hail_columns.specs.Columns.{columns, is_wrong_block}
 use Rattle.hail_columns.specs.Opened.{GivesSymbols, block_at}
 use Rattle.hail_columns.specs.Forgeries.{count_of}
 use Rattle.column_laws.proofs.Counts.{count_of-within}
-use Rattle.hail_records.specs.Records.{Setup}
-use Rattle.hail_records.specs.Table.{setup_of, next_id}
+use Rattle.hail_records.specs.Table.{next_id}
 use Rattle.hail_devices.specs.Faults.{Rose, last_count}
 use Rattle.hail_devices.specs.Providers.{Held}
 use Rattle.hail_devices.specs.ProviderCalls.{FetchGives}
-use Rattle.hail_machine.specs.Jobs.{Kind, RepairJob, Pinned, Given, Fetched, Answered, Worked, Job, job_of}
+use Rattle.hail_machine.specs.Jobs.{RepairJob, Pinned, Given, Fetched, Answered, Worked, Job, job_of}
 use Rattle.hail_machine.specs.Actions.{Action, WriteBody, SyncGate, Store, Work, Remove, actions_by, actions_of, Fetch, Ask}
-use Rattle.hail_machine.specs.Setups.{setup_or_none, object_of, stripes_of}
+use Rattle.hail_machine.specs.Setups.{object_of, stripes_of}
 use Rattle.hail_machine.specs.States.{State, IsStart, setup_in, object_in}
 use Rattle.hail_machine.specs.Given.{block_given, blocks_given}
 use Rattle.hail_machine.specs.Steps.{next_action, block_to_store}
@@ -38,6 +37,7 @@ use Rattle.hail_machine.proofs.PinFacts.{Pins_is, pins_is}
 use Rattle.hail_machine.proofs.Held.{All, first_more, first_all}
 use Rattle.run_laws.proofs.InEffect.{valid_shape}
 use Rattle.run_laws.proofs.InEffect as eff
+use Rattle.run_laws.proofs.FirstHalf.{shape_in}
 use Rattle.calm_laws.specs.FewWrong.{is_wrong_seen}
 use Rattle.calm_laws.specs.Origins.{IsHeldThen}
 use Rattle.calm_laws.proofs.Absent.{own_symbols}
@@ -48,7 +48,7 @@ use Rattle.step_laws.proofs.Walk.{IsGift, Passed, Went, Walked}
 use Rattle.mark_laws.specs.Damage.{IsBad, IsReplaced, RoseSince}
 use Rattle.mark_laws.proofs.Turns.{Turns}
 use Rattle.mark_laws.proofs.Blocks.{since_more, since_now, sized_wrong}
-use Rattle.mark_laws.proofs.Places.{work_within, next_repairs, same_actions}
+use Rattle.mark_laws.proofs.Places.{works_within, next_repairs, same_actions}
 use Rattle.mark_laws.proofs.EveryRun as ev
 use Rattle.mark_laws.proofs.EveryRun.{Always, remove_kinds}
 use Rattle.mark_laws.proofs.Points as pt
@@ -82,14 +82,26 @@ block_in (Worked p t symbols ∷ more) o s i block h = inr (block_in more o s i 
 pub given_at : (given : List Given) (n o s i : ℕ) → i < n → block_at (blocks_given given n o s) i ≡ block_given given o s i
 given_at given n o s i l = ap (λ x. option_and_then (λ block. block) x) (get_map_upto (block_given given o s) n i l)
 
--- a setup in effect makes a shape
-shape_in : (w : State) → ((s : Setup) → setup_of w.records ≡ Some s → IsShape s.n s.l s.b) → is_some (setup_of w.records) ≡ true → IsShape (setup_in w).n (setup_in w).l (setup_in w).b
-unfolding setup_in
-shape_in w valid up = go (setup_of w.records) valid up
+-- of each file that a job works on which relies on providers, at most b of them gave it a wrong block of a stripe
+pub few_there : (mark : Mark) (start : State) (ms : List Moment) → Facts mark start ms →
+    ((k : ℕ) (j : Job) → job_of (now start ms).jobs k ≡ Some j → IsTrue (relies j.kind) → replaced_count (now start ms) (mark_of mark ms j) ms ≤ (setup_in (now start ms)).b) →
+    (k : ℕ) (x : Job) (f : Pinned) (s : ℕ) → job_of (now start ms).jobs k ≡ Some x → relies x.kind ≡ true → In f x.pinned → s < stripes_of (setup_in (now start ms)) (length ((now start ms).bytes f.id)) →
+    count_of (λ i. is_wrong_seen (object_in (now start ms) f.id) ((now start ms).bytes f.id) i s (block_at (blocks_given x.given (setup_in (now start ms)).n f.id s) i)) (upto (setup_in (now start ms)).n) ≤ (setup_in (now start ms)).b
+few_there mark start ms F calm k x f s runs kind in_x b =
+    (let w = count_of-within (λ i. is_wrong_seen (object_in (now start ms) f.id) ((now start ms).bytes f.id) i s (block_at (blocks_given x.given (setup_in (now start ms)).n f.id s) i)) (λ i. is_replaced_since (mark_of mark ms x) i ms) 0 (setup_in (now start ms)).n
+    (λ i l wrong. one i (omega (arith, l)) (subst (λ y. is_wrong_seen (object_in (now start ms) f.id) ((now start ms).bytes f.id) i s y ≡ true) (given_at x.given (setup_in (now start ms)).n f.id s i (omega (arith, l))) wrong)) in
+    let c : count_of (λ i. is_replaced_since (mark_of mark ms x) i ms) (upto (setup_in (now start ms)).n) ≤ (setup_in (now start ms)).b = calm k x runs kind in
+    omega (arith, w, c))
   where
-    go : (o : Option Setup) → ((s : Setup) → o ≡ Some s → IsShape s.n s.l s.b) → is_some o ≡ true → IsShape (setup_or_none o).n (setup_or_none o).l (setup_or_none o).b
-    go None f h = absurd (false≢true h)
-    go (Some s) f h = f s refl
+    one : (i : ℕ) → i < (setup_in (now start ms)).n → is_wrong_seen (object_in (now start ms) f.id) ((now start ms).bytes f.id) i s (block_given x.given f.id s i) ≡ true → is_replaced_since (mark_of mark ms x) i ms ≡ true
+    one i l wrong = by_seen (block_given x.given f.id s i) refl wrong
+      where
+        by_seen : (seen : Option (List ℕ)) → block_given x.given f.id s i ≡ seen → is_wrong_seen (object_in (now start ms) f.id) ((now start ms).bytes f.id) i s seen ≡ true → is_replaced_since (mark_of mark ms x) i ms ≡ true
+        by_seen None is w = absurd (false≢true w)
+        by_seen (Some block) is w = elim (F.gave k x f i s (Some block) runs in_x l b (block_in x.given f.id s i block is) w) [
+          | inl r ↦ r
+          | inr q ↦ absurd (let z : Some block ≡ None = q.0 in cc)
+        ]
 
 module _ (limit : ℕ) (mark : Mark) (start : State) (m : Moment) (ms : List Moment) (clean : IsStart start) (run : IsRun limit start ms) (A : All start ms) (U : num.Facts audits start ms) (I : eff.Facts (now start ms))
     (E : Always start ms) (F : Facts mark start ms)
@@ -224,33 +236,15 @@ module _ (limit : ℕ) (mark : Mark) (start : State) (m : Moment) (ms : List Mom
       by_passed x action runs (Passed.drew act is rec) = before x runs (ap (λ (y : Job). y.begun) is) (ap (λ (y : Job). y.pinned) is) (subst (λ (y : Job). In (Fetched i f.id s block) y.given) is given)
       by_passed x action runs (Passed.finished a act flight mine is rec) = before x runs (ap (λ (y : Job). y.begun) is) (ap (λ (y : Job). y.pinned) is) (subst (λ (y : Job). In (Fetched i f.id s block) y.given) is given)
 
-  -- ---- what the work of a repair gave
+  -- ---- what the work of a get or a repair gave
 
   -- while a job runs, the setup makes a shape
   runs_shape : (k : ℕ) (j : Job) → job_of (now start ms).jobs k ≡ Some j → IsShape (setup_in (now start ms)).n (setup_in (now start ms)).l (setup_in (now start ms)).b
   runs_shape k j runs = shape_in (now start ms) (λ s e. valid_shape s (I.setup s e)) (ev.runs_up limit start m ms A U I E X T k j runs)
 
-  few_wrong : (k : ℕ) (x : Job) (f : Pinned) (s : ℕ) → job_of (now start ms).jobs k ≡ Some x → x.kind ≡ RepairJob → In f x.pinned → s < stripes_of (setup_in (now start ms)) (length ((now start ms).bytes f.id)) →
-      count_of (λ i. is_wrong_seen (object_in (now start ms) f.id) ((now start ms).bytes f.id) i s (block_at (blocks_given x.given (setup_in (now start ms)).n f.id s) i)) (upto (setup_in (now start ms)).n) ≤ (setup_in (now start ms)).b
-  few_wrong k x f s runs kind in_x b =
-      (let w = count_of-within (λ i. is_wrong_seen (object_in (now start ms) f.id) ((now start ms).bytes f.id) i s (block_at (blocks_given x.given (setup_in (now start ms)).n f.id s) i)) (λ i. is_replaced_since (mark_of mark ms x) i ms) 0 (setup_in (now start ms)).n
-      (λ i l wrong. one i (omega (arith, l)) (subst (λ y. is_wrong_seen (object_in (now start ms) f.id) ((now start ms).bytes f.id) i s y ≡ true) (given_at x.given (setup_in (now start ms)).n f.id s i (omega (arith, l))) wrong)) in
-      let c : count_of (λ i. is_replaced_since (mark_of mark ms x) i ms) (upto (setup_in (now start ms)).n) ≤ (setup_in (now start ms)).b = calm k x runs (subst (λ (kd : Kind). IsTrue (relies kd)) (sym kind) refl) in
-      omega (arith, w, c))
-    where
-      one : (i : ℕ) → i < (setup_in (now start ms)).n → is_wrong_seen (object_in (now start ms) f.id) ((now start ms).bytes f.id) i s (block_given x.given f.id s i) ≡ true → is_replaced_since (mark_of mark ms x) i ms ≡ true
-      one i l wrong = by_seen (block_given x.given f.id s i) refl wrong
-        where
-          by_seen : (seen : Option (List ℕ)) → block_given x.given f.id s i ≡ seen → is_wrong_seen (object_in (now start ms) f.id) ((now start ms).bytes f.id) i s seen ≡ true → is_replaced_since (mark_of mark ms x) i ms ≡ true
-          by_seen None is w = absurd (false≢true w)
-          by_seen (Some block) is w = elim (F.gave k x f i s (Some block) runs in_x l b (block_in x.given f.id s i block is) w) [
-            | inl r ↦ r
-            | inr q ↦ absurd (let z : Some block ≡ None = q.0 in cc)
-          ]
-
-  rows_now : (k : ℕ) (x : Job) (o s : ℕ) (symbols : List ℕ) → job_of (now start ms).jobs k ≡ Some x → x.kind ≡ RepairJob → next_action (now start ms) x ≡ Some (Work o s) →
+  rows_now : (k : ℕ) (x : Job) (o s : ℕ) (symbols : List ℕ) → job_of (now start ms).jobs k ≡ Some x → relies x.kind ≡ true → next_action (now start ms) x ≡ Some (Work o s) →
       GivesSymbols (object_in (now start ms) o) s (blocks_given x.given (setup_in (now start ms)).n o s) symbols → (o < next_id (now start ms).records) × (symbols ≡ symbols_in (object_in (now start ms) o) ((now start ms).bytes o) s)
-  rows_now k x o s symbols runs kind next_is gives = by_file (work_within (now start ms) x o s kind next_is)
+  rows_now k x o s symbols runs kind next_is gives = by_file (works_within (now start ms) x o s x.kind refl kind next_is)
     where
       by_file : (f : Pinned) × In f x.pinned × (f.id ≡ o) × (s < stripes_of (setup_in (now start ms)) (length f.bytes)) → (o < next_id (now start ms).records) × (symbols ≡ symbols_in (object_in (now start ms) o) ((now start ms).bytes o) s)
       by_file (f, in_x, id_is, l) =
@@ -258,17 +252,17 @@ module _ (limit : ℕ) (mark : Mark) (start : State) (m : Moment) (ms : List Mom
           subst (λ n. (n < next_id (now start ms).records) × (symbols ≡ symbols_in (object_in (now start ms) n) ((now start ms).bytes n) s)) id_is (
             (A.pins.pins k x f runs in_x).0,
             own_symbols (object_in (now start ms) f.id) ((now start ms).bytes f.id) (setup_in (now start ms)).profile s (blocks_given x.given (setup_in (now start ms)).n f.id s) symbols refl (runs_shape k x runs) b
-                (few_wrong k x f s runs kind in_x b) (subst (λ n. GivesSymbols (object_in (now start ms) n) s (blocks_given x.given (setup_in (now start ms)).n n s) symbols) (sym id_is) gives),
+                (few_there mark start ms F calm k x f s runs kind in_x b) (subst (λ n. GivesSymbols (object_in (now start ms) n) s (blocks_given x.given (setup_in (now start ms)).n n s) symbols) (sym id_is) gives),
           ))
 
-  pub rows_step : (k : ℕ) (j : Job) (o s : ℕ) (symbols : List ℕ) → job_of m.state.jobs k ≡ Some j → j.kind ≡ RepairJob → In (Worked o s symbols) j.given →
+  pub rows_step : (k : ℕ) (j : Job) (o s : ℕ) (symbols : List ℕ) → job_of m.state.jobs k ≡ Some j → relies j.kind ≡ true → In (Worked o s symbols) j.given →
       (o < next_id m.state.records) × (symbols ≡ symbols_in (object_in m.state o) (m.state.bytes o) s)
   rows_step k j o s symbols h kind given = rows_on (elim (X.job k j h) [
     | Job_is.kept r grown ↦ F.rows k j o s symbols r kind given
     | Job_is.begun kd is k_is allowed rec ↦ absurd (subst (λ (x : Job). In (Worked o s symbols) x.given) is given)
-    | Job_is.plain x action runs next_is is_plain goes rec st ↦ by_gave x action runs next_is (sym goes.kind ∙ kind) goes.gave
-    | Job_is.drew x runs next_is free is rec ↦ F.rows k x o s symbols runs (sym (ap (λ (y : Job). y.kind) is) ∙ kind) (subst (λ (y : Job). In (Worked o s symbols) y.given) is given)
-    | Job_is.finished x a runs next_is flight mine is rec free ↦ F.rows k x o s symbols runs (sym (ap (λ (y : Job). y.kind) is) ∙ kind) (subst (λ (y : Job). In (Worked o s symbols) y.given) is given)
+    | Job_is.plain x action runs next_is is_plain goes rec st ↦ by_gave x action runs next_is (ap relies (sym goes.kind) ∙ kind) goes.gave
+    | Job_is.drew x runs next_is free is rec ↦ F.rows k x o s symbols runs (ap relies (sym (ap (λ (y : Job). y.kind) is)) ∙ kind) (subst (λ (y : Job). In (Worked o s symbols) y.given) is given)
+    | Job_is.finished x a runs next_is flight mine is rec free ↦ F.rows k x o s symbols runs (ap relies (sym (ap (λ (y : Job). y.kind) is)) ∙ kind) (subst (λ (y : Job). In (Worked o s symbols) y.given) is given)
   ])
     where
       setup : setup_in m.state ≡ setup_in (now start ms)
@@ -280,7 +274,7 @@ module _ (limit : ℕ) (mark : Mark) (start : State) (m : Moment) (ms : List Mom
         r.1 ∙ (ap (λ y. symbols_in (object_in (now start ms) o) y s) (sym (X.bytes o r.0)) ∙ ap (λ t. symbols_in (object_of t o) (m.state.bytes o) s) (sym setup)),
       )
 
-      by_gave : (x : Job) (action : Action) → job_of (now start ms).jobs k ≡ Some x → next_action (now start ms) x ≡ Some action → x.kind ≡ RepairJob → Gave (now start ms) x action j →
+      by_gave : (x : Job) (action : Action) → job_of (now start ms).jobs k ≡ Some x → next_action (now start ms) x ≡ Some action → relies x.kind ≡ true → Gave (now start ms) x action j →
           (o < next_id (now start ms).records) × (symbols ≡ symbols_in (object_in (now start ms) o) ((now start ms).bytes o) s)
       by_gave x action runs next_is kx (Gave.nothing quiet g) = F.rows k x o s symbols runs kx (subst (In (Worked o s symbols)) g given)
       by_gave x action runs next_is kx (Gave.fetched i p t block act g) = elim (subst (In (Worked o s symbols)) g given) [

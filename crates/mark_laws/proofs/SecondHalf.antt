@@ -11,10 +11,11 @@ use Rattle.hail_records.specs.Records.{Setup}
 use Rattle.hail_records.specs.Table.{File}
 use Rattle.hail_devices.specs.Faults.{Rose, last_count}
 use Rattle.hail_machine.specs.Jobs.{Kind, PutJob, GetJob, DropJob, AuditJob, RepairJob, Pinned, Job, job_of}
-use Rattle.hail_machine.specs.Actions.{Fetch}
+use Rattle.hail_machine.specs.Actions.{Fetch, Work}
 use Rattle.hail_machine.specs.Answers as answer
 use Rattle.hail_machine.specs.Answers.{Answer}
 use Rattle.hail_machine.specs.Events.{Event, Begin, Step, Outcome, Refused, Ended}
+use Rattle.hail_machine.specs.Steps.{next_action}
 use Rattle.hail_machine.specs.Setups.{object_of, stripes_of}
 use Rattle.hail_machine.specs.States.{State, IsStart, setup_in, object_in, file_in}
 use Rattle.hail_machine.specs.Begins.{pinned_file}
@@ -50,7 +51,10 @@ use Rattle.mark_laws.proofs.EveryRun.{always}
 use Rattle.mark_laws.proofs.Points.{Facts, begin_of, mark_of}
 use Rattle.mark_laws.proofs.Audits.{Audited}
 use Rattle.mark_laws.proofs.Audits as aud
+use Rattle.mark_laws.specs.Sharp.{IsLostByFaults, GivesOrIsLost}
 use Rattle.mark_laws.proofs.Readers as rd
+use Rattle.mark_laws.proofs.NoForgery.{no_forgery}
+use Rattle.run_laws.proofs.FirstHalf.{got_right}
 
 -- ---- the facts, at each moment
 
@@ -212,16 +216,41 @@ module _ (limit : ℕ) (mark : Mark) (start : State) (m : Moment) (ms : List Mom
               | inr q ↦ absurd (none i l q.1)
             ])
 
+    in_stripes : (stripe : ℕ) → (f : Pinned) × In f job.pinned × (f.id ≡ file.id) × (stripe < stripes_of (setup_in (now start ms)) (length f.bytes)) →
+        stripe < stripes (object_in (begin_of start ms job) file.id) (length ((begin_of start ms job).bytes file.id))
+    in_stripes stripe (f, in_f, id_is, l) = elim (subst (In f) pinned in_f) [
+      | inl e ↦ subst (λ (t : Setup). stripe < stripes_of t (length ((begin_of start ms job).bytes file.id))) setup (subst (λ (y : List ℕ). stripe < stripes_of (setup_in (now start ms)) (length y)) (ap (λ (x : Pinned). x.bytes) e) l)
+      | inr none ↦ absurd none
+    ]
+
+    -- a get is lost only where a provider's count rose
+    lost_by : (how : Answer) (stripe row : ℕ) → m.event ≡ Step job.number → m.outcome ≡ Ended how → how ≡ answer.Lost stripe row → next_action (now start ms) job ≡ Some (Work file.id stripe) → IsLostByFaults (begin_of start ms job) m.state how
+    lost_by how stripe row event outcome is next_is = elim (some_rose (begin_of start ms job) (now start ms) (setup_in (begin_of start ms job)).n) [
+      | inl (i, l, rose) ↦ record { stripe = stripe; row = row; lost = is; provider = i; provider_in = l; rose = rd.rose_on _ _ _ rose ((run_onward limit start m ms run).provider i).others }
+      | inr none ↦ absurd (few_not_lost limit start m ms job name clean run runs kind event file in_effect stripe row (outcome ∙ ap Ended is)
+          (few none stripe (in_stripes stripe (read_within (now start ms) job name file.id stripe kind next_is)) (λ i l. fetched_before_work (now start ms) job file.id stripe i next_is l)))
+    ]
+
+    -- a get ends with the bytes in effect at its begin, or is lost so
+    ends_sharply : (how : Answer) → m.event ≡ Step job.number → m.outcome ≡ Ended how → GivesOrIsLost (begin_of start ms job) m.state name how
+    ends_sharply how event outcome = by_end (get_ends limit start m ms job name (pinned_file (begin_of start ms job) file) how run event outcome runs kind pinned)
+      where
+        by_end : Get_ends (now start ms) job file.id how → GivesOrIsLost (begin_of start ms job) m.state name how
+        by_end (Get_ends.with_bytes bytes is) =
+            (let g = got_right limit start m ms job name bytes clean run (record { event = event; outcome = outcome ∙ ap Ended is; runs = runs; kind = kind }) in
+            record {
+              file = g.file;
+              in_effect = g.in_effect;
+              gives = elim g.right [
+                | inl same ↦ inl (is ∙ ap answer.Got same)
+                | inr forged ↦ absurd (no_forgery limit mark start ms clean run.2 F (calm_now mark start clean ms calm) job.number job name g.file runs kind g.in_effect forged)
+              ];
+            })
+        by_end (Get_ends.is_lost stripe row is next_is lost) = record { file = file; in_effect = in_effect; gives = inr (lost_by how stripe row event outcome is next_is) }
+
     gives : (how : Answer) → m.event ≡ Step job.number → m.outcome ≡ Ended how → GivesOrRose (begin_of start ms job) m.state name how
     gives how event outcome = record { file = file; in_effect = in_effect; gives = by_rose (some_rose (begin_of start ms job) (now start ms) (setup_in (begin_of start ms job)).n) }
       where
-        in_stripes : (stripe : ℕ) → (f : Pinned) × In f job.pinned × (f.id ≡ file.id) × (stripe < stripes_of (setup_in (now start ms)) (length f.bytes)) →
-            stripe < stripes (object_in (begin_of start ms job) file.id) (length ((begin_of start ms job).bytes file.id))
-        in_stripes stripe (f, in_f, id_is, l) = elim (subst (In f) pinned in_f) [
-          | inl e ↦ subst (λ (t : Setup). stripe < stripes_of t (length ((begin_of start ms job).bytes file.id))) setup (subst (λ (y : List ℕ). stripe < stripes_of (setup_in (now start ms)) (length y)) (ap (λ (x : Pinned). x.bytes) e) l)
-          | inr none ↦ absurd none
-        ]
-
         by_end : ((i : ℕ) → i < (setup_in (begin_of start ms job)).n → RoseSince (begin_of start ms job) (now start ms) i → ⊥) → Get_ends (now start ms) job file.id how → how ≡ answer.Got ((begin_of start ms job).bytes file.id)
         by_end none (Get_ends.with_bytes bytes is) =
             is ∙ ap answer.Got (few_give limit start m ms job name clean run runs kind event file in_effect bytes (outcome ∙ ap Ended is)
@@ -238,6 +267,11 @@ module _ (limit : ℕ) (mark : Mark) (start : State) (m : Moment) (ms : List Mom
   get_gives job name how runs kind event outcome =
       (let H = have_files limit start clean ms run.2 job.number job name runs kind in
       gives job name runs kind H.file H.in_effect H.pinned (setup_same (now start ms) (begin_of start ms job) H.setup) how event outcome)
+
+  pub get_sharply : (job : Job) (name : List ℕ) (how : Answer) → job_of (now start ms).jobs job.number ≡ Some job → job.kind ≡ GetJob name → m.event ≡ Step job.number → m.outcome ≡ Ended how → GivesOrIsLost (begin_of start ms job) m.state name how
+  get_sharply job name how runs kind event outcome =
+      (let H = have_files limit start clean ms run.2 job.number job name runs kind in
+      ends_sharply job name runs kind H.file H.in_effect H.pinned (setup_same (now start ms) (begin_of start ms job) H.setup) how event outcome)
 
   by_job : (number : ℕ) (how : Answer) → m.event ≡ Step number → m.outcome ≡ Ended how → KeepsSecondHalf start ms (Step number) (Ended how) m.state
   by_job number how event outcome = go (job_of (now start ms).jobs number) refl
@@ -268,4 +302,4 @@ half_by_mark limit mark start clean tell (m ∷ ms) run calm marks = (
 )
 
 pub second_half : SecondHalfHolds
-second_half limit start ms is_limit clean tell run calm missed = half_by_mark limit (since start) start clean tell ms run calm (are_marks limit start clean tell ms run calm missed)
+second_half limit start ms clean tell run calm missed = half_by_mark limit (since start) start clean tell ms run calm (are_marks limit start clean tell ms run calm missed)

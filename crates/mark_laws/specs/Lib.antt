@@ -1,3 +1,4 @@
 pub mod Damage
 pub mod Marks
 pub mod MarkedRuns
+pub mod Sharp

@@ -6,7 +6,10 @@ ghost use Rattle.hail_columns.specs.Columns.{columns, is_wrong_block};
 ghost use Rattle.hail_columns.specs.Verdicts.{is_flagged};
 ghost use Rattle.hail_records.specs.Records.{PutDone, AuditDone, RepairDone};
 ghost use Rattle.hail_records.specs.Table.{File, Due, due_of};
-ghost use Rattle.hail_machine.specs.Jobs.{PutJob, AuditJob, RepairJob, Pinned, Fetched, Worked, Job, job_of};
+ghost use Rattle.hail_machine.specs.Jobs.{PutJob, GetJob, AuditJob, RepairJob, Pinned, Fetched, Worked, Job, job_of};
+ghost use Rattle.hail_machine.specs.Answers.{Answer};
+ghost use Rattle.hail_machine.specs.Events.{Step, Ended};
+ghost use Rattle.hail_machine.specs.Heard.{heard_by, HoldsForgery};
 ghost use Rattle.hail_machine.specs.States.{State, Doubt, IsStart, setup_in, object_in, file_in};
 ghost use Rattle.hail_machine.specs.Runs.{Moment, IsRun, now, first_moments, is_replaced_since, came};
 ghost use Rattle.hail_machine.specs.Calm.{Mark, since, relies, IsCalm};
@@ -16,6 +19,7 @@ ghost use Rattle.hail_machine.specs.Deeds.{told_block, HasMadeStore};
 ghost use Rattle.mark_laws.specs.Damage.{IsBad, IsReplaced, RoseSince};
 ghost use Rattle.mark_laws.specs.Marks.{WasWrong, Remains, PrecedesPuts, IsMark};
 ghost use Rattle.mark_laws.specs.MarkedRuns.{IsMarkedRun, IsCalmRun};
+ghost use Rattle.mark_laws.specs.Sharp.{GivesOrIsLost};
 
 /// The second half of the main theorem: in every calm run in which no audit missed damage, of providers that tell what they hold, every
 /// get of a stored name that a step ended gave the bytes that were in effect under it at its begin, unless the count of the disk or of
@@ -28,6 +32,24 @@ pub fn second_half()
 /// each moment is one, whatever audits missed.
 pub fn any_mark_will_do()
     ensures { (limit : ℕ) (mark : Mark) (start : State) (ms : List Moment) → IsMarkedRun limit mark start ms → SecondHalf start ms }
+{}
+
+/// In a run that is calm by a mark, whatever counts rose, no fetched row of a get is a forgery; a get that ends with bytes gives those that
+/// were in effect under its name at its begin; and it is lost only where the count of failed calls of a provider rose since that begin.
+pub fn gets_give_or_are_lost()
+    ensures no_forgery { (limit : ℕ) (mark : Mark) (start : State) (ms : List Moment) (number : ℕ) (job : Job) (name : List ℕ) (file : File) →
+        IsMarkedRun limit mark start ms → job_of (now start ms).jobs number ≡ Some job → job.kind ≡ GetJob name →
+        file_in (now start (first_moments job.begun ms)) name ≡ Some file →
+        HoldsForgery (object_in (now start (first_moments job.begun ms)) file.id) ((now start (first_moments job.begun ms)).bytes file.id)
+        job.number (heard_by (Some job)) → ⊥ }
+    ensures ends { (limit : ℕ) (mark : Mark) (start : State) (m : Moment) (ms : List Moment) (job : Job) (name : List ℕ) (how : Answer) →
+        IsMarkedRun limit mark start (m ∷ ms) → m.event ≡ Step job.number → m.outcome ≡ Ended how →
+        job_of (now start ms).jobs job.number ≡ Some job → job.kind ≡ GetJob name →
+        GivesOrIsLost (now start (first_moments job.begun ms)) m.state name how }
+    ensures rows { (limit : ℕ) (mark : Mark) (start : State) (ms : List Moment) (number : ℕ) (job : Job) (name : List ℕ) (object stripe : ℕ)
+        (symbols : List ℕ) → IsMarkedRun limit mark start ms → job_of (now start ms).jobs number ≡ Some job → job.kind ≡ GetJob name →
+        Contains job.given (Worked object stripe symbols) →
+        symbols ≡ symbols_in (object_in (now start ms) object) ((now start ms).bytes object) stripe }
 {}
 
 /// In every run, calm or not, a moment before which no put began that works stays one in each event; and in a run that is calm by any mark so

@@ -5,7 +5,7 @@ use Rattle.std.proofs.lemmas.List.{take_more_set}
 use Rattle.std.proofs.lemmas.List.FromFn.{map-range_with_len_more}
 use Rattle.rand_chacha.specs.ChaCha.{ChaCha, of_seed}
 use Rattle.hail_columns.specs.Keys.{mask_of, masks_from, stream_symbol}
-use Rattle.mask_tag.specs.Generator.{symbol_at, moved_on}
+use Rattle.mask_tag.specs.Generator.{next_symbol, moved_on}
 
 -- the generator under a key at the masks of a row
 abbrev pub at_row : List ℕ → ℕ → ChaCha
@@ -17,10 +17,10 @@ next_row g h key first i e f =
     f ∙ ap (λ (x : ChaCha). moved_on x 4) e ∙ ap (λ (w : ℕ). record (of_seed key) { word_pos = w }) n
 
 pub masks_more : (out key : List ℕ) (first i x : ℕ) (g : ChaCha) → i < length out → take i out ≡ masks_from key first i →
-    g ≡ at_row key (first + i) → x ≡ symbol_at g → take (i + 1) (set out i x) ≡ masks_from key first (i + 1)
+    g ≡ at_row key (first + i) → x ≡ next_symbol g → take (i + 1) (set out i x) ≡ masks_from key first (i + 1)
 unfolding stream_symbol
 masks_more out key first i x g below filled e f =
     take_more_set out i x below
     ∙ ap (λ (l : List ℕ). l ++ x ∷ []) filled
-    ∙ ap (λ (y : ℕ). masks_from key first i ++ y ∷ []) (f ∙ ap symbol_at e)
+    ∙ ap (λ (y : ℕ). masks_from key first i ++ y ∷ []) (f ∙ ap next_symbol e)
     ∙ sym (map-range_with_len_more (mask_of key) first i (first + i) refl)

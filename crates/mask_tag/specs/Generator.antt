@@ -3,8 +3,8 @@ use Rattle.std.specs.Prelude.{ℕ, ◌+◌, ◌*◌, ◌^◌}
 use Rattle.rand_chacha.specs.ChaCha.{ChaCha, word_at}
 
 -- the symbol of the four words at the generator's place, the first word lowest
-abbrev pub symbol_at : ChaCha → ℕ
-symbol_at g =
+abbrev pub next_symbol : ChaCha → ℕ
+next_symbol g =
     word_at 10 g.key g.stream g.word_pos + word_at 10 g.key g.stream (g.word_pos + 1) * 2 ^ 32
     + word_at 10 g.key g.stream (g.word_pos + 2) * 2 ^ 64 + word_at 10 g.key g.stream (g.word_pos + 3) * 2 ^ 96
 

@@ -3,7 +3,7 @@
 
 ghost use Rattle.std.specs.Prelude.{◌≡◌, ◌≤◌, ◌*◌, ◌+◌, ◌^◌, ◌<◌, length};
 ghost use Rattle.hail_columns.specs.Keys.{mask_of, masks_from};
-ghost use Rattle.mask_tag.specs.Generator.{symbol_at, moved_on};
+ghost use Rattle.mask_tag.specs.Generator.{next_symbol, moved_on};
 
 use hail_field::Symbol;
 use rand_chacha::ChaCha20Rng;
@@ -16,7 +16,7 @@ mod tests;
 // The symbol of the next four words, the first word lowest.
 fn next_symbol(rng: &mut ChaCha20Rng) -> Symbol
     requires { rng.old.word_pos + 4 < 2 ^ 68 }
-    ensures value { result ≡ symbol_at rng.old }
+    ensures value { result ≡ next_symbol rng.old }
     ensures place { rng.new ≡ moved_on rng.old 4 }
 {
     let first = rng.next_word();

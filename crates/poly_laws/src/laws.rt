@@ -3,6 +3,13 @@ ghost use Rattle.std.specs.Prelude.{◌≡◌, ◌≢◌, ◌≤◌, ◌<◌, �
 ghost use Rattle.field_laws.specs.Field.{FieldOf, IsField, IsEndless, Apart};
 ghost use Rattle.poly_laws.specs.Poly.{value, plus, times, vanish, interpolate, Takes, agree, trim, quotient, remainder, Decodes, FirstRow};
 ghost use Rattle.poly_laws.specs.Rows.{IsKeyEquation};
+ghost use Rattle.poly_laws.specs.Sums.{sum_below, power};
+
+/// The value at x is the sum of p[i] * x^i over the places i of p.
+pub fn value_is_sum_of_terms<T>()
+    ensures { (F : FieldOf T) → IsField F → (p : List T) (x : T) →
+        value F p x ≡ sum_below F (λ i. F.mul (get_or p i F.zero) (power F x i)) (length p) }
+{}
 
 /// The value of a sum is the sum of the values, and that of a product their product.
 pub fn values_are_homomorphic<T>()
@@ -59,15 +66,15 @@ pub fn first_row_solves_key_equation<T>()
 
 /// 'Divide, look at the degree, count' is exact: where a polynomial of degree below `keep` takes all values but `fix`, it is the one
 /// quotient of the first row by its cofactor. So where there is no quotient, or one of a higher degree or that agrees too seldom,
-/// no polynomial does.
+/// no polynomial does. Each bound `below` from `fix + keep` to N - `fix` serves.
 pub fn quotient_of_first_row_decodes<T>()
     ensures divides { (F : FieldOf T) → IsField F → IsEndless T → (points values r f p : List T) (keep fix below : ℕ) → Apart points →
-        length points ≡ length values → length points + keep ≤ 2 * below → below + fix ≤ length points → 0 < keep →
+        length points ≡ length values → fix + keep ≤ below → below + fix ≤ length points → 0 < keep →
         FirstRow F below (vanish F points) [] (trim F (interpolate F points values)) (F.one ∷ []) r f →
         Decodes F points values keep fix p →
         (x : T) → value F r x ≡ F.mul (value F f x) (value F p x) }
     ensures only { (F : FieldOf T) → IsField F → IsEndless T → (points values r f p q : List T) (keep fix below : ℕ) → Apart points →
-        length points ≡ length values → length points + keep ≤ 2 * below → below + fix ≤ length points → 0 < keep →
+        length points ≡ length values → fix + keep ≤ below → below + fix ≤ length points → 0 < keep →
         FirstRow F below (vanish F points) [] (trim F (interpolate F points values)) (F.one ∷ []) r f →
         Decodes F points values keep fix p →
         ((x : T) → value F r x ≡ F.mul (value F f x) (value F q x)) →

@@ -1,3 +1,4 @@
 pub mod HeldBlocks
 pub mod SureProvider
 pub mod MemProvider
+pub mod Liar

@@ -81,5 +81,43 @@ fn challenges_are_answered(rt: HostRuntime) -> Result<(), Fail> {
     assert_eq!(rt; provider.ask(1, &challenge), Ok(Some(weight)));
     assert_eq!(rt; provider.lose(1, 11), true);
     assert_eq!(rt; provider.ask(1, &challenge), Ok(None));
+
+    let mut liar = Liar::new(rt.alloc(), Symbol(1));
+    for stripe in [1, 3, 4, 11] {
+        assert_eq!(rt; liar.store(1, stripe, &block), Ok(()));
+    }
+    assert_eq!(rt; liar.ask(1, &challenge), Ok(Some(weight.add(Symbol::ONE))));
+    Ok(())
+}
+
+#[test]
+fn a_liar_adds_its_symbol(rt: HostRuntime) -> Result<(), Fail> {
+    let mut liar = Liar::new(rt.alloc(), Symbol(5));
+    let mut out = [Symbol(0); 3];
+    assert_eq!(rt; liar.store(1, 0, &BLOCK), Ok(()));
+    assert_eq!(rt; liar.fetch(1, 0, &mut out), Ok(true));
+    assert_eq!(rt; out, [Symbol(2), Symbol(13), Symbol(12)]);
+    assert_eq!(rt; liar.held(1, 0), Some(BLOCK.as_slice()));
+    assert_eq!(rt; liar.alter(1, 0, 2, Symbol(5)), true);
+    assert_eq!(rt; liar.fetch(1, 0, &mut out), Ok(true));
+    assert_eq!(rt; out, [Symbol(2), Symbol(13), Symbol(0)]);
+    assert_eq!(rt; liar.remove(1), Ok(()));
+    assert_eq!(rt; liar.lose(1, 0), false);
+    assert_eq!(rt; liar.fetch(1, 0, &mut out), Ok(false));
+    Ok(())
+}
+
+#[test]
+fn calls_are_passed_on_untold(rt: HostRuntime) -> Result<(), Fail> {
+    let mut untold = Untold::new(MemProvider::new(rt.alloc(), &[1, 3])?);
+    let mut out = [Symbol(0); 3];
+    assert_eq!(rt; untold.store(1, 0, &BLOCK), Ok(()));
+    assert_eq!(rt; untold.store(1, 0, &[Symbol(4)]), Err(StoreFault::Failed));
+    assert_eq!(rt; untold.fetch(1, 0, &mut out), Ok(true));
+    assert_eq!(rt; out, BLOCK);
+    assert_eq!(rt; untold.remove(1), Err(Failed));
+    assert_eq!(rt; untold.alter(1, 0, 2, Symbol(5)), true);
+    assert_eq!(rt; untold.lose(1, 0), true);
+    assert_eq!(rt; untold.inner.held(1, 0), None);
     Ok(())
 }

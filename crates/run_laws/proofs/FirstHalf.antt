@@ -29,7 +29,7 @@ first_run limit start k (m ∷ ms) run = elim (cases_Bool (nat_le (length (m ∷
 ]
 
 -- a setup in effect makes a shape
-shape_in : (w : State) → ((s : Setup) → setup_of w.records ≡ Some s → IsShape s.n s.l s.b) → is_some (setup_of w.records) ≡ true → IsShape (setup_in w).n (setup_in w).l (setup_in w).b
+pub shape_in : (w : State) → ((s : Setup) → setup_of w.records ≡ Some s → IsShape s.n s.l s.b) → is_some (setup_of w.records) ≡ true → IsShape (setup_in w).n (setup_in w).l (setup_in w).b
 unfolding setup_in
 shape_in w valid up = go (setup_of w.records) valid up
   where
@@ -78,4 +78,4 @@ halves limit start clean [] run = tt
 halves limit start clean (m ∷ ms) run = (keeps limit start m ms clean run m.event m.outcome refl refl, halves limit start clean ms run.2)
 
 pub first_half : FirstHalfHolds
-first_half limit start ms small clean run = halves limit start clean ms run
+first_half limit start ms clean run = halves limit start clean ms run

@@ -14,6 +14,7 @@ use Rattle.hail_machine.specs.Heard.{heard_by, HoldsForgery}
 use Rattle.hail_machine.specs.Halves.{EndsGet}
 use Rattle.hail_machine.specs.Survival.{EndsPut}
 use Rattle.hail_machine.proofs.JobLists.{same_value}
+use Rattle.hail_machine.proofs.Changes.{Changes}
 use Rattle.hail_machine.proofs.Events.{changes}
 use Rattle.hail_machine.proofs.Numbers.{objects, Draws, next_by, next_is_by, next_of_records}
 use Rattle.hail_machine.proofs.Numbers as num
@@ -81,21 +82,23 @@ past_first w job name bytes kind h = go job.place refl (sym (ap (λ kd. next_by 
     go (suc (suc (suc (suc q)))) is e = omega (arith, is)
 
 -- an object number in effect stands for these bytes
-record Stands (w : State) (id : ℕ) (bytes : List ℕ) : Type 0 where
-  below : id < next_id w.records
-  bytes_are : w.bytes id ≡ bytes
+pub record Stands (w : State) (id : ℕ) (bytes : List ℕ) : Type 0 where
+  pub below : id < next_id w.records
+  pub bytes_are : w.bytes id ≡ bytes
+
+pub stands_by : (limit moment : ℕ) (old : State) (e : Event) (r : Outcome) (new : State) (id : ℕ) (bytes : List ℕ) → Changes limit moment old e r new → Stands old id bytes → Stands new id bytes
+stands_by limit moment old e r new id bytes X h = record {
+  below = (let l = h.below in let g = next_of_records objects old new X.records in omega arith);
+  bytes_are = X.bytes id h.below ∙ h.bytes_are;
+}
 
 module _ (limit : ℕ) (start : State) (clean : IsStart start) (id : ℕ) (bytes : List ℕ) where
-  stands_on : (m : Moment) (ms : List Moment) → IsRun limit start (m ∷ ms) → Stands (now start ms) id bytes → Stands m.state id bytes
+  pub stands_on : (m : Moment) (ms : List Moment) → IsRun limit start (m ∷ ms) → Stands (now start ms) id bytes → Stands m.state id bytes
   stands_on m ms run h =
       (let N = num.facts objects limit start clean ms run.2 in
-      let X = changes limit (length ms) (now start ms) m.event m.outcome m.state N.idle run.1 in
-      record {
-        below = (let l = h.below in let g = next_of_records objects (now start ms) m.state X.records in omega arith);
-        bytes_are = X.bytes id h.below ∙ h.bytes_are;
-      })
+      stands_by limit (length ms) (now start ms) m.event m.outcome m.state id bytes (changes limit (length ms) (now start ms) m.event m.outcome m.state N.idle run.1) h)
 
-  stands_later : (later ms : List Moment) → IsRun limit start (later ++ ms) → Stands (now start ms) id bytes → Stands (now start (later ++ ms)) id bytes
+  pub stands_later : (later ms : List Moment) → IsRun limit start (later ++ ms) → Stands (now start ms) id bytes → Stands (now start (later ++ ms)) id bytes
   stands_later [] ms run h = h
   stands_later (m ∷ later) ms run h = stands_on m (later ++ ms) run (stands_later later ms run.2 h)
 

@@ -8,3 +8,4 @@ pub mod Again
 pub mod Texts
 pub mod Plain
 pub mod Spelled
+pub mod Sizes

@@ -1,4 +1,6 @@
 // Reads what stands behind the word `begin`.
+ghost use Rattle.std.specs.Prelude.{◌≡◌, false, codes, IfErr};
+ghost use Rattle.std.specs.Str.{bytes_eq};
 ghost use Rattle.schedule_text.specs.Grammar.{words};
 ghost use Rattle.schedule_text.specs.Events.{command_of};
 ghost use Rattle.schedule_text.specs.Reading.{Gives, put_at, get_at, drop_at, begun_at, begin_at};
@@ -44,7 +46,9 @@ fn read_drop(alloc: Global, line: &[u8]) -> Result<Event, LineFault>
 /// The begin of a job of this kind.
 #[tactic(auto, unfolding(crate::specs::Reading::begun_at))]
 fn read_begun(alloc: Global, kind: &[u8], line: &[u8]) -> Result<Event, LineFault>
-    ensures { Gives command_of result (begun_at kind.now (words line.now)) }
+    ensures read { Gives command_of result (begun_at kind.now (words line.now)) }
+    ensures bad { bytes_eq kind.now (codes "put") ≡ false → bytes_eq kind.now (codes "get") ≡ false
+        → bytes_eq kind.now (codes "drop") ≡ false → IfErr result (λ fault. fault ≡ LineFault.Bad) }
 {
     if kind == b"put".as_slice() {
         read_put(alloc, line)

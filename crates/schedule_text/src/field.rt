@@ -1,5 +1,5 @@
 // Takes a number, bytes or a key from the front of a line.
-ghost use Rattle.std.specs.Prelude.{◌≡◌, MatchOption, IfOk, None, Some};
+ghost use Rattle.std.specs.Prelude.{◌≡◌, MatchOption, IfOk, IfErr, None, Some};
 ghost use Rattle.std.specs.Option.{option_map};
 ghost use Rattle.schedule_text.specs.Grammar.{words};
 ghost use Rattle.schedule_text.specs.Reading.{Gives, number_in, bytes_in, key_in, numeral_at, number_at, bytes_at, key_at};
@@ -47,7 +47,8 @@ fn key_of(word: &[u8]) -> Option<Master>
 /// A number below 2^128.
 #[tactic(auto, unfolding(crate::specs::Reading::numeral_at))]
 pub(crate) fn take_u128(line: &[u8]) -> Result<(u128, &[u8]), LineFault>
-    ensures { Gives (λ x. (x.0, words x.1.now)) result (numeral_at (words line.now)) }
+    ensures read { Gives (λ x. (x.0, words x.1.now)) result (numeral_at (words line.now)) }
+    ensures bad { IfErr result (λ fault. fault ≡ LineFault.Bad) }
 {
     let (word, left) = take_word(line)?;
     match number_of(word) {
@@ -59,7 +60,8 @@ pub(crate) fn take_u128(line: &[u8]) -> Result<(u128, &[u8]), LineFault>
 /// A number of one byte.
 #[tactic(auto, unfolding(crate::specs::Reading::number_at))]
 pub(crate) fn take_u8(line: &[u8]) -> Result<(u8, &[u8]), LineFault>
-    ensures { Gives (λ x. (x.0, words x.1.now)) result (number_at 8 (words line.now)) }
+    ensures read { Gives (λ x. (x.0, words x.1.now)) result (number_at 8 (words line.now)) }
+    ensures bad { IfErr result (λ fault. fault ≡ LineFault.Bad) }
 {
     let (number, left) = take_u128(line)?;
     match u8::try_from(number) {
@@ -71,7 +73,8 @@ pub(crate) fn take_u8(line: &[u8]) -> Result<(u8, &[u8]), LineFault>
 /// A number of two bytes.
 #[tactic(auto, unfolding(crate::specs::Reading::number_at))]
 pub(crate) fn take_u16(line: &[u8]) -> Result<(u16, &[u8]), LineFault>
-    ensures { Gives (λ x. (x.0, words x.1.now)) result (number_at 16 (words line.now)) }
+    ensures read { Gives (λ x. (x.0, words x.1.now)) result (number_at 16 (words line.now)) }
+    ensures bad { IfErr result (λ fault. fault ≡ LineFault.Bad) }
 {
     let (number, left) = take_u128(line)?;
     match u16::try_from(number) {
@@ -83,7 +86,8 @@ pub(crate) fn take_u16(line: &[u8]) -> Result<(u16, &[u8]), LineFault>
 /// A number of four bytes.
 #[tactic(auto, unfolding(crate::specs::Reading::number_at))]
 pub(crate) fn take_u32(line: &[u8]) -> Result<(u32, &[u8]), LineFault>
-    ensures { Gives (λ x. (x.0, words x.1.now)) result (number_at 32 (words line.now)) }
+    ensures read { Gives (λ x. (x.0, words x.1.now)) result (number_at 32 (words line.now)) }
+    ensures bad { IfErr result (λ fault. fault ≡ LineFault.Bad) }
 {
     let (number, left) = take_u128(line)?;
     match u32::try_from(number) {
@@ -95,7 +99,8 @@ pub(crate) fn take_u32(line: &[u8]) -> Result<(u32, &[u8]), LineFault>
 /// A number of eight bytes.
 #[tactic(auto, unfolding(crate::specs::Reading::number_at))]
 pub(crate) fn take_u64(line: &[u8]) -> Result<(u64, &[u8]), LineFault>
-    ensures { Gives (λ x. (x.0, words x.1.now)) result (number_at 64 (words line.now)) }
+    ensures read { Gives (λ x. (x.0, words x.1.now)) result (number_at 64 (words line.now)) }
+    ensures bad { IfErr result (λ fault. fault ≡ LineFault.Bad) }
 {
     let (number, left) = take_u128(line)?;
     match u64::try_from(number) {
@@ -117,7 +122,8 @@ pub(crate) fn take_bytes(alloc: Global, line: &[u8]) -> Result<(Bytes, &[u8]), L
 /// A master key.
 #[tactic(auto, unfolding(crate::specs::Reading::key_at))]
 pub(crate) fn take_key(line: &[u8]) -> Result<(Master, &[u8]), LineFault>
-    ensures { Gives (λ x. (x.0.0, words x.1.now)) result (key_at (words line.now)) }
+    ensures read { Gives (λ x. (x.0.0, words x.1.now)) result (key_at (words line.now)) }
+    ensures bad { IfErr result (λ fault. fault ≡ LineFault.Bad) }
 {
     let (word, left) = take_word(line)?;
     match key_of(word) {

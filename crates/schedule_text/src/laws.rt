@@ -1,5 +1,5 @@
 //! What follows from the grammar of schedules.
-ghost use Rattle.std.specs.Prelude.{◌≡◌, ℕ, List};
+ghost use Rattle.std.specs.Prelude.{◌≡◌, ◌≤◌, ◌+◌, ℕ, List, length};
 ghost use Rattle.std.specs.List.{AllByRecursion};
 ghost use Rattle.hail_machine.specs.Transcripts.{Command};
 ghost use Rattle.schedule_text.specs.Schedules.{IsSchedule, IsFirstBadLine};
@@ -23,4 +23,9 @@ pub fn first_bad_line_is_one()
 /// Each list of commands whose numbers fit, and whose names are words, is spelled by a text.
 pub fn commands_have_a_spelling()
     ensures { (commands : List Command) → AllByRecursion CanBeSpelled commands → IsSchedule (spelling commands) commands }
+{}
+
+/// A text has at most one event more than it has bytes.
+pub fn schedule_is_short()
+    ensures { (text : List ℕ) (commands : List Command) → IsSchedule text commands → length commands ≤ length text + 1 }
 {}

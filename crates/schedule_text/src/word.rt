@@ -37,7 +37,8 @@ pub(crate) fn take_word(line: &[u8]) -> Result<(&[u8], &[u8]), LineFault>
 
 /// The event, where no word is left behind it.
 pub(crate) fn ended(event: Event, line: &[u8]) -> Result<Event, LineFault>
-    ensures { Gives command_of result (ended (command_of event) (words line.now)) }
+    ensures read { Gives command_of result (ended (command_of event) (words line.now)) }
+    ensures bad { IfErr result (λ fault. fault ≡ LineFault.Bad) }
 {
     if without_spaces(line).is_empty() {
         Ok(event)

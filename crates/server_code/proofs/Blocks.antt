@@ -1,19 +1,15 @@
 -- What a code makes of the kept symbols and of blocks.
-use Rattle.std.proofs.Common.{◌≡◌, ◌≤◌, ◌<◌, ◌+◌, ◌-◌, ◌++◌, ◌⊎◌, inl, inr, ℕ, List, length, take, drop, map, get_or, sym, ap, subst, ◌∙◌, arith, length-append}
+use Rattle.std.proofs.Common.{◌≡◌, ◌≤◌, ◌<◌, ◌+◌, ◌-◌, ◌++◌, ◌⊎◌, inl, inr, ℕ, suc, List, [], ◌∷◌, Bool, true, false, cond, nat_eq, Some, refl, length, take, drop, map, get_or, sym, ap, ◌∙◌, arith, length-append}
 use Rattle.std.proofs.lemmas.List.{take-append-drop, length-take, get_or_append_left, get_or-append_right}
 use Rattle.std.proofs.lemmas.List.FromFn.{fill_by_all, length-map-range_with_len, length-range_with_len}
-use Rattle.field_laws.specs.Field.{Apart}
-use Rattle.hail_field.specs.Nim.{nim}
-use Rattle.poly_laws.specs.Poly.{Decodes}
-use Rattle.hail_codes.specs.Polynomials.{value, interpolate}
-use Rattle.hail_codes.specs.Points.{upto}
+use Rattle.poly_laws.specs.Poly.{agree as agree_over, is_seen as is_seen_over}
+use Rattle.hail_codes.specs.Polynomials.{value, agree, interpolate}
+use Rattle.hail_codes.specs.Points.{upto, values_at}
 use Rattle.hail_codes.specs.Profiles.{Profile}
 use Rattle.hail_codes.specs.Sums.{dot}
-use Rattle.hail_codes.specs.ServerCode.{codeword, Opens, OpensToNone}
-use Rattle.hail_codes.proofs.Points.{Apart-range}
+use Rattle.hail_codes.specs.ServerCode.{codeword, differences, Opens}
 use Rattle.hail_codes.proofs.Generators.{value-kept, get_or-codeword}
 use Rattle.hail_codes.proofs.Codewords.{opens_itself}
-use Rattle.hail_gao.specs.Decoding.{IsDecoded, NoneDecodes}
 use Rattle.server_code.specs.Generator.{row_at, sums, IsGenerator}
 use Rattle.server_code.proofs.RowSteps.{get_or-sums}
 
@@ -40,43 +36,32 @@ extended_is_codeword profile rows kept n generator long sizes =
         ap (λ m. get_or (codeword profile kept) m 0) same ∙
         get_or-codeword profile kept k h
 
--- a block whose other symbols are the sums of its first is a codeword
-pub extended_opens : (profile : Profile) (rows block : List ℕ) (keep n : ℕ) → IsGenerator profile rows → length block ≡ profile.size → keep ≡ profile.keep → n ≡ length block - keep →
-    profile.keep ≤ profile.size → drop keep block ≡ sums rows (take keep block) n → Opens profile block block
-extended_opens profile rows block keep n generator long is_keep is_n le is =
-    opens_itself profile (take keep block) block kept
-    (sym (take-append-drop keep block) ∙ ap (λ t. take keep block ++ t) is ∙
-    extended_is_codeword profile rows (take keep block) n generator kept (omega arith))
+-- a polynomial agrees with a block where the block does not differ from its values
+pub agree-differences : (p xs ys : List ℕ) → length xs ≡ length ys → agree p xs (map Some ys) + differences ys (values_at xs p) ≡ length xs
+unfolding agree_over is_seen_over
+agree-differences p [] [] even = refl
+agree-differences p [] (y ∷ ys) even = absurd (omega arith)
+agree-differences p (x ∷ xs) [] even = absurd (omega arith)
+agree-differences p (x ∷ xs) (y ∷ ys) even = go (nat_eq y (value p x)) (agree-differences p xs ys (omega arith))
   where
-    kept : length (take keep block) ≡ profile.keep
-    kept = omega (arith, length-take keep block)
+    go : (b : Bool) → agree p xs (map Some ys) + differences ys (values_at xs p) ≡ length xs →
+        cond b 1 0 + agree p xs (map Some ys) + cond b (differences ys (values_at xs p)) (suc (differences ys (values_at xs p))) ≡ suc (length xs)
+    go true h = omega (arith, h)
+    go false h = omega (arith, h)
 
--- the points of a code are apart
-pub points_apart : (points : List ℕ) (size : ℕ) → points ≡ upto size → Apart points
-points_apart points size is = subst (λ (ps : List ℕ). Apart ps) (sym is) (Apart-range 0 size)
-
--- as many points as symbols
-pub points_even : (points block : List ℕ) (size : ℕ) → points ≡ upto size → length block ≡ size → length points ≡ length block
-points_even points block size is long = ap length is ∙ length-range_with_len 0 size ∙ sym long
-
--- where no polynomial decodes a block, it opens to nothing
-pub none_opens : (profile : Profile) (points block : List ℕ) (keep fix : ℕ) → points ≡ upto profile.size → keep ≡ profile.keep → fix ≡ profile.fix →
-    NoneDecodes points block keep fix → OpensToNone profile block
-none_opens profile points block keep fix is_points is_keep is_fix none p near =
-    none.none p (subst (λ (ps : List ℕ). Decodes nim ps block keep fix p) (sym is_points)
-    (subst (λ (k : ℕ). Decodes nim (upto profile.size) block k fix p) (sym is_keep)
-    (subst (λ (f : ℕ). Decodes nim (upto profile.size) block profile.keep f p) (sym is_fix) near.decodes)))
-
--- where one does, it opens to the values of that one
-pub decoded_opens : (profile : Profile) (points block opened p : List ℕ) (keep fix : ℕ) → points ≡ upto profile.size → keep ≡ profile.keep → fix ≡ profile.fix →
-    length block ≡ profile.size → IsDecoded points block keep fix p → opened ≡ map (value p) points → Opens profile block opened
-decoded_opens profile points block opened p keep fix is_points is_keep is_fix long decoded is = record {
-  polynomial = p;
-  near = record {
-    whole = long;
-    decodes = subst (λ (ps : List ℕ). Decodes nim ps block profile.keep profile.fix p) is_points
-        (subst (λ (k : ℕ). Decodes nim points block k profile.fix p) is_keep
-        (subst (λ (f : ℕ). Decodes nim points block keep f p) is_fix decoded.decodes));
-  };
-  opened_is = is ∙ ap (map (value p)) is_points;
-}
+-- a block opens to what opens to itself and differs from it at few places
+pub near_opens : (profile : Profile) (block opened : List ℕ) → length block ≡ profile.size → Opens profile opened opened → differences block opened ≤ profile.fix → Opens profile block opened
+near_opens profile block opened long is few =
+    let even : length (upto profile.size) ≡ length block = length-range_with_len 0 profile.size ∙ sym long in
+    let same : differences block opened ≡ differences block (values_at (upto profile.size) is.polynomial) = ap (differences block) is.opened_is in
+    record {
+      polynomial = is.polynomial;
+      near = record {
+        whole = long;
+        decodes = record {
+          short = is.near.decodes.short;
+          near = omega (arith, agree-differences is.polynomial (upto profile.size) block even, same, few);
+        };
+      };
+      opened_is = is.opened_is;
+    }

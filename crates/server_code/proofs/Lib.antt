@@ -1,6 +1,11 @@
 pub mod RowSteps
-pub mod PutSteps
+pub mod CountSteps
 pub mod MakeSteps
 pub mod Blocks
 pub mod ProductSteps
 pub mod Linear
+pub mod Checks
+pub mod BehindSteps
+pub mod KeyRows
+pub mod Nearness
+pub mod Clean

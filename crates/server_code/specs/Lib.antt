@@ -1,3 +1,4 @@
 pub mod Generator
 pub mod Any
 pub mod Products
+pub mod Behind

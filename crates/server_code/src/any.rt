@@ -1,5 +1,5 @@
-ghost use Rattle.std.specs.Prelude.{◌≡◌, ◌≤◌, IfOk, IfNone, OnSome, IfSome, length};
-ghost use Rattle.hail_codes.specs.ServerCode.{codeword, Opens, OpensToNone, differences};
+ghost use Rattle.std.specs.Prelude.{◌≡◌, ◌≤◌, ◌↔◌, IfOk, IfNone, OnSome, IfSome, IsTrue, length};
+ghost use Rattle.hail_codes.specs.ServerCode.{codeword, IsCodeword, Opens, OpensToNone, differences};
 ghost use Rattle.code_points.specs.Profile.{plain_profile};
 ghost use Rattle.server_code.specs.Any.{profile_of};
 
@@ -64,6 +64,14 @@ impl AnyCode {
         ensures { out.new ≡ codeword (plain_profile (profile_of self.now)) kept.now }
     {
         with_code!(self, code => code.encode_into(kept, out))
+    }
+
+    /// Whether a block is a codeword.
+    pub fn is_codeword(&self, block: &[Symbol]) -> bool
+        requires { length block.now ≡ (profile_of self.now).size }
+        ensures { IsTrue result ↔ IsCodeword (plain_profile (profile_of self.now)) block.now }
+    {
+        with_code!(self, code => code.is_codeword(block))
     }
 
     /// Corrects up to `fix` wrong symbols of a block, and tells how many it changed. None where no codeword is so near;

@@ -1,15 +1,10 @@
 ghost use Rattle.std.specs.Prelude.{◌≡◌};
-ghost use Rattle.hail_codes.specs.Points.{upto};
 ghost use Rattle.code_points.specs.Profile.{plain_profile};
-ghost use Rattle.server_code.specs.Generator.{IsGenerator};
-ghost use Rattle.server_code.specs.Products.{AreProducts};
 
-use crate::make;
-use crate::products::products;
-use crate::rows::{extend, is_extended, put_values};
+use crate::open::open_block;
+use crate::tables::Tables;
 use code_points::Profile;
 use hail_field::{Memory, Symbol};
-use hail_gao::decode_gao;
 use hail_poly::Work;
 use std::alloc::Global;
 
@@ -17,19 +12,15 @@ use std::alloc::Global;
 #[derive(Drop)]
 pub struct ServerCode<const N: usize, const K: usize> {
     pub profile: Profile,
-    points: Vec<Symbol>,
-    rows: Vec<u8>,
-    products: Vec<u8>,
+    tables: Tables,
     pub ghost size_is: { profile.size ≡ N },
     pub ghost keep_is: { profile.keep ≡ K },
-    ghost points_are: { points.items ≡ upto profile.size },
-    ghost rows_are: { IsGenerator (plain_profile profile) rows.items },
-    ghost products_are: { AreProducts products.items },
+    ghost tables_are: { tables.profile ≡ profile },
 }
 
 impl<const N: usize, const K: usize> ServerCode<N, K> {
-    ghost use Rattle.std.specs.Prelude.{◌≤◌, IfOk, IfNone, OnSome, IfSome, length};
-    ghost use Rattle.hail_codes.specs.ServerCode.{codeword, Opens, OpensToNone, differences};
+    ghost use Rattle.std.specs.Prelude.{◌≤◌, ◌↔◌, IfOk, IfNone, OnSome, IfSome, IsTrue, length};
+    ghost use Rattle.hail_codes.specs.ServerCode.{codeword, IsCodeword, Opens, OpensToNone, differences};
 
     /// The code of a profile, with its coefficients.
     pub fn new(alloc: Global, profile: Profile) -> Result<ServerCode<N, K>, Memory>
@@ -37,15 +28,8 @@ impl<const N: usize, const K: usize> ServerCode<N, K> {
         requires keep { profile.keep ≡ K }
         ensures { IfOk result (λ code. code.profile ≡ profile) }
     {
-        let points = make::points(alloc, profile.size)?;
-        let rows = make::rows(alloc, profile)?;
-        let products = products(alloc)?;
-        Ok(ServerCode {
-            profile,
-            points,
-            rows,
-            products,
-        })
+        let tables = Tables::new(alloc, profile)?;
+        Ok(ServerCode { profile, tables })
     }
 
     /// Fills `out` with the codeword of the kept symbols.
@@ -54,7 +38,15 @@ impl<const N: usize, const K: usize> ServerCode<N, K> {
         requires out { length out.old ≡ N }
         ensures { out.new ≡ codeword (plain_profile self.now.profile) kept.now }
     {
-        extend(&self.products, &self.rows, kept, out);
+        self.tables.encode(kept, out);
+    }
+
+    /// Whether a block is a codeword.
+    pub fn is_codeword(&self, block: &[Symbol]) -> bool
+        requires { length block.now ≡ N }
+        ensures { IsTrue result ↔ IsCodeword (plain_profile self.now.profile) block.now }
+    {
+        self.tables.is_codeword(block)
     }
 
     /// Corrects up to `fix` wrong symbols of a block, and tells how many it changed. None where no codeword is so near;
@@ -68,11 +60,6 @@ impl<const N: usize, const K: usize> ServerCode<N, K> {
         ensures changed { IfSome result (λ count. count ≡ differences block.old block.new) }
         ensures work { work.new.size ≡ work.old.size }
     {
-        if is_extended(&self.products, &self.rows, K, block) {
-            return Some(0);
-        }
-        let fix = self.profile.fix as usize;
-        decode_gao(&self.points, block, K, fix, work)?;
-        Some(put_values(work.rest(), &self.points, block))
+        open_block(&self.tables, block, work)
     }
 }

@@ -2,11 +2,16 @@
 #![tactic(auto)]
 
 mod any;
+mod behind;
 mod code;
+mod correct;
 pub mod laws;
+mod locator;
 mod make;
+mod open;
 mod products;
 mod rows;
+mod tables;
 #[cfg(test)]
 mod tests;
 

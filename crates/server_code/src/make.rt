@@ -1,9 +1,9 @@
 ghost use Rattle.std.specs.Prelude.{◌≡◌, ◌<◌, ◌++◌, IfOk, OnOk, EachIndex, length, slice_index};
 ghost use Rattle.hail_codes.specs.Points.{upto};
-ghost use Rattle.code_points.specs.Profile.{plain_profile};
+ghost use Rattle.code_points.specs.Profile.{plain_profile, AreKeptMultipliers};
 ghost use Rattle.server_code.specs.Generator.{IsGenerator};
 
-use code_points::{Profile, generator_row};
+use code_points::{Profile, kept_multipliers, parity_row};
 use hail_field::Symbol;
 use std::alloc::{AllocError, Global};
 
@@ -32,13 +32,19 @@ fn push_bytes(row: &[Symbol], rows: &mut Vec<u8>) -> Result<(), AllocError>
 }
 
 /// The coefficients of all places behind the kept ones, row by row; each row is made in `row` first.
-fn rows_by(alloc: Global, profile: Profile, row: &mut [Symbol]) -> Result<Vec<u8>, AllocError>
-    requires { length row.old ≡ profile.keep }
+fn rows_by(
+    alloc: Global,
+    profile: Profile,
+    multipliers: &[u8],
+    row: &mut [Symbol],
+) -> Result<Vec<u8>, AllocError>
+    requires multipliers { AreKeptMultipliers profile.keep multipliers.now }
+    requires row { length row.old ≡ profile.keep }
     ensures { IfOk result (λ rows. IsGenerator (plain_profile profile) rows.items) }
 {
     let mut rows = Vec::new(alloc);
     for place in profile.keep..profile.size {
-        generator_row(profile, place, row);
+        parity_row(profile, multipliers, place, row);
         push_bytes(row, &mut rows)?;
     }
     Ok(rows)
@@ -49,6 +55,8 @@ pub fn rows(alloc: Global, profile: Profile) -> Result<Vec<u8>, AllocError>
     ensures { IfOk result (λ rows. IsGenerator (plain_profile profile) rows.items) }
 {
     let zero = Symbol::ZERO;
+    let mut multipliers = vec![in alloc; 0u8; profile.keep as usize]?;
     let mut row = vec![in alloc; zero; profile.keep as usize]?;
-    rows_by(alloc, profile, &mut row)
+    kept_multipliers(profile, &mut multipliers);
+    rows_by(alloc, profile, &multipliers, &mut row)
 }

@@ -1,17 +1,14 @@
-ghost use Rattle.std.specs.Prelude.{◌≡◌, ◌≤◌, ◌+◌, ◌-◌, ◌*◌, ◌++◌, ◌↔◌, ◌==◌, if◌then◌else◌, IsTrue, length, take, drop, map};
-ghost use Rattle.hail_codes.specs.Polynomials.{value};
-ghost use Rattle.hail_codes.specs.ServerCode.{differences};
+ghost use Rattle.std.specs.Prelude.{◌≡◌, ◌≤◌, ◌+◌, ◌-◌, ◌*◌, ◌++◌, ◌↔◌, ◌==◌, if◌then◌else◌, IsTrue, length, take, drop};
 ghost use Rattle.hail_codes.specs.Sums.{dot as dot_of};
 ghost use Rattle.server_code.specs.Generator.{row_at, sums};
 ghost use Rattle.server_code.specs.Products.{AreProducts};
 
-use crate::products::scaled;
+use crate::products::{Multiples, scaled};
 use hail_field::Symbol;
-use hail_poly::eval;
 
 /// The sum of each coefficient times the symbol at its place.
 #[tactic(auto, using(crate::proofs::RowSteps::dot_step, crate::proofs::RowSteps::dot_past))]
-fn dot(products: &[u8], coefficients: &[u8], symbols: &[Symbol]) -> Symbol
+fn dot(products: &[Multiples], coefficients: &[u8], symbols: &[Symbol]) -> Symbol
     requires products { AreProducts products.now }
     requires even { length coefficients.now ≡ length symbols.now }
     ensures { result ≡ dot_of coefficients.now symbols.now }
@@ -24,7 +21,7 @@ fn dot(products: &[u8], coefficients: &[u8], symbols: &[Symbol]) -> Symbol
 }
 
 /// The sum of the kept symbols by a row.
-fn row_sum(products: &[u8], rows: &[u8], row: usize, kept: &[Symbol]) -> Symbol
+fn row_sum(products: &[Multiples], rows: &[u8], row: usize, kept: &[Symbol]) -> Symbol
     requires products { AreProducts products.now }
     requires row { row * length kept.now + length kept.now ≤ length rows.now }
     ensures { result ≡ dot_of (row_at (length kept.now) rows.now row) kept.now }
@@ -42,7 +39,7 @@ fn same(a: Symbol, b: Symbol) -> bool
 
 /// Fills each place with the sum of the kept symbols by its row.
 #[tactic(auto, using(crate::proofs::RowSteps::row_fits))]
-fn fill_sums(products: &[u8], rows: &[u8], kept: &[Symbol], out: &mut [Symbol])
+fn fill_sums(products: &[Multiples], rows: &[u8], kept: &[Symbol], out: &mut [Symbol])
     requires products { AreProducts products.now }
     requires rows { length rows.now ≡ length out.old * length kept.now }
     ensures { out.new ≡ sums rows.now kept.now (length out.old) }
@@ -54,7 +51,7 @@ fn fill_sums(products: &[u8], rows: &[u8], kept: &[Symbol], out: &mut [Symbol])
 
 /// Whether each place is the sum of the kept symbols by its row.
 #[tactic(auto, using(crate::proofs::RowSteps::row_fits))]
-fn are_sums(products: &[u8], rows: &[u8], kept: &[Symbol], seen: &[Symbol]) -> bool
+fn are_sums(products: &[Multiples], rows: &[u8], kept: &[Symbol], seen: &[Symbol]) -> bool
     requires products { AreProducts products.now }
     requires rows { length rows.now ≡ length seen.now * length kept.now }
     ensures { IsTrue result ↔ (seen.now ≡ sums rows.now kept.now (length seen.now)) }
@@ -68,7 +65,7 @@ fn are_sums(products: &[u8], rows: &[u8], kept: &[Symbol], seen: &[Symbol]) -> b
 }
 
 /// Copies the kept symbols to the front, and fills the places behind them with their sums by the rows.
-pub fn extend(products: &[u8], rows: &[u8], kept: &[Symbol], out: &mut [Symbol])
+pub fn extend(products: &[Multiples], rows: &[u8], kept: &[Symbol], out: &mut [Symbol])
     requires products { AreProducts products.now }
     requires room { length kept.now ≤ length out.old }
     requires rows { length rows.now ≡ (length out.old - length kept.now) * length kept.now }
@@ -80,7 +77,7 @@ pub fn extend(products: &[u8], rows: &[u8], kept: &[Symbol], out: &mut [Symbol])
 }
 
 /// Whether the symbols behind the first `keep` are the sums of these by the rows.
-pub fn is_extended(products: &[u8], rows: &[u8], keep: usize, block: &[Symbol]) -> bool
+pub fn is_extended(products: &[Multiples], rows: &[u8], keep: usize, block: &[Symbol]) -> bool
     requires products { AreProducts products.now }
     requires room { keep ≤ length block.now }
     requires rows { length rows.now ≡ (length block.now - keep) * keep }
@@ -90,24 +87,8 @@ pub fn is_extended(products: &[u8], rows: &[u8], keep: usize, block: &[Symbol]) 
 }
 
 /// 1 where two symbols differ, else 0.
-fn difference(a: Symbol, b: Symbol) -> u32
+pub fn difference(a: Symbol, b: Symbol) -> u32
     ensures { result ≡ (if a == b then 0 else 1) }
 {
     if a == b { 0 } else { 1 }
-}
-
-/// Puts the polynomial's values at the points into a block, and tells at how many places it changes.
-pub fn put_values(coefficients: &[Symbol], points: &[Symbol], block: &mut [Symbol]) -> u32
-    requires even { length points.now ≡ length block.old }
-    requires few { length points.now ≤ 128 }
-    ensures values { block.new ≡ map (value coefficients.now) points.now }
-    ensures changed { result ≡ differences block.old block.new }
-{
-    let mut changed = 0;
-    for k in 0..points.len() {
-        let value = eval(coefficients, points[k]);
-        changed += difference(block[k], value);
-        block[k] = value;
-    }
-    changed
 }

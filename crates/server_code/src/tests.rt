@@ -1,6 +1,9 @@
 ghost use Rattle.std.specs.Prelude.{◌≡◌, ◌≤◌, length};
 
 use crate::AnyCode;
+use crate::behind::decode as decode_behind;
+use crate::correct::correct;
+use crate::tables::Tables;
 use code_points::find_profile;
 use hail_field::Symbol;
 use hail_poly::Work;
@@ -98,4 +101,56 @@ fn each_profile_corrects_as_many_as_it_can(rt: HostRuntime) {
     assert!(rt; corrects_all(&rt, rt.alloc(), 2, &mut work));
     assert!(rt; corrects_all(&rt, rt.alloc(), 3, &mut work));
     assert!(rt; corrects_all(&rt, rt.alloc(), 4, &mut work));
+}
+
+/// How many symbols each of the two decoders corrects of a 1 behind zeros, encoded and then changed at every third place, at so many
+/// in all.
+fn corrected(
+    rt: &impl Abort,
+    alloc: Global,
+    number: u8,
+    errors: u32,
+) -> (Option<u32>, Option<u32>) {
+    let code = code_of(rt, alloc, number);
+    let profile = code.profile();
+    let size = profile.size as usize;
+    let keep = profile.keep as usize;
+    let mut work = Work::new(alloc, size).expect(rt, "memory");
+    let tables = Tables::new(alloc, profile).expect(rt, "memory");
+    let mut kept = vec![in alloc; Symbol::ZERO; keep].expect(rt, "memory");
+    let mut block = vec![in alloc; Symbol::ZERO; size].expect(rt, "memory");
+    assert!(rt; keep >= 1 && size <= 128);
+    kept[keep - 1] = Symbol::ONE;
+    code.encode_into(&kept, &mut block);
+    for k in 0..errors as usize {
+        assert!(rt; k < 128 && size > 0 && block.len() == size);
+        let place = 3 * k % size;
+        block[place] = block[place].add(Symbol(2 + 256 * k as u128));
+    }
+    assert!(rt; block.len() == size);
+    let mut again = Vec::from_slice(alloc, &block).expect(rt, "memory");
+    assert!(rt; again.len() == size);
+    let guessed = correct(&tables, &mut block);
+    let decoded = decode_behind(&tables, &mut again, &mut work);
+    (guessed, decoded)
+}
+
+#[test]
+fn both_decoders_find_all_that_can_be_corrected(rt: HostRuntime) {
+    for (number, errors) in [
+        (0, 1),
+        (0, 2),
+        (1, 4),
+        (2, 4),
+        (3, 8),
+        (4, 1),
+        (4, 7),
+        (4, 16),
+    ] {
+        let (guessed, decoded) = corrected(&rt, rt.alloc(), number, errors);
+        assert_eq!(rt; guessed, Some(errors));
+        assert_eq!(rt; decoded, Some(errors));
+    }
+    let (guessed, decoded) = corrected(&rt, rt.alloc(), 4, 17);
+    assert!(rt; guessed.is_none() && decoded.is_none());
 }

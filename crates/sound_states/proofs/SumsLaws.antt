@@ -7,7 +7,7 @@ use Rattle.std.proofs.lemmas.Bool.{cases_Bool}
 use Rattle.hail_codes.specs.Points.{upto}
 use Rattle.hail_codes.specs.Polynomials.{value, is_seen}
 use Rattle.hail_columns.specs.Objects.{points}
-use Rattle.hail_columns.specs.Verdicts.{Sums, counted}
+use Rattle.hail_columns.specs.Verdicts.{Sums, counts_after}
 use Rattle.hail_columns.specs.Challenges.{bare_answers}
 use Rattle.hail_records.specs.Records.{Setup, most_files}
 use Rattle.hail_machine.specs.Jobs.{Pinned, Job}
@@ -28,13 +28,13 @@ each-higher : (low high : ℕ) (counts : List ℕ) → low ≤ high → Each (λ
 each-higher low high [] l h = tt
 each-higher low high (c ∷ cs) l h = ((let a = h.0 in omega (arith, a, l)), each-higher low high cs l h.1)
 
-counted-size : (p points : List ℕ) (heard : List (Option ℕ)) (counts : List ℕ) → length (counted p points heard counts) ≡ length counts
+counted-size : (p points : List ℕ) (heard : List (Option ℕ)) (counts : List ℕ) → length (counts_after p points heard counts) ≡ length counts
 counted-size p [] heard counts = refl
 counted-size p (x ∷ xs) [] counts = refl
 counted-size p (x ∷ xs) (answer ∷ more) [] = refl
 counted-size p (x ∷ xs) (answer ∷ more) (n ∷ ns) = ap suc (counted-size p xs more ns)
 
-counted-within : (k : ℕ) (p points : List ℕ) (heard : List (Option ℕ)) (counts : List ℕ) → Each (λ count. count ≤ k) counts → Each (λ count. count ≤ k + 1) (counted p points heard counts)
+counted-within : (k : ℕ) (p points : List ℕ) (heard : List (Option ℕ)) (counts : List ℕ) → Each (λ count. count ≤ k) counts → Each (λ count. count ≤ k + 1) (counts_after p points heard counts)
 counted-within k p [] heard counts h = each-higher k (k + 1) counts (omega arith) h
 counted-within k p (x ∷ xs) [] counts h = each-higher k (k + 1) counts (omega arith) h
 counted-within k p (x ∷ xs) (answer ∷ more) [] h = tt

@@ -1,17 +1,20 @@
 -- What stands of the job that wrote a record in doubt; and that setups stay.
-use Rattle.std.proofs.Common.{◌≡◌, ℕ, ◌<◌, List, [], ◌∷◌, ◌++◌, length, Some, None, refl, ap, sym, subst, ◌∙◌, arith}
+use Rattle.std.proofs.Common.{◌≡◌, ℕ, ◌<◌, ◌≤◌, List, [], ◌∷◌, ◌++◌, length, Some, None, refl, ap, sym, subst, ◌∙◌, arith}
 use Rattle.std.specs.Prelude.{slice_get}
 use Rattle.hail_records.specs.Records.{Setup, Record, SetUp, PutStart, PutDone, Drop, AuditStart, AuditDone, RepairDone}
 use Rattle.hail_records.specs.Table.{setup_of}
-use Rattle.hail_machine.specs.Jobs.{Kind, Given, Job, job_of, advanced}
+use Rattle.hail_machine.specs.Jobs.{Kind, PutJob, Given, Job, job_of, advanced}
 use Rattle.hail_machine.specs.Actions.{Action, actions_of}
 use Rattle.hail_machine.specs.States.{State, Append, Doubt, IsStart, setup_in}
 use Rattle.hail_machine.specs.Runs.{Moment, now, IsRun}
 use Rattle.hail_machine.proofs.RecordFacts.{In}
 use Rattle.hail_machine.proofs.Changes.{Records_is, Changes}
 use Rattle.hail_machine.proofs.Events.{changes}
+use Rattle.hail_machine.proofs.Numbers.{objects, Draws}
 use Rattle.hail_machine.proofs.PinFacts.{setup_same, wrote_setup}
 use Rattle.hail_machine.proofs.Held.{All, all}
+use Rattle.run_laws.proofs.InEffect as eff
+use Rattle.run_laws.proofs.PutBytes.{Stands, stands_by}
 use Rattle.step_laws.specs.Made.{WasMade}
 use Rattle.step_laws.proofs.Walk.{Doubted, Walked, walked}
 use Rattle.step_laws.proofs.Passing.{Later, later_same}
@@ -24,6 +27,7 @@ pub record Done (start : State) (ms : List Moment) (x : Job) (entry : Record) : 
   pub final : Final (setup_in (now start ms)) x entry x.kind
   pub made : (p : ℕ) (action : Action) → p < x.place → slice_get (actions_of (setup_in (now start ms)) x) p ≡ Some action → WasMade start ms (advanced x) action × HasGift action x.given
   pub came : (gift : Given) → In gift x.given → CameBy start ms (advanced x) gift
+  pub own : (name bytes : List ℕ) → x.kind ≡ PutJob name bytes → 4 ≤ x.place → Stands (now start ms) x.subject bytes
 
 pub data Standing (start : State) (ms : List Moment) (d : Doubt) : Type 0 where
   bare : (s : Setup) → d.entry ≡ SetUp s → d.maker ≡ None → setup_of (now start ms).records ≡ None → Standing start ms d
@@ -38,14 +42,15 @@ pub record Facts (start : State) (ms : List Moment) : Type 0 where
 advanced_later : (x : Job) → Later x (advanced x)
 advanced_later x = record { number = refl; kind = refl; begun = refl; pinned = refl; flagged = refl; subject = λ l. refl; place = omega arith; more = []; given = refl }
 
-done_on : (start : State) (m : Moment) (ms : List Moment) (x : Job) (entry : Record) → setup_in m.state ≡ setup_in (now start ms) → Done start ms x entry → Done start (m ∷ ms) x entry
-done_on start m ms x entry setup d = record {
+done_on : (limit : ℕ) (start : State) (m : Moment) (ms : List Moment) (x : Job) (entry : Record) → Changes limit (length ms) (now start ms) m.event m.outcome m.state → setup_in m.state ≡ setup_in (now start ms) → Done start ms x entry → Done start (m ∷ ms) x entry
+done_on limit start m ms x entry X setup d = record {
   final = subst (λ t. Final t x entry x.kind) (sym setup) d.final;
   made = λ p action l at. (let f = d.made p action l (subst (λ t. slice_get (actions_of t x) p ≡ Some action) setup at) in (made_on start m ms (advanced x) (advanced x) action (later_same (advanced x)) f.0, f.1));
   came = λ gift i. came_on start m ms (advanced x) (advanced x) gift setup (later_same (advanced x)) (d.came gift i);
+  own = λ name bytes kind late. stands_by limit (length ms) (now start ms) m.event m.outcome m.state x.subject bytes X (d.own name bytes kind late);
 }
 
-module _ (limit : ℕ) (start : State) (m : Moment) (ms : List Moment) (A : All start ms) (F : Facts start ms) (X : Changes limit (length ms) (now start ms) m.event m.outcome m.state) (W : Walked (length ms) (now start ms) m.event m.outcome m.state) where
+module _ (limit : ℕ) (start : State) (m : Moment) (ms : List Moment) (A : All start ms) (I : eff.Facts (now start ms)) (F : Facts start ms) (X : Changes limit (length ms) (now start ms) m.event m.outcome m.state) (W : Walked (length ms) (now start ms) m.event m.outcome m.state) where
   done_now : (x : Job) (a : Append) → job_of (now start ms).jobs x.number ≡ Some x → (now start ms).append ≡ Some a → a.job ≡ x.number → m.state.records ≡ (now start ms).records → Done start (m ∷ ms) x a.entry
   done_now x a runs flight mine rec =
       (let setup = setup_same m.state (now start ms) (ap setup_of rec) in
@@ -53,6 +58,8 @@ module _ (limit : ℕ) (start : State) (m : Moment) (ms : List Moment) (A : All 
         final = subst (λ t. Final t x a.entry x.kind) (sym setup) (F.flights a x flight (subst (λ n. job_of (now start ms).jobs n ≡ Some x) (sym mine) runs));
         made = λ p action l at. (let f = F.made.made x.number x p action runs l (subst (λ t. slice_get (actions_of t x) p ≡ Some action) setup at) in (made_on start m ms x (advanced x) action (advanced_later x) f.0, f.1));
         came = λ gift i. came_on start m ms x (advanced x) gift setup (advanced_later x) (F.made.came x.number x gift runs i);
+        own = λ name bytes kind late. stands_by limit (length ms) (now start ms) m.event m.outcome m.state x.subject bytes X
+            (record { below = A.numbers.below x.number x runs (subst (Draws objects) (sym kind) tt, late); bytes_are = I.kept x.number x name bytes runs kind late });
       })
 
   doubt_step : (d : Doubt) → m.state.doubt ≡ Some d → Standing start (m ∷ ms) d
@@ -65,7 +72,7 @@ module _ (limit : ℕ) (start : State) (m : Moment) (ms : List Moment) (A : All 
     where
       on : Standing start ms d → setup_in m.state ≡ setup_in (now start ms) → m.state.records ≡ (now start ms).records → Standing start (m ∷ ms) d
       on (Standing.bare s entry maker none_) setup rec = Standing.bare s entry maker (ap setup_of rec ∙ none_)
-      on (Standing.by_job x maker done) setup rec = Standing.by_job x maker (done_on start m ms x d.entry setup done)
+      on (Standing.by_job x maker done) setup rec = Standing.by_job x maker (done_on limit start m ms x d.entry X setup done)
 
   step_facts : Facts start (m ∷ ms)
   step_facts = record { made = made.step_facts limit start m ms A F.made X W; flights = flight_step limit start m ms A F.made F.flights X W; doubt = doubt_step }
@@ -74,7 +81,7 @@ pub facts : (limit : ℕ) (start : State) → IsStart start → (ms : List Momen
 facts limit start clean [] run = record { made = made.start_facts start clean; flights = start_flights start clean; doubt = λ d h. absurd (let e : None ≡ Some d = sym clean.doubt ∙ h in cc) }
 facts limit start clean (m ∷ ms) run =
     (let A = all limit start clean ms run.2 in
-    step_facts limit start m ms A (facts limit start clean ms run.2)
+    step_facts limit start m ms A (eff.facts limit start ms clean run.2) (facts limit start clean ms run.2)
     (changes limit (length ms) (now start ms) m.event m.outcome m.state A.numbers.idle run.1)
     (walked (length ms) (now start ms) limit m.event m.outcome m.state run.1))
 

@@ -26,7 +26,7 @@ no_differences : (xs : List ℕ) → differences xs xs ≡ 0
 no_differences [] = refl
 no_differences (x ∷ xs) = rw (eq-eqb x x refl) (no_differences xs)
 
-own_not_wrong : (o : Object) (bytes : List ℕ) (j stripe : ℕ) → is_wrong_block o bytes j stripe (Some (columns o bytes j stripe)) ≡ false
+pub own_not_wrong : (o : Object) (bytes : List ℕ) (j stripe : ℕ) → is_wrong_block o bytes j stripe (Some (columns o bytes j stripe)) ≡ false
 own_not_wrong o bytes j stripe = not_wrong (length (columns o bytes j stripe)) o.profile.size o.profile.fix (differences (columns o bytes j stripe) (columns o bytes j stripe)) (length-column_of_symbols o (symbols_in o bytes stripe) j stripe) (no_differences (columns o bytes j stripe))
   where
     not_wrong : (n size fix d : ℕ) → n ≡ size → d ≡ 0 → not (n == size) || nat_lt fix d ≡ false
@@ -66,15 +66,17 @@ none_pass p a (suc n) h = (let e = none_pass p (a + 1) n (λ j l. h j (omega (ar
 block_at_own : (o : Object) (bytes : List ℕ) (stripe j : ℕ) → j < o.shape.n → block_at (own_blocks o bytes stripe) j ≡ Some (columns o bytes j stripe)
 block_at_own o bytes stripe j l = ap (λ (b : Option SeenBlock). option_and_then (λ (c : SeenBlock). c) b) (get_map_upto (λ i. Some (columns o bytes i stripe)) o.shape.n j l)
 
-pub own_give : (o : Object) (bytes : List ℕ) (number stripe : ℕ) → o.profile ≡ profile_of number → IsShape o.shape.n o.shape.l o.shape.b → GivesSymbols o stripe (own_blocks o bytes stripe) (symbols_in o bytes stripe)
-own_give o bytes number stripe is shape = record {
-  opened = map (λ j. Some (bare o j stripe (columns o bytes j stripe))) (upto o.shape.n);
+-- blocks of a stripe few of which are wrong, the others being the providers' own, give the file's symbols
+pub few_give : (o : Object) (bytes : List ℕ) (number stripe : ℕ) (seen opened : List SeenBlock) → o.profile ≡ profile_of number → IsShape o.shape.n o.shape.l o.shape.b →
+    count_of (λ j. is_wrong_block o bytes j stripe (block_at seen j)) (upto o.shape.n) ≤ o.shape.b → AllOpen o stripe 0 seen opened → GivesSymbols o stripe seen (symbols_in o bytes stripe)
+few_give o bytes number stripe seen opened is shape few opens = record {
+  opened = opened;
   opens = opens;
   size = length-symbols_in o bytes stripe;
   accepted = λ place kept. (let within : place < o.profile.size = omega (arith, kept, profile-room o number is) in
       record {
         row = row_polynomial o (symbols_in o bytes stripe) place;
-        accepted = row-right o bytes number stripe place (own_blocks o bytes stripe) (map (λ j. Some (bare o j stripe (columns o bytes j stripe))) (upto o.shape.n)) is shape few opens within;
+        accepted = row-right o bytes number stripe place seen opened is shape few opens within;
         values = λ j l.
             (let more : suc j * o.profile.keep ≤ o.shape.l * o.profile.keep = mul-le-mul_right o.profile.keep l in
             let split : suc j * o.profile.keep ≡ j * o.profile.keep + o.profile.keep = grind arith in
@@ -82,6 +84,9 @@ own_give o bytes number stripe is shape = record {
             ∙ ap Some (sym (row_symbol o bytes stripe place j kept within l)));
       });
 }
+
+pub own_give : (o : Object) (bytes : List ℕ) (number stripe : ℕ) → o.profile ≡ profile_of number → IsShape o.shape.n o.shape.l o.shape.b → GivesSymbols o stripe (own_blocks o bytes stripe) (symbols_in o bytes stripe)
+own_give o bytes number stripe is shape = few_give o bytes number stripe (own_blocks o bytes stripe) (map (λ j. Some (bare o j stripe (columns o bytes j stripe))) (upto o.shape.n)) is shape few opens
   where
     opens : AllOpen o stripe 0 (own_blocks o bytes stripe) (map (λ j. Some (bare o j stripe (columns o bytes j stripe))) (upto o.shape.n))
     opens = all_open o bytes stripe o.shape.n 0 (omega (arith, shape.1))

@@ -15,7 +15,10 @@ use Rattle.hail_machine.proofs.RecordFacts.{In}
 use Rattle.hail_machine.proofs.Stripes.{get_left}
 use Rattle.hail_machine.proofs.Changes.{Records_is}
 use Rattle.hail_machine.proofs.Events.{changes}
+use Rattle.hail_machine.proofs.Numbers.{objects, Draws}
 use Rattle.hail_machine.proofs.Held.{contains_in, actions_are, all}
+use Rattle.run_laws.proofs.InEffect as eff
+use Rattle.run_laws.proofs.PutBytes.{Stands, stands_on, stands_later}
 use Rattle.step_laws.specs.Made.{WasMade}
 use Rattle.step_laws.specs.Whole.{PutIsWhole, RepairIsWhole, AuditIsWhole}
 use Rattle.step_laws.proofs.Places.{of_kind, store_in_repair, worked_before_store, put_store_at, put_stores, ask_at}
@@ -47,27 +50,29 @@ made_advanced start ms x entry d p action l at = d.made p action l (ap (λ l. sl
 -- ---- puts
 
 put_whole : (start : State) (ms : List Moment) (job : Job) (name bytes : List ℕ) → job.kind ≡ PutJob name bytes → 4 + length (store_actions (setup_in (now start ms)) job bytes) ≤ job.place →
-    MadeAll start ms job (4 + length (store_actions (setup_in (now start ms)) job bytes)) → PutIsWhole start ms job job.subject (length bytes)
-put_whole start ms job name bytes kind late made = record {
+    MadeAll start ms job (4 + length (store_actions (setup_in (now start ms)) job bytes)) → Stands (now start ms) job.subject bytes → PutIsWhole start ms job job.subject (length bytes)
+put_whole start ms job name bytes kind late made own = record {
   name = name;
   bytes = bytes;
   kind = kind;
   subject = refl;
   length_is = refl;
+  drawn = own.below;
+  bytes_are = own.bytes_are;
   stored = λ j stripe k l. (let at = put_store_at (setup_in (now start ms)) job name bytes j stripe kind k l in (made at.0 (Store j job.subject stripe) at.1 at.2).0);
   placed = λ j stripe k l. put_stores (setup_in (now start ms)) job name bytes j stripe kind late k l;
 }
 
 put_of : (start : State) (ms : List Moment) (job : Job) (id size bound : ℕ) (kind : Kind) → job.kind ≡ kind → bound ≤ job.place → MadeAll start ms job bound →
-    ((name bytes : List ℕ) → kind ≡ PutJob name bytes → 4 + length (store_actions (setup_in (now start ms)) job bytes) ≤ bound) → FinalPut (setup_in (now start ms)) job id size kind → PutIsWhole start ms job id size
-put_of start ms job id size bound (PutJob name bytes) is low made late h =
+    ((name bytes : List ℕ) → kind ≡ PutJob name bytes → 4 + length (store_actions (setup_in (now start ms)) job bytes) ≤ bound) → ((name bytes : List ℕ) → kind ≡ PutJob name bytes → Stands (now start ms) job.subject bytes) → FinalPut (setup_in (now start ms)) job id size kind → PutIsWhole start ms job id size
+put_of start ms job id size bound (PutJob name bytes) is low made late own h =
     (let l = late name bytes refl in
     subst (λ n. PutIsWhole start ms job n size) h.0 (subst (λ n. PutIsWhole start ms job job.subject n) h.1
-    (put_whole start ms job name bytes is (omega (arith, l, low)) (made_less start ms job bound (4 + length (store_actions (setup_in (now start ms)) job bytes)) l made))))
-put_of start ms job id size bound (GetJob name) is low made late h = absurd h
-put_of start ms job id size bound (DropJob name) is low made late h = absurd h
-put_of start ms job id size bound AuditJob is low made late h = absurd h
-put_of start ms job id size bound RepairJob is low made late h = absurd h
+    (put_whole start ms job name bytes is (omega (arith, l, low)) (made_less start ms job bound (4 + length (store_actions (setup_in (now start ms)) job bytes)) l made) (own name bytes refl))))
+put_of start ms job id size bound (GetJob name) is low made late own h = absurd h
+put_of start ms job id size bound (DropJob name) is low made late own h = absurd h
+put_of start ms job id size bound AuditJob is low made late own h = absurd h
+put_of start ms job id size bound RepairJob is low made late own h = absurd h
 
 put_bound : (t : Setup) (x : Job) (id size : ℕ) (kind : Kind) (name bytes : List ℕ) → FinalPut t x id size kind → kind ≡ PutJob name bytes → 4 + length (store_actions t x bytes) ≤ x.place
 put_bound t x id size kind name bytes h is = (subst (λ k. FinalPut t x id size k) is h).2
@@ -188,9 +193,16 @@ module _ (limit : ℕ) (start : State) (clean : IsStart start) (ms : List Moment
   made_running : (k : ℕ) (job : Job) → job_of (now start ms).jobs k ≡ Some job → MadeAll start ms job job.place
   made_running k job runs p action l at = now_facts.made.made k job p action runs l at
 
+  own_stands : (k : ℕ) (job : Job) (name bytes : List ℕ) → job_of (now start ms).jobs k ≡ Some job → job.kind ≡ PutJob name bytes → 4 ≤ job.place → Stands (now start ms) job.subject bytes
+  own_stands k job name bytes runs kind late = record {
+    below = (all limit start clean ms run).numbers.below k job runs (subst (Draws objects) (sym kind) tt, late);
+    bytes_are = (eff.facts limit start ms clean run).kept k job name bytes runs kind late;
+  }
+
   pub put_running : (k : ℕ) (job : Job) (name bytes : List ℕ) → job_of (now start ms).jobs k ≡ Some job → job.kind ≡ PutJob name bytes → 4 + length (store_actions (setup_in (now start ms)) job bytes) ≤ job.place →
       PutIsWhole start ms job job.subject (length bytes)
   put_running k job name bytes runs kind late = put_whole start ms job name bytes kind late (made_less start ms job job.place (4 + length (store_actions (setup_in (now start ms)) job bytes)) late (made_running k job runs))
+      (own_stands k job name bytes runs kind (omega (arith, late)))
 
   pub repair_running : (k : ℕ) (job : Job) → job_of (now start ms).jobs k ≡ Some job → job.kind ≡ RepairJob → length (repair_actions (setup_in (now start ms)) job) ≤ job.place → RepairIsWhole start ms job job.subject
   repair_running k job runs kind late = repair_whole limit start clean ms run job kind late (made_less start ms job job.place (length (repair_actions (setup_in (now start ms)) job)) late (made_running k job runs))
@@ -212,7 +224,8 @@ module _ (limit : ℕ) (start : State) (clean : IsStart start) (ms : List Moment
       advanced x,
       maker,
       put_of start ms (advanced x) id size x.place x.kind refl (omega arith) (made_advanced start ms x d.entry done)
-          (λ name bytes e. put_bound (setup_in (now start ms)) x id size x.kind name bytes f e) (put_moved (setup_in (now start ms)) x id size x.kind f),
+          (λ name bytes e. put_bound (setup_in (now start ms)) x id size x.kind name bytes f e)
+          (λ name bytes e. (done.own name bytes e (let l = put_bound (setup_in (now start ms)) x id size x.kind name bytes f e in omega (arith, l)))) (put_moved (setup_in (now start ms)) x id size x.kind f),
     ))
   ]
 
@@ -246,11 +259,18 @@ module _ (limit : ℕ) (start : State) (clean : IsStart start) (m : Moment) (ms 
   came_put id size h = elim (came_now (PutDone id size) h) [
     | Came_is.by_step x a runs flight mine is ↦ (let f = final_of limit start clean ms run.2 a x x.number (PutDone id size) flight runs mine is in (
       x,
-      put_of start ms x id size x.place x.kind refl (omega arith) (made_running limit start clean ms run.2 x.number x runs) (λ name bytes e. put_bound (setup_in (now start ms)) x id size x.kind name bytes f e) f,
+      put_of start ms x id size x.place x.kind refl (omega arith) (made_running limit start clean ms run.2 x.number x runs) (λ name bytes e. put_bound (setup_in (now start ms)) x id size x.kind name bytes f e)
+          (λ name bytes e. own_stands limit start clean ms run.2 x.number x name bytes runs e (let l = put_bound (setup_in (now start ms)) x id size x.kind name bytes f e in omega (arith, l))) f,
     ))
     | Came_is.by_doubt d in_doubt is ↦ (let r = doubt_put limit start clean ms run.2 d id size in_doubt is in (r.0, r.2))
     | Came_is.set_up s is ↦ absurd (let e : PutDone id size ≡ SetUp s = is in cc)
   ]
+
+  -- and from then on its number stands for its bytes
+  pub came_stands : (later : List Moment) (id size : ℕ) → IsRun limit start (later ++ m ∷ ms) → (job : Job) (put : PutIsWhole start ms job id size) → (now start (later ++ m ∷ ms)).bytes id ≡ put.bytes
+  came_stands later id size whole_run job put =
+      (stands_later limit start clean id put.bytes later (m ∷ ms) whole_run
+      (stands_on limit start clean id put.bytes m ms run (record { below = put.drawn; bytes_are = put.bytes_are }))).bytes_are
 
   pub came_repair : (id : ℕ) → came (now start ms) m.state ≡ Some (RepairDone id) → (job : Job) × RepairIsWhole start ms job id
   came_repair id h = elim (came_now (RepairDone id) h) [

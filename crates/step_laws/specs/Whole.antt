@@ -1,12 +1,14 @@
 -- What a put, a repair or an audit has done by the time of its last record.
 --
---   PutIsWhole start ms job id size   == a put of that number and length made its store of each stripe on each provider
+--   PutIsWhole start ms job id size   == a put of that number and length made its store of each stripe on each provider, and its number
+--                                        stands for its bytes
 --   Rewrote start ms job object j stripe  == a repair made its store of a stripe on a provider, after its work on the stripe
 --   RepairIsWhole start ms job number == a repair of that number rewrote each stripe of each of its files on each flagged provider
 --   AuditIsWhole start ms job number undecided counts  == an audit of that number made each of its asks, and these are its sums over what
 --                                        it was given
 use Rattle.std.specs.Prelude.{◌≡◌, ℕ, ◌<◌, true, List, length}
 use Rattle.std.specs.List.{Contains}
+use Rattle.hail_records.specs.Table.{next_id}
 use Rattle.hail_machine.specs.Jobs.{PutJob, AuditJob, RepairJob, Pinned, Job}
 use Rattle.hail_machine.specs.Setups.{stripes_of}
 use Rattle.hail_machine.specs.Actions.{Store, Work, rounds_of}
@@ -18,13 +20,15 @@ use Rattle.hail_machine.specs.Deeds.{HasMadeStore}
 use Rattle.step_laws.specs.Made.{WasMade}
 use Rattle.step_laws.specs.Gave.{WasAsked}
 
--- a put made its store of each stripe on each provider
+-- a put made its store of each stripe on each provider, and its number stands for its bytes
 pub record PutIsWhole (start : State) (ms : List Moment) (job : Job) (id size : ℕ) : Type 0 where
   pub name : List ℕ
   pub bytes : List ℕ
   pub kind : job.kind ≡ PutJob name bytes
   pub subject : job.subject ≡ id
   pub length_is : length bytes ≡ size
+  pub drawn : id < next_id (now start ms).records
+  pub bytes_are : (now start ms).bytes id ≡ bytes
   pub stored : (j stripe : ℕ) → j < (setup_in (now start ms)).n → stripe < stripes_of (setup_in (now start ms)) size →
       WasMade start ms job (Store j id stripe)
   pub placed : (j stripe : ℕ) → j < (setup_in (now start ms)).n → stripe < stripes_of (setup_in (now start ms)) size →

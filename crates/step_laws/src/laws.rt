@@ -94,7 +94,8 @@ pub fn work_opened_what_was_fetched()
 {}
 
 /// A running put that has come past its stores made its store of each stripe on each provider since its begin; and so did the put whose
-/// end stands in doubt, whether it runs on or has ended, and that whose end comes into effect, by its own step or by being settled.
+/// end stands in doubt, whether it runs on or has ended, and that whose end comes into effect, by its own step or by being settled. Its object number stands
+/// for its bytes, and from the moment at which its end comes into effect it does so for ever.
 pub fn done_puts_are_whole()
     ensures running { (limit : ℕ) (start : State) (ms : List Moment) (number : ℕ) (job : Job) (name bytes : List ℕ) → IsStart start →
         IsRun limit start ms → job_of (now start ms).jobs number ≡ Some job → job.kind ≡ PutJob name bytes →
@@ -106,6 +107,9 @@ pub fn done_puts_are_whole()
     ensures came { (limit : ℕ) (start : State) (m : Moment) (ms : List Moment) (id size : ℕ) → IsStart start →
         IsRun limit start (m ∷ ms) → came (now start ms) m.state ≡ Some (PutDone id size) →
         (job : Job) × PutIsWhole start ms job id size }
+    ensures stay { (limit : ℕ) (start : State) (later ms : List Moment) (m : Moment) (id size : ℕ) → IsStart start →
+        IsRun limit start (later ++ m ∷ ms) → came (now start ms) m.state ≡ Some (PutDone id size) →
+        (job : Job) × (put : PutIsWhole start ms job id size) × ((now start (later ++ m ∷ ms)).bytes id ≡ put.bytes) }
 {}
 
 /// The same of a repair: it made its store of each stripe of each of its files on each flagged provider, after its work on that stripe.

@@ -8,7 +8,7 @@ use Rattle.hail_codes.specs.Points.{upto}
 use Rattle.hail_codes.specs.Polynomials.{value, is_seen}
 use Rattle.hail_columns.specs.Objects.{points}
 use Rattle.hail_columns.specs.Challenges.{bare_answers}
-use Rattle.hail_columns.specs.Verdicts.{Sums, Judges, counted}
+use Rattle.hail_columns.specs.Verdicts.{Sums, Judges, counts_after}
 use Rattle.hail_records.specs.Records.{Setup}
 use Rattle.hail_machine.specs.Actions.{Action, WriteBody, Ask, End, append_actions, rounds_of}
 use Rattle.hail_machine.specs.Audits.{challenge_in, JudgesRound, JudgesRounds, JudgesFiles}
@@ -288,7 +288,7 @@ each_higher : (low high : ℕ) (counts : List ℕ) → low ≤ high → Each (λ
 each_higher low high [] l h = tt
 each_higher low high (c ∷ cs) l h = (omega (arith, h.0, l), each_higher low high cs l h.1)
 
-counted_within : (k : ℕ) (p xs : List ℕ) (heard : List (Option ℕ)) (counts : List ℕ) → Each (λ count. count ≤ k) counts → Each (λ count. count ≤ k + 1) (counted p xs heard counts)
+counted_within : (k : ℕ) (p xs : List ℕ) (heard : List (Option ℕ)) (counts : List ℕ) → Each (λ count. count ≤ k) counts → Each (λ count. count ≤ k + 1) (counts_after p xs heard counts)
 counted_within k p [] heard counts h = each_higher k (k + 1) counts (omega arith) h
 counted_within k p (x ∷ xs) [] counts h = each_higher k (k + 1) counts (omega arith) h
 counted_within k p (x ∷ xs) (answer ∷ more) [] h = tt

@@ -1,7 +1,6 @@
 pub mod Readings
 pub mod Foldings
 pub mod Opened
-pub mod CodeLists
 pub mod Limits
 pub mod Answers
 pub mod Grown
@@ -18,7 +17,6 @@ pub mod RemoveStep
 pub mod Begun
 pub mod BenchLemmas
 pub mod Puts
-pub mod Profiles
 pub mod Stops
 pub mod StoreStep
 pub mod SymbolBytes

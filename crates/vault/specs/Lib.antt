@@ -20,7 +20,6 @@ pub mod Inits
 pub mod Faults
 pub mod Folding
 pub mod Fresh
-pub mod Codecs
 pub mod Preparing
 pub mod Benches
 pub mod Ending

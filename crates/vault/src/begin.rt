@@ -85,14 +85,15 @@ impl Vault {
         }
     }
 
-    /// Begins to rebuild the providers that the last audit flagged.
+    /// Begins to rebuild the providers that the last audit flagged. Its bench is one for the largest file, since it turns to
+    /// files of any length.
     pub fn begin_repair(&mut self) -> Result<u32, BeginFault>
         requires { next_job_of self.old < 2 ^ 32 - 1 }
         ensures machine { (w : State) (d : Devices) (moment : ℕ) → Stands self.old d w
             → MakesBegin w moment RepairJob result self.new d }
         ensures unchanged { OnErr result (IsUnchanged self.old self.new) }
     {
-        let bench = self.bench_for(0, 0)?;
+        let bench = self.bench_for(0, LARGEST_FILE as u32)?;
         let size = bench.keys.file.profile.size as usize;
         match Blocks::with_room(self.alloc, usize::from(self.setup.n), size) {
             Ok(blocks) => self.admit(Wish::Repair, Task::Repair(RepairTask { blocks, bench })),

@@ -1,18 +1,22 @@
 ghost use Rattle.std.specs.Prelude.{◌≡◌, ◌*◌, length, All};
+ghost use Rattle.server_code.specs.Any.{profile_of};
 
-use crate::codec::{Codec, Codes};
-use column_codec::{Block, ObjectKeys, RowLost};
-use file_layout::FileShape;
+use crate::codec::Codec;
+use column_codec::{Block, ObjectKeys, RowLost, Trust};
 use hail_field::Symbol;
+use server_code::AnyCode;
 
-/// What the stripes of an object are made and opened with: its keys, the symbols of one stripe in layout order, the block of
-/// one provider, and room for a block of each.
+/// What the stripes of an object are made and opened with: its keys, the server code of its profile, the symbols of one stripe
+/// in layout order, the block of one provider, room for a block of each, and who is trusted at the next stripe.
 #[derive(Drop)]
 pub struct Bench {
     pub keys: ObjectKeys,
+    pub code: AnyCode,
     pub rows: Vec<Symbol>,
     pub column: Vec<Symbol>,
     pub scratch: Vec<Block>,
+    pub trust: Trust,
+    ghost code_fits: { profile_of code ≡ keys.file.profile },
     ghost rows_fit: { length rows.items ≡ keys.file.shape.l * keys.file.profile.keep },
     ghost column_fits: { length column.items ≡ keys.file.profile.size },
     ghost scratch_fits: { length scratch.items ≡ keys.file.shape.n },
@@ -36,14 +40,7 @@ impl Bench {
         if self.keys.file.id == object {
             return;
         }
-        let file = FileShape {
-            id: object,
-            length: self.keys.file.length,
-            shape: self.keys.file.shape,
-            profile: self.keys.file.profile,
-        };
-        let master = self.keys.master;
-        self.keys = ObjectKeys::new(&master, &file);
+        self.keys.turn_to(object);
     }
 
     /// Takes the symbols of a stripe out of the bytes of a file.
@@ -55,7 +52,7 @@ impl Bench {
     }
 
     /// Makes a provider's block of the stripe whose symbols are at hand; false where there is no such provider.
-    pub fn make_column(&mut self, codes: &Codes, stripe: u32, provider: u32) -> bool
+    pub fn make_column(&mut self, stripe: u32, provider: u32) -> bool
         ensures there { IsTrue result ↔ (provider < self.old.keys.file.shape.n) }
         ensures keys { self.new.keys ≡ self.old.keys }
         ensures rows { self.new.rows ≡ self.old.rows }
@@ -65,9 +62,8 @@ impl Bench {
         if provider >= usize::from(self.keys.file.shape.n) {
             return false;
         }
-        let code = codes.code(self.keys.file.profile);
         self.keys
-            .column_into(code, stripe, &self.rows, provider, &mut self.column);
+            .column_into(&self.code, stripe, &self.rows, provider, &mut self.column);
         true
     }
 
@@ -84,12 +80,12 @@ impl Bench {
         ensures opened { OpensAs (bench_object self.old) stripe (present_blocks self.old.keys.file.profile.size present.now seen.now) result self.new.rows.items }
         ensures keys { self.new.keys ≡ self.old.keys }
     {
-        let code = codec.codes.code(self.keys.file.profile);
-        self.keys.open_present(
-            code,
+        self.keys.open_trusting(
+            &self.code,
             stripe,
             seen,
             present,
+            &mut self.trust,
             &mut self.rows,
             &mut self.scratch,
             &mut codec.work,

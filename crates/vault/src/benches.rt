@@ -5,9 +5,11 @@ ghost use Rattle.vault.specs.Benches.{IsBenchFor};
 
 use crate::bench::Bench;
 use crate::vault::Vault;
-use column_codec::{Block, ObjectKeys};
+use column_codec::{Block, ObjectKeys, Trust};
 use file_layout::FileShape;
 use hail_field::{Memory, Symbol};
+use key_schedule::Master;
+use server_code::AnyCode;
 use std::alloc::Global;
 use vault_core::BeginFault;
 
@@ -33,6 +35,7 @@ impl Bench {
     pub(crate) fn new(alloc: Global, keys: ObjectKeys) -> Result<Bench, Memory>
         ensures { IfOk result (λ bench. bench.keys ≡ keys) }
     {
+        let code = AnyCode::new(alloc, keys.file.profile)?;
         let size = keys.file.profile.size as usize;
         let symbols = usize::from(keys.file.shape.l) * keys.file.profile.keep as usize;
         let rows = vec![in alloc; Symbol::ZERO; symbols]?;
@@ -40,11 +43,38 @@ impl Bench {
         let scratch = zero_blocks(alloc, usize::from(keys.file.shape.n), size)?;
         Ok(Bench {
             keys,
+            code,
             rows,
             column,
             scratch,
+            trust: Trust::new(),
         })
     }
+}
+
+/// From so many kept rows on a file's keys have tables: a table takes 128 products, twice in a put, and saves one a row.
+const MANY_ROWS: u64 = 256;
+
+/// The keys of a file's object, with tables where these save more than they take.
+fn keys_of(alloc: Global, master: &Master, file: &FileShape) -> Result<ObjectKeys, Memory>
+    ensures master { IfOk result (λ keys. keys.master ≡ master.now) }
+    ensures file { IfOk result (λ keys. keys.file ≡ file.now) }
+{
+    let kept_rows = u64::from(file.stripes()) * u64::from(file.profile.keep);
+    if kept_rows < MANY_ROWS {
+        Ok(ObjectKeys::new(master, file))
+    } else {
+        ObjectKeys::with_tables(alloc, master, file)
+    }
+}
+
+/// A bench for a file's object.
+fn made(alloc: Global, master: &Master, file: &FileShape) -> Result<Bench, Memory>
+    ensures master { IfOk result (λ bench. bench.keys.master ≡ master.now) }
+    ensures file { IfOk result (λ bench. bench.keys.file ≡ file.now) }
+{
+    let keys = keys_of(alloc, master, file)?;
+    Bench::new(alloc, keys)
 }
 
 impl Vault {
@@ -60,7 +90,7 @@ impl Vault {
             shape: self.shape,
             profile: self.profile,
         };
-        match Bench::new(self.alloc, ObjectKeys::new(&self.master, &file)) {
+        match made(self.alloc, &self.master, &file) {
             Ok(bench) => Ok(bench),
             Err(_) => Err(BeginFault::Memory),
         }

@@ -68,6 +68,7 @@ fn has_no_record(alloc: Global, bytes: &[u8]) -> Result<(), InitFault>
 pub(crate) fn prepare<D: Disk>(alloc: Global, disk: &mut D) -> Result<(), InitFault>
     ensures ok { OnOk result (Goes IsReadied (D.holds disk.old) (D.holds disk.new)) }
     ensures refused { (s : SetupData) → IfErr result (λ why. IfSome (D.holds disk.old) (λ cells. IsInitFault (journal_read cells) s why)) }
+    ensures unjudged { IsErrOf result init_fault.BadSetup → ⊥ }
     ensures looked { IfErr result (λ why. IsNoWrite why → D.holds disk.new ≡ option_map synced (D.holds disk.old)) }
     ensures left { OnErr result (IfSome (D.holds disk.old) (λ cells. IsHalfReady cells (D.holds disk.new))) }
     ensures tells { is_some (D.holds disk.new) ≡ is_some (D.holds disk.old) }

@@ -36,6 +36,7 @@ impl Vault {
             → MakesTurn w moment job result self.new
             (devices holds faults (map (as_seen P.held P.store_faults P.other_faults P.fetches) providers.old))
             (devices holds faults (map (as_seen P.held P.store_faults P.other_faults P.fetches) providers.new)) }
+        ensures count { length providers.new ≡ length providers.old }
         ensures others { (k : ℕ) → k ≢ provider → slice_get providers.new k ≡ slice_get providers.old k }
         ensures left { result ≡ Some turn.More → left_of self.new job < left_of self.old job }
         ensures padded { IfSome result (λ turn. IfEnded turn (λ ended. HasPaddedCounts ended.answer)) }

@@ -1,8 +1,9 @@
-ghost use Rattle.std.specs.Prelude.{◌≡◌, ℕ, List, IfSome, IfErr, OnOk, OnErr, IsErrOf, is_some};
+ghost use Rattle.std.specs.Prelude.{◌≡◌, ◌↔◌, ℕ, false, List, IfSome, IfErr, OnOk, OnErr, IsErrOf, is_some};
 ghost use Rattle.hail_devices.specs.Faults.{HasCause};
 ghost use Rattle.hail_devices.specs.Images.{EachImage};
 ghost use Rattle.hail_devices.specs.Told.{Goes};
 ghost use Rattle.hail_devices.specs.Providers.{Provider};
+ghost use Rattle.hail_records.specs.Records.{is_setup};
 ghost use Rattle.record_codec.specs.Entries.{with_master};
 ghost use Rattle.hail_machine.specs.States.{State};
 ghost use Rattle.vault.specs.declared.fault.InitFault.TheVariants as init_fault;
@@ -28,6 +29,8 @@ pub fn init<D: Disk>(
     setup: &Setup,
 ) -> Result<(), InitFault>
     ensures ok { OnOk result (Goes (IsSetUpOn (with_master setup.now master.now.0)) (D.holds disk.old) (D.holds disk.new)) }
+    ensures bad_setup { IsErrOf result init_fault.BadSetup ↔ (is_setup (with_master setup.now master.now.0) ≡ false) }
+    ensures unlooked { IsErrOf result init_fault.BadSetup → disk.new ≡ disk.old }
     ensures refused { IfErr result (λ why. IfSome (D.holds disk.old) (λ cells. IsInitFault (journal_read cells) (with_master setup.now master.now.0) why)) }
     ensures looked { IfErr result (λ why. IsNoWrite why → Goes IsResynced (D.holds disk.old) (D.holds disk.new)) }
     ensures left { OnErr result (IfSome (D.holds disk.old) (λ cells. EachImage (D.holds disk.new) (MayBeLeft (with_master setup.now master.now.0) cells))) }

@@ -39,6 +39,7 @@ impl Vault {
             → entry_of self.old job ≡ Some entry → calls_disk (coming_of self.old job) ≡ true
             → MovesCells (moves_made (coming_of self.old job)) (closed_gate_of self.old) (spelling entry ++ 0 ∷ []) result (D.holds disk.old) (D.holds disk.new) }
         ensures away { called_provider (coming_of self.old job) ≡ None → providers.new ≡ providers.old }
+        ensures count { length providers.new ≡ length providers.old }
         ensures others { (j k : ℕ) → called_provider (coming_of self.old job) ≡ Some j → k ≢ j
             → slice_get providers.new k ≡ slice_get providers.old k }
         ensures waits { IsIdle result → result ≢ turn.NoSuchJob → IsUnchanged self.old self.new × (disk.new ≡ disk.old) × (providers.new ≡ providers.old) }
@@ -79,6 +80,7 @@ impl Vault {
             → entry_of self.old job ≡ Some entry → calls_disk (Acts (seen_action action)) ≡ true
             → IfSome result (λ turn. MovesCells (moves_made (Acts (seen_action action))) (closed_gate_of self.old) (spelling entry ++ 0 ∷ []) turn (D.holds disk.old) (D.holds disk.new)) }
         ensures away { called_provider (Acts (seen_action action)) ≡ None → providers.new ≡ providers.old }
+        ensures count { length providers.new ≡ length providers.old }
         ensures others { (j k : ℕ) → called_provider (Acts (seen_action action)) ≡ Some j → k ≢ j
             → slice_get providers.new k ≡ slice_get providers.old k }
         ensures acted { IfSome result (λ turn. IsIdle turn → ⊥) }

@@ -11,7 +11,6 @@ ghost use Rattle.vault.specs.Outcomes.{IfEnded, IsIdle, HasPaddedCounts};
 ghost use Rattle.vault.specs.Seen.{left_of};
 
 use crate::bench::Bench;
-use crate::codec::Codes;
 use crate::end::place_of;
 use crate::tasks::Task;
 use crate::turn::{Answer, Turn};
@@ -45,7 +44,6 @@ impl Bench {
     /// Stores a provider's block of the stripe at hand; None where there is no such provider.
     fn store<P: Provider>(
         &mut self,
-        codes: &Codes,
         to: &mut P,
         provider: u32,
         object: u64,
@@ -58,7 +56,7 @@ impl Bench {
         ensures rows { self.new.rows ≡ self.old.rows }
     {
         self.turn_to(object);
-        if !self.make_column(codes, stripe, provider) {
+        if !self.make_column(stripe, provider) {
             return None;
         }
         Some(store_block(to, object, stripe, &self.column))
@@ -69,7 +67,6 @@ impl Task {
     /// Stores a block of a put or a repair; None where there is nothing to store, or no such provider.
     fn store<P: Provider>(
         &mut self,
-        codes: &Codes,
         to: &mut P,
         provider: u32,
         object: u64,
@@ -83,9 +80,9 @@ impl Task {
         match self {
             Task::Put(put) => {
                 put.bench.take_stripe(put.bytes.as_slice(), stripe);
-                put.bench.store(codes, to, provider, object, stripe)
+                put.bench.store(to, provider, object, stripe)
             }
-            Task::Repair(repair) => repair.bench.store(codes, to, provider, object, stripe),
+            Task::Repair(repair) => repair.bench.store(to, provider, object, stripe),
             _ => None,
         }
     }
@@ -107,6 +104,7 @@ impl Vault {
             → MakesTurn w moment job result self.new
             (devices holds faults (map (as_seen P.held P.store_faults P.other_faults P.fetches) providers.old))
             (devices holds faults (map (as_seen P.held P.store_faults P.other_faults P.fetches) providers.new)) }
+        ensures count { length providers.new ≡ length providers.old }
         ensures others { (k : ℕ) → k ≢ provider → slice_get providers.new k ≡ slice_get providers.old k }
         ensures left { result ≡ Some turn.More → left_of self.new job < left_of self.old job }
         ensures padded { IfSome result (λ turn. IfEnded turn (λ ended. HasPaddedCounts ended.answer)) }
@@ -118,13 +116,7 @@ impl Vault {
             return None;
         }
         let task = &mut self.jobs[place].task;
-        match task.store(
-            &self.codec.codes,
-            &mut providers[index],
-            provider,
-            object,
-            stripe,
-        )? {
+        match task.store(&mut providers[index], provider, object, stripe)? {
             Ok(()) => {
                 self.core.feed(job, Reply::Done);
                 Some(Turn::More)

@@ -82,3 +82,19 @@ fn an_older_object_is_removed(rt: HostRuntime) -> Result<(), Fail> {
     assert_eq!(rt; store.run(3), (6, Seen::Got(Text::New)));
     Ok(())
 }
+
+#[test]
+fn two_drops_of_a_name_write_one_record(rt: HostRuntime) -> Result<(), Fail> {
+    let mut store = stored(rt.alloc()).expect(&rt, "a file is stored");
+    assert_eq!(rt; store.disk.bytes().len(), 9 + 42 + 12 + 14);
+    assert_eq!(rt; store.begin(Job::Drop(b"a")), Ok(2));
+    assert_eq!(rt; store.begin(Job::Drop(b"a")), Ok(3));
+    assert_eq!(rt; store.step(2), Seen::More);
+    assert_eq!(rt; store.step(3), Seen::Waiting(2));
+    assert_eq!(rt; store.run(2), (8, Seen::Dropped));
+    assert_eq!(rt; store.run(3), (1, Seen::Dropped));
+    assert_eq!(rt; store.disk.bytes().len(), 9 + 42 + 12 + 14 + 4);
+    assert_eq!(rt; holders(&store, 1), 0);
+    assert_eq!(rt; store.begin(Job::Drop(b"a")), Err(BeginFault::NoSuchName));
+    Ok(())
+}

@@ -1,3 +1,4 @@
+use Rattle.command_laws.proofs.AnyDisk.{get-order}
 use Rattle.std.proofs.Common.{inl, inr}
 use Rattle.command_laws.proofs.GetEnds.{seen-complete, seen-right, seen-forged}
 use Rattle.command_laws.proofs.Unforged.{seen-unforged}
@@ -25,3 +26,6 @@ returns-clause-forged_front c name bytes records file old new end A K in_effect 
 
 pub returns-clause-unforged : goal.returns-clause-unforged
 returns-clause-unforged c name bytes records file old new end A K in_effect few F = seen-unforged name bytes records file old new end K in_effect few A.0 F
+
+pub returns-clause-ends : goal.returns-clause-ends
+returns-clause-ends c name old new end A disk sink = get-order name old new end A.0 disk sink

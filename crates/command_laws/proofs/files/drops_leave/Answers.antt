@@ -5,5 +5,5 @@ use Rattle.command_laws.proofs.Refused.{drop-has}
 use Rattle.command_laws.proofs.files.drops_leave.Goals as goal
 
 pub returns : goal.returns
-returns c w new name answer heard O spelled r =
-    (let f = drop-has 8 w name r.begins.1 in drop-leaves w new name answer heard O (job-ends w new (DropJob name) answer heard O spelled r) f.0 f.1)
+returns c w new moment name answer heard O spelled r =
+    (let f = drop-has 8 w name r.begins.1 in drop-leaves w new name answer heard O (job-ends w new moment (DropJob name) answer heard O spelled r) f.0 f.1)

@@ -1,3 +1,4 @@
+use Rattle.command_laws.proofs.AnyDisk.{list-order}
 use Rattle.command_laws.proofs.InitEnds.{list-done, list-well}
 use Rattle.command_laws.proofs.Emptied.{list-empty}
 use Rattle.command_laws.proofs.inits.lists_give_the_files.Goals as goal
@@ -10,3 +11,6 @@ returns-clause-ends_well c records old new end A K disk sink = list-well records
 
 pub returns-clause-empty : goal.returns-clause-empty
 returns-clause-empty c records old new end A K none = list-empty records old new end A.0 K none
+
+pub returns-clause-ends : goal.returns-clause-ends
+returns-clause-ends c old new end A sink = list-order old new end A.0 sink

@@ -1,7 +1,6 @@
 use Rattle.std.proofs.Common.{length, arith, ap}
 use Rattle.hail_poly.specs.Registers.{Registers}
-use Rattle.dispersal_code.proofs.SearchSteps.{Apart-take}
-use Rattle.dispersal_code.proofs.RowSteps.{row_is}
+use Rattle.dispersal_code.proofs.RowSteps.{Apart-take, row_is}
 use Rattle.dispersal_code.proofs.encode.encode_row.Goals as goal
 
 pub load-requires-clause-apart : goal.load-requires-clause-apart

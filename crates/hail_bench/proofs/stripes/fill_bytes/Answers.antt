@@ -1,14 +1,14 @@
-use Rattle.std.proofs.Common.{arith, length}
+use Rattle.std.proofs.Common.{◌/◌, ◌^◌, ◌∙◌, ap, arith, length}
 use Rattle.std.proofs.lemmas.List.FromFn.{fill_by_all}
-use Rattle.std.proofs.lemmas.Grind.{common_steps}
 use Rattle.hail_bench.specs.Stripes.{byte_at}
-use Rattle.hail_bench.proofs.StripeLemmas.{next_byte}
+use Rattle.hail_bench.proofs.StripeLemmas.{next_number, place_more}
 use Rattle.hail_bench.proofs.stripes.fill_bytes.Goals as goal
 
 pub loop-place-preserved : goal.loop-place-preserved
 loop-place-preserved c = record {
-  filled = λ k below. grind (arith, common_steps, c.loop-place.invariant.filled k, c.loop-place.invariant.next);
-  next = next_byte c.loop-place.place c.loop-place.next c.loop-place.invariant.next;
+  filled = λ k below. place_more c.loop-place.bytes c.loop-place.place k (c.loop-place.next / 2 ^ 120) byte_at (omega arith) c.loop-place.invariant.filled
+      (ap (λ n. n / 2 ^ 120) c.loop-place.invariant.next) below;
+  next = c.after-next.ensures ∙ next_number c.loop-place.place c.loop-place.next c.loop-place.invariant.next;
 }
 
 pub returns : goal.returns

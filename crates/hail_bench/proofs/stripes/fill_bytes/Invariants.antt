@@ -1,10 +1,11 @@
 use Rattle.std.proofs.Common.{◌≡◌, ◌<◌, ℕ, get_or}
+use Rattle.hail_bench.specs.Checksum.{number_at}
 use Rattle.hail_bench.specs.Stripes.{byte_at}
 use Rattle.hail_bench.proofs.stripes.fill_bytes.Given as goal
 
--- the places before this one are filled, and the byte of this one is the next
+-- the places before this one are filled, and the number of this one is the next
 abbrev pub invariant-loop-place : goal.invariant-loop-place
 invariant-loop-place l = record {
   filled : (k : ℕ) → k < l.place → get_or l.bytes k 0 ≡ byte_at k;
-  next : l.next ≡ byte_at l.place;
+  next : l.next ≡ number_at l.place;
 }

@@ -10,5 +10,5 @@ returns-in-Ok-clause-over g c records old fresh opened before was_synced source 
 
 pub returns-in-Err-clause-over : goal.returns-in-Err-clause-over
 returns-in-Err-clause-over g c records old fresh opened before was_synced source source_count sink sink_count =
-    unread-put c.args.name.now records old _ _ _ c.in-Err.fault _ source_count opened before was_synced c.unread.ensures
+    unread-put c.args.name.now records old _ _ _ c.in-Err.fault _ _ source_count source c.read_up_to.ensures.at_most opened before was_synced c.unread.ensures
     (λ same. c.in-Err.ensures.cause.rose (ap (λ (f : ReadFault). Err f) same)) refl refl refl (sym sink)

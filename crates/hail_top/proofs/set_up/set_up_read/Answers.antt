@@ -12,4 +12,4 @@ returns-in-Ok-clause-answers g c numbers providers for =
 
 pub returns-in-Err-clause-answers : goal.returns-in-Err-clause-answers
 returns-in-Err-clause-answers g c numbers providers for =
-    unread-told c.args.setup.now numbers _ _ _ c.in-Err.fault for c.unread.ensures (λ same. c.in-Err.ensures.cause.rose (ap (λ (f : ReadFault). Err f) same)) refl refl refl
+    unread-told c.args.setup.now numbers _ _ _ c.in-Err.fault for c.read_up_to.ensures.at_most c.unread.ensures (λ same. c.in-Err.ensures.cause.rose (ap (λ (f : ReadFault). Err f) same)) refl refl refl

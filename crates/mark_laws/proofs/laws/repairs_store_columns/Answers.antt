@@ -1,4 +1,6 @@
+use Rattle.std.proofs.Common.{ap}
 use Rattle.hail_machine.specs.Jobs.{Worked}
+use Rattle.hail_machine.specs.Calm.{relies}
 use Rattle.hail_machine.proofs.Held.{contains_in}
 use Rattle.mark_laws.proofs.InRuns.{in_run}
 use Rattle.mark_laws.proofs.InDoubt.{rewritten}
@@ -9,7 +11,7 @@ returns-clause-stored c limit mark start ms number job j object stripe block h r
 
 pub returns-clause-worked : goal.returns-clause-worked
 returns-clause-worked c limit mark start ms number job object stripe symbols h runs kind given =
-    ((in_run limit mark start ms h).rows number job object stripe symbols runs kind (contains_in job.given (Worked object stripe symbols) given)).1
+    ((in_run limit mark start ms h).rows number job object stripe symbols runs (ap relies kind) (contains_in job.given (Worked object stripe symbols) given)).1
 
 pub returns-clause-in_doubt : goal.returns-clause-in_doubt
 returns-clause-in_doubt c limit mark start ms d job j object stripe block h at maker kind made none told =

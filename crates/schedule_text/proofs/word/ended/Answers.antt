@@ -7,8 +7,8 @@ use Rattle.schedule_text.specs.Reading.{ended}
 use Rattle.schedule_text.proofs.Pieces.{words-some, front_is}
 use Rattle.schedule_text.proofs.word.ended.Goals as goal
 
-pub returns-else-is_empty : goal.returns-else-is_empty
-returns-else-is_empty c =
+pub returns-else-is_empty-clause-read : goal.returns-else-is_empty-clause-read
+returns-else-is_empty-clause-read c =
     let left = c.without_spaces.result.now in
     let some : 0 < length left = grind (arith, nat_tests) in
     let word = words-some left some (front_is left some c.without_spaces.ensures.front) in

@@ -12,7 +12,7 @@ loop-place-init c =
 pub loop-place-preserved : goal.loop-place-preserved
 loop-place-preserved c =
     subst (λ (rows : List ℕ). HasRows (plain_profile c.args.profile) (c.loop-place.place + 1) rows) (sym c.in_ok-push_bytes.ensures)
-    (row_more (plain_profile c.args.profile) c.loop-place.place c.loop-place.rows.items c.generator_row.new.out c.loop-place.invariant c.generator_row.ensures.row)
+    (row_more (plain_profile c.args.profile) c.loop-place.place c.loop-place.rows.items c.parity_row.new.out c.loop-place.invariant c.parity_row.ensures.row)
 
 pub returns : goal.returns
 returns c =

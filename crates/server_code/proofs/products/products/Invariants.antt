@@ -1,7 +1,10 @@
-use Rattle.std.proofs.Common.{◌≡◌, map}
-use Rattle.std.specs.List.{range_with_len}
-use Rattle.server_code.proofs.ProductSteps.{entry}
+use Rattle.std.proofs.Common.{◌≡◌, ◌<◌, ℕ, length, get_or}
+use Rattle.server_code.specs.Products.{AreMultiples}
+use Rattle.server_code.specs.declared.products.Multiples.{Multiples}
 use Rattle.server_code.proofs.products.products.Given as goal
 
-abbrev pub invariant-loop-place : goal.invariant-loop-place
-invariant-loop-place l = l.table.items ≡ map entry (range_with_len 0 l.place)
+abbrev pub invariant-loop-c : goal.invariant-loop-c
+invariant-loop-c l = record {
+  count : length l.table.items ≡ l.c;
+  each : (c : ℕ) (other : Multiples) → c < l.c → AreMultiples c (get_or l.table.items c other);
+}

@@ -3,7 +3,7 @@ use Rattle.std.specs.Prelude.{IfSome}
 use Rattle.journal_core.proofs.MoveLemmas.{on_err}
 use Rattle.vault.specs.Openings.{journal_read, IsInitFault}
 use Rattle.vault.specs.declared.fault.InitFault.{InitFault}
-use Rattle.vault.proofs.Answers.{err-from}
+use Rattle.vault.proofs.Answers.{err-from, unjudged, disk-unjudged, text-unjudged}
 use Rattle.vault.proofs.Opened.{IsLookedAt}
 use Rattle.vault.proofs.Prepared.{half-empty, half-resynced, text_fault, readied-empty, readied-read}
 use Rattle.vault.proofs.preparing.prepare.Goals as goal
@@ -42,3 +42,15 @@ returns-in_err-read_disk-clause-left g c =
 pub returns-in_err-has_no_record-in-Some-clause-left : goal.returns-in_err-has_no_record-in-Some-clause-left
 returns-in_err-has_no_record-in-Some-clause-left g c =
     on_err c.from_residual-in_err-has_no_record-in-Some.result _ (half-resynced (g.D.Disk.holds c.args.disk.now) (g.D.Disk.holds c.read_disk.new.disk) c.read_disk.ensures.disk)
+
+pub returns-in_err-read_disk-clause-unjudged : goal.returns-in_err-read_disk-clause-unjudged
+returns-in_err-read_disk-clause-unjudged g c = unjudged c.from_residual.result _ c.from_residual.ensures.1 (disk-unjudged c.in_err-read_disk.field-0.0)
+
+pub returns-in_err-make_empty-in-None-clause-unjudged : goal.returns-in_err-make_empty-in-None-clause-unjudged
+returns-in_err-make_empty-in-None-clause-unjudged g c =
+    unjudged c.from_residual-in_err-make_empty-in-None.result _ c.from_residual-in_err-make_empty-in-None.ensures.1 (disk-unjudged c.in_err-make_empty-in-None.field-0.0)
+
+pub returns-in_err-has_no_record-in-Some-clause-unjudged : goal.returns-in_err-has_no_record-in-Some-clause-unjudged
+returns-in_err-has_no_record-in-Some-clause-unjudged g c =
+    unjudged c.from_residual-in_err-has_no_record-in-Some.result _ c.from_residual-in_err-has_no_record-in-Some.ensures.1
+    (text-unjudged c.deref.result.now c.in_err-has_no_record-in-Some.field-0.0 c.in_err-has_no_record-in-Some.ensures.refused)

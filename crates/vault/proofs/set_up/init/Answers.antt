@@ -1,4 +1,5 @@
-use Rattle.std.proofs.Common.{◌≡◌, true, Result, sym, ◌∙◌, subst, ap, arith, Err}
+use Rattle.std.proofs.Common.{◌≡◌, true, Result, refl, sym, ◌∙◌, subst, ap, arith, Ok, Err}
+use Rattle.std.proofs.lemmas.Bool.{false≢true}
 use Rattle.std.specs.Prelude.{IfSome}
 use Rattle.stream_model.specs.declared.fault.WriteFault.{WriteFault}
 use Rattle.stream_model.specs.declared.fault.WriteFault.TheVariants as write_fault
@@ -11,7 +12,7 @@ use Rattle.vault.specs.Inits.{MakesInit}
 use Rattle.vault.specs.Openings.{journal_read, IsInitFault}
 use Rattle.vault.specs.Faults.{init_answer}
 use Rattle.journal_core.proofs.MoveLemmas.{on_err}
-use Rattle.vault.proofs.Answers.{err-from}
+use Rattle.vault.proofs.Answers.{err-from, unjudged, disk-unjudged}
 use Rattle.vault.proofs.FirstRecord.{set-up-on}
 use Rattle.vault.proofs.Prepared.{half-left, append-left}
 use Rattle.vault.proofs.InitEvents.{bad-refused, bad-setup, prepared-event, append-event, ready-event, err-is, cause-after, readied-blank}
@@ -87,3 +88,33 @@ returns-clause-machine g c = λ w providers moment may are.
     let second = c.in_ok-append_setup.ensures.cause.never_falls in
     ready-event s w moment providers (g.D.Disk.holds c.args.disk.now) (g.D.Disk.holds c.append_setup.new.disk) (g.D.Disk.faults c.args.disk.now) (g.D.Disk.faults c.append_setup.new.disk) may are valid
     (returns-clause-ok g c) c.in_ok-append_setup.ensures.spelled (omega (arith, first, second))
+
+pub returns-then-not-check-clause-bad_setup : goal.returns-then-not-check-clause-bad_setup
+returns-then-not-check-clause-bad_setup g c = (λ is. sym (c.check.ensures c.args.master.now.0) ∙ c.if-not-check.true, λ bad. refl)
+
+pub returns-in_err-prepare-clause-unlooked : goal.returns-in_err-prepare-clause-unlooked
+returns-in_err-prepare-clause-unlooked g c = λ is.
+    absurd (unjudged c.from_residual.result c.in_err-prepare.field-0.0 c.from_residual.ensures.1 (λ same. c.in_err-prepare.ensures.unjudged (ap (λ (f : InitFault). Err f) same)) is)
+
+pub returns-in_err-prepare-clause-bad_setup : goal.returns-in_err-prepare-clause-bad_setup
+returns-in_err-prepare-clause-bad_setup g c =
+    let valid : is_setup (with_master c.args.setup.now c.args.master.now.0) ≡ true = sym (c.check.ensures c.args.master.now.0) ∙ c.if-not-check.false in (
+      λ is. absurd (unjudged c.from_residual.result c.in_err-prepare.field-0.0 c.from_residual.ensures.1 (λ same. c.in_err-prepare.ensures.unjudged (ap (λ (f : InitFault). Err f) same)) is),
+      λ bad. absurd (false≢true (sym bad ∙ valid)),
+    )
+
+pub returns-in_err-append_setup-clause-unlooked : goal.returns-in_err-append_setup-clause-unlooked
+returns-in_err-append_setup-clause-unlooked g c = λ is.
+    absurd (unjudged c.from_residual-in_err-append_setup.result (init_answer c.in_err-append_setup.field-0.0) c.from_residual-in_err-append_setup.ensures.1 (disk-unjudged c.in_err-append_setup.field-0.0) is)
+
+pub returns-in_err-append_setup-clause-bad_setup : goal.returns-in_err-append_setup-clause-bad_setup
+returns-in_err-append_setup-clause-bad_setup g c =
+    let valid : is_setup (with_master c.args.setup.now c.args.master.now.0) ≡ true = sym (c.check.ensures c.args.master.now.0) ∙ c.if-not-check.false in (
+      λ is. absurd (unjudged c.from_residual-in_err-append_setup.result (init_answer c.in_err-append_setup.field-0.0) c.from_residual-in_err-append_setup.ensures.1 (disk-unjudged c.in_err-append_setup.field-0.0) is),
+      λ bad. absurd (false≢true (sym bad ∙ valid)),
+    )
+
+pub returns-clause-bad_setup : goal.returns-clause-bad_setup
+returns-clause-bad_setup g c =
+    let valid : is_setup (with_master c.args.setup.now c.args.master.now.0) ≡ true = sym (c.check.ensures c.args.master.now.0) ∙ c.if-not-check.false in
+    (λ is. absurd (let e : ◌≡◌ {A = Result Unit InitFault} (Ok tt) (Err init_fault.BadSetup) = is in cc), λ bad. absurd (false≢true (sym bad ∙ valid)))

@@ -1,9 +1,12 @@
-use Rattle.std.proofs.Common.{◌≡◌, take, map}
-use Rattle.hail_codes.specs.Points.{upto}
-use Rattle.file_layout.specs.Files.{object_of}
-use Rattle.column_codec.specs.Rows.{row_value}
+use Rattle.std.proofs.Common.{◌≡◌, ◌<◌, ℕ, [], get_or, length}
+use Rattle.hail_field.specs.Nim.{nim_add}
+use Rattle.hail_codes.specs.Sums.{dot}
+use Rattle.column_codec.proofs.WeightLemmas.{differences_at}
 use Rattle.column_codec.proofs.keys.ObjectKeys.kept_into.Given as goal
 
--- the rows before this one are filled
-abbrev pub invariant-loop-place : goal.invariant-loop-place
-invariant-loop-place l = take l.place l.kept ≡ map (row_value (object_of l.self.master.0 l.self.file) l.symbols l.provider) (upto l.place)
+-- the differences of the blocks before this one are summed
+abbrev pub invariant-loop-j : goal.invariant-loop-j
+invariant-loop-j l =
+    (place : ℕ) → place < l.self.file.profile.keep →
+    get_or l.kept place 0
+    ≡ nim_add (get_or l.symbols place 0) (dot (get_or l.self.weights l.provider []) (differences_at l.j l.self.file.profile.keep place l.symbols (get_or l.symbols place 0)))

@@ -13,5 +13,5 @@ returns-in-Ok-clause-machine c = λ w d moment stands.
     let second : n * c.in_ok-bench.bench.keys.file.profile.size ≤ vec_capacity blocks.symbols =
     subst (λ (k : ℕ). k * c.in_ok-bench.bench.keys.file.profile.size ≤ vec_capacity blocks.symbols) c.from.ensures e.room_symbols in
     c.admit.ensures.machine w d moment RepairJob stands tt tt (λ accepted.
-    repair-task c.args.self.now d w moment 0 0 c.in_ok-bench.bench blocks stands c.in_ok-bench.ensures.ok e.size e.present e.symbols first
+    repair-task c.args.self.now d w moment 0 4194304 c.in_ok-bench.bench blocks stands c.in_ok-bench.ensures.ok e.size e.present e.symbols first
     (subst (λ (k : ℕ). n * k ≤ vec_capacity blocks.symbols) (sym e.size) second))

@@ -1,0 +1,129 @@
+-- The premises of the laws at a round of one pick.
+use Rattle.std.specs.Prelude.{◌≡◌, ◌≢◌, ℕ, zero, suc, ◌+◌, ◌/◌, ◌%◌, ◌<◌, ◌≤◌, ◌==◌, Bool, true, false, not, List, [], ◌∷◌, length, map, slice_get, Option, None, Some, if◌then◌else◌}
+use Rattle.std.proofs.Common.{arith, ap, sym, refl, ◌∙◌, get_or, inl}
+use Rattle.std.proofs.lemmas.Option.{slice_get-get_or}
+use Rattle.field_laws.proofs.Ring.{sum_zero}
+use Rattle.hail_field.specs.Nim.{nim_add}
+use Rattle.hail_field.proofs.AllNumbers.{nim_ring}
+use Rattle.poly_laws.specs.Poly.{is_seen as is_seen_over}
+use Rattle.hail_codes.specs.Polynomials.{value, is_seen}
+use Rattle.hail_codes.specs.Points.{upto}
+use Rattle.hail_columns.specs.Objects.{Object, symbols_in, point, points}
+use Rattle.hail_columns.specs.Columns.{columns}
+use Rattle.hail_columns.specs.Challenges.{Challenge, right_answer, bare_answer, bare_answers, symbol_at, held_symbol, picked_row}
+use Rattle.hail_columns.specs.Verdicts.{Sums, Judges, counts_after}
+use Rattle.hail_columns.proofs.ColumnLaws.{length-column_of_symbols}
+use Rattle.column_laws.specs.Example.{example}
+use Rattle.column_laws.proofs.Worked.{example-shape}
+use Rattle.aggregate.proofs.RightRow.{right_row, IsRightRow-right_row}
+use Rattle.audit_verdict.specs.Rounds.{answer_of, is_right, wrong_answers, HasFewWrong, DiffersOnce, own_symbol}
+use Rattle.audit_verdict.specs.Example.{one_pick, three_heard}
+use Rattle.audit_verdict.proofs.RoundLaws.{seen-same, bare-absent, right-decides}
+
+-- the right answer is right
+right-itself : (o : Object) (bytes : List ℕ) (c : Challenge) (j : ℕ) → 1 ≤ c.size → c.size ≡ o.profile.size →
+    is_right o bytes c j (right_answer o bytes j c) ≡ true
+right-itself o bytes c j some size = go (right_answer o bytes j c) refl
+  where
+    go : (answer : Option ℕ) → right_answer o bytes j c ≡ answer → is_right o bytes c j answer ≡ true
+    go None e =
+        let f : None ≡ Some (value (right_row o bytes c) (point o j)) =
+        sym (ap (bare_answer o c j) e ∙ bare-absent o c j) ∙ (IsRightRow-right_row o bytes c some size).values j in
+        absurd cc
+    go (Some x) e = ap (is_seen x) e ∙ seen-same x
+
+-- one of the four answers is not right
+one-wrong : (master bytes : List ℕ) → wrong_answers (example master) bytes (one_pick master bytes) (three_heard master bytes) ≡ 1
+one-wrong master bytes =
+    let at = λ (j : ℕ). right-itself (example master) bytes (one_pick master bytes) j (omega arith) refl in
+    simp (at 0, at 1, at 2) refl
+
+pub few-wrong : (master bytes : List ℕ) → HasFewWrong (example master) bytes (one_pick master bytes) (three_heard master bytes)
+few-wrong master bytes = record {
+  shape = example-shape;
+  some_size = omega arith;
+  size = refl;
+  all_heard = refl;
+  few = omega (arith, one-wrong master bytes);
+}
+
+-- a right answer agrees
+agrees : (master bytes : List ℕ) (j : ℕ) → is_seen (value (right_row (example master) bytes (one_pick master bytes)) (point (example master) j))
+    (bare_answer (example master) (one_pick master bytes) j (right_answer (example master) bytes j (one_pick master bytes))) ≡ true
+agrees master bytes j =
+    ap (is_seen (value (right_row (example master) bytes (one_pick master bytes)) (point (example master) j)))
+    ((IsRightRow-right_row (example master) bytes (one_pick master bytes) (omega arith) refl).values j)
+    ∙ seen-same (value (right_row (example master) bytes (one_pick master bytes)) (point (example master) j))
+
+-- an absent one does not
+absent : (y : ℕ) → is_seen y None ≡ false
+unfolding is_seen_over
+absent y = refl
+
+-- so the fourth counts
+counts-one : (master bytes : List ℕ) → counts_after (right_row (example master) bytes (one_pick master bytes)) (points (example master))
+    (bare_answers (example master) (one_pick master bytes) 0 (three_heard master bytes)) (0 ∷ 0 ∷ 0 ∷ 0 ∷ []) ≡ 0 ∷ 0 ∷ 0 ∷ 1 ∷ []
+counts-one master bytes =
+    simp (
+      agrees master bytes 0,
+      agrees master bytes 1,
+      agrees master bytes 2,
+      bare-absent (example master) (one_pick master bytes) 3,
+      absent (value (right_row (example master) bytes (one_pick master bytes)) (point (example master) 3)),
+    ) refl
+
+pub judged-one : (master bytes : List ℕ) → Judges (example master) (one_pick master bytes) (three_heard master bytes)
+    (record { counts = 0 ∷ 0 ∷ 0 ∷ 0 ∷ []; undecided = 0 }) (record { counts = 0 ∷ 0 ∷ 0 ∷ 1 ∷ []; undecided = 0 })
+judged-one master bytes =
+    let few = few-wrong master bytes in
+    inl (
+      right_row (example master) bytes (one_pick master bytes),
+      right-decides (example master) bytes (one_pick master bytes) (three_heard master bytes) few.shape few.some_size few.size few.all_heard few.few,
+      ap (λ (counts : List ℕ). record { counts = counts; undecided = 0 }) (sym (counts-one master bytes)),
+    )
+
+-- a symbol that is off by 1 is another
+off-by_one : (x : ℕ) → nim_add 1 x ≢ x
+off-by_one x e =
+    let zero : nim_add (nim_add 1 x) x ≡ 0 = ap (λ y. nim_add y x) e ∙ nim_ring.add_self x in
+    let one : nim_add (nim_add 1 x) x ≡ 1 = nim_ring.add_assoc 1 x x ∙ ap (nim_add 1) (nim_ring.add_self x) ∙ nim_ring.add_zero 1 in
+    omega (arith, zero, one)
+
+-- at a place of a block that is off by 1
+off-at : (block : List ℕ) (place : ℕ) → place < length block → slice_get (map (nim_add 1) block) place ≢ slice_get block place
+off-at [] place h e = absurd (omega (arith, h))
+off-at (x ∷ block) zero h e = off-by_one x cc
+off-at (x ∷ block) (suc place) h e = off-at block place (omega (arith, h)) e
+
+-- as long as before
+length-off : (block : List ℕ) → length (map (nim_add 1) block) ≡ length block
+length-off [] = refl
+length-off (x ∷ block) = ap suc (length-off block)
+
+-- what stands in a block of the size
+at-size : (block : List ℕ) (size place : ℕ) → length block ≡ size → symbol_at size place (Some block) ≡ slice_get block place
+at-size block size place e = ap (λ b. if b then slice_get block place else None) (same (length block) size e)
+  where
+    same : (m n : ℕ) → m ≡ n → (m == n) ≡ true
+    same m n e = grind (arith, e)
+
+pub differs-once : (master bytes : List ℕ) → DiffersOnce (example master) bytes 3 (one_pick master bytes)
+    (λ stripe. Some (map (nim_add 1) (columns (example master) bytes 3 stripe)))
+differs-once master bytes = record {
+  pick = 0;
+  picked = omega arith;
+  differs = λ e. other (picked_row (one_pick master bytes).seed (one_pick master bytes).rows 0) e;
+  others = λ k below apart. absurd (apart (omega (arith, below)));
+}
+  where
+    long : (stripe : ℕ) → length (columns (example master) bytes 3 stripe) ≡ 6
+    long stripe = length-column_of_symbols (example master) (symbols_in (example master) bytes stripe) 3 stripe
+
+    other : (row : ℕ) → held_symbol 6 (λ stripe. Some (map (nim_add 1) (columns (example master) bytes 3 stripe))) row
+        ≢ own_symbol (example master) bytes 3 6 row
+    other row e =
+        let block = columns (example master) bytes 3 (row / 6) in
+        off-at (columns (example master) bytes 3 (row / 6)) (row % 6) (omega (arith, long (row / 6)))
+        (sym (at-size (map (nim_add 1) (columns (example master) bytes 3 (row / 6))) 6 (row % 6)
+        (length-off (columns (example master) bytes 3 (row / 6)) ∙ long (row / 6)))
+        ∙ e ∙ at-size (columns (example master) bytes 3 (row / 6)) 6 (row % 6) (long (row / 6)))

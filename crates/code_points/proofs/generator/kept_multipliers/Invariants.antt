@@ -1,0 +1,9 @@
+use Rattle.std.proofs.Common.{◌≡◌, ◌<◌, ℕ, length, get_or}
+use Rattle.hail_codes.specs.Points.{upto, multiplier}
+use Rattle.code_points.proofs.generator.kept_multipliers.Given as goal
+
+abbrev pub invariant-loop-k : goal.invariant-loop-k
+invariant-loop-k l = record {
+  long : length l.out ≡ l.profile.keep;
+  done : (k : ℕ) → k < l.k → get_or l.out k 0 ≡ multiplier k (upto l.profile.keep);
+}

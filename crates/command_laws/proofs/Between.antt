@@ -1,0 +1,236 @@
+-- Stops and replacements between commands go on with a run, and so do commands one after the other.
+use Rattle.std.proofs.Common.{◌≡◌, ◌≢◌, ℕ, zero, suc, ◌<◌, ◌==◌, ◌⊎◌, Bool, true, false, List, [], ◌∷◌, ◌++◌, length, Option, None, Some, refl, ap, sym, subst, ◌∙◌, inl, inr, arith, append_assoc}
+use Rattle.std.specs.Prelude.{is_some, nat_lt, slice_get, slice_set, IsSome}
+use Rattle.std.proofs.lemmas.Bool.{cases_Bool, false≢true, eq-eqb, eqb-true}
+use Rattle.std.proofs.lemmas.Bool.Decides.{nat_tests}
+use Rattle.hail_devices.specs.Cells.{Cells, firm}
+use Rattle.hail_devices.specs.Disks.{Stopped}
+use Rattle.hail_devices.specs.Images.{EachImage}
+use Rattle.hail_devices.specs.Providers.{Held, Provider, with_symbol, without_block, HasPlace}
+use Rattle.hail_devices.specs.ProviderCalls.{Replaces}
+use Rattle.hail_devices.specs.Told.{Goes}
+use Rattle.hail_records.specs.Records.{Record}
+use Rattle.hail_records.specs.Journal.{StandsFor, StandsOrIsEmpty}
+use Rattle.hail_machine.specs.Events.{Event, Alter, Lose, Stop, Outcome, Replaced, NothingHeld, Stopped as HasStopped}
+use Rattle.hail_machine.specs.Machine.{Happens}
+use Rattle.hail_machine.specs.Replacements.{ReplacesIf}
+use Rattle.hail_machine.specs.Runs.{Moment, now, IsRun}
+use Rattle.hail_machine.specs.Stands.{StandsWithDoubt, StandsForState}
+use Rattle.hail_machine.specs.States.{State, given_up, with_provider}
+use Rattle.hail_machine.proofs.JobLists.{cond_true, cond_false}
+use Rattle.sound_states.specs.Sound.{IsSound}
+use Rattle.sound_states.proofs.Resting.{rest-sound}
+use Rattle.hail_commands.specs.Seen.{Seen}
+use Rattle.hail_commands.specs.JobRuns.{AreHanded}
+use Rattle.command_laws.specs.After.{IsSure}
+use Rattle.command_laws.specs.Pieces.{IsStore, IsCall, moment, IsReplaced, AreReplaced, IsLater, AreBetween, Call, last_seen, IsChain, AreCalls}
+use Rattle.command_laws.proofs.Images.{image-firm}
+use Rattle.command_laws.proofs.Telling.{opened_state, state-over, over-opened}
+use Rattle.command_laws.proofs.GoingOn.{now-more, run-sound, settled, settled-by, command-on, each-more}
+
+-- ---- lists with an element replaced
+
+length-set : {X : Type 0} (xs : List X) (j : ℕ) (x : X) → length (slice_set xs j x) ≡ length xs
+length-set [] j x = refl
+length-set (y ∷ xs) zero x = refl
+length-set (y ∷ xs) (suc j) x = ap suc (length-set xs j x)
+
+get-same : {X : Type 0} (xs : List X) (j : ℕ) (x : X) → j < length xs → slice_get (slice_set xs j x) j ≡ Some x
+get-same [] j x l = absurd (omega (arith, l))
+get-same (y ∷ xs) zero x l = refl
+get-same (y ∷ xs) (suc j) x l = get-same xs j x (omega (arith, l))
+
+get-other : {X : Type 0} (xs : List X) (j k : ℕ) (x : X) → k ≢ j → slice_get (slice_set xs j x) k ≡ slice_get xs k
+get-other [] j k x differ = refl
+get-other (y ∷ xs) zero zero x differ = absurd (differ refl)
+get-other (y ∷ xs) zero (suc k) x differ = refl
+get-other (y ∷ xs) (suc j) zero x differ = refl
+get-other (y ∷ xs) (suc j) (suc k) x differ = get-other xs j k x (λ e. differ (ap suc e))
+
+less-true : (a b : ℕ) → a < b → nat_lt a b ≡ true
+less-true a b l = grind (arith, nat_tests, l)
+
+-- ---- one replacement
+
+-- the state in which a provider is another one
+abbrev replaced_in : State → ℕ → Provider → State
+replaced_in w j q = record w { providers = with_provider w.providers j q }
+
+-- what came of a replacement
+abbrev outcome_for : Bool → Outcome
+outcome_for true = Replaced
+outcome_for false = NothingHeld
+
+replaces-at : (w : State) (j : ℕ) (IsThere : Held → Type 0) (change : Held → Held) (b : Bool) → b ≡ true → (found : Bool) (q : Provider) → Replaces IsThere change found (w.providers j) q →
+    ReplacesIf b w j IsThere change (outcome_for found) (replaced_in w j q)
+replaces-at w j IsThere change false e found q h = absurd (false≢true e)
+replaces-at w j IsThere change true e true q h = (q, h, refl)
+replaces-at w j IsThere change true e false q h = (q, h, refl)
+
+handed-set : (w : State) (ps : List Provider) (j : ℕ) (q : Provider) → AreHanded ps w → j < length ps → AreHanded (slice_set ps j q) (replaced_in w j q)
+handed-set w ps j q H below = record { count = H.count ∙ sym (length-set ps j q); each = each }
+  where
+    each : (k : ℕ) → k < length (slice_set ps j q) → slice_get (slice_set ps j q) k ≡ Some (with_provider w.providers j q k)
+    each k l = elim (cases_Bool (k == j)) [
+      | inl t ↦ (let e : k ≡ j = eqb-true k j t in ap (slice_get (slice_set ps j q)) e ∙ (get-same ps j q below ∙ ap Some (sym (cond_true (k == j) q (w.providers k) t))))
+      | inr f ↦ get-other ps j k q (λ e. false≢true (sym f ∙ eq-eqb k j e)) ∙ (H.each k (let m = length-set ps j q in omega (arith, m, l)) ∙ ap Some (sym (cond_false (k == j) q (w.providers k) f)))
+    ]
+
+given-at : (w : State) (ps : List Provider) (j : ℕ) (p : Provider) → AreHanded ps w → j < length ps → slice_get ps j ≡ Some p → p ≡ w.providers j
+given-at w ps j p H below at = (let e : Some p ≡ Some (w.providers j) = sym at ∙ H.each j below in let f : p ≡ w.providers j = cc in f)
+
+-- an event that leaves this state but for its providers
+record Goes-so (w : State) (event : Event) (ps : List Provider) : Type 0 where
+  j : ℕ
+  q : Provider
+  outcome : Outcome
+  between : AreBetween (moment event outcome (replaced_in w j q) ∷ [])
+  happens : (n : ℕ) → Happens 8 n w event outcome (replaced_in w j q)
+  handed : AreHanded ps (replaced_in w j q)
+
+one-goes : (w : State) (event : Event) (ps next : List Provider) → AreHanded ps w → IsReplaced event ps next → Goes-so w event next
+one-goes w (Alter j object stripe place symbol) ps next H (p, q, below, at, (found, call), is) = record {
+  j = j;
+  q = q;
+  outcome = outcome_for found;
+  between = (tt, tt);
+  happens = λ n. replaces-at w j (λ held. HasPlace (held object stripe) place) (with_symbol object stripe place symbol) (nat_lt j w.handed) (less-true j w.handed (let c = H.count in omega (arith, c, below))) found q
+      (subst (λ o. Replaces (λ held. HasPlace (held object stripe) place) (with_symbol object stripe place symbol) found o q) (given-at w ps j p H below at) call);
+  handed = subst (λ l. AreHanded l (replaced_in w j q)) (sym is) (handed-set w ps j q H below);
+}
+one-goes w (Lose j object stripe) ps next H (p, q, below, at, (found, call), is) = record {
+  j = j;
+  q = q;
+  outcome = outcome_for found;
+  between = (tt, tt);
+  happens = λ n. replaces-at w j (λ held. IsSome (held object stripe)) (without_block object stripe) (nat_lt j w.handed) (less-true j w.handed (let c = H.count in omega (arith, c, below))) found q
+      (subst (λ o. Replaces (λ held. IsSome (held object stripe)) (without_block object stripe) found o q) (given-at w ps j p H below at) call);
+  handed = subst (λ l. AreHanded l (replaced_in w j q)) (sym is) (handed-set w ps j q H below);
+}
+one-goes w event ps next H h = absurd h
+
+-- ---- stops and replacements
+
+-- moments between commands go on with a run to a store that stands for what the next one finds
+abbrev GoesBetween : State → List Moment → Seen → Type 0
+GoesBetween start ms next = (own : List Moment) × AreBetween own × IsRun 8 start (own ++ ms) × IsStore (now start (own ++ ms)) next
+
+both-between : (own more : List Moment) → AreBetween own → AreBetween more → AreBetween (own ++ more)
+both-between [] more a b = b
+both-between (m ∷ own) more (here, a) b = (here, both-between own more a b)
+
+-- the store with other providers
+store-replaced : (w : State) (s next : Seen) (j : ℕ) (q : Provider) → IsStore w s → IsSound 8 (replaced_in w j q) → next.disk ≡ s.disk → next.disk_faults ≡ s.disk_faults → AreHanded next.providers (replaced_in w j q) →
+    IsStore (replaced_in w j q) next
+store-replaced w s next j q S sound disk faults handed = record {
+  sound = sound;
+  set_up = S.set_up;
+  tells = ap is_some disk ∙ S.tells;
+  images = subst (λ d. StandsForState d (replaced_in w j q)) (sym disk) (each-more s.disk _ _ again S.images);
+  faults_are = S.faults_are ∙ sym faults;
+  handed = handed;
+}
+  where
+    again : (image : List ℕ) → StandsOrIsEmpty image w.records ⊎ StandsWithDoubt w image → StandsOrIsEmpty image w.records ⊎ StandsWithDoubt (replaced_in w j q) image
+    again image (inl h) = inl h
+    again image (inr D) = inr (record { doubt = D.doubt; in_doubt = D.in_doubt; stands = D.stands })
+
+store-same : (w : State) (s next : Seen) → IsStore w s → next.disk ≡ s.disk → next.disk_faults ≡ s.disk_faults → next.providers ≡ s.providers → IsStore w next
+store-same w s next S disk faults providers = record {
+  sound = S.sound;
+  set_up = S.set_up;
+  tells = ap is_some disk ∙ S.tells;
+  images = subst (λ d. StandsForState d w) (sym disk) S.images;
+  faults_are = S.faults_are ∙ sym faults;
+  handed = subst (λ ps. AreHanded ps w) (sym providers) S.handed;
+}
+
+-- what is seen with other providers
+abbrev with_providers : Seen → List Provider → Seen
+with_providers s ps = record s { providers = ps }
+
+replaced-on : (start : State) (events : List Event) (ms : List Moment) (s next : Seen) → IsRun 8 start ms → IsStore (now start ms) s → next.disk ≡ s.disk → next.disk_faults ≡ s.disk_faults →
+    AreReplaced events s.providers next.providers → GoesBetween start ms next
+replaced-on start [] ms s next R S disk faults same = ([], tt, R, store-same (now start ms) s next S disk faults same)
+replaced-on start (event ∷ events) ms s next R S disk faults (spelled, (mid, here, rest)) =
+    (let w : State = now start ms in
+    let G = one-goes w event s.providers mid S.handed here in
+    let v : State = replaced_in w G.j G.q in
+    let m : Moment = moment event G.outcome v in
+    let run : IsRun 8 start (m ∷ ms) = (spelled, G.happens (length ms), R) in
+    let stood : IsStore v (with_providers s mid) = store-replaced w s (with_providers s mid) G.j G.q S (run-sound start (m ∷ []) ms S.sound run) refl refl G.handed in
+    let more = replaced-on start events (m ∷ ms) (with_providers s mid) next run stood disk faults rest in
+    let same : more.0 ++ (m ∷ ms) ≡ (more.0 ++ m ∷ []) ++ ms = sym (append_assoc more.0 (m ∷ []) ms) in (
+      more.0 ++ m ∷ [],
+      both-between more.0 (m ∷ []) more.1 G.between,
+      subst (λ l. IsRun 8 start l) same more.2,
+      subst (λ l. IsStore (now start l) next) same more.3,
+    ))
+
+stopped-at : (a b : Option Cells) (P : List ℕ → Type 0) → is_some a ≡ true → EachImage a P → Goes Stopped a b → (image : List ℕ) × (b ≡ Some (firm image)) × P image
+stopped-at None b P tells h g = absurd (false≢true tells)
+stopped-at (Some a) None P tells h g = absurd g
+stopped-at (Some a) (Some b) P tells h (image, of, is) = (image, ap Some is, h image of)
+
+pub later-on : (start : State) (ms : List Moment) (new next : Seen) → IsRun 8 start ms → IsStore (now start ms) new → IsLater new next → GoesBetween start ms next
+later-on start ms new next R S L = elim L.disk [
+  | inl same ↦ replaced-on start L.events ms new next R S same L.faults L.replaced
+  | inr stopped ↦ (let w : State = now start ms in
+      let c = stopped-at new.disk next.disk (λ image. StandsOrIsEmpty image w.records ⊎ StandsWithDoubt w image) S.tells S.images stopped in
+      let f = settled-by w S.sound S.set_up c.0 c.2 in
+      let v : State = settled w f.0 in
+      let m : Moment = moment (Stop []) HasStopped v in
+      let run : IsRun 8 start (m ∷ ms) = (refl, f.1.settles (given_up w) refl refl, R) in
+      let mid : Seen = record new { disk = next.disk } in
+      let stood : IsStore v mid = record {
+        sound = run-sound start (m ∷ []) ms S.sound run;
+        set_up = f.1.up;
+        tells = ap is_some c.1;
+        images = subst (λ d. StandsForState d v) (sym c.1) (λ image of. inl (inl (subst (λ bytes. StandsFor bytes f.0) (sym (image-firm c.0 image of)) f.1.good.stands)));
+        faults_are = S.faults_are;
+        handed = record { count = S.handed.count; each = S.handed.each };
+      } in
+      let more = replaced-on start L.events (m ∷ ms) mid next run stood refl L.faults L.replaced in
+      let same : more.0 ++ (m ∷ ms) ≡ (more.0 ++ m ∷ []) ++ ms = sym (append_assoc more.0 (m ∷ []) ms) in (
+        more.0 ++ m ∷ [],
+        both-between more.0 (m ∷ []) more.1 (tt, tt),
+        subst (λ l. IsRun 8 start l) same more.2,
+        subst (λ l. IsStore (now start l) next) same more.3,
+      ))
+]
+
+-- ---- commands one after the other
+
+pub chain-on : (start : State) (ms : List Moment) (first : Seen) (calls : List Call) → IsRun 8 start ms → IsStore (now start ms) first → IsChain first calls →
+    (own : List Moment) × AreCalls (now start ms) calls own × IsRun 8 start (own ++ ms) × IsStore (now start (own ++ ms)) (last_seen first calls)
+chain-on start ms first [] R S C = ([], refl, R, S)
+chain-on start ms first (c ∷ cs) R S (later, A, C) =
+    (let before = chain-on start ms first cs R S C in
+    let between = later-on start (before.0 ++ ms) (last_seen first cs) c.old before.2 before.3 later in
+    let call = command-on start (between.0 ++ (before.0 ++ ms)) between.2 c.old between.3 c.command c.new c.end A.counts A.opens A.spelled A.answers in
+    let inner : between.0 ++ (before.0 ++ ms) ≡ (between.0 ++ before.0) ++ ms = sym (append_assoc between.0 before.0 ms) in
+    let all : call.0 ++ (between.0 ++ (before.0 ++ ms)) ≡ (call.0 ++ (between.0 ++ before.0)) ++ ms = ap (λ l. call.0 ++ l) inner ∙ sym (append_assoc call.0 (between.0 ++ before.0) ms) in
+    let at : now start (between.0 ++ (before.0 ++ ms)) ≡ now (now start ms) (between.0 ++ before.0) = ap (now start) inner ∙ now-more start (between.0 ++ before.0) ms in (
+      call.0 ++ (between.0 ++ before.0),
+      (call.0, between.0, before.0, refl, subst (λ w. IsCall c.command c.old c.new c.end w call.0) at call.1, between.1, before.1),
+      subst (λ l. IsRun 8 start l) all call.2,
+      subst (λ l. IsStore (now start l) c.new) all call.3,
+    ))
+
+-- ---- over each known store there is a state
+
+pub sure-store : (s : Seen) (records : List Record) → IsSure s records → (w : State) × IsStore w s
+sure-store s records K =
+    (let w : State = opened_state records s.disk_faults s.providers in
+    let V = state-over records s.disk_faults s.providers K.known.opened.read.accepted in
+    let O = over-opened w s records s.disk_faults K.known.opened V in (
+      w,
+      record {
+        sound = rest-sound 8 w O.rest;
+        set_up = O.rest.set_up refl;
+        tells = K.known.tells;
+        images = each-more s.disk _ _ (λ image stands. inl (inl stands)) K.images;
+        faults_are = refl;
+        handed = V.handed;
+      },
+    ))

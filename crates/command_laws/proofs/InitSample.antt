@@ -1,0 +1,27 @@
+-- An init of an empty disk with a key of zeros.
+use Rattle.std.proofs.Common.{[], refl, ap, inl, arith}
+use Rattle.std.proofs.lemmas.List.{get_or-replicate}
+use Rattle.hex.specs.Hex.{decode_pairs, is_hex_digit}
+use Rattle.hail_commands.specs.Forms.{InitWith}
+use Rattle.hail_commands.specs.Keys.{IsKeyForm, longest_key}
+use Rattle.hail_commands.specs.Seen.{ReadsUpTo}
+use Rattle.hail_commands.specs.Inits.{AnswersInit, InitsDisk}
+use Rattle.hail_commands.specs.Commands.{Answers}
+use Rattle.hail_records.specs.Spellings.{spelling}
+use Rattle.command_laws.specs.Opened.{IsKeyed}
+use Rattle.command_laws.specs.Instances.{small_setup, small_numbers, key_text, key_devices, ready_store, ends}
+
+key-form : IsKeyForm key_text small_setup.master
+unfolding decode_pairs
+key-form = record { digits = key_text; behind = []; text_is = refl; size = refl; hexadecimal = λ k d l. ap is_hex_digit (get_or-replicate 64 k 48 d l); spelled = refl; line_end = inl refl }
+
+pub keyed : IsKeyed small_numbers small_setup.master key_devices
+keyed = record { bytes = key_text; good = refl; enough = omega arith; source = refl; form = key-form }
+
+reads-key : ReadsUpTo longest_key key_devices.source ready_store.source key_text
+reads-key = record { are_bytes = refl; front = refl; few = omega arith; end = λ l. refl }
+
+pub init : Answers (InitWith small_numbers) key_devices ready_store (ends 0)
+unfolding spelling
+init = AnswersInit.keyed key_text small_setup.master refl (omega arith) reads-key key-form
+    (InitsDisk.ready (record { written = inl (refl, refl); place = refl; heard = refl; disk = record { free = inl (omega arith); reads_are = refl }; providers = refl }))

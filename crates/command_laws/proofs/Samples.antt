@@ -1,0 +1,202 @@
+-- A store with one empty file, and commands over it.
+use Rattle.std.proofs.Common.{◌≡◌, ◌≢◌, ℕ, zero, suc, ◌+◌, ◌<◌, ◌≤◌, true, false, List, [], ◌∷◌, ◌++◌, length, None, Some, refl, ap, sym, subst, inl, arith}
+use Rattle.std.specs.Prelude.{IsTrue, slice_get, take}
+use Rattle.std.specs.List.{list_all, flat_map}
+use Rattle.hail_codes.specs.Points.{upto}
+use Rattle.hail_columns.specs.Objects.{stripes}
+use Rattle.hail_devices.specs.Cells.{reads, firm}
+use Rattle.hail_devices.specs.Disks.{synced}
+use Rattle.hail_devices.specs.Faults.{Rose, last_count}
+use Rattle.hail_records.specs.Records.{Record, is_in_grammar, largest_journal}
+use Rattle.hail_records.specs.Journal.{text, text_size, StandsFor}
+use Rattle.hail_records.specs.Table.{files_of}
+use Rattle.hail_records.specs.Acceptance.{AreAccepted}
+use Rattle.hail_machine.specs.Actions.{Action, End, open_actions, actions_of}
+use Rattle.hail_machine.specs.Answers.{Got}
+use Rattle.hail_machine.specs.Begins.{new_job}
+use Rattle.hail_machine.specs.Events.{Step, Ended}
+use Rattle.hail_machine.specs.Jobs.{GetJob, Job}
+use Rattle.hail_machine.specs.Machine.{Happens}
+use Rattle.hail_machine.specs.Refusals as refusal
+use Rattle.hail_machine.specs.Setups.{object_of, stripes_of}
+use Rattle.hail_machine.specs.States.{State, setup_in, ended}
+use Rattle.hail_machine.specs.Steps.{StepsOn}
+use Rattle.hail_commands.specs.Forms.{GetOf, ListAll}
+use Rattle.hail_commands.specs.Lines.{list_lines}
+use Rattle.hail_commands.specs.Opens.{IsOpened, setup_at}
+use Rattle.hail_commands.specs.Seen.{IsRefused, NoCountFalls, provider_at}
+use Rattle.hail_commands.specs.JobRuns.{AreHanded, IsOpenedOver}
+use Rattle.hail_commands.specs.Jobs.{RanAlone, RunsAlone, AnswersJob}
+use Rattle.hail_commands.specs.Commands.{AnswersAlone, AnswersList, Answers}
+use Rattle.command_laws.specs.After.{IsSure, HasFile, is_wrong_at}
+use Rattle.command_laws.specs.Instances.{store, small_setup, idle_providers, held_name, other_name, set_up_records, held_records, with_sink, ends, get_held, get_other}
+use Rattle.command_laws.specs.Pieces.{IsLater, IsChain}
+use Rattle.command_laws.specs.Failing.{bad_seen}
+use Rattle.command_laws.proofs.FilesStay.{bad-few}
+use Rattle.command_laws.proofs.Complete.{each-not-wrong}
+use Rattle.command_laws.proofs.Images.{image-firm}
+use Rattle.command_laws.proofs.Afterwards.{reads-firm}
+use Rattle.command_laws.proofs.Knowing.{known-good}
+use Rattle.command_laws.proofs.Telling.{left-alone, jobs-leave}
+use Rattle.command_laws.proofs.BeginRefusals.{refusal-of}
+
+-- ---- the store
+
+stands-text : (rs : List Record) → IsTrue (list_all is_in_grammar rs) → (image : List ℕ) → image ≡ text rs → StandsFor image rs
+stands-text rs all image is = record { in_grammar = all; gate = 0; rest = []; closed = λ e. omega (arith, e); bytes_are = is }
+
+pub store-sure : (rs : List Record) → rs ≢ [] → IsTrue (list_all is_in_grammar rs) → AreAccepted rs → text_size rs ≤ largest_journal → (setup_at rs).n ≤ 4 → IsSure (store rs) rs
+store-sure rs some all accepted room few = record {
+  known = known-good (setup_at rs) (store rs) (firm (text rs)) rs refl
+      (record { some = some; accepted = accepted; room = room; setup = refl; stands = stands-text rs all (reads (firm (text rs))) (reads-firm (text rs)) }) few;
+  images = λ image is. stands-text rs all image (image-firm (text rs) image is);
+}
+
+pub set_up-sure : IsSure (store set_up_records) set_up_records
+set_up-sure = store-sure set_up_records (λ e. cc) refl (refl, tt) (let e : text_size set_up_records ≡ 51 = refl in omega (arith, e)) (omega arith)
+
+pub held-sure : IsSure (store held_records) held_records
+held-sure = store-sure held_records (λ e. cc) refl (refl, (refl, (refl, tt))) (let e : text_size held_records ≡ 77 = refl in omega (arith, e)) (omega arith)
+
+-- the file has no stripes
+no-stripe : (t : ℕ) → t < stripes (object_of small_setup 1) 0 → ⊥
+no-stripe t l = (let e : stripes (object_of small_setup 1) 0 ≡ 0 = refl in omega (arith, e, l))
+
+right-at : (j : ℕ) → j < 4 → is_wrong_at held_records (store held_records) 1 [] j ≡ false
+right-at zero l = each-not-wrong (object_of small_setup 1) [] 0 (λ stripe. None) (λ t within. absurd (no-stripe t within))
+right-at (suc zero) l = each-not-wrong (object_of small_setup 1) [] 1 (λ stripe. None) (λ t within. absurd (no-stripe t within))
+right-at (suc (suc zero)) l = each-not-wrong (object_of small_setup 1) [] 2 (λ stripe. None) (λ t within. absurd (no-stripe t within))
+right-at (suc (suc (suc zero))) l = each-not-wrong (object_of small_setup 1) [] 3 (λ stripe. None) (λ t within. absurd (no-stripe t within))
+right-at (suc (suc (suc (suc j)))) l = absurd (omega (arith, l))
+
+pub held-file : HasFile (store held_records) held_records held_name [] (λ j. false)
+held-file = record {
+  file = record { name = held_name; id = 1; size = 0 };
+  in_effect = refl;
+  are_bytes = refl;
+  size = refl;
+  right = λ j below clean. right-at j below;
+}
+
+-- no provider is wrong or failed: each is right, and none failed
+pub none-bad : bad_seen held_records (store held_records) (store held_records) 1 [] ≤ (setup_at held_records).b
+unfolding held-file
+none-bad = (let b = bad-few held_name [] held_records (λ j. false) (store held_records) (store held_records) held-file (λ j below clean rose. no-rise j below rose) in within _ _ b (omega arith))
+  where
+    within : (a n : ℕ) → a ≤ n → n ≤ 1 → a ≤ 1
+    within a n l m = omega (arith, l, m)
+
+    no-rise : (j : ℕ) → j < 4 → Rose (provider_at idle_providers j).other_faults (provider_at idle_providers j).other_faults → ⊥
+    no-rise zero l rose = (let r = rose (omega arith) in omega (arith, r))
+    no-rise (suc zero) l rose = (let r = rose (omega arith) in omega (arith, r))
+    no-rise (suc (suc zero)) l rose = (let r = rose (omega arith) in omega (arith, r))
+    no-rise (suc (suc (suc zero))) l rose = (let r = rose (omega arith) in omega (arith, r))
+    no-rise (suc (suc (suc (suc j)))) l rose = absurd (omega (arith, l))
+
+pub never-rises : (n : ℕ) → n < last_count → Rose n n → ⊥
+never-rises n low rose = (let r = rose low in omega (arith, r))
+
+-- of providers that were not handed in no count rises either
+pub never-seen : (j : ℕ) → Rose (provider_at idle_providers j).store_faults (provider_at idle_providers j).store_faults → ⊥
+never-seen zero rose = never-rises 0 (omega arith) rose
+never-seen (suc zero) rose = never-rises 0 (omega arith) rose
+never-seen (suc (suc zero)) rose = never-rises 0 (omega arith) rose
+never-seen (suc (suc (suc zero))) rose = never-rises 0 (omega arith) rose
+never-seen (suc (suc (suc (suc j)))) rose = never-rises 0 (omega arith) rose
+
+-- ---- a get of the empty file, from every state that was just opened
+
+abbrev formed : State → State
+formed w = record w { records = held_records; jobs = []; next_job = 1; append = None; doubt = None; is_open = true; is_barred = false; disk_faults = 0 }
+
+form-is : (w : State) → IsOpenedOver w held_records 0 idle_providers → formed w ≡ w
+form-is w V = sym (λ i. record w { records = V.records i; jobs = V.jobs i; next_job = V.next_job i; append = V.append i; doubt = V.doubt i; is_open = V.is_open i; is_barred = V.unbarred i; disk_faults = V.faults_are i })
+
+-- a get of a file with no bytes has its end left alone
+abbrev get_actions : ℕ → List Action
+get_actions size = (flat_map (open_actions small_setup 1) (upto (stripes_of small_setup size)) ++ []) ++ End ∷ []
+
+next-end : (n : ℕ) → n ≡ 0 → slice_get (get_actions n) 0 ≡ Some End
+next-end n none = subst (λ k. slice_get (get_actions k) 0 ≡ Some End) (sym none) refl
+
+-- and gives no byte
+nothing-given : (n : ℕ) (bytes : List ℕ) → n ≡ 0 → [] ≡ take n bytes
+nothing-given n bytes none = subst (λ k. [] ≡ take k bytes) (sym none) refl
+
+module _ (w : State) (n : ℕ) (H : AreHanded idle_providers (formed w)) (empty : length (w.bytes 1) ≡ 0) where
+  abbrev v : State
+  v = formed w
+
+  abbrev job : Job
+  job = new_job v n (GetJob held_name)
+
+  abbrev begun : State
+  begun = record v { jobs = job ∷ []; next_job = 2 }
+
+  ends-here : Happens 8 ((n + 1) + 0) begun (Step 1) (Ended (Got [])) (ended begun job)
+  unfolding setup_in actions_of
+  ends-here = subst (λ a. StepsOn begun job a (Ended (Got [])) (ended begun job)) (sym (next-end (length (w.bytes 1)) empty)) (nothing-given (length (w.bytes 1)) _ empty, refl)
+
+  ran-formed : RanAlone held_records (GetJob held_name) (Got []) (store held_records) (store held_records) [] 0 v n
+  ran-formed = record {
+    last = ended begun job;
+    runs = record {
+      begun = begun;
+      job = 1;
+      begins = (refl, refusal-of v (GetJob held_name) refl refl, refl, refl);
+      goes_on = record { steps = []; are_steps = tt; ends = ends-here; heard_is = refl };
+    };
+    images = λ image is. inl (inl (held-sure.images image is));
+    faults_are = refl;
+    handed = record { count = H.count; each = H.each };
+    past_text = refl;
+  }
+
+pub got-alone : RunsAlone held_records (GetJob held_name) (Got []) (store held_records) (store held_records) []
+got-alone = record {
+  faults = 0;
+  before = omega arith;
+  ran = λ w n V. subst (λ u. RanAlone held_records (GetJob held_name) (Got []) (store held_records) (store held_records) [] 0 u n) (form-is w V)
+      (ran-formed w n (subst (AreHanded idle_providers) (sym (form-is w V)) V.handed) (V.bytes held_name (record { name = held_name; id = 1; size = 0 }) refl).1);
+}
+
+-- ---- commands over it
+
+same-disk : (rs : List Record) → Some (firm (text rs)) ≡ Some (synced (firm (text rs)))
+same-disk rs = ap (λ bytes. Some (firm bytes)) (sym (reads-firm (text rs)))
+
+opened : IsOpened (store held_records) held_records
+opened = held-sure.known.opened
+
+pub got : Answers (GetOf held_name) (store held_records) (store held_records) (ends 0)
+got = (
+  AnswersAlone.begun held_records opened (AnswersJob.ended (Got []) refl got-alone
+      (left-alone held_records (GetJob held_name) (Got []) (store held_records) (store held_records) [] (λ w last n O r. jobs-leave (GetJob held_name) w last n (Got []) [] refl O r) opened refl got-alone)
+      (record { written = inl (refl, refl); place = refl })),
+  (refl, refl),
+)
+
+refused-so : (status : ℕ) → IsRefused status 0 (store held_records) (store held_records) (ends status)
+refused-so status = record { status_is = refl; place = refl; heard = refl; disk = inl refl; providers = refl; sink = refl }
+
+pub missed : Answers (GetOf other_name) (store held_records) (store held_records) (ends 3)
+missed = (AnswersAlone.begun held_records opened (AnswersJob.refused refusal.NoSuchName refl (same-disk held_records) (refused-so 3)), (refl, refl))
+
+pub listed : Answers ListAll (store held_records) (with_sink (store held_records) (list_lines (files_of held_records))) (ends 0)
+listed = (
+  AnswersList.listed held_records opened (record { written = inl (refl, refl); place = refl; heard = refl; disk = same-disk held_records; providers = refl }),
+  (refl, refl),
+)
+
+pub none-fell : NoCountFalls (store held_records) (store held_records)
+none-fell = record { disk = omega arith; handed = refl; stores = λ j. omega arith; others = λ j. omega arith; source = omega arith; sink = omega arith }
+
+later : IsLater (store held_records) (store held_records)
+later = record { disk = inl refl; faults = refl; events = []; replaced = refl }
+
+pub chained : IsChain (store held_records) (get_held ∷ get_other ∷ [])
+chained = (
+  later,
+  record { opens = refl; spelled = refl; answers = got; counts = none-fell },
+  (later, record { opens = refl; spelled = refl; answers = missed; counts = none-fell }, tt),
+)

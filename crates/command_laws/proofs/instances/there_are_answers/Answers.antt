@@ -1,0 +1,30 @@
+use Rattle.command_laws.proofs.Samples.{got, missed, listed, chained}
+use Rattle.command_laws.proofs.PutSample.{put}
+use Rattle.command_laws.proofs.AuditSample.{audit}
+use Rattle.command_laws.proofs.RepairSample.{repair}
+use Rattle.command_laws.proofs.InitSample.{init, keyed}
+use Rattle.command_laws.proofs.instances.there_are_answers.Goals as goal
+
+pub returns-clause-got : goal.returns-clause-got
+returns-clause-got c = got
+
+pub returns-clause-missing : goal.returns-clause-missing
+returns-clause-missing c = missed
+
+pub returns-clause-listed : goal.returns-clause-listed
+returns-clause-listed c = listed
+
+pub returns-clause-chain : goal.returns-clause-chain
+returns-clause-chain c = chained
+
+pub returns-clause-put : goal.returns-clause-put
+returns-clause-put c = put
+
+pub returns-clause-audit : goal.returns-clause-audit
+returns-clause-audit c = audit
+
+pub returns-clause-repair : goal.returns-clause-repair
+returns-clause-repair c = repair
+
+pub returns-clause-init : goal.returns-clause-init
+returns-clause-init c = (init, keyed)

@@ -1,0 +1,33 @@
+use Rattle.std.proofs.Common.{refl, inl, arith}
+use Rattle.command_laws.specs.Instances.{store, held_records}
+use Rattle.command_laws.proofs.Between.{sure-store}
+use Rattle.command_laws.proofs.Samples.{never-rises, never-seen, set_up-sure, held-sure, held-file, none-bad}
+use Rattle.command_laws.proofs.RepairSample.{due-sure}
+use Rattle.command_laws.proofs.instances.there_are_known_stores.Goals as goal
+
+pub returns-clause-set_up : goal.returns-clause-set_up
+returns-clause-set_up c = set_up-sure
+
+pub returns-clause-sure : goal.returns-clause-sure
+returns-clause-sure c = held-sure
+
+pub returns-clause-file : goal.returns-clause-file
+returns-clause-file c = held-file
+
+pub returns-clause-none_bad : goal.returns-clause-none_bad
+returns-clause-none_bad c = none-bad
+
+pub returns-clause-state : goal.returns-clause-state
+returns-clause-state c = sure-store (store held_records) held_records held-sure
+
+pub returns-clause-due : goal.returns-clause-due
+returns-clause-due c = due-sure
+
+pub returns-clause-between : goal.returns-clause-between
+returns-clause-between c = (record { disk = inl refl; handed = refl }, record { disk = inl refl; handed = refl })
+
+pub returns-clause-faultless : goal.returns-clause-faultless
+returns-clause-faultless c = (
+  record { disk = never-rises 0 (omega arith); stores = λ j rose. never-seen j rose; source = never-rises 0 (omega arith); sink = never-rises 0 (omega arith) },
+  record { disk = never-rises 0 (omega arith); stores = λ j rose. never-seen j rose; source = never-rises 0 (omega arith); sink = never-rises 0 (omega arith) },
+)

@@ -1,0 +1,121 @@
+-- Concrete values that meet what the laws suppose: a store over four providers that tell what they hold, with one empty file.
+--
+--   store records             == what is seen of devices whose disk reads these records, with nothing loose
+--   held_name, other_name     == the name of the file, and another one
+--   set_up_records, held_records == the records of a store that was set up, and of one with the file
+--   audited_records, due_records, repaired_records == of a store with no file after an audit, with a repair due, and after it
+--   put_store, audited_store, repaired_store == what is seen after a put of the file, that audit, that repair
+--   small_numbers, key_text, key_devices, ready_store == the numbers of an init, its key, devices before it and after it
+--   empty_devices             == devices whose disk reads nothing
+--   with_sink s bytes         == what is seen, with these bytes in the sink
+--   ends status               == an end that heard nothing
+--   get_held, get_other       == two calls over the store: of its file, and of a name that has none
+use Rattle.std.specs.Prelude.{ℕ, List, [], ◌∷◌, replicate, Some, None}
+use Rattle.hail_devices.specs.Cells.{firm}
+use Rattle.hail_devices.specs.Providers.{Provider}
+use Rattle.hail_records.specs.Records.{Record, Setup, SetUp, PutStart, PutDone, AuditStart, AuditDone, RepairDone}
+use Rattle.hail_records.specs.Journal.{text}
+use Rattle.hail_commands.specs.Forms.{Numbers, GetOf}
+use Rattle.hail_commands.specs.Lines.{ready_line, stored_line, audit_lines, repaired_line}
+use Rattle.hail_commands.specs.Seen.{Seen, Ending}
+use Rattle.command_laws.specs.Pieces.{Call}
+
+-- four providers, one of them primary, of which one may be wrong
+abbrev pub small_setup : Setup
+small_setup = record { n = 4; l = 1; b = 1; profile = 0; rounds = 2; picks = 2; tolerance = 0; master = replicate 32 0 }
+
+-- a provider that holds nothing
+abbrev pub idle_provider : Provider
+idle_provider = record { held = Some (λ object stripe. None); store_faults = 0; other_faults = 0; fetches = 0 }
+
+-- four of them
+abbrev pub idle_providers : List Provider
+idle_providers = idle_provider ∷ idle_provider ∷ idle_provider ∷ idle_provider ∷ []
+
+-- devices whose disk reads these records
+abbrev pub store : List Record → Seen
+store records = record {
+  disk = Some (firm (text records));
+  disk_faults = 0;
+  providers = idle_providers;
+  source = Some [];
+  source_faults = 0;
+  sink = Some [];
+  sink_faults = 0;
+}
+
+-- devices whose disk reads nothing
+abbrev pub empty_devices : Seen
+empty_devices = record (store []) { disk = Some [] }
+
+-- the name of the file
+abbrev pub held_name : List ℕ
+held_name = 97 ∷ []
+
+-- another name
+abbrev pub other_name : List ℕ
+other_name = 98 ∷ []
+
+-- the records of a store that was set up
+abbrev pub set_up_records : List Record
+set_up_records = SetUp small_setup ∷ []
+
+-- and of one with the file
+abbrev pub held_records : List Record
+held_records = PutDone 1 0 ∷ PutStart 1 held_name ∷ set_up_records
+
+-- counts of no provider
+abbrev pub no_counts : List ℕ
+no_counts = replicate 4 0
+
+-- the records after an audit of a store with no file
+abbrev pub audited_records : List Record
+audited_records = AuditDone 1 0 no_counts ∷ AuditStart 1 ∷ set_up_records
+
+-- the records of a store whose first provider an audit flagged
+abbrev pub due_records : List Record
+due_records = AuditDone 1 0 (5 ∷ 0 ∷ 0 ∷ 0 ∷ []) ∷ AuditStart 1 ∷ set_up_records
+
+-- and after its repair
+abbrev pub repaired_records : List Record
+repaired_records = RepairDone 1 ∷ due_records
+
+-- these bytes are in the sink
+abbrev pub with_sink : Seen → List ℕ → Seen
+with_sink s bytes = record s { sink = Some bytes }
+
+-- seven numbers, and devices with an empty disk whose source spells a key of zeros
+abbrev pub small_numbers : Numbers
+small_numbers = record { n = 4; l = 1; b = 1; profile = 0; rounds = 2; picks = 2; tolerance = 0 }
+
+abbrev pub key_text : List ℕ
+key_text = replicate 64 48
+
+abbrev pub key_devices : Seen
+key_devices = record empty_devices { source = Some key_text }
+
+-- what is seen after an init with them
+abbrev pub ready_store : Seen
+ready_store = with_sink (store set_up_records) ready_line
+
+-- what is seen after the put of the file, the audit and the repair
+abbrev pub put_store : Seen
+put_store = with_sink (store held_records) (stored_line held_name 0)
+
+abbrev pub audited_store : Seen
+audited_store = with_sink (store audited_records) (audit_lines 0 1 0 no_counts)
+
+abbrev pub repaired_store : Seen
+repaired_store = with_sink (store repaired_records) (repaired_line 1)
+
+-- an end that heard nothing
+abbrev pub ends : ℕ → Ending
+ends status = record { status = status; at = 0; heard = [] }
+
+-- a get of the file
+abbrev pub get_held : Call
+get_held = record { command = GetOf held_name; old = store held_records; new = store held_records; end = ends 0 }
+
+-- a get of a name that has none
+abbrev pub get_other : Call
+get_other = record { command = GetOf other_name; old = store held_records; new = store held_records; end = ends 3 }

@@ -1,0 +1,145 @@
+-- Commands as pieces of one run of the machine. Moments and calls have the newest first.
+--
+--   IsStore w s               == a sound state of a store that is set up stands for what is seen of disk and providers
+--   IsSpelledCommand command  == the name in the command's words is of bytes
+--   IsCall command old new end w own == these moments are what the machine makes of a command: a later call of the program, a reopening,
+--                                 and where that opened, the begin of its job with its steps, or a list of names; from this state on
+--   AreReplaced events old new == these events replaced what providers hold
+--   IsLater new next          == the next command finds the disk as the last one left it, or as a stop then left it, and what providers
+--                                 hold as such events left it
+--   AreBetween own            == these moments are stops and replacements
+--   Call, IsChain first calls == commands one after the other, with stops and replacements between them
+--   last_seen first calls     == what is seen after them
+--   AreCalls w calls own      == the moments are those of the calls, with stops and replacements before each
+use Rattle.std.specs.Prelude.{◌≡◌, ◌⊎◌, ℕ, ◌<◌, Bool, true, List, [], ◌∷◌, ◌++◌, length, slice_get, slice_set, Some, IsSome, is_some}
+use Rattle.hail_devices.specs.Disks.{Stopped}
+use Rattle.hail_devices.specs.Providers.{Provider, with_symbol, without_block, HasPlace}
+use Rattle.hail_devices.specs.ProviderCalls.{Replaces}
+use Rattle.hail_devices.specs.Told.{Goes}
+use Rattle.hail_machine.specs.Answers.{Answer}
+use Rattle.hail_machine.specs.Events.{Event, Begin, Step, Alter, Lose, Stop, Reopen, Names, Continue, Outcome, Refused, Opened, Begun, Ended, Listed, Continued, IsSpelled, AreBytes}
+use Rattle.hail_machine.specs.Heard.{heard_by}
+use Rattle.hail_machine.specs.Jobs.{Kind, job_of}
+use Rattle.hail_machine.specs.Openings.{IsSetUp}
+use Rattle.hail_machine.specs.Refusals.{Refusal}
+use Rattle.hail_machine.specs.Runs.{Moment, now}
+use Rattle.hail_machine.specs.Stands.{StandsForState}
+use Rattle.hail_machine.specs.States.{State, setup_in}
+use Rattle.hail_machine.specs.Transcripts.{GoOn}
+use Rattle.hail_records.specs.Table.{files_of}
+use Rattle.sound_states.specs.Sound.{IsSound}
+use Rattle.hail_commands.specs.Forms.{Command, PutUnder, GetOf, DropOf, ListAll}
+use Rattle.hail_commands.specs.Seen.{Seen, Ending, NoCountFalls}
+use Rattle.hail_commands.specs.JobRuns.{AreHanded}
+use Rattle.hail_commands.specs.Jobs.{EndsBy}
+use Rattle.hail_commands.specs.Lines.{text_of}
+use Rattle.hail_commands.specs.Refusals.{status_of}
+use Rattle.hail_commands.specs.Commands.{Answers}
+use Rattle.command_laws.specs.Ends.{IsJobOf, opens_store}
+
+-- a sound state of a store that is set up stands for what is seen: each image of the disk for its records, or for these with the one in
+-- doubt, and the providers are its own
+pub record IsStore (w : State) (s : Seen) : Type 0 where
+  pub sound : IsSound 8 w
+  pub set_up : IsSetUp w
+  pub tells : is_some s.disk ≡ true
+  pub images : StandsForState s.disk w
+  pub faults_are : w.disk_faults ≡ s.disk_faults
+  pub handed : AreHanded s.providers w
+
+-- the name in the words is of bytes
+abbrev pub IsSpelledCommand : Command → Type 0
+IsSpelledCommand (PutUnder name) = AreBytes name
+IsSpelledCommand (GetOf name) = AreBytes name
+IsSpelledCommand (DropOf name) = AreBytes name
+IsSpelledCommand command = Unit {0}
+
+-- a moment
+abbrev pub moment : Event → Outcome → State → Moment
+moment event outcome w = record { event = event; outcome = outcome; state = w }
+
+-- what the machine makes of a command from this state on: its store is not opened; it is opened, and no more came of it; the begin of its
+-- job is refused; the names are listed; or its job began and went on to its end
+pub data IsCall (command : Command) (old new : Seen) (end : Ending) (w : State) (own : List Moment) : Type 0 where
+  unopened : (a b : State) (why : Refusal) → own ≡ moment Reopen (Refused why) b ∷ moment Continue Continued a ∷ [] → end.heard ≡ [] →
+      IsCall command old new end w own
+  opened : (a b : State) → own ≡ moment Reopen Opened b ∷ moment Continue Continued a ∷ [] → (end.status ≡ 14) ⊎ (end.status ≡ 70) → end.heard ≡ [] →
+      IsCall command old new end w own
+  refused : (kind : Kind) (a b c : State) (why : Refusal) → IsJobOf command old new kind →
+      own ≡ moment (Begin kind) (Refused why) c ∷ moment Reopen Opened b ∷ moment Continue Continued a ∷ [] →
+      end.status ≡ status_of why → end.heard ≡ [] → IsCall command old new end w own
+  listed : (a b c : State) → command ≡ ListAll →
+      own ≡ moment Names (Listed (files_of b.records)) c ∷ moment Reopen Opened b ∷ moment Continue Continued a ∷ [] → end.heard ≡ [] →
+      IsCall command old new end w own
+  ended : (kind : Kind) (a b c d : State) (steps : List Moment) (answer : Answer) → IsJobOf command old new kind → GoOn 1 steps →
+      own ≡ moment (Step 1) (Ended answer) d
+      ∷ (steps ++ moment (Begin kind) (Begun 1) c ∷ moment Reopen Opened b ∷ moment Continue Continued a ∷ []) →
+      EndsBy (text_of (setup_in b).tolerance kind answer) answer old new end → end.heard ≡ heard_by (job_of (now c steps).jobs 1) →
+      IsCall command old new end w own
+
+-- provider j, which was handed in, goes so, and all others are as before
+abbrev pub GoesAt : ℕ → (Provider → Provider → Type 0) → List Provider → List Provider → Type 0
+GoesAt j call old new = (p : Provider) × (q : Provider) × (j < length old) × (slice_get old j ≡ Some p) × call p q × (new ≡ slice_set old j q)
+
+-- an event replaced what a provider holds, or found nothing there
+abbrev pub IsReplaced : Event → List Provider → List Provider → Type 0
+IsReplaced (Alter j object stripe place symbol) old new =
+    GoesAt j (λ p q. (found : Bool) × Replaces (λ held. HasPlace (held object stripe) place) (with_symbol object stripe place symbol) found p q) old new
+IsReplaced (Lose j object stripe) old new =
+    GoesAt j (λ p q. (found : Bool) × Replaces (λ held. IsSome (held object stripe)) (without_block object stripe) found p q) old new
+IsReplaced event old new = ⊥
+
+-- these events did so, the first one first
+abbrev pub AreReplaced : List Event → List Provider → List Provider → Type 0
+AreReplaced [] old new = new ≡ old
+AreReplaced (event ∷ events) old new = IsSpelled event × ((mid : List Provider) × IsReplaced event old mid × AreReplaced events mid new)
+
+-- what the next command finds: the disk as it was left or as a stop then left it, and providers with some replacements
+pub record IsLater (new next : Seen) : Type 0 where
+  pub disk : (next.disk ≡ new.disk) ⊎ Goes Stopped new.disk next.disk
+  pub faults : next.disk_faults ≡ new.disk_faults
+  pub events : List Event
+  pub replaced : AreReplaced events new.providers next.providers
+
+-- a stop, or a replacement of what a provider holds
+abbrev pub IsBetween : Event → Type 0
+IsBetween (Alter j object stripe place symbol) = Unit {0}
+IsBetween (Lose j object stripe) = Unit {0}
+IsBetween (Stop picks) = Unit {0}
+IsBetween event = ⊥
+
+-- moments are stops and replacements
+abbrev pub AreBetween : List Moment → Type 0
+AreBetween [] = Unit {0}
+AreBetween (m ∷ ms) = IsBetween m.event × AreBetween ms
+
+-- a call of the program: its words, what was seen before and after it, and how it ended
+pub record Call : Type 0 where
+  pub command : Command
+  pub old : Seen
+  pub new : Seen
+  pub end : Ending
+
+-- what is seen after some calls
+abbrev pub last_seen : Seen → List Call → Seen
+last_seen first [] = first
+last_seen first (c ∷ cs) = c.new
+
+-- a call over a store ended as its definition says, and no count of faults fell
+pub record IsAnswered (c : Call) : Type 0 where
+  pub opens : opens_store c.command ≡ true
+  pub spelled : IsSpelledCommand c.command
+  pub answers : Answers c.command c.old c.new c.end
+  pub counts : NoCountFalls c.old c.new
+
+-- calls one after the other, with stops and replacements between them
+abbrev pub IsChain : Seen → List Call → Type 0
+IsChain first [] = Unit {0}
+IsChain first (c ∷ cs) = IsLater (last_seen first cs) c.old × IsAnswered c × IsChain first cs
+
+-- moments are those of the calls, with stops and replacements before each
+abbrev pub AreCalls : State → List Call → List Moment → Type 0
+AreCalls w [] own = own ≡ []
+AreCalls w (c ∷ cs) own =
+    (call : List Moment) × (between : List Moment) × (before : List Moment) × (own ≡ call ++ (between ++ before))
+    × IsCall c.command c.old c.new c.end (now w (between ++ before)) call × AreBetween between × AreCalls w cs before

@@ -1,0 +1,49 @@
+//! Concrete values that meet what the laws suppose of a store, its file and commands over it: these laws are not empty.
+ghost use Rattle.std.specs.Prelude.{◌≤◌, false, [], ◌∷◌};
+ghost use Rattle.hail_records.specs.Table.{files_of};
+ghost use Rattle.hail_machine.specs.States.{State};
+ghost use Rattle.hail_commands.specs.Forms.{InitWith, PutUnder, GetOf, ListAll, AuditAll, RepairDue, RowOf};
+ghost use Rattle.hail_commands.specs.Lines.{list_lines};
+ghost use Rattle.hail_commands.specs.Opens.{setup_at};
+ghost use Rattle.hail_commands.specs.Seen.{NoCountFalls};
+ghost use Rattle.hail_commands.specs.Commands.{Answers, IsUsage};
+ghost use Rattle.command_laws.specs.Failing.{bad_seen};
+ghost use Rattle.command_laws.specs.After.{IsSure, Follows, HasFile, IsUntouched, IsSteady, IsFaultless};
+ghost use Rattle.command_laws.specs.Opened.{IsKeyed};
+ghost use Rattle.command_laws.specs.Pieces.{IsStore, IsLater, IsChain};
+ghost use Rattle.command_laws.specs.Instances.{store, small_setup, small_numbers, key_devices, ready_store, put_store, held_name, other_name, set_up_records, held_records, due_records, audited_store, repaired_store, empty_devices, with_sink, ends, get_held, get_other};
+
+/// A store that was set up, one with one empty file, and one with a repair due are known, in each image of the disk. The file is right on all
+/// providers, none of which is wrong or failed; the next command finds it so; and a state of the abstract client stands for the store.
+pub fn there_are_known_stores()
+    ensures set_up { IsSure (store set_up_records) set_up_records }
+    ensures sure { IsSure (store held_records) held_records }
+    ensures due { IsSure (store due_records) due_records }
+    ensures file { HasFile (store held_records) held_records held_name [] (λ j. false) }
+    ensures none_bad { bad_seen held_records (store held_records) (store held_records) 1 [] ≤ (setup_at held_records).b }
+    ensures between { Follows ready_store (store set_up_records) × Follows put_store (store held_records) }
+    ensures faultless { IsFaultless (store set_up_records) put_store × IsFaultless (store held_records) (store held_records) }
+    ensures follows { Follows (store held_records) (store held_records) × IsLater (store held_records) (store held_records) }
+    ensures untouched { IsUntouched 4 (λ j. false) (store held_records) (store held_records)
+        × IsSteady 4 (λ j. false) (store held_records) (store held_records) }
+    ensures state { (w : State) × IsStore w (store held_records) }
+{}
+
+/// An init with a key sets up an empty disk. Over a store that was set up a put of the empty file is done, and leaves that store. Over it a get
+/// gives the file, a get of another name ends with 3, and a list gives the files; over an empty disk a get ends with 9; a row whose numbers
+/// are no shape ends with 20, and words that are no command with 2. Over a store with no file an audit is done, and a repair that was due.
+/// Two gets are a chain.
+pub fn there_are_answers()
+    ensures got { Answers (GetOf held_name) (store held_records) (store held_records) (ends 0) }
+    ensures missing { Answers (GetOf other_name) (store held_records) (store held_records) (ends 3) }
+    ensures listed { Answers ListAll (store held_records) (with_sink (store held_records) (list_lines (files_of held_records))) (ends 0) }
+    ensures not_set_up { Answers (GetOf held_name) empty_devices empty_devices (ends 9) }
+    ensures row { Answers (RowOf 3 1 1 []) empty_devices empty_devices (ends 20) }
+    ensures usage { IsUsage empty_devices empty_devices (ends 2) }
+    ensures init { Answers (InitWith small_numbers) key_devices ready_store (ends 0) × IsKeyed small_numbers small_setup.master key_devices }
+    ensures put { Answers (PutUnder held_name) (store set_up_records) put_store (ends 0) }
+    ensures audit { Answers AuditAll (store set_up_records) audited_store (ends 0) }
+    ensures repair { Answers RepairDue (store due_records) repaired_store (ends 0) }
+    ensures counts { NoCountFalls (store held_records) (store held_records) }
+    ensures chain { IsChain (store held_records) (get_held ∷ get_other ∷ []) }
+{}

@@ -1,0 +1,26 @@
+//! Commands as pieces of one run: each is a later call of the program, a reopening, the begin of its job and its steps, from any moment.
+ghost use Rattle.std.specs.Prelude.{◌≡◌, ℕ, true, List, ◌++◌};
+ghost use Rattle.hail_machine.specs.Runs.{Moment, now, IsRun};
+ghost use Rattle.hail_machine.specs.States.{State};
+ghost use Rattle.hail_records.specs.Records.{Record};
+ghost use Rattle.hail_commands.specs.Forms.{Command};
+ghost use Rattle.hail_commands.specs.Seen.{Seen, Ending, NoCountFalls};
+ghost use Rattle.hail_commands.specs.Commands.{Answers};
+ghost use Rattle.command_laws.specs.Ends.{opens_store};
+ghost use Rattle.command_laws.specs.After.{IsSure};
+ghost use Rattle.command_laws.specs.Pieces.{IsStore, IsSpelledCommand, IsCall, IsLater, AreBetween, Call, last_seen, IsChain, AreCalls};
+
+/// A put, a get, a drop, a list, an audit and a repair over devices that a run left go on with that run, whatever comes of them; so do stops
+/// and replacements between commands. So commands one after the other are one run of the machine. Over each known store there is a state
+/// from which such a run begins.
+pub fn commands_are_runs()
+    ensures call { (start : State) (ms : List Moment) (command : Command) (old new : Seen) (end : Ending) → IsRun 8 start ms →
+        IsStore (now start ms) old → opens_store command ≡ true → IsSpelledCommand command → Answers command old new end → NoCountFalls old new →
+        (own : List Moment) × IsCall command old new end (now start ms) own × IsRun 8 start (own ++ ms) × IsStore (now start (own ++ ms)) new }
+    ensures later { (start : State) (ms : List Moment) (new next : Seen) → IsRun 8 start ms → IsStore (now start ms) new → IsLater new next →
+        (own : List Moment) × AreBetween own × IsRun 8 start (own ++ ms) × IsStore (now start (own ++ ms)) next }
+    ensures known { (s : Seen) (records : List Record) → IsSure s records → (w : State) × IsStore w s }
+    ensures chain { (start : State) (ms : List Moment) (first : Seen) (calls : List Call) → IsRun 8 start ms → IsStore (now start ms) first →
+        IsChain first calls →
+        (own : List Moment) × AreCalls (now start ms) calls own × IsRun 8 start (own ++ ms) × IsStore (now start (own ++ ms)) (last_seen first calls) }
+{}

@@ -1,0 +1,85 @@
+-- The run is calm, and its audit missed no damage.
+use Rattle.std.proofs.Common.{◌≡◌, ℕ, zero, suc, ◌<◌, ◌==◌, Bool, true, false, ◌&&◌, ◌||◌, List, [], ◌∷◌, Some, None, refl, ap, sym, subst, ◌∙◌, inl, inr, arith}
+use Rattle.std.specs.Prelude.{not, nat_le, IsTrue, if◌then◌else◌}
+use Rattle.std.specs.List.{list_all}
+use Rattle.std.proofs.lemmas.Bool.{cases_Bool, and_parts, leb-true, false≢true}
+use Rattle.hail_columns.specs.Columns.{columns, is_wrong}
+use Rattle.hail_columns.specs.Verdicts.{is_flagged}
+use Rattle.hail_records.specs.Table.{File}
+use Rattle.hail_machine.specs.Jobs.{Job, job_of}
+use Rattle.hail_machine.specs.States.{State, setup_in, file_in}
+use Rattle.hail_machine.specs.Runs.{Moment, first_moments}
+use Rattle.hail_machine.specs.Calm.{Mark, since, relies, replaced_count, IsCalm}
+use Rattle.hail_machine.specs.Missed.{is_wrong_told, is_wrong_now, NoneMissed}
+use Rattle.hail_machine.specs.Examples.{four, set_up}
+use Rattle.hail_machine.proofs.JobLists.{cond_true, cond_false, same_value}
+use Rattle.step_laws.proofs.GivesRight.{own_not_wrong}
+use Rattle.damage_run.specs.Schedule.{byte, IsOutright}
+use Rattle.damage_run.proofs.Values.{thing}
+use Rattle.damage_run.proofs.Steps.{counts, state_21}
+use Rattle.damage_run.proofs.Run.{moments, is_run, writes}
+
+-- a job that runs passes a test that all pass
+test_of : (test : Job → Bool) (js : List Job) (k : ℕ) (j : Job) → job_of js k ≡ Some j → list_all test js ≡ true → test j ≡ true
+test_of test [] k j h all = (let e : None ≡ Some j = h in cc)
+test_of test (x ∷ js) k j h all = (let p = and_parts (test x) (list_all test js) all in elim (cases_Bool (x.number == k)) [
+  | inl t ↦ (let same : x ≡ j = same_value _ x j (cond_true (x.number == k) (Some x) (job_of js k) t) h in ap test (sym same) ∙ p.0)
+  | inr f ↦ test_of test js k j (sym (cond_false (x.number == k) (Some x) (job_of js k) f) ∙ h) p.1
+])
+
+-- calm, as a test
+abbrev pub is_calm_for : Mark → List Moment → State → Job → Bool
+is_calm_for mark ms w job = not (relies job.kind) || nat_le (replaced_count w (mark (first_moments job.begun ms)) ms) (setup_in w).b
+
+abbrev pub is_calm : Mark → List Moment → Bool
+is_calm mark [] = true
+is_calm mark (m ∷ ms) = list_all (is_calm_for mark (m ∷ ms) m.state) m.state.jobs && is_calm mark ms
+
+pub calm_by_test : (mark : Mark) (ms : List Moment) → is_calm mark ms ≡ true → IsCalm relies mark ms
+calm_by_test mark [] h = tt
+calm_by_test mark (m ∷ ms) h = (let p = and_parts (list_all (is_calm_for mark (m ∷ ms) m.state) m.state.jobs) (is_calm mark ms) h in
+    (λ number job at reads. leb-true _ _ (passes (relies job.kind) _ reads (test_of (is_calm_for mark (m ∷ ms) m.state) m.state.jobs number job at p.0)), calm_by_test mark ms p.1))
+  where
+    passes : (r b : Bool) → IsTrue r → (not r || b) ≡ true → b ≡ true
+    passes true b reads h = h
+    passes false b reads h = absurd (false≢true reads)
+
+pub calm : IsCalm relies (since set_up) moments
+unfolding setup_in
+calm = calm_by_test (since set_up) moments refl
+
+-- the only file in effect is that of the put
+only_file : (b : Bool) (name : List ℕ) (file : File) → (if b then Some (record { name = name; id = 1; size = 1 }) else None) ≡ Some file → file.id ≡ 1
+only_file true name file h = (let e : record { name = name; id = 1; size = 1 } ≡ file = cc in sym (ap (λ (f : File). f.id) e))
+only_file false name file h = (let e : None ≡ Some file = h in cc)
+
+-- at the audit's begin each provider but the flagged one is right for it
+right_then : (j : ℕ) → is_wrong thing byte j (λ stripe. if (1 == 1) && (stripe == 0) then Some (columns thing byte j 0) else None) ≡ false
+unfolding is_wrong
+right_then j = rw (own_not_wrong thing byte j 0) refl
+
+unmissed : (j : ℕ) → j < 4 → is_flagged 0 counts j ≡ false → (name : List ℕ) (file : File) → file_in state_21 name ≡ Some file → is_wrong_now state_21 file j ≡ true → ⊥
+unfolding setup_in
+unmissed j low flagged name file at wrong = go j low flagged (subst (λ id. is_wrong_told state_21 id j (state_21.providers j).held ≡ true) (only_file _ name file at) wrong)
+  where
+    go : (j : ℕ) → j < 4 → is_flagged 0 counts j ≡ false → is_wrong_told state_21 1 j (state_21.providers j).held ≡ true → ⊥
+    go zero low flagged wrong = false≢true (sym (right_then 0) ∙ wrong)
+    go (suc zero) low flagged wrong = false≢true (sym (right_then 1) ∙ wrong)
+    go (suc (suc zero)) low flagged wrong = false≢true (sym flagged)
+    go (suc (suc (suc zero))) low flagged wrong = false≢true (sym (right_then 3) ∙ wrong)
+    go (suc (suc (suc (suc j)))) low flagged wrong = omega (arith, low)
+
+pub found : NoneMissed set_up moments
+unfolding setup_in
+found = (tt, (tt, (tt, (tt, (tt, (tt, (tt, (tt, (tt, (tt, (tt, (tt, (tt, (tt, (tt, (tt, (tt, (tt, (tt, (tt, (tt, (λ j h. unmissed j h.provider h.unflagged h.name h.file h.in_effect h.wrong, (tt, (tt, (tt, (tt, (tt, (tt, (tt, (tt, (tt, (tt, (tt, (tt, (tt, (tt, (tt, (tt, (tt, (tt, (tt, (tt, (tt, (tt, (tt, (tt, (tt, (tt, (tt, (tt, (tt, (tt, (tt, (tt, (tt, (tt, (tt, tt)))))))))))))))))))))))))))))))))))))))))))))))))))))))))
+
+pub outright : IsOutright moments
+outright = record {
+  clean = record { records = inr (four, refl, refl); jobs = refl; first_job = refl; append = refl; doubt = refl; closed = refl; unbarred = refl };
+  tell = λ j. refl;
+  run = is_run;
+  carried_out = writes;
+  two_jobs = refl;
+  calm = calm;
+  found = found;
+}

@@ -1,0 +1,49 @@
+-- The run up to the moment at which the repair's record is in doubt, and then a block is lost once more.
+use Rattle.std.proofs.Common.{List, ◌∷◌, refl, arith}
+use Rattle.std.specs.Option.{option_map}
+use Rattle.hail_columns.specs.Columns.{is_wrong}
+use Rattle.hail_devices.specs.Providers.{Provider, without_block}
+use Rattle.hail_machine.specs.Events.{Lose, Replaced}
+use Rattle.hail_machine.specs.States.{State, setup_in, with_provider}
+use Rattle.hail_machine.specs.Machine.{Happens}
+use Rattle.hail_machine.specs.Runs.{Moment, first_moments}
+use Rattle.hail_machine.specs.Calm.{since}
+use Rattle.hail_machine.specs.Examples.{set_up}
+use Rattle.run_laws.proofs.FirstHalf.{first_run}
+use Rattle.mark_laws.specs.MarkedRuns.{IsCalmRun}
+use Rattle.damage_run.specs.Points.{at, IsDamaged, InDoubt}
+use Rattle.damage_run.proofs.Run.{moments, is_run}
+use Rattle.damage_run.proofs.CalmRun.{calm_by_test, found, outright}
+use Rattle.damage_run.proofs.Points.{doubt_at, maker_of, the_file}
+use Rattle.hail_records.specs.Records.{RepairDone}
+
+-- without its block
+abbrev pub robbed : Provider → Provider
+robbed p = record p { held = option_map (without_block 1 0) p.held }
+
+abbrev after : State
+after = record (at 47 moments) { providers = with_provider (at 47 moments).providers 2 (robbed ((at 47 moments).providers 2)) }
+
+loses : Happens 8 47 (at 47 moments) (Lose 2 1 0) Replaced after
+unfolding setup_in
+loses = (robbed ((at 47 moments).providers 2), ((λ x. refl, λ x. refl), refl), refl)
+
+abbrev pub robbed_moments : List Moment
+robbed_moments = record { event = Lose 2 1 0; outcome = Replaced; state = after } ∷ first_moments 47 moments
+
+pub calm_run : IsCalmRun 8 set_up robbed_moments
+unfolding setup_in
+calm_run = record {
+  clean = outright.clean;
+  tell = outright.tell;
+  run = ((omega arith, omega arith, omega arith), loses, first_run 8 set_up 47 moments is_run);
+  calm = calm_by_test (since set_up) robbed_moments refl;
+  found = (tt, found.1.1.1.1.1.1.1.1.1.1);
+}
+
+pub in_doubt : InDoubt after (RepairDone 1)
+in_doubt = record { doubt = doubt_at after; in_doubt = refl; entry_is = refl; job = maker_of (doubt_at after); maker = refl }
+
+pub damaged : IsDamaged after 2
+unfolding setup_in is_wrong
+damaged = record { file = the_file; in_effect = refl; wrong = refl }

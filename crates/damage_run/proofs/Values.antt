@@ -1,0 +1,171 @@
+-- What the providers hold and answer in the run: the blocks of a file of one byte over four providers, one of which is lost.
+use Rattle.hail_columns.specs.Forgeries.{count_of}
+use Rattle.std.proofs.Common.{◌≡◌, ℕ, ◌/◌, ◌%◌, ◌<◌, ◌==◌, true, false, ◌&&◌, List, [], ◌∷◌, length, Option, Some, None, refl, ap, sym, ◌∙◌, inl, arith, zero, suc, ◌≤◌}
+use Rattle.std.specs.Prelude.{take, is_some, unwrap_or, if◌then◌else◌}
+use Rattle.std.specs.List.{flat_map}
+use Rattle.std.proofs.lemmas.Bool.{eq-eqb}
+use Rattle.hail_field.specs.Nim.{nim_add, nim_mul, nim_pow}
+use Rattle.hail_field.proofs.AllNumbers.{nim_laws}
+use Rattle.poly_laws.specs.Poly.{is_seen as is_seen_over, agree as agree_over}
+use Rattle.hail_codes.specs.Polynomials.{value, agree, is_seen}
+use Rattle.hail_codes.specs.Points.{upto}
+use Rattle.hail_columns.specs.Objects.{Object, symbols_in, bytes_of_symbols, point}
+use Rattle.hail_columns.specs.Columns.{columns, is_wrong_block}
+use Rattle.hail_columns.specs.Opened.{SeenBlock, bare, OpensTo, GivesSymbols, OpensFile, block_at}
+use Rattle.hail_columns.specs.Challenges.{Challenge, challenge_of, alpha, picked_row, sum_over, all_held, held_symbol, honest_answer, right_answer, bare_answer}
+use Rattle.hail_columns.specs.Verdicts.{Sums, counts_after, Judges}
+use Rattle.hail_columns.proofs.ColumnLaws.{length-column_of_symbols}
+use Rattle.column_laws.proofs.RightBlocks.{opens-right}
+use Rattle.hail_devices.specs.Providers.{sized}
+use Rattle.hail_machine.specs.Setups.{object_of}
+use Rattle.hail_machine.specs.Examples.{four}
+use Rattle.hail_machine.proofs.JobLists.{cond_true}
+use Rattle.run_laws.proofs.SymbolBytes.{bytes_back}
+use Rattle.step_laws.proofs.GivesRight.{own_not_wrong, few_give}
+use Rattle.damage_run.specs.Schedule.{byte}
+use Rattle.damage_run.specs.Points.{without_two}
+use Rattle.calm_laws.specs.FewWrong.{is_wrong_seen}
+use Rattle.aggregate.proofs.RightRow.{right_row, IsRightRow-right_row}
+
+-- the object of the file
+abbrev pub thing : Object
+thing = object_of four 1
+
+-- the block that a provider is to hold
+abbrev pub block : ℕ → List ℕ
+block j = columns thing byte j 0
+
+-- it has the size
+pub block_sized : (j : ℕ) → Some (block j) ≡ sized 6 (Some (block j))
+block_sized j = sym (cond_true (length (block j) == 6) (Some (block j)) None (eq-eqb (length (block j)) 6 (length-column_of_symbols thing (symbols_in thing byte 0) j 0)))
+
+-- the symbols of the only stripe
+abbrev pub symbols : List ℕ
+symbols = symbols_in thing byte 0
+
+-- the bytes of the symbols, cut to the length, are the byte
+pub byte_back : byte ≡ take 1 (flat_map (λ stripe. bytes_of_symbols (symbols_in thing byte stripe)) (upto 1))
+byte_back = sym (bytes_back thing byte (omega arith) (omega arith) refl)
+
+-- ---- what seen blocks open to
+
+abbrev pub shown : ℕ → SeenBlock
+shown j = Some (bare thing j 0 (block j))
+
+is_right : (j : ℕ) → is_wrong_block thing byte j 0 (Some (block j)) ≡ false
+is_right j = own_not_wrong thing byte j 0
+
+pub opens_one : (j : ℕ) → j < 256 → OpensTo thing j 0 (Some (block j)) (shown j)
+opens_one j l = opens-right thing byte j 0 (Some (block j)) l (is_right j)
+
+pub all_give : GivesSymbols thing 0 (Some (block 0) ∷ Some (block 1) ∷ Some (block 2) ∷ Some (block 3) ∷ []) symbols
+all_give = few_give thing byte 0 0 (Some (block 0) ∷ Some (block 1) ∷ Some (block 2) ∷ Some (block 3) ∷ []) (shown 0 ∷ shown 1 ∷ shown 2 ∷ shown 3 ∷ []) refl
+    (omega arith, omega arith, omega arith, omega arith, omega arith)
+    (rw (is_right 0, is_right 1, is_right 2, is_right 3) (omega arith))
+    (opens_one 0 (omega arith), (opens_one 1 (omega arith), (opens_one 2 (omega arith), (opens_one 3 (omega arith), tt))))
+
+pub without_two_give : GivesSymbols thing 0 (Some (block 0) ∷ Some (block 1) ∷ None ∷ Some (block 3) ∷ []) symbols
+without_two_give = few_give thing byte 0 0 (Some (block 0) ∷ Some (block 1) ∷ None ∷ Some (block 3) ∷ []) (shown 0 ∷ shown 1 ∷ None ∷ shown 3 ∷ []) refl
+    (omega arith, omega arith, omega arith, omega arith, omega arith)
+    (rw (is_right 0, is_right 1, is_right 3) (omega arith))
+    (opens_one 0 (omega arith), (opens_one 1 (omega arith), (refl, (opens_one 3 (omega arith), tt))))
+
+pub without_zero_give : GivesSymbols thing 0 (None ∷ Some (block 1) ∷ Some (block 2) ∷ Some (block 3) ∷ []) symbols
+without_zero_give = few_give thing byte 0 0 (None ∷ Some (block 1) ∷ Some (block 2) ∷ Some (block 3) ∷ []) (None ∷ shown 1 ∷ shown 2 ∷ shown 3 ∷ []) refl
+    (omega arith, omega arith, omega arith, omega arith, omega arith)
+    (rw (is_right 1, is_right 2, is_right 3) (omega arith))
+    (refl, (opens_one 1 (omega arith), (opens_one 2 (omega arith), (opens_one 3 (omega arith), tt))))
+
+-- ---- what the audit asks and hears
+
+-- the challenge of its only round
+abbrev pub asked : Challenge
+asked = challenge_of thing 1 1 1 0
+
+-- the right answer
+abbrev pub right : ℕ → Option ℕ
+right j = right_answer thing byte j asked
+
+-- an answer to one pick comes of the symbol in the picked row
+abbrev by_symbol : Option ℕ → Option ℕ
+by_symbol s = if true && is_some s then Some (nim_add 0 (nim_mul (nim_pow (alpha asked.seed) 1) (unwrap_or s 0))) else None
+
+answer_by : (held : ℕ → Option (List ℕ)) → honest_answer asked held ≡ by_symbol (held_symbol 6 held (picked_row asked.seed 6 0))
+unfolding all_held sum_over
+answer_by held = refl
+
+-- and that row lies in the first block
+first_block : picked_row asked.seed 6 0 / 6 ≡ 0
+unfolding picked_row
+first_block = below _
+  where
+    below : (x : ℕ) → (x % 6) / 6 ≡ 0
+    below x = omega arith
+
+-- so only the first block tells
+pub same_first : (held other : ℕ → Option (List ℕ)) → held 0 ≡ other 0 → honest_answer asked held ≡ honest_answer asked other
+same_first held other same = answer_by held ∙ (ap by_symbol at ∙ sym (answer_by other))
+  where
+    at : held_symbol 6 held (picked_row asked.seed 6 0) ≡ held_symbol 6 other (picked_row asked.seed 6 0)
+    at = (let a : held (picked_row asked.seed 6 0 / 6) ≡ other (picked_row asked.seed 6 0 / 6) = ap held first_block ∙ (same ∙ ap other (sym first_block)) in
+        rw a refl)
+
+pub no_answer : (held : ℕ → Option (List ℕ)) → held 0 ≡ None → honest_answer asked held ≡ None
+no_answer held none = answer_by held ∙ ap by_symbol at
+  where
+    at : held_symbol 6 held (picked_row asked.seed 6 0) ≡ None
+    at = (let a : held (picked_row asked.seed 6 0 / 6) ≡ None = ap held first_block ∙ none in rw a refl)
+
+-- ---- the verdict
+
+abbrev pub heard : List (Option ℕ)
+heard = right 0 ∷ right 1 ∷ None ∷ right 3 ∷ []
+
+decider : List ℕ
+decider = right_row thing byte asked
+
+seen_there : (j : ℕ) (s : Option ℕ) → s ≡ Some (value decider (point thing j)) → is_seen (value decider (point thing j)) s ≡ true
+unfolding is_seen_over
+seen_there j s e = rw e (nim_laws.eq_refl (value decider (point thing j)))
+
+-- of four places one is absent, and the others agree
+module _ (p : List ℕ) (a b c d : ℕ) (r s t : Option ℕ) (at_a : is_seen (value p a) r ≡ true) (at_b : is_seen (value p b) s ≡ true) (at_d : is_seen (value p d) t ≡ true) where
+  three_agree : agree p (a ∷ b ∷ c ∷ d ∷ []) (r ∷ s ∷ None ∷ t ∷ []) ≡ 3
+  unfolding agree_over is_seen_over
+  three_agree = rw (at_a, at_b, at_d) refl
+
+  one_counts : counts_after p (a ∷ b ∷ c ∷ d ∷ []) (r ∷ s ∷ None ∷ t ∷ []) (0 ∷ 0 ∷ 0 ∷ 0 ∷ []) ≡ 0 ∷ 0 ∷ 1 ∷ 0 ∷ []
+  unfolding is_seen_over
+  one_counts = rw (at_a, at_b, at_d) refl
+
+agrees_at : (j : ℕ) → is_seen (value decider (point thing j)) (bare_answer thing asked j (right j)) ≡ true
+unfolding decider
+agrees_at j = seen_there j (bare_answer thing asked j (right j)) ((IsRightRow-right_row thing byte asked (omega arith) refl).values j)
+
+-- the sums of the audit
+abbrev pub sums : Sums
+sums = record { counts = 0 ∷ 0 ∷ 1 ∷ 0 ∷ []; undecided = 0 }
+
+pub judged : Judges thing asked heard (record { counts = 0 ∷ 0 ∷ 0 ∷ 0 ∷ []; undecided = 0 }) sums
+unfolding decider
+judged = inl (
+  decider,
+  record {
+    degree = (IsRightRow-right_row thing byte asked (omega arith) refl).degree;
+    agrees = (let e = three_agree decider (point thing 0) (point thing 1) (point thing 2) (point thing 3) (bare_answer thing asked 0 (right 0)) (bare_answer thing asked 1 (right 1)) (bare_answer thing asked 3 (right 3)) (agrees_at 0) (agrees_at 1) (agrees_at 3) in
+        omega (arith, e));
+  },
+  ap (λ l. record { counts = l; undecided = 0 }) (sym (one_counts decider (point thing 0) (point thing 1) (point thing 2) (point thing 3) (bare_answer thing asked 0 (right 0)) (bare_answer thing asked 1 (right 1)) (bare_answer thing asked 3 (right 3)) (agrees_at 0) (agrees_at 1) (agrees_at 3))),
+)
+
+-- ---- the file, of blocks one of which is absent
+
+pub opens_file : OpensFile thing 1 without_two byte
+opens_file = record { symbols = λ stripe. symbols_in thing byte stripe; given = given; cut = byte_back }
+  where
+    given : (stripe : ℕ) → stripe < 1 → GivesSymbols thing stripe (without_two stripe) (symbols_in thing byte stripe)
+    given zero l = without_two_give
+    given (suc stripe) l = absurd (omega (arith, l))
+
+pub few_seen : count_of (λ j. is_wrong_seen thing byte j 0 (block_at (without_two 0) j)) (upto 4) ≤ 1
+few_seen = rw (is_right 0, is_right 1, is_right 3) (omega arith)

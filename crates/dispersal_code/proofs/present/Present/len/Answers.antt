@@ -1,0 +1,12 @@
+use Rattle.std.proofs.Common.{arith, ap, length}
+use Rattle.std.proofs.lemmas.List.{length-take}
+use Rattle.dispersal_code.specs.Present.{Chosen}
+use Rattle.dispersal_code.proofs.present.Present.len.Goals as goal
+
+pub returns-clause-points : goal.returns-clause-points
+returns-clause-points c =
+    omega (arith, length-take c.self.inside.count c.self.inside.points, ap (λ (x : Chosen). length x.points) c.self.view_is, c.self.invariant)
+
+pub returns-clause-symbols : goal.returns-clause-symbols
+returns-clause-symbols c =
+    omega (arith, length-take c.self.inside.count c.self.inside.symbols, ap (λ (x : Chosen). length x.symbols) c.self.view_is, c.self.invariant)

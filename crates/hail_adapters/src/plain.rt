@@ -1,0 +1,83 @@
+// Files that are opened only where they are plain: a link is not followed, and a pipe would be waited for.
+ghost use Rattle.std.specs.Prelude.{◌≡◌, ◌≢◌, ℕ, List, [], Some};
+ghost use Rattle.std.specs.Path.{path_parent};
+
+use crate::found::found;
+use std::fs::{self, Files, OpenFile, OpenOptions};
+use std::io::{self, ErrorKind};
+use std::os::unix::fs::OpenOptionsExt;
+use std::path::Path;
+
+/// Only the owner of a file that is made reads and writes it.
+const OWN_FILE: u32 = 0o600;
+
+/// Whether a plain file is at a path, and no link to one.
+fn is_plain<R: Files>(rt: &R, path: &str) -> io::Result<bool> {
+    match found(fs::symlink_metadata(rt, path))? {
+        Some(metadata) => Ok(metadata.is_file()),
+        None => Ok(false),
+    }
+}
+
+/// Opens a plain file; none where there is none.
+pub fn open_plain<R: Files>(rt: &R, path: &str, how: &OpenOptions) -> io::Result<Option<R::File>> {
+    if is_plain(rt, path)? {
+        found(how.open(rt, path))
+    } else {
+        Ok(None)
+    }
+}
+
+/// Whether a file is at a path, behind links too. What stands there and is no plain file is an error.
+pub fn is_there<R: Files>(rt: &R, path: &str) -> io::Result<bool> {
+    match found(fs::metadata(rt, path))? {
+        Some(metadata) if metadata.is_file() => Ok(true),
+        Some(_) => Err(ErrorKind::InvalidInput.into()),
+        None => Ok(false),
+    }
+}
+
+/// How a file is opened to be read.
+pub fn to_read() -> OpenOptions {
+    let mut how = OpenOptions::new();
+    how.read(true);
+    how
+}
+
+/// How a file that is there is opened to be written.
+pub fn to_write() -> OpenOptions {
+    let mut how = OpenOptions::new();
+    how.write(true);
+    how
+}
+
+/// How a file is opened to be written, or made for its owner alone.
+pub fn to_write_or_make() -> OpenOptions {
+    let mut how = to_write();
+    how.create(true);
+    how.mode(OWN_FILE);
+    how
+}
+
+/// How a file that is not there yet is made for its owner alone.
+pub fn to_make() -> OpenOptions {
+    let mut how = to_write();
+    how.create_new(true);
+    how.mode(OWN_FILE);
+    how
+}
+
+/// Brings the names in a folder to the medium.
+pub fn sync_folder<R: Files>(rt: &R, path: &str) -> io::Result<()> {
+    fs::open(rt, path)?.sync_all()
+}
+
+/// The folder of a path to a file.
+pub fn folder_of(path: &str) -> &str
+    ensures { (folder : List ℕ) → path_parent path.now ≡ Some folder → folder ≢ [] → result.now ≡ folder }
+{
+    match Path::new(path).parent() {
+        Some(folder) if !folder.as_str().is_empty() => folder.as_str(),
+        _ => ".",
+    }
+}

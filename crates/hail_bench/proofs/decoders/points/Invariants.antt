@@ -1,0 +1,6 @@
+use Rattle.std.proofs.Common.{◌≡◌}
+use Rattle.hail_codes.specs.Points.{upto}
+use Rattle.hail_bench.proofs.decoders.points.Given as goal
+
+abbrev pub invariant-loop-place : goal.invariant-loop-place
+invariant-loop-place l = l.points.items ≡ upto l.place

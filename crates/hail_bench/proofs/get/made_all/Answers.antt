@@ -1,0 +1,15 @@
+use Rattle.std.proofs.Common.{List, ℕ, ◌*◌, ◌∙◌, subst}
+use Rattle.hail_columns.specs.Objects.{stripes}
+use Rattle.file_layout.specs.Files.{object_of}
+use Rattle.hail_bench.specs.Stripes.{HoldsNear}
+use Rattle.hail_bench.specs.declared.stripes.TheConstants.{MASTER}
+use Rattle.hail_bench.proofs.get.made_all.Goals as goal
+
+pub returns : goal.returns
+returns c =
+    let file = c.args.coded.now.file in
+    let liars = c.args.spoilt.liars in
+    let seen = c.append_all.new.seen.items in
+    subst (λ (bytes : List ℕ). HoldsNear (object_of MASTER.0 file) bytes (stripes (object_of MASTER.0 file) file.length * file.shape.n) liars seen)
+    (c.deref.ensures.value ∙ c.in_ok-bytes.ensures)
+    (rw c.new-keys.ensures.master at c.in_ok-append_all.ensures)

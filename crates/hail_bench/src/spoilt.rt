@@ -1,0 +1,126 @@
+//! Providers that do not give their blocks as they were made.
+ghost use Rattle.std.specs.Prelude.{◌≡◌, ◌≤◌, ◌<◌, ◌*◌, ◌↔◌, IsTrue, length};
+ghost use Rattle.hail_codes.specs.ServerCode.{differences};
+
+use crate::blocks::fill;
+use crate::decode;
+use crate::stripes::Coded;
+use column_codec::ObjectKeys;
+use hail_field::{Shape, Symbol};
+use std::fmt::{self, Display, Formatter, Write};
+
+/// How a provider spoils its blocks.
+#[derive(Clone, Copy)]
+pub enum Way {
+    /// It gives codewords of other symbols, with its masks.
+    Codewords,
+    /// It gives blocks that are far from each codeword.
+    Garbage,
+    /// It gives its own blocks with as many wrong symbols as are corrected.
+    Errors,
+}
+
+/// How the first providers spoil their blocks: so many give others than their own, and after these so many in all give their
+/// own with wrong symbols.
+#[derive(Clone, Copy)]
+pub struct Spoilt {
+    pub way: Option<Way>,
+    pub liars: u8,
+    pub erring: u8,
+}
+
+impl Display for Spoilt {
+    fn fmt<W: Write>(&self, f: &mut Formatter<W>) -> fmt::Result {
+        match self.way {
+            None => write!(f, "get-stripes"),
+            Some(Way::Codewords) => write!(f, "get-spoilt codewords {}", self.liars),
+            Some(Way::Garbage) => write!(f, "get-spoilt garbage {}", self.liars),
+            Some(Way::Errors) => write!(f, "get-spoilt errors {}", self.erring),
+        }
+    }
+}
+
+/// Fills a block with the codeword of other symbols, and puts a provider's masks on.
+fn other_codeword(
+    coded: &Coded,
+    keys: &ObjectKeys,
+    stripe: u32,
+    provider: u32,
+    rows: &mut [Symbol],
+    block: &mut [Symbol],
+)
+    requires file { keys.now.file ≡ coded.now.file }
+    requires provider { provider < coded.now.file.shape.n }
+    requires rows { length rows.old ≡ coded.now.file.shape.l * coded.now.file.profile.keep }
+    requires block { length block.old ≡ coded.now.file.profile.size }
+{
+    fill(stripe.wrapping_mul(16).wrapping_add(provider), rows);
+    keys.column_into(&coded.code, stripe, rows, provider as usize, block);
+}
+
+/// Adds an error to as many symbols of a block as are corrected.
+fn add_errors(coded: &Coded, stripe: u32, block: &mut [Symbol])
+    requires block { length block.old ≡ coded.now.file.profile.size }
+    ensures { differences block.new block.old ≤ coded.now.file.profile.fix }
+{
+    let error = Symbol(u128::from(stripe) + 1);
+    decode::spoil(coded.file.profile.fix, error, block);
+}
+
+impl Spoilt {
+    /// No provider.
+    pub const NONE: Spoilt = Spoilt {
+        way: None,
+        liars: 0,
+        erring: 0,
+    };
+
+    /// The way and the count of providers that two words name.
+    pub fn from_words(way: &str, count: &str) -> Option<Spoilt> {
+        let count = count.parse::<u8>().ok()?;
+        let (way, liars, erring) = match way {
+            "codewords" => (Way::Codewords, count, 0),
+            "garbage" => (Way::Garbage, count, 0),
+            "errors" => (Way::Errors, 0, count),
+            _ => return None,
+        };
+        Some(Spoilt {
+            way: Some(way),
+            liars,
+            erring,
+        })
+    }
+
+    /// Whether the file is still opened: at most `b` providers give other blocks than their own.
+    pub fn fits(self, shape: Shape) -> bool
+        ensures { IsTrue result ↔ (self.liars ≤ shape.b) }
+    {
+        self.liars <= shape.b
+    }
+
+    /// Spoils the block of a provider, with room for the symbols of a stripe.
+    pub fn spoil(
+        self,
+        coded: &Coded,
+        keys: &ObjectKeys,
+        stripe: u32,
+        provider: u32,
+        rows: &mut [Symbol],
+        block: &mut [Symbol],
+    )
+        requires file { keys.now.file ≡ coded.now.file }
+        requires provider { provider < coded.now.file.shape.n }
+        requires rows { length rows.old ≡ coded.now.file.shape.l * coded.now.file.profile.keep }
+        requires block { length block.old ≡ coded.now.file.profile.size }
+        ensures near { self.liars ≤ provider → differences block.new block.old ≤ coded.now.file.profile.fix }
+    {
+        if provider < u32::from(self.liars) {
+            match self.way {
+                Some(Way::Garbage) => fill(stripe.wrapping_mul(16).wrapping_add(provider), block),
+                _ => other_codeword(coded, keys, stripe, provider, rows, block),
+            }
+        } else if provider < u32::from(self.erring) {
+            add_errors(coded, stripe, block);
+        }
+    }
+}

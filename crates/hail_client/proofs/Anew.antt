@@ -1,0 +1,255 @@
+-- Clients over a disk of no known state: a run begins at each reopening.
+use Rattle.std.proofs.Common.{◌≡◌, ℕ, ◌<◌, ◌≤◌, true, false, List, [], length, Option, Some, None, Result, Ok, Err, refl, ap, sym, subst, ◌∙◌, inl, inr, arith}
+use Rattle.std.specs.Prelude.{IsSome, IfSome, IsTrue, IsErrAnd, is_some}
+use Rattle.std.specs.List.{list_all}
+use Rattle.std.proofs.lemmas.Bool.{cases_Bool, false≢true}
+use Rattle.hail_devices.specs.Cells.{Cells}
+use Rattle.hail_devices.specs.Faults.{Rose}
+use Rattle.hail_devices.specs.Images.{EachImage}
+use Rattle.hail_devices.specs.Providers.{Provider}
+use Rattle.hail_devices.specs.Told.{Goes}
+use Rattle.hail_records.specs.Records.{Record, Setup, is_in_grammar, largest_journal}
+use Rattle.hail_records.specs.Journal.{text_size}
+use Rattle.hail_records.specs.Acceptance.{AreAccepted}
+use Rattle.hail_machine.specs.Events as events
+use Rattle.hail_machine.specs.Events.{Outcome, Reopen}
+use Rattle.hail_machine.specs.Refusals as refusal
+use Rattle.hail_machine.specs.States.{State, setup_in}
+use Rattle.hail_machine.specs.Openings.{IsSetUp, Reopens}
+use Rattle.hail_machine.specs.Stands.{StandsForState}
+use Rattle.sound_states.specs.Sound.{IsSound, IsAtRest}
+use Rattle.sound_states.proofs.Resting.{rest-sound}
+use Rattle.vault.specs.declared.fault.StartFault.{StartFault}
+use Rattle.vault.specs.declared.fault.StartFault.TheVariants as start_fault
+use Rattle.vault.specs.declared.vault.Vault.{Vault}
+use Rattle.vault.specs.Devices.{Devices, devices, AreHanded}
+use Rattle.vault.specs.Openings.{IsRead, IsResynced, MayBeLeft}
+use Rattle.vault.specs.Seen.{provider_count}
+use Rattle.vault.specs.Stands.{Stands}
+use Rattle.vault.specs.Starts.{IsJustOpened}
+use Rattle.hail_client.specs.declared.client.Client.{Client}
+use Rattle.hail_client.specs.declared.fault.ReopenFault.{ReopenFault}
+use Rattle.hail_client.specs.declared.fault.ReopenFault.TheVariants as reopen_fault
+use Rattle.hail_client.specs.Client.{next_job_of}
+use Rattle.hail_client.specs.Outcomes.{start_refusal, reopen_outcome, UnlessBadJournal}
+use Rattle.hail_client.specs.Start.{provider_at}
+use Rattle.hail_client.specs.Stands.{StandsClosed, ClientStands, Makes, IsMadeAnew, IsStanding, OpensOver}
+use Rattle.hail_client.proofs.Settled.{settled, settles}
+use Rattle.hail_client.proofs.Held.{zeros, zeros-held}
+use Rattle.hail_client.proofs.Fresh.{each-at}
+use Rattle.hail_client.proofs.Reopened.{without_vault, stands-opened, count-is, has-setup, opened}
+use Rattle.hail_client.proofs.Reopening.{WasOpened, err-is}
+
+-- by whether a disk tells
+pub by-told : {A X : Type 0} (told : Option A) → (IsSome told → X) → (is_some told ≡ false → X) → X
+by-told None f g = g refl
+by-told (Some a) f g = f refl
+
+pub untold : {A : Type 0} (told : Option A) → is_some told ≡ false → told ≡ None
+untold None is = refl
+untold (Some a) is = absurd (false≢true (sym is))
+
+pub untold-goes : {A : Type 0} (step : A → A → Type 0) (old new : Option A) → is_some old ≡ false → Goes step old new → new ≡ None
+untold-goes step None None is goes = refl
+untold-goes step None (Some new) is goes = absurd goes
+untold-goes step (Some old) new is goes = absurd (false≢true (sym is))
+
+-- a state in which no vault is open, over these records
+abbrev pub closed-over : List Record → ℕ → ℕ → List Provider → State
+closed-over rs next faults ps = record {
+  records = rs;
+  bytes = zeros rs;
+  audits = λ number. 0;
+  jobs = [];
+  next_job = next;
+  append = None;
+  doubt = None;
+  providers = provider_at ps;
+  handed = length ps;
+  disk_faults = faults;
+  is_open = false;
+  is_barred = false;
+}
+
+pub rests-over : (rs : List Record) → AreAccepted rs → IsTrue (list_all is_in_grammar rs) → text_size rs ≤ largest_journal →
+    (next faults : ℕ) (ps : List Provider) → IsAtRest (closed-over rs next faults ps)
+rests-over rs accepted spelled room next faults ps = record {
+  idle = (refl, refl, refl);
+  undoubted = refl;
+  accepted = accepted;
+  in_grammar = spelled;
+  room = room;
+  files = zeros-held rs accepted;
+  set_up = λ is. absurd (false≢true is);
+  handed = λ is. absurd (false≢true is);
+}
+
+none-rests : (next faults : ℕ) (ps : List Provider) → IsAtRest (closed-over [] next faults ps)
+none-rests = rests-over [] tt refl (omega arith)
+
+-- devices that stand for it
+pub stands-over : (rs : List Record) → ((next faults : ℕ) (ps : List Provider) → IsAtRest (closed-over rs next faults ps)) →
+    (next faults : ℕ) (ps : List Provider) (holds : Option Cells) → StandsForState holds (closed-over rs next faults ps) →
+    StandsClosed next (devices holds faults ps) (closed-over rs next faults ps)
+stands-over rs rest next faults ps holds images = record {
+  devices = record { images = images; faults = refl; providers = record { count = refl; each = each-at ps } };
+  sound = rest-sound 8 (closed-over rs next faults ps) (rest next faults ps);
+  closed = refl;
+  next_job_is = refl;
+}
+
+-- a disk that tells nothing stands for every state
+pub untold-images : (holds : Option Cells) (w : State) → holds ≡ None → StandsForState holds w
+untold-images holds w is = subst (λ (o : Option Cells). StandsForState o w) (sym is) tt
+
+-- where no vault is open, client and devices stand for a state over no record
+pub closed-standing : (o : Option Vault) (next faults : ℕ) (ps : List Provider) (holds : Option Cells) → is_some o ≡ false → holds ≡ None →
+    IsStanding (record { vault = o; next_job = next }) (devices holds faults ps)
+closed-standing (Some v) next faults ps holds none is = absurd (false≢true (sym none))
+closed-standing None next faults ps holds none is =
+    record { state = closed-over [] next faults ps; stands = stands-over [] none-rests next faults ps holds (untold-images holds (closed-over [] next faults ps) is) }
+
+-- ---- reopenings
+
+module _ (moment next f g : ℕ) (ps : List Provider) (old new : Option Cells) (old_is : old ≡ None) (new_is : new ≡ None) (never : f ≤ g) where
+  abbrev AnewBy : Outcome → Client → Type 0
+  AnewBy outcome c = IsMadeAnew moment next Reopen outcome c (devices old f ps) (devices new g ps)
+
+  -- no vault is open afterwards, over the same records
+  closed-anew : (rs : List Record) → ((n h : ℕ) (qs : List Provider) → IsAtRest (closed-over rs n h qs)) → (why : refusal.Refusal) →
+      Reopens (closed-over rs next f ps) (events.Refused why) (closed-over rs next g ps) → AnewBy (events.Refused why) (without_vault next)
+  closed-anew rs rest why happens = record {
+    before = closed-over rs next f ps;
+    stands_before = stands-over rs rest next f ps old (untold-images old (closed-over rs next f ps) old_is);
+    makes = record {
+      state = closed-over rs next g ps;
+      spelled = tt;
+      happens = happens;
+      stands = stands-over rs rest next g ps new (untold-images new (closed-over rs next g ps) new_is);
+    };
+  }
+
+  pub fault-anew : (why : StartFault) → (why ≡ start_fault.DiskFault → Rose f g) →
+      UnlessBadJournal (Err (reopen_fault.NotOpened why)) (AnewBy (events.Refused (start_refusal why)) (without_vault next))
+  fault-anew start_fault.DiskFault rose = closed-anew [] none-rests refusal.DiskFault (g, never, rose refl, refl)
+  fault-anew start_fault.Memory rose = closed-anew [] none-rests refusal.Memory (g, never, refl)
+  fault-anew start_fault.NotSetUp rose = closed-anew [] none-rests refusal.NotSetUp (closed-over [] next f ps, inl refl, refl, (g, never, refl))
+  fault-anew (start_fault.BadJournal at) rose = tt
+
+-- records were read
+module _ (told : Option Cells) (rs : List Record) (is_read : IsRead told rs) (v : Vault) (holds : Option Cells) (g next : ℕ)
+    (stands : (u : State) (qs : List Provider) → IsJustOpened u rs next g qs → Stands v (devices holds g qs) u) where
+  rest : (n h : ℕ) (qs : List Provider) → IsAtRest (closed-over rs n h qs)
+  rest = rests-over rs is_read.accepted is_read.in_grammar is_read.room
+
+  module _ (f : ℕ) (ps : List Provider) where
+    abbrev start : State
+    start = closed-over rs next f ps
+
+    sound : IsSound 8 start
+    sound = rest-sound 8 start (rest next f ps)
+
+    pub is-up : IsSetUp start
+    is-up = has-setup start (inl refl) sound is_read.some
+
+    pub uses-as : provider_count v ≡ (setup_in start).n
+    uses-as = count-is start rs sound (inl refl) is_read.some v holds g next refl stands
+
+    pub stands-open : provider_count v ≤ length ps → Stands v (devices holds g ps) (opened start rs (provider_at ps) (length ps) g)
+    stands-open enough =
+        stands-opened start rs sound (inl refl) is_read.some v holds g next refl stands (provider_at ps) ps (record { count = refl; each = each-at ps })
+        (let e = uses-as in omega (arith, enough, e))
+
+    -- there is a state that was just opened over them
+    pub just-opened : provider_count v ≤ length ps → IsJustOpened (record (closed-over rs next g ps) { is_open = true }) rs next g ps
+    unfolding setup_in
+    just-opened enough = record {
+      at_rest = (let r = rest next g ps in record {
+        idle = r.idle;
+        undoubted = r.undoubted;
+        accepted = r.accepted;
+        in_grammar = r.in_grammar;
+        room = r.room;
+        files = r.files;
+        set_up = λ is. is-up;
+        handed = λ is. (let e = uses-as in omega (arith, enough, e));
+      });
+      is_open = refl;
+      records = refl;
+      next_job = refl;
+      faults_are = refl;
+      handed = record { count = refl; each = each-at ps };
+    }
+
+    module _ (moment : ℕ) (old : Option Cells) (old_is : old ≡ None) (holds_is : holds ≡ None) (never : f ≤ g) where
+      pub few-anew : length ps < provider_count v → IsMadeAnew moment next Reopen (events.Refused refusal.TooFewProviders) (without_vault next) (devices old f ps) (devices holds g ps)
+      few-anew few =
+          closed-anew moment next f g ps old holds old_is holds_is never rs rest refusal.TooFewProviders
+          (start, inl refl, is-up, (let e = uses-as in omega (arith, few, e)), (g, never, refl))
+
+      pub opened-anew : provider_count v ≤ length ps → IsMadeAnew moment next Reopen events.Opened (record { vault = Some v; next_job = next }) (devices old f ps) (devices holds g ps)
+      opened-anew enough = record {
+        before = start;
+        stands_before = stands-over rs rest next f ps old (untold-images old start old_is);
+        makes = record {
+          state = opened start rs (provider_at ps) (length ps) g;
+          spelled = tt;
+          happens = (start, inl refl, is-up, (let e = uses-as in omega (arith, enough, e)), (g, never, refl));
+          stands = stands-open enough;
+        };
+      }
+
+-- ---- by the client
+
+module _ (c left : Client) (left_is : left ≡ without_vault (next_job_of c)) (old new : Option Cells) (f g : ℕ) where
+  module _ (moment : ℕ) (ps : List Provider) (none : is_some old ≡ false) (goes : Goes IsResynced old new) (never : f ≤ g) where
+    pub refused-anew : (why : StartFault) (result : Result Unit ReopenFault) → IsErrAnd result (λ e. e ≡ reopen_fault.NotOpened why) → (why ≡ start_fault.DiskFault → Rose f g) →
+        UnlessBadJournal result (IsMadeAnew moment (next_job_of c) Reopen (reopen_outcome result) left (devices old f ps) (devices new g ps))
+    refused-anew why result is rose =
+        subst (λ (x : Client). UnlessBadJournal result (IsMadeAnew moment (next_job_of c) Reopen (reopen_outcome result) x (devices old f ps) (devices new g ps))) (sym left_is)
+        (subst (λ (r : Result Unit ReopenFault). UnlessBadJournal r (IsMadeAnew moment (next_job_of c) Reopen (reopen_outcome r) (without_vault (next_job_of c)) (devices old f ps) (devices new g ps)))
+        (sym (err-is result (reopen_fault.NotOpened why) is))
+        (fault-anew moment (next_job_of c) f g ps old new (untold old none) (untold-goes IsResynced old new none goes) never why rose))
+
+    pub few-are : (v : Vault) → WasOpened v old new g left.next_job → length ps < provider_count v →
+        IsMadeAnew moment (next_job_of c) Reopen (events.Refused refusal.TooFewProviders) left (devices old f ps) (devices new g ps)
+    few-are v was few =
+        (let all : WasOpened v old new g (next_job_of c) = subst (λ (x : Client). WasOpened v old new g x.next_job) left_is was in
+        subst (λ (x : Client). IsMadeAnew moment (next_job_of c) Reopen (events.Refused refusal.TooFewProviders) x (devices old f ps) (devices new g ps)) (sym left_is)
+        (few-anew old all.0 all.1 v new g (next_job_of c) all.2 f ps moment old (untold old none) (untold-goes IsResynced old new none goes) never few))
+
+    pub enough-are : (v : Vault) → WasOpened v old new g left.next_job → provider_count v ≤ length ps →
+        IsMadeAnew moment (next_job_of c) Reopen events.Opened (record { vault = Some v; next_job = left.next_job }) (devices old f ps) (devices new g ps)
+    enough-are v was enough =
+        (let all : WasOpened v old new g (next_job_of c) = subst (λ (x : Client). WasOpened v old new g x.next_job) left_is was in
+        subst (λ (x : Client). IsMadeAnew moment (next_job_of c) Reopen events.Opened (record { vault = Some v; next_job = x.next_job }) (devices old f ps) (devices new g ps)) (sym left_is)
+        (opened-anew old all.0 all.1 v new g (next_job_of c) all.2 f ps moment old (untold old none) (untold-goes IsResynced old new none goes) never enough))
+
+    pub left-standing : IsStanding left (devices new g ps)
+    left-standing =
+        subst (λ (x : Client). IsStanding x (devices new g ps)) (sym left_is)
+        (closed-standing None (next_job_of c) g ps new refl (untold-goes IsResynced old new none goes))
+
+  pub opens-over : (v : Vault) (handed : ℕ) → WasOpened v old new g left.next_job → provider_count v ≤ handed →
+      OpensOver old (next_job_of c) handed (record { vault = Some v; next_job = left.next_job }) new g
+  opens-over v handed was enough =
+      (let all : WasOpened v old new g (next_job_of c) = subst (λ (x : Client). WasOpened v old new g x.next_job) left_is was in
+      record {
+        records = all.0;
+        is_read = all.1;
+        each = λ w providers just. all.2 w providers just;
+        one = λ providers as_many. (
+          record (closed-over all.0 (next_job_of c) g providers) { is_open = true },
+          just-opened old all.0 all.1 v new g (next_job_of c) all.2 g providers (omega (arith, enough, as_many)),
+        );
+      })
+
+-- ---- inits
+
+pub goes-same : (told : Option Cells) → Goes IsResynced told told
+goes-same None = tt
+goes-same (Some cells) = inl refl
+
+pub left-same : (s : Setup) (told : Option Cells) → IfSome told (λ cells. EachImage told (MayBeLeft s cells))
+left-same s None = tt
+left-same s (Some cells) = λ image is. inl is

@@ -1,0 +1,93 @@
+-- The worked rows.
+use Rattle.std.proofs.Common.{◌≡◌, ℕ, zero, suc, ◌<◌, ◌==◌, true, false, cond, List, [], ◌∷◌, length, replicate, codes, Option, Some, None, refl, ap, sym, subst, ◌∙◌, inl, inr, arith}
+use Rattle.std.specs.Prelude.{slice_get, IsSome}
+use Rattle.std.proofs.lemmas.Bool.{cases_Bool, false≢true}
+use Rattle.hail_devices.specs.Providers.{Provider}
+use Rattle.hail_records.specs.Journal.{text, StandsFor}
+use Rattle.hail_records.specs.Table.{File, file_of, is_same_name}
+use Rattle.hail_machine.specs.Events.{Names, Closed}
+use Rattle.hail_machine.specs.Examples.{empty_provider, one_file, hundred}
+use Rattle.hail_machine.specs.Runs.{Moment}
+use Rattle.hail_machine.specs.States.{State, Doubt, IsStart}
+use Rattle.hail_machine.specs.Stands.{IsFresh}
+use Rattle.hail_machine.specs.Survival.{IsKept}
+use Rattle.hail_machine.proofs.JobLists.{cond_true, cond_false}
+use Rattle.sound_states.specs.Follows.{AreHeld}
+use Rattle.sound_states.specs.Sound.{IsSound, IsAtRest}
+use Rattle.sound_states.proofs.Resting.{rest-sound}
+use Rattle.vault.specs.Devices.{Devices, AreDevices}
+use Rattle.hail_client.specs.Examples.{closed_client, fresh, hidden, stored, stored_state, notes}
+use Rattle.hail_client.specs.Start.{start_of, TellAll}
+use Rattle.hail_client.specs.Stands.{ClientStands, IsReached}
+use Rattle.hail_client.proofs.Fresh.{is-start, are-devices, untold-start, start-tells, each-at}
+use Rattle.hail_client.proofs.Settled.{firm-stands}
+use Rattle.hail_client.proofs.Standing.{start-stands}
+
+pub fresh-is : IsFresh [] []
+fresh-is = record { firm = refl; stands = inl (refl, refl) }
+
+pub fresh-start : IsStart (start_of fresh [])
+fresh-start = is-start fresh [] [] refl fresh-is
+
+pub fresh-devices : AreDevices fresh (start_of fresh [])
+fresh-devices = are-devices fresh [] [] refl fresh-is
+
+told-at : (n j : ℕ) (p : Provider) → slice_get (replicate n empty_provider) j ≡ Some p → p ≡ empty_provider
+told-at zero j p is = absurd (let e : None ≡ Some p = is in cc)
+told-at (suc n) zero p is = (let e : Some empty_provider ≡ Some p = is in cc)
+told-at (suc n) (suc j) p is = told-at n j p is
+
+pub fresh-tell : TellAll fresh.providers
+fresh-tell j p is = subst (λ (x : Provider). IsSome x.held) (sym (told-at 4 j p is)) refl
+
+pub fresh-stands : ClientStands closed_client fresh (start_of fresh [])
+fresh-stands = start-stands fresh (start_of fresh []) fresh-start fresh-devices
+
+pub fresh-run : (m : Moment) × IsReached (start_of fresh []) (m ∷ []) closed_client fresh
+fresh-run = (record { event = Names; outcome = Closed; state = start_of fresh [] }, record { run = (tt, refl, tt); stands = fresh-stands })
+
+pub hidden-start : IsStart (start_of hidden []) × AreDevices hidden (start_of hidden [])
+hidden-start = untold-start hidden [] refl (inl refl)
+
+pub hidden-stands : ClientStands closed_client hidden (start_of hidden [])
+hidden-stands = start-stands hidden (start_of hidden []) hidden-start.0 hidden-start.1
+
+-- ---- a journal with one file
+
+one-held : AreHeld (λ id. hundred) one_file
+one-held name file is = elim (cases_Bool (is_same_name (codes "notes.txt") name)) [
+  | inl t ↦ (let e : Some (record { name = name; id = 1; size = 100 }) ≡ Some file = sym (cond_true (is_same_name (codes "notes.txt") name) (Some (record { name = name; id = 1; size = 100 })) None t) ∙ is in
+      let f : record { name = name; id = 1; size = 100 } ≡ file = (let z : ◌≡◌ {A = File} (record { name = name; id = 1; size = 100 }) file = cc in z) in
+      (refl, ap (λ (z : File). z.size) f))
+  | inr n ↦ absurd (let e : None ≡ Some file = sym (cond_false (is_same_name (codes "notes.txt") name) (Some (record { name = name; id = 1; size = 100 })) None n) ∙ is in cc)
+]
+
+stored-rests : IsAtRest stored_state
+stored-rests = record {
+  idle = (refl, refl, refl);
+  undoubted = refl;
+  accepted = (refl, (refl, (refl, tt)));
+  in_grammar = refl;
+  room = omega arith;
+  files = one-held;
+  set_up = λ is. absurd (false≢true is);
+  handed = λ is. absurd (false≢true is);
+}
+
+text-stands : StandsFor (text one_file) one_file
+text-stands = record { in_grammar = refl; gate = 0; rest = []; closed = omega arith; bytes_are = refl }
+
+pub stored-stands : ClientStands closed_client stored stored_state
+stored-stands = record {
+  devices = record {
+    images = firm-stands (text one_file) stored_state (inl text-stands);
+    faults = refl;
+    providers = record { count = refl; each = each-at stored.providers };
+  };
+  sound = rest-sound 8 stored_state stored-rests;
+  closed = refl;
+  next_job_is = refl;
+}
+
+pub stored-kept : IsKept stored_state (codes "notes.txt") notes
+stored-kept = record { in_effect = refl; with_doubt = λ d is. absurd (let e : None ≡ Some d = is in cc) }

@@ -1,0 +1,12 @@
+use Rattle.hail_client.specs.Examples.{stored, stored_state, notes}
+use Rattle.std.specs.Prelude.{codes}
+use Rattle.hail_client.proofs.Examples.{stored-stands, stored-kept}
+use Rattle.hail_client.proofs.Kept.{images-have}
+use Rattle.hail_client.proofs.laws.a_stored_file_is_kept.Goals as goal
+
+pub returns : goal.returns
+returns c = record {
+  stands = stored-stands;
+  kept = stored-kept;
+  images = images-have stored.holds stored_state (codes "notes.txt") notes stored-stands.devices.images stored-kept;
+}

@@ -1,0 +1,46 @@
+-- A client, devices and states for the worked rows.
+--
+--   closed_client  == a client with no vault open, whose next job is the first
+--   fresh          == a disk that reads nothing, and four providers that hold nothing
+--   hidden         == a disk and four providers of no known state
+--   stored         == a disk that reads a journal with one file of 100 bytes, and six providers that hold nothing
+--   notes          == that file
+--   stored_state   == the state at rest over that journal, with no vault open
+use Rattle.std.specs.Prelude.{ℕ, false, List, [], replicate, codes, length, Some, None}
+use Rattle.hail_devices.specs.Cells.{firm}
+use Rattle.hail_devices.specs.Providers.{Provider}
+use Rattle.hail_records.specs.Journal.{text}
+use Rattle.hail_records.specs.Table.{File}
+use Rattle.hail_machine.specs.Examples.{empty_provider, one_file, hundred, opened}
+use Rattle.hail_machine.specs.States.{State}
+use Rattle.vault.specs.Devices.{Devices, devices}
+use Rattle.hail_client.specs.declared.client.Client.{Client}
+use Rattle.hail_client.specs.Start.{provider_at}
+
+-- no vault is open, and the next job is the first
+abbrev pub closed_client : Client
+closed_client = record { vault = None; next_job = 1 }
+
+-- a disk that reads nothing, and four providers that hold nothing
+abbrev pub fresh : Devices
+fresh = devices (Some []) 0 (replicate 4 empty_provider)
+
+-- a provider of no known state
+abbrev pub hidden_provider : Provider
+hidden_provider = record { held = None; store_faults = 0; other_faults = 0; fetches = 0 }
+
+-- a disk and four providers of no known state
+abbrev pub hidden : Devices
+hidden = devices None 0 (replicate 4 hidden_provider)
+
+-- a disk that reads a journal with one file, and six providers that hold nothing
+abbrev pub stored : Devices
+stored = devices (Some (firm (text one_file))) 0 (replicate 6 empty_provider)
+
+-- the file of that journal
+abbrev pub notes : File
+notes = record { name = codes "notes.txt"; id = 1; size = 100 }
+
+-- the state at rest over that journal
+abbrev pub stored_state : State
+stored_state = record (opened one_file hundred) { providers = provider_at stored.providers; handed = 6; is_open = false }

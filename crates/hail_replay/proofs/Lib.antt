@@ -1,0 +1,10 @@
+mod Lists
+mod Same
+mod Standing
+mod Counts
+mod Behind
+mod Arms
+mod Performing
+mod Wrote
+mod Course
+mod Loops

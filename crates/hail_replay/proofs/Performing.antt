@@ -1,0 +1,98 @@
+-- The arms of a call that performs an event.
+use Rattle.std.proofs.Common.{◌≡◌, ℕ, ◌<◌, ◌^◌, Bool, true, false, List, [], ◌++◌, Option, Some, None, Result, inl, inr, refl, ap, sym, subst, ◌∙◌}
+use Rattle.std.specs.Prelude.{IsSome, IfSome, is_some}
+use Rattle.std.specs.Option.{option_map}
+use Rattle.std.proofs.lemmas.Bool.{cases_Bool}
+use Rattle.hail_devices.specs.Cells.{Cells}
+use Rattle.hail_devices.specs.Providers.{Provider}
+use Rattle.hail_machine.specs.Events.{Event, Init, Begin, Step, Names, Outcome}
+use Rattle.hail_machine.specs.Heard.{Entry, heard_by, heard_at, reported_after}
+use Rattle.hail_machine.specs.Jobs.{Kind, job_of}
+use Rattle.hail_machine.specs.Machine.{Happens}
+use Rattle.hail_machine.specs.Runs.{Moment}
+use Rattle.hail_machine.specs.States.{State}
+use Rattle.hail_machine.specs.Transcripts.{Command, Once, RunJob}
+use Rattle.schedule_text.specs.declared.event.Event.{Event as Read}
+use Rattle.schedule_text.specs.Events.{command_of}
+use Rattle.vault_core.specs.declared.wish.BeginFault.{BeginFault}
+use Rattle.vault.specs.declared.turn.Turn.{Turn}
+use Rattle.vault.specs.Devices.{Devices, devices}
+use Rattle.vault.specs.Outcomes.{IfEnded}
+use Rattle.hail_client.specs.declared.client.Client.{Client}
+use Rattle.hail_client.specs.Client.{is_open, next_job_of, coming_of, names_of, IsSame}
+use Rattle.hail_client.specs.Outcomes.{begin_outcome, step_outcome, replace_outcome}
+use Rattle.hail_client.specs.Stands.{ClientStands, Makes, IsReached, RunsJobOn}
+use Rattle.vault_core.specs.Coming.{IsNoJob}
+use Rattle.transcript_lines.specs.declared.came.Came.{Came}
+use Rattle.transcript_lines.specs.declared.came.Came.TheVariants as came
+use Rattle.hail_replay.specs.Performed.{outcome_in, StandsWhereOpen, Performs, IsKept, IsPerformed}
+use Rattle.hail_replay.proofs.Same.{Same}
+use Rattle.hail_replay.proofs.Arms.{begun-kept, closed-kept, closed-coming, step-kept, run-kept, replaced-kept, same-kept}
+use Rattle.hail_replay.proofs.Behind.{once, run, not-run, turn-heard}
+use Rattle.hail_replay.proofs.Standing.{lists}
+
+-- it is this event
+pub performed-as : (event other : Read) (came : Option Came) (c next : Client) (d e : Devices) → event ≡ other
+    → IsPerformed (command_of other) came c next d e → IsPerformed (command_of event) came c next d e
+performed-as event other came c next d e is P = subst (λ (x : Read). IsPerformed (command_of x) came c next d e) (sym is) P
+
+-- a begin
+pub begun : (c next : Client) (d : Devices) (kind : Kind) (result : Option (Result ℕ BeginFault)) → StandsWhereOpen c d
+    → ((w : State) (there : Devices) (moment : ℕ) → ClientStands c there w → Makes w moment (Begin kind) (begin_outcome result) next there)
+    → IsPerformed (Once (Begin kind)) (Some (came.Begun result)) c next d d
+begun c next d kind result S makes = record {
+  machine = λ start ms told R. once (Begin kind) (Some (came.Begun result)) c next d d (λ w moment T. makes w d moment T) (λ w es T. refl) start ms R;
+  kept = begun-kept c next d kind (begin_outcome result) S makes;
+}
+
+-- a step, which does nothing where no vault is open
+pub stepped : (job : ℕ) (c next : Client) (d e : Devices) (t : Option Turn) → StandsWhereOpen c d → is_some e.holds ≡ is_some d.holds
+    → ((w : State) (moment : ℕ) → ClientStands c d w → Makes w moment (Step job) (step_outcome t) next e)
+    → ((w : State) → ClientStands c d w → IfSome t (λ t. IfEnded t (λ ended. ended.heard ≡ heard_by (job_of w.jobs job))))
+    → (coming_of c job ≡ IsNoJob → IsSame c next × (e ≡ d))
+    → IsPerformed (Once (Step job)) (Some (came.Stepped t)) c next d e
+stepped job c next d e t S tells makes heard none = record {
+  machine = λ start ms told R. once (Step job) (Some (came.Stepped t)) c next d e makes
+      (λ w es T. ap (λ (x : List Entry). es ++ x) (turn-heard w job t (heard w T))) start ms R;
+  kept = elim (cases_Bool (is_open c)) [
+    | inl opened ↦ step-kept c next d e tells job (step_outcome t) S opened makes
+    | inr closed ↦ (let n = none (closed-coming c job closed) in subst (λ (x : Devices). IsKept c next d x) (sym n.1) (closed-kept c next d closed n.0))
+  ];
+}
+
+-- a run of a job over an open vault
+pub ran : (job : ℕ) (c next : Client) (d e : Devices) (t : Option Turn) → StandsWhereOpen c d → is_open c ≡ true → is_some e.holds ≡ is_some d.holds
+    → ((start : State) (ms : List Moment) → IsReached start ms c d → RunsJobOn start ms job t next e)
+    → IsPerformed (RunJob job) (Some (came.Stepped t)) c next d e
+ran job c next d e t S opened tells runs = record {
+  machine = λ start ms told R. run start ms job t next e (runs start ms R);
+  kept = run-kept c next d e tells job t S opened runs;
+}
+
+-- and over none
+pub not-ran : (job : ℕ) (c : Client) (d : Devices) → job < 2 ^ 32 → StandsWhereOpen c d → is_open c ≡ false
+    → IsPerformed (RunJob job) (Some (came.Stepped None)) c c d d
+not-ran job c d spelled S closed = record {
+  machine = λ start ms told R. not-run job spelled c d closed start ms R;
+  kept = same-kept c d S;
+}
+
+-- an alteration or a loss
+pub replaced : (event : Event) (c : Client) (holds : Option Cells) (faults : ℕ) (ps qs : List Provider) (result : Bool)
+    → ((w u : State) → Happens 8 0 w event (replace_outcome result) u → Same w u)
+    → ((w : State) (es : List Entry) → reported_after event es ++ heard_at w event (replace_outcome result) ≡ es ++ [])
+    → ((w : State) (holds : Option Cells) (faults moment : ℕ) → ClientStands c (devices holds faults ps) w → Makes w moment event (replace_outcome result) c (devices holds faults qs))
+    → StandsWhereOpen c (devices holds faults ps)
+    → IsPerformed (Once event) (Some (came.Replaced result)) c c (devices holds faults ps) (devices holds faults qs)
+replaced event c holds faults ps qs result leaves quiet makes S = record {
+  machine = λ start ms told R. once event (Some (came.Replaced result)) c c (devices holds faults ps) (devices holds faults qs)
+      (λ w moment T. makes w holds faults moment T) (λ w es T. quiet w es) start ms R;
+  kept = replaced-kept c event (replace_outcome result) holds faults ps qs leaves makes S;
+}
+
+-- a list
+pub listed : (c : Client) (d : Devices) → StandsWhereOpen c d → IsPerformed (Once Names) None c c d d
+listed c d S = record {
+  machine = λ start ms told R. once Names None c c d d (λ w moment T. lists w moment c d T) (λ w es T. refl) start ms R;
+  kept = same-kept c d S;
+}

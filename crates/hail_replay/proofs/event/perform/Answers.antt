@@ -1,0 +1,114 @@
+use Rattle.std.proofs.Common.{Option, Some, None, map, refl, sym, ap, ap₂, ◌∙◌, arith}
+use Rattle.std.specs.Prelude.{nat_lt, IsSome}
+use Rattle.std.proofs.lemmas.List.{length-map}
+use Rattle.hail_devices.specs.Providers.{HasPlace, with_symbol, without_block}
+use Rattle.hail_machine.specs.Events.{Init, Alter, Lose, Stop, Stopped, Reopen}
+use Rattle.hail_machine.specs.Jobs.{PutJob, GetJob, DropJob, AuditJob, RepairJob}
+use Rattle.record_codec.specs.Entries.{with_master}
+use Rattle.vault.specs.Devices.{as_seen, devices}
+use Rattle.hail_client.specs.Outcomes.{replace_outcome}
+use Rattle.transcript_lines.specs.declared.came.Came.TheVariants as came
+use Rattle.hail_replay.proofs.Same.{replaces_if}
+use Rattle.hail_replay.proofs.Arms.{init-kept, reopen-kept, stop-kept, goes-tells}
+use Rattle.hail_replay.proofs.Behind.{once}
+use Rattle.hail_replay.proofs.Performing.{performed-as, begun, stepped, replaced, listed}
+use Rattle.hail_replay.proofs.event.perform.Goals as goal
+
+pub returns-in-Init : goal.returns-in-Init
+returns-in-Init g c =
+    let ps = map (as_seen g.P.Provider.held g.P.Provider.store_faults g.P.Provider.other_faults g.P.Provider.fetches) c.args.providers.now in
+    record {
+      performed = performed-as _ _ _ _ _ _ _ c.in-Init.is (record {
+        machine = λ start ms told R. once (Init (with_master c.in-Init.setup c.in-Init.master.0)) (Some (came.Inited c.init.result)) _ _ _ _
+            (λ w moment T. c.init.ensures.machine w ps moment told T) (λ w es T. refl) start ms R;
+        kept = init-kept _ _ _ _ _ ps c.init.ensures.tells c.init.ensures.cause.never_falls (c.init.ensures.standing ps) c.requires.standing;
+      });
+    }
+
+pub returns-in-Reopen : goal.returns-in-Reopen
+returns-in-Reopen g c =
+    let see = as_seen g.P.Provider.held g.P.Provider.store_faults g.P.Provider.other_faults g.P.Provider.fetches in
+    let ps = map see c.args.providers.now in
+    let count = length-map c.args.providers.now see in
+    record {
+      performed = performed-as _ _ _ _ _ _ _ c.in-Reopen.is (record {
+        machine = λ start ms told R. once Reopen (Some (came.Reopened c.reopen.result)) _ _ _ _
+            (λ w moment T. c.reopen.ensures.machine w ps moment told count T) (λ w es T. refl) start ms R;
+        kept = reopen-kept _ _ _ _ _ _ ps _ c.reopen.result (goes-tells _ _ _ c.reopen.ensures.disk) c.reopen.ensures.cause.never_falls count
+            c.reopen.ensures.opens c.reopen.ensures.next_job c.reopen.ensures.opened;
+      });
+    }
+
+pub returns-in-BeginPut : goal.returns-in-BeginPut
+returns-in-BeginPut g c =
+    record {
+      performed = performed-as _ _ _ _ _ _ _ c.in-BeginPut.is (begun _ _ _ (PutJob c.in-BeginPut.name c.in-BeginPut.bytes) c.begin_put.result c.requires.standing
+          (rw c.as_slice.ensures at c.begin_put.ensures.machine));
+    }
+
+pub returns-in-BeginGet : goal.returns-in-BeginGet
+returns-in-BeginGet g c =
+    record {
+      performed = performed-as _ _ _ _ _ _ _ c.in-BeginGet.is (begun _ _ _ (GetJob c.in-BeginGet.name) c.begin_get.result c.requires.standing
+          (rw c.as_slice-in-BeginGet.ensures at c.begin_get.ensures.machine));
+    }
+
+pub returns-in-BeginDrop : goal.returns-in-BeginDrop
+returns-in-BeginDrop g c =
+    record {
+      performed = performed-as _ _ _ _ _ _ _ c.in-BeginDrop.is (begun _ _ _ (DropJob c.in-BeginDrop.name) c.begin_drop.result c.requires.standing
+          (rw c.as_slice-in-BeginDrop.ensures at c.begin_drop.ensures.machine));
+    }
+
+pub returns-in-BeginAudit : goal.returns-in-BeginAudit
+returns-in-BeginAudit g c =
+    record { performed = performed-as _ _ _ _ _ _ _ c.in-BeginAudit.is (begun _ _ _ AuditJob c.begin_audit.result c.requires.standing c.begin_audit.ensures.machine) }
+
+pub returns-in-BeginRepair : goal.returns-in-BeginRepair
+returns-in-BeginRepair g c =
+    record { performed = performed-as _ _ _ _ _ _ _ c.in-BeginRepair.is (begun _ _ _ RepairJob c.begin_repair.result c.requires.standing c.begin_repair.ensures.machine) }
+
+pub returns-in-Step : goal.returns-in-Step
+returns-in-Step g c =
+    let see = as_seen g.P.Provider.held g.P.Provider.store_faults g.P.Provider.other_faults g.P.Provider.fetches in
+    record {
+      performed = performed-as _ _ _ _ _ _ _ c.in-Step.is (stepped c.in-Step.job _ _ _ _ c.step.result c.requires.standing c.step.ensures.tells
+          (λ w moment T. (c.step.ensures.machine w moment T).makes) c.step.ensures.heard
+          (λ none. (let n = c.step.ensures.no_job none in (n.0, ap₂ (λ disk ps. devices (g.D.Disk.holds disk) (g.D.Disk.faults disk) (map see ps)) n.1 n.2))));
+    }
+
+pub returns-in-Run : goal.returns-in-Run
+returns-in-Run g c = record { performed = performed-as _ _ _ _ _ _ _ c.in-Run.is c.run_job.ensures.performed }
+
+pub returns-in-Alter : goal.returns-in-Alter
+returns-in-Alter g c =
+    record {
+      performed = performed-as _ _ _ _ _ _ _ c.in-Alter.is (replaced (Alter c.in-Alter.provider c.in-Alter.object c.in-Alter.stripe c.in-Alter.place c.in-Alter.symbol) _ _ _ _ _ c.alter.result
+          (λ w u h. replaces_if w _ c.in-Alter.provider (λ held. HasPlace (held c.in-Alter.object c.in-Alter.stripe) c.in-Alter.place)
+          (with_symbol c.in-Alter.object c.in-Alter.stripe c.in-Alter.place c.in-Alter.symbol) (replace_outcome c.alter.result) u h)
+          (λ w es. refl) c.alter.ensures.machine c.requires.standing);
+    }
+
+pub returns-in-Lose : goal.returns-in-Lose
+returns-in-Lose g c =
+    record {
+      performed = performed-as _ _ _ _ _ _ _ c.in-Lose.is (replaced (Lose c.in-Lose.provider c.in-Lose.object c.in-Lose.stripe) _ _ _ _ _ c.lose.result
+          (λ w u h. replaces_if w _ c.in-Lose.provider (λ held. IsSome (held c.in-Lose.object c.in-Lose.stripe))
+          (without_block c.in-Lose.object c.in-Lose.stripe) (replace_outcome c.lose.result) u h)
+          (λ w es. refl) c.lose.ensures.machine c.requires.standing);
+    }
+
+pub returns-in-Stop : goal.returns-in-Stop
+returns-in-Stop g c =
+    let ps = map (as_seen g.P.Provider.held g.P.Provider.store_faults g.P.Provider.other_faults g.P.Provider.fetches) c.args.providers.now in
+    record {
+      performed = performed-as _ _ _ _ _ _ _ c.in-Stop.is (record {
+        machine = λ start ms told R. once (Stop c.in-Stop.picks) (Some came.Stopped) _ _ _ _
+            (λ w moment T. (rw c.as_slice-in-Stop.ensures at c.stop.ensures.machine) w ps moment T) (λ w es T. refl) start ms R;
+        kept = stop-kept _ _ _ _ _ _ ps c.stop.ensures.tells (let n = c.stop.ensures.count in omega (arith, n)) c.stop.ensures.closed c.stop.ensures.next_job;
+      });
+    }
+
+pub returns-in-List : goal.returns-in-List
+returns-in-List g c =
+    record { performed = performed-as _ _ _ _ _ _ _ c.in-List.is (listed _ _ c.requires.standing) }

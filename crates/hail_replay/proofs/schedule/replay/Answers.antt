@@ -1,0 +1,32 @@
+use Rattle.std.proofs.Common.{ap, sym, subst, ◌∙◌, length, List, [], arith}
+use Rattle.std.specs.Vec.Iter.{into_iter_items}
+use Rattle.std.proofs.lemmas.List.{nil_from_length}
+use Rattle.schedule_text.specs.Events.{command_of, commands_of}
+use Rattle.hail_replay.proofs.Loops.{Laws, begin-course, go-on, go-wrong, go-short, go-home}
+use Rattle.hail_replay.proofs.schedule.replay.Goals as goal
+
+pub loop-event-init : goal.loop-event-init
+loop-event-init g c =
+    (let laws : Laws = record { sound = c.runs_are_sound.ensures; headline = c.every_run_keeps_the_headline.ensures; failures = c.failed_calls_are_counted.ensures } in
+    begin-course laws _ _ _ _ _ _ _ (ap commands_of c.into_iter-left.ensures.rest) c.new-heard.ensures c.new-client.ensures.closed c.new-client.ensures.first c.new-client.ensures.continued)
+
+pub returns-then-is_err-clause-runs : goal.returns-then-is_err-clause-runs
+returns-then-is_err-clause-runs g c =
+    (let laws : Laws = record { sound = c.runs_are_sound.ensures; headline = c.every_run_keeps_the_headline.ensures; failures = c.failed_calls_are_counted.ensures } in
+    go-short laws _ _ _ _ _ _ _ _ _ _ _ c.reserve.ensures.same c.loop-event.invariant.1)
+
+pub returns-then-status-ne-WRITTEN-clause-runs : goal.returns-then-status-ne-WRITTEN-clause-runs
+returns-then-status-ne-WRITTEN-clause-runs g c =
+    (let laws : Laws = record { sound = c.runs_are_sound.ensures; headline = c.every_run_keeps_the_headline.ensures; failures = c.failed_calls_are_counted.ensures } in
+    go-wrong _ _ _ (command_of c.in-Some.event) _ _ _ _ _ _ _ _ _ _ _ _ _ _ _ (ap commands_of c.in-Some.ensures.items) c.reserve.ensures.same c.loop-event.invariant
+    c.replay_event-status.ensures.kept c.replay_event-status.ensures.goes_on c.replay_event-status.ensures.count laws (λ e. (let n = c.if-status-ne-WRITTEN.true in omega (arith, n, e))))
+
+pub loop-event-preserved : goal.loop-event-preserved
+loop-event-preserved g c =
+    go-on _ _ _ (command_of c.in-Some.event) _ _ _ _ _ _ _ _ _ _ _ _ _ _ _ (ap commands_of c.in-Some.ensures.items) c.reserve.ensures.same c.loop-event.invariant
+    c.replay_event-status.ensures.kept c.replay_event-status.ensures.goes_on c.replay_event-status.ensures.count (let n = c.if-status-ne-WRITTEN.false in omega (arith, n))
+
+pub returns-clause-runs : goal.returns-clause-runs
+returns-clause-runs g c =
+    (let laws : Laws = record { sound = c.runs_are_sound.ensures; headline = c.every_run_keeps_the_headline.ensures; failures = c.failed_calls_are_counted.ensures } in
+    go-home laws _ _ _ _ _ _ _ _ _ _ (ap commands_of (nil_from_length (into_iter_items c.loop-event.left) (let n = c.in_default.ensures.cases.0 in let m = c.loop-event.left.rest.ok.0 in omega (arith, n, m)))) c.loop-event.invariant.1)

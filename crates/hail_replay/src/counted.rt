@@ -1,0 +1,171 @@
+// The events of a trial, one after the other, counted.
+ghost use Rattle.std.specs.Prelude.{◌≡◌, ◌⊎◌, ◌≤◌, ◌<◌, ◌-◌, ◌^◌, ◌+◌, ◌∷◌, [], ℕ, List, IsSome, IfOk, OnOk, OnErr, is_some, length};
+ghost use Rattle.hail_machine.specs.Runs.{Moment};
+ghost use Rattle.hail_machine.specs.States.{State};
+ghost use Rattle.hail_machine.specs.Transcripts.{Command};
+ghost use Rattle.schedule_text.specs.Events.{command_of, commands_of};
+ghost use Rattle.trial_maker.specs.Trials.{trial_bytes, trial_commands};
+ghost use Rattle.hail_client.specs.Client.{next_job_of};
+ghost use Rattle.hail_replay.specs.Answers.{CarriedOut};
+ghost use Rattle.hail_replay.specs.Heard.{entries_of, room_of};
+ghost use Rattle.hail_replay.specs.Performed.{StandsWhereOpen, IsKept, NoCountFell};
+ghost use Rattle.hail_replay.specs.Starts.{devices_of, sinking_of, AreLeft};
+ghost use Rattle.hail_replay.specs.Trials.{RunsTrial, RunsTo, CountsTo};
+ghost use Rattle.hail_replay.specs.UnderWay.{HasRun, HasCounted};
+
+use crate::event::perform;
+use crate::heard::HeardLists;
+use crate::schedule::{Replayed, heard_of, named};
+use calm_laws::laws::failed_calls_are_counted;
+use command_lines::{NO_MEMORY, write_text};
+use disk_model::Disk;
+use hail_client::Client;
+use headline::laws::every_run_keeps_the_headline;
+use provider_model::Tamper;
+use schedule_text::Event;
+use sound_states::laws::runs_are_sound;
+use std::alloc::Global;
+use stream_model::{Memory, Sink};
+use trial_counts::Tally;
+use trial_maker::laws::sizes_of_a_trial;
+use trial_maker::{Trial, make_trial};
+
+/// Performs an event and counts what it came to.
+fn trial_event<D: Disk, P: Tamper>(
+    alloc: Global,
+    client: &mut Client,
+    heard: &mut HeardLists,
+    tally: &mut Tally,
+    expected: &[u8],
+    event: Event,
+    disk: &mut D,
+    providers: &mut [P],
+) -> Result<(), Memory>
+    requires standing { StandsWhereOpen client.old (devices_of D.Disk P.Provider disk.old providers.old) }
+    requires number { next_job_of client.old < 2 ^ 32 - 1 }
+    requires room { 1 ≤ room_of heard.old }
+    requires events { tally.old.events < 2 ^ 64 - 1 }
+    ensures ok { OnOk result ((start : State) (base : List Moment) (done : List Command) → IsSome (D.holds disk.old)
+        → HasCounted expected.now start base done tally.old (entries_of heard.old) client.old (devices_of D.Disk P.Provider disk.old providers.old)
+        → HasCounted expected.now start base (command_of event ∷ done) tally.new (entries_of heard.new) client.new
+        (devices_of D.Disk P.Provider disk.new providers.new)) }
+    ensures err { OnErr result ((start : State) (base : List Moment) (done : List Command) → IsSome (D.holds disk.old)
+        → HasRun start base done (entries_of heard.old) client.old (devices_of D.Disk P.Provider disk.old providers.old)
+        → HasRun start base (command_of event ∷ done) (entries_of heard.new) client.new (devices_of D.Disk P.Provider disk.new providers.new)) }
+    ensures counted { tally.new.events ≤ tally.old.events + 1 }
+    ensures kept { IsKept client.old client.new (devices_of D.Disk P.Provider disk.old providers.old) (devices_of D.Disk P.Provider disk.new providers.new) }
+{
+    let came = perform(alloc, client, event, disk, providers);
+    let came = named(came, client);
+    let seen = tally.see(alloc, expected, &came);
+    heard.push(heard_of(came));
+    seen
+}
+
+/// Does the events of a trial, from a client with no vault open, and counts what they come to; gets are to give the expected bytes.
+/// Want of memory ends it. Condition: there are fewer events than numbers of jobs.
+fn count_events<D: Disk, P: Tamper>(
+    alloc: Global,
+    expected: &[u8],
+    events: Vec<Event>,
+    heard: &mut HeardLists,
+    disk: &mut D,
+    providers: &mut [P],
+) -> Result<Tally, Memory>
+    requires few { length events.items < 2 ^ 32 - 2 }
+    requires nothing { entries_of heard.old ≡ [] }
+    ensures ok { IfOk result (λ tally. (start : State) (before : List Moment) → IsSome (D.holds disk.old) → AreLeft start before (devices_of D.Disk P.Provider disk.old providers.old)
+        → CountsTo expected.now start before (commands_of events.items) tally (entries_of heard.new) (devices_of D.Disk P.Provider disk.new providers.new)) }
+    ensures err { OnErr result ((start : State) (before : List Moment) → IsSome (D.holds disk.old) → AreLeft start before (devices_of D.Disk P.Provider disk.old providers.old)
+        → RunsTo start before (commands_of events.items) (entries_of heard.new) (devices_of D.Disk P.Provider disk.new providers.new)) }
+    ensures tells { is_some (D.holds disk.new) ≡ is_some (D.holds disk.old) }
+    ensures counts { NoCountFell (devices_of D.Disk P.Provider disk.old providers.old) (devices_of D.Disk P.Provider disk.new providers.new) }
+{
+    every_run_keeps_the_headline();
+    failed_calls_are_counted();
+    runs_are_sound();
+    let mut client = Client::new();
+    let mut tally = Tally::new(alloc);
+    let mut left = events.into_iter();
+    while let Some(event) = left.next() {
+        heard.reserve(alloc)?;
+        trial_event(
+            alloc,
+            &mut client,
+            heard,
+            &mut tally,
+            expected,
+            event,
+            disk,
+            providers,
+        )?;
+    }
+    Ok(tally)
+}
+
+/// Does the events of a trial and writes its six lines.
+fn tell_trial<D: Disk, P: Tamper, K: Sink>(
+    alloc: Global,
+    number: u64,
+    trial: Trial,
+    heard: &mut HeardLists,
+    disk: &mut D,
+    providers: &mut [P],
+    sink: &mut K,
+) -> u8
+    requires events { commands_of trial.events.items ≡ trial_commands number }
+    requires expected { trial.expected ≡ trial_bytes number }
+    requires nothing { entries_of heard.old ≡ [] }
+    ensures runs { (start : State) (before : List Moment) → IsSome (D.holds disk.old) → AreLeft start before (devices_of D.Disk P.Provider disk.old providers.old)
+        → RunsTrial number start before result (sinking_of K.Sink sink.old sink.new) (entries_of heard.new) (devices_of D.Disk P.Provider disk.new providers.new)
+        ⊎ ((result ≡ 70) × (K.written sink.new ≡ K.written sink.old) × RunsTo start before (trial_commands number) (entries_of heard.new)
+        (devices_of D.Disk P.Provider disk.new providers.new)) }
+    ensures ends { CarriedOut result (sinking_of K.Sink sink.old sink.new) }
+    ensures tells { is_some (D.holds disk.new) ≡ is_some (D.holds disk.old) }
+    ensures counts { NoCountFell (devices_of D.Disk P.Provider disk.old providers.old) (devices_of D.Disk P.Provider disk.new providers.new) }
+    ensures sink_count { K.faults sink.old ≤ K.faults sink.new }
+{
+    sizes_of_a_trial(number);
+    let Trial { events, expected } = trial;
+    let Ok(tally) = count_events(alloc, expected.as_slice(), events, heard, disk, providers) else {
+        return NO_MEMORY;
+    };
+    match tally.lines(alloc, number) {
+        Ok(text) => write_text(text.as_slice(), sink),
+        Err(Memory) => NO_MEMORY,
+    }
+}
+
+/// Does the events of the trial of a number, whose lines are not written, and writes the six lines that tell its counts.
+pub fn trial<D: Disk, P: Tamper, K: Sink>(
+    alloc: Global,
+    number: u64,
+    disk: &mut D,
+    providers: &mut [P],
+    sink: &mut K,
+) -> Replayed
+    ensures runs { (start : State) (before : List Moment) → IsSome (D.holds disk.old) → AreLeft start before (devices_of D.Disk P.Provider disk.old providers.old)
+        → RunsTrial number start before result.status (sinking_of K.Sink sink.old sink.new) (entries_of result.heard)
+        (devices_of D.Disk P.Provider disk.new providers.new)
+        ⊎ ((result.status ≡ 70) × (K.written sink.new ≡ K.written sink.old) × RunsTo start before (trial_commands number) (entries_of result.heard)
+        (devices_of D.Disk P.Provider disk.new providers.new)) }
+    ensures ends { CarriedOut result.status (sinking_of K.Sink sink.old sink.new) }
+    ensures tells { is_some (D.holds disk.new) ≡ is_some (D.holds disk.old) }
+    ensures counts { NoCountFell (devices_of D.Disk P.Provider disk.old providers.old) (devices_of D.Disk P.Provider disk.new providers.new) }
+    ensures sink_count { K.faults sink.old ≤ K.faults sink.new }
+{
+    every_run_keeps_the_headline();
+    failed_calls_are_counted();
+    runs_are_sound();
+    let mut heard = HeardLists::new(alloc);
+    match make_trial(alloc, number) {
+        Ok(trial) => {
+            let status = tell_trial(alloc, number, trial, &mut heard, disk, providers, sink);
+            Replayed { status, heard }
+        }
+        Err(Memory) => Replayed {
+            status: NO_MEMORY,
+            heard,
+        },
+    }
+}

@@ -1,0 +1,30 @@
+// The words of the commands that carry a schedule out.
+ghost use Rattle.std.specs.Prelude.{MatchOption};
+ghost use Rattle.hail_replay.specs.Forms.{IsFormOf};
+ghost use Rattle.hail_replay.specs.declared.forms.Form.{Form as FormOf};
+
+use command_words::read_number;
+
+/// A command that carries a schedule out.
+#[derive(Clone, Copy, Debug, PartialEq, Eq)]
+pub enum Form {
+    /// The schedule that the source gives.
+    Replay,
+    /// The trial of a number.
+    Trial(u64),
+}
+
+/// The command that the words spell, or None where they spell neither.
+pub fn read_form(words: &[String]) -> Option<Form>
+    ensures { MatchOption result ((form : FormOf) → IsFormOf words.now form → ⊥) (IsFormOf words.now) }
+{
+    match words {
+        [word] if word.as_str() == "replay" => Some(Form::Replay),
+        [word, number] if word.as_str() == "trial" => {
+            let number = read_number(number.as_str())?;
+            let number = u64::try_from(number).ok()?;
+            Some(Form::Trial(number))
+        }
+        _ => None,
+    }
+}

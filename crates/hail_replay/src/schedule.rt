@@ -1,0 +1,140 @@
+// The events of a schedule, one after the other, each with its lines.
+ghost use Rattle.std.specs.Prelude.{◌≡◌, ◌≤◌, ◌<◌, ◌-◌, ◌^◌, ℕ, List, ◌∷◌, Option, Some, IsSome, is_some, length};
+ghost use Rattle.hail_commands.specs.Sinking.{Sinking, Writes};
+ghost use Rattle.hail_machine.specs.Lines.{lines_of};
+ghost use Rattle.hail_machine.specs.Runs.{Moment};
+ghost use Rattle.hail_machine.specs.States.{State};
+ghost use Rattle.hail_machine.specs.Transcripts.{Command};
+ghost use Rattle.schedule_text.specs.Events.{command_of, commands_of};
+ghost use Rattle.transcript_lines.specs.Came.{outcome_of};
+ghost use Rattle.hail_client.specs.Client.{next_job_of};
+ghost use Rattle.hail_replay.specs.Answers.{CarriedOut};
+ghost use Rattle.hail_replay.specs.Heard.{entries_of, room_of};
+ghost use Rattle.hail_replay.specs.Performed.{outcome_in, heard_in_came, StandsWhereOpen, IsKept, NoCountFell};
+ghost use Rattle.hail_replay.specs.Replayed.{Replays};
+ghost use Rattle.hail_replay.specs.Starts.{devices_of, sinking_of, sinking_since, AreLeft};
+ghost use Rattle.hail_replay.specs.UnderWay.{HasDone};
+
+use crate::event::perform;
+use crate::heard::HeardLists;
+use calm_laws::laws::failed_calls_are_counted;
+use command_lines::{NO_MEMORY, WRITTEN, write_text};
+use disk_model::Disk;
+use hail_client::Client;
+use headline::laws::every_run_keeps_the_headline;
+use provider_model::Tamper;
+use schedule_text::Event;
+use sound_states::laws::runs_are_sound;
+use std::alloc::Global;
+use stream_model::{Memory, Sink};
+use transcript_lines::{Came, came_lines};
+use vault::{HeardList, Turn};
+
+/// How the events of a schedule ended: the status, which is 0, 15 or 70, and what their jobs heard.
+#[derive(Drop)]
+pub struct Replayed {
+    pub status: u8,
+    pub heard: HeardLists,
+}
+
+/// What an event came to; a list is answered by the table of the client.
+pub(crate) fn named<'a>(came: Option<Came<'a>>, client: &'a Client) -> Came<'a>
+    ensures outcome { outcome_of result ≡ outcome_in client.now came.entry }
+    ensures heard { heard_in_came (Some result) ≡ heard_in_came came.entry }
+{
+    match came {
+        Some(came) => came,
+        None => Came::Named(client.names()),
+    }
+}
+
+/// What the job heard that an event ended; nothing where it ended none.
+pub(crate) fn heard_of(came: Came<'_>) -> HeardList
+    ensures { result ≡ heard_in_came (Some came.entry) }
+{
+    match came {
+        Came::Stepped(Some(Turn::Done(end))) => end.heard,
+        _ => HeardList::new(),
+    }
+}
+
+/// Writes the lines of an event.
+fn tell<K: Sink>(alloc: Global, came: &Came<'_>, sink: &mut K) -> u8
+    ensures writes { Writes (lines_of (outcome_of came.now)) result (sinking_of K.Sink sink.old sink.new) }
+    ensures count { K.faults sink.old ≤ K.faults sink.new }
+{
+    match came_lines(alloc, came) {
+        Ok(text) => write_text(text.as_slice(), sink),
+        Err(Memory) => NO_MEMORY,
+    }
+}
+
+/// Performs an event and then writes its lines. The next event follows where the status is 0.
+fn replay_event<D: Disk, P: Tamper, K: Sink>(
+    alloc: Global,
+    client: &mut Client,
+    heard: &mut HeardLists,
+    event: Event,
+    disk: &mut D,
+    providers: &mut [P],
+    sink: &mut K,
+) -> u8
+    requires standing { StandsWhereOpen client.old (devices_of D.Disk P.Provider disk.old providers.old) }
+    requires number { next_job_of client.old < 2 ^ 32 - 1 }
+    requires room { 1 ≤ room_of heard.old }
+    ensures goes_on { (start : State) (base : List Moment) (done : List Command) (first : Option (List ℕ)) (before : ℕ) → IsSome (D.holds disk.old) → before ≤ K.faults sink.old
+        → HasDone start base done 0 (sinking_since K.Sink first before sink.old) (entries_of heard.old) client.old (devices_of D.Disk P.Provider disk.old providers.old)
+        → HasDone start base (command_of event ∷ done) result (sinking_since K.Sink first before sink.new) (entries_of heard.new) client.new
+        (devices_of D.Disk P.Provider disk.new providers.new) }
+    ensures kept { IsKept client.old client.new (devices_of D.Disk P.Provider disk.old providers.old) (devices_of D.Disk P.Provider disk.new providers.new) }
+    ensures ends { CarriedOut result (sinking_of K.Sink sink.old sink.new) }
+    ensures count { K.faults sink.old ≤ K.faults sink.new }
+{
+    let came = perform(alloc, client, event, disk, providers);
+    let came = named(came, client);
+    let status = tell(alloc, &came, sink);
+    heard.push(heard_of(came));
+    status
+}
+
+/// Does the events of a schedule, each with its lines, from a client with no vault open: up to a fault of the sink or want of memory.
+/// Condition: there are fewer events than numbers of jobs.
+pub fn replay<D: Disk, P: Tamper, K: Sink>(
+    alloc: Global,
+    events: Vec<Event>,
+    disk: &mut D,
+    providers: &mut [P],
+    sink: &mut K,
+) -> Replayed
+    requires { length events.items < 2 ^ 32 - 2 }
+    ensures runs { (start : State) (before : List Moment) → IsSome (D.holds disk.old) → AreLeft start before (devices_of D.Disk P.Provider disk.old providers.old)
+        → Replays start before (commands_of events.items) result.status (sinking_of K.Sink sink.old sink.new) (entries_of result.heard)
+        (devices_of D.Disk P.Provider disk.new providers.new) }
+    ensures ends { CarriedOut result.status (sinking_of K.Sink sink.old sink.new) }
+    ensures tells { is_some (D.holds disk.new) ≡ is_some (D.holds disk.old) }
+    ensures counts { NoCountFell (devices_of D.Disk P.Provider disk.old providers.old) (devices_of D.Disk P.Provider disk.new providers.new) }
+    ensures sink_count { K.faults sink.old ≤ K.faults sink.new }
+{
+    every_run_keeps_the_headline();
+    failed_calls_are_counted();
+    runs_are_sound();
+    let mut client = Client::new();
+    let mut heard = HeardLists::new(alloc);
+    let mut left = events.into_iter();
+    while let Some(event) = left.next() {
+        if heard.reserve(alloc).is_err() {
+            return Replayed {
+                status: NO_MEMORY,
+                heard,
+            };
+        }
+        let status = replay_event(alloc, &mut client, &mut heard, event, disk, providers, sink);
+        if status != WRITTEN {
+            return Replayed { status, heard };
+        }
+    }
+    Replayed {
+        status: WRITTEN,
+        heard,
+    }
+}

@@ -1,0 +1,6 @@
+use Rattle.std.proofs.Common.{◌≡◌, drop}
+use Rattle.hail_codes.specs.Points.{others_product as others_product_of}
+use Rattle.hail_syndrome.proofs.multipliers.others_product.Given as goal
+
+abbrev pub invariant-loop-k : goal.invariant-loop-k
+invariant-loop-k l = l.product ≡ others_product_of l.x (drop l.k l.points)

@@ -1,0 +1,13 @@
+//! The decoder by syndromes.
+#![tactic(auto)]
+
+mod decode;
+mod gather;
+pub mod laws;
+mod multipliers;
+mod syndrome;
+#[cfg(test)]
+mod tests;
+
+pub use decode::decode_syndromes;
+pub use syndrome::syndromes;

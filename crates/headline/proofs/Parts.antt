@@ -1,0 +1,48 @@
+-- The parts of the headline, of one run.
+use Rattle.std.proofs.Common.{◌≡◌, ℕ, List, [], ◌∷◌, ◌++◌, ap, sym, subst, ◌∙◌}
+use Rattle.std.proofs.lemmas.List.{append_assoc}
+use Rattle.hail_machine.specs.Jobs.{Job}
+use Rattle.hail_machine.specs.States.{State, IsStart}
+use Rattle.hail_machine.specs.Runs.{Moment, now, IsRun}
+use Rattle.hail_machine.specs.Survival.{EndsPut, HasComeIn, IsKept}
+use Rattle.hail_machine.proofs.Acknowledged.{acknowledged}
+use Rattle.hail_machine.proofs.Survive.{survives}
+use Rattle.hail_machine.proofs.Uses.{stored_once, asked_once}
+use Rattle.run_laws.proofs.PutBytes.{put_bytes_stay}
+use Rattle.run_laws.proofs.FirstHalf.{first_half}
+use Rattle.mark_laws.proofs.SecondHalf.{second_half}
+use Rattle.headline.specs.Headline.{file_of_put, IsSafe, AcknowledgedFilesSurvive, Headline}
+
+-- what holds of a run held of its first moments
+run_part : (limit : ℕ) (start : State) (later ms : List Moment) → IsRun limit start (later ++ ms) → IsRun limit start ms
+run_part limit start [] ms run = run
+run_part limit start (m ∷ later) ms run = run_part limit start later ms run.2
+
+module _ (limit : ℕ) (start : State) (clean : IsStart start) where
+  safe : (later : List Moment) (m : Moment) (before : List Moment) (job : Job) (name bytes : List ℕ) → IsRun limit start (later ++ m ∷ before) → EndsPut start m before job name bytes →
+      IsSafe start later m before job name bytes
+  safe later m before job name bytes run ends = record {
+    came = came;
+    kept = λ none. subst (λ ms. IsKept (now start ms) name (file_of_put job name bytes)) (sym split)
+        (survives limit start (later ++ m ∷ came.later) came.before came.moment name (file_of_put job name bytes) clean
+        (subst (IsRun limit start) split run) came.comes none);
+    bytes_are = put_bytes_stay limit start later before m job name bytes clean run ends;
+  }
+    where
+      came : HasComeIn start before name (file_of_put job name bytes)
+      came = acknowledged limit start m before job name bytes clean (run_part limit start later (m ∷ before) run) ends
+
+      split : later ++ m ∷ before ≡ (later ++ m ∷ came.later) ++ came.moment ∷ came.before
+      split = ap (λ l. later ++ m ∷ l) came.split ∙ sym (append_assoc later (m ∷ came.later) (came.moment ∷ came.before))
+
+  pub survive : (ms : List Moment) → IsRun limit start ms → AcknowledgedFilesSurvive start ms
+  survive ms run later before m job name bytes is ends = safe later m before job name bytes (subst (IsRun limit start) is run) ends
+
+pub headline : (limit : ℕ) (start : State) (ms : List Moment) → IsStart start → IsRun limit start ms → Headline start ms
+headline limit start ms clean run = record {
+  gets_are_right = first_half limit start ms clean run;
+  calm_gets_end_well = λ tell calm found. second_half limit start ms clean tell run calm found;
+  acknowledged_files_survive = survive limit start clean ms run;
+  one_put = λ begun other object g h. stored_once limit start ms clean run begun other object g h;
+  one_audit = λ begun other number object round g h. asked_once limit start ms clean run begun other number object object round round g h;
+}

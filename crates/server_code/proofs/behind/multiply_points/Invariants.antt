@@ -1,0 +1,12 @@
+use Rattle.std.proofs.Common.{◌≡◌, ◌-◌, ◌+◌, ℕ, length, take}
+use Rattle.std.specs.List.{range_with_len}
+use Rattle.hail_field.specs.Nim.{nim_mul}
+use Rattle.hail_codes.specs.Polynomials.{value, vanish}
+use Rattle.server_code.proofs.behind.multiply_points.Given as goal
+
+abbrev pub invariant-loop-place : goal.invariant-loop-place
+invariant-loop-place l = record {
+  long : length l.items ≡ length l.initial.items;
+  product : (x : ℕ) → value (take (l.count + (l.keep - l.place)) l.items) x ≡
+      nim_mul (value (take l.count l.initial.items) x) (value (vanish (range_with_len l.place (l.keep - l.place))) x);
+}

@@ -1,0 +1,23 @@
+use Rattle.std.proofs.Common.{◌≡◌, refl, arith, ◌∷◌, []}
+use Rattle.poly_laws.specs.Poly.{value as value_over}
+use Rattle.hail_field.specs.Nim.{product, nim_mul, nim_add}
+use Rattle.hail_codes.specs.Points.{upto, values_at}
+use Rattle.hail_codes.specs.Profiles.{profile_of}
+use Rattle.hail_codes.specs.ServerCode.{IsCodeword}
+use Rattle.server_code.proofs.Clean.{codeword_zero}
+use Rattle.server_code.proofs.laws.ones_are_a_codeword.Goals as goal
+
+-- the values of 1
+ones : 1 ∷ 1 ∷ 1 ∷ 1 ∷ 1 ∷ 1 ∷ [] ≡ values_at (upto 6) (1 ∷ [])
+unfolding value_over nim_mul nim_add product
+ones = refl
+
+-- so they are a codeword
+is_codeword : IsCodeword (profile_of 0) (1 ∷ 1 ∷ 1 ∷ 1 ∷ 1 ∷ 1 ∷ [])
+is_codeword = record { polynomial = 1 ∷ []; degree = omega arith; values = ones }
+
+pub returns-clause-codeword : goal.returns-clause-codeword
+returns-clause-codeword c = is_codeword
+
+pub returns-clause-zero : goal.returns-clause-zero
+returns-clause-zero c = codeword_zero (profile_of 0) (1 ∷ 1 ∷ 1 ∷ 1 ∷ 1 ∷ 1 ∷ []) refl (omega arith) is_codeword

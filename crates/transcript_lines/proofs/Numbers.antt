@@ -1,0 +1,25 @@
+-- The line of an audit: numbers behind one another, and its pieces.
+use Rattle.std.proofs.Common.{◌≡◌, ℕ, ◌+◌, ◌<◌, codes, List, [], ◌∷◌, ◌++◌, length, take, get_or, sym, ap, ◌∙◌, append_assoc}
+use Rattle.std.proofs.lemmas.List.{take_more, flat_map_more}
+use Rattle.std.specs.List.{flat_map}
+use Rattle.std.specs.Fmt.{decimal}
+use Rattle.hail_machine.specs.Answers.{Audited}
+use Rattle.hail_machine.specs.Lines.{line, then_number, answer_text}
+
+-- one number more
+pub numbered_more : (numbers start text : List ℕ) (place : ℕ) → place < length numbers
+    → text ≡ start ++ flat_map then_number (take place numbers)
+    → text ++ then_number (get_or numbers place 0) ≡ start ++ flat_map then_number (take (place + 1) numbers)
+numbered_more numbers start text place within before =
+    let number = get_or numbers place 0 in
+    ap (λ (front : List ℕ). front ++ then_number number) before
+    ∙ append_assoc start (flat_map then_number (take place numbers)) (then_number number)
+    ∙ ap (λ (more : List ℕ). start ++ more) (flat_map_more then_number [] (take place numbers) number
+    ∙ ap (λ (some : List ℕ). flat_map then_number some) (sym (take_more numbers place 0 within)))
+
+-- the line of an audit
+pub audited_is : (number undecided : ℕ) (counts front : List ℕ)
+    → front ≡ codes "audited " ++ (decimal number ++ (codes " undecided " ++ (decimal undecided ++ codes " counts")))
+    → (front ++ flat_map then_number counts) ++ 10 ∷ [] ≡ line (answer_text (Audited number undecided counts))
+audited_is number undecided counts front is =
+    ap (λ (some : List ℕ). (some ++ flat_map then_number counts) ++ 10 ∷ []) is ∙ simp append_assoc

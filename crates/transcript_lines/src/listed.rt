@@ -1,0 +1,32 @@
+// The lines of a list of the files in effect.
+ghost use Rattle.std.specs.Prelude.{◌≡◌, IfOk, option_copied};
+ghost use Rattle.hail_machine.specs.Events.{Listed};
+ghost use Rattle.hail_machine.specs.Lines.{lines_of};
+ghost use Rattle.hail_client.specs.Outcomes.{names_outcome};
+
+use command_lines::list_lines;
+use std::alloc::Global;
+use stream_model::{Bytes, Memory};
+use vault_table::Table;
+
+/// How many files are in effect, and a line for each.
+fn listed_lines(alloc: Global, table: &Table) -> Result<Bytes, Memory>
+    ensures { IfOk result (λ text. text ≡ lines_of (Listed table.now.files)) }
+{
+    let count = table.count();
+    let files = list_lines(alloc, table)?;
+    let mut text = format!(in alloc; "names {count}\n")?.into_bytes();
+    text.extend_from_slice(files.as_slice())?;
+    Ok(Bytes::from_vec(text))
+}
+
+/// The lines of a list: how many files are in effect, and a line for each in byte order of the names, or that no vault is open.
+/// Want of memory is its one refusal.
+pub fn names_lines(alloc: Global, table: Option<&Table>) -> Result<Bytes, Memory>
+    ensures { IfOk result (λ text. text ≡ lines_of (names_outcome (option_copied table.entry))) }
+{
+    match table {
+        Some(table) => listed_lines(alloc, table),
+        None => Bytes::from_slice(alloc, b"closed\n"),
+    }
+}

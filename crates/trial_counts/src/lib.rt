@@ -1,0 +1,12 @@
+//! What a trial counts, event by event, and the six lines that tell it.
+#![tactic(auto)]
+
+pub mod laws;
+mod lines;
+mod seen;
+mod tally;
+
+pub use tally::Tally;
+
+#[cfg(test)]
+mod tests;

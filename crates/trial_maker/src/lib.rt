@@ -1,0 +1,12 @@
+//! The trial of a seed: its events, and the bytes that its gets are to give.
+#![tactic(auto)]
+
+mod draws;
+mod epochs;
+pub mod laws;
+mod trial;
+
+pub use trial::{TOLERANCE, Trial, make_trial};
+
+#[cfg(test)]
+mod tests;
