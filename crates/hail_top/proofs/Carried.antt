@@ -1,6 +1,7 @@
 -- A schedule or a trial, carried out or not.
-use Rattle.std.proofs.Common.{◌≡◌, ◌⊎◌, ℕ, ◌<◌, ◌≤◌, ◌+◌, List, [], length, Option, refl, ap, sym, subst, ◌∙◌, arith}
-use Rattle.hail_commands.specs.Seen.{Seen, Ending, NoCountFalls, provider_at}
+use Rattle.std.proofs.Common.{◌≡◌, ◌⊎◌, inl, inr, ℕ, ◌<◌, ◌≤◌, ◌+◌, List, [], length, reverse, Option, refl, ap, sym, subst, ◌∙◌, arith}
+use Rattle.std.specs.Prelude.{IsSome}
+use Rattle.hail_commands.specs.Seen.{Seen, Ending, NoCountFalls, provider_at, sinking}
 use Rattle.hail_devices.specs.Faults.{Rose}
 use Rattle.hail_commands.specs.Sinking.{Sinking}
 use Rattle.hail_machine.specs.Heard.{Entry}
@@ -8,8 +9,16 @@ use Rattle.hail_machine.specs.Runs.{Moment}
 use Rattle.hail_machine.specs.States.{State}
 use Rattle.hail_machine.specs.Transcripts.{Command}
 use Rattle.vault.specs.Devices.{Devices}
-use Rattle.hail_replay.specs.Replayed.{Replays}
-use Rattle.hail_replay.specs.Answers.{IsUndone, devices_seen}
+use Rattle.hail_replay.specs.Replayed.{Replays, CarriesOn}
+use Rattle.hail_replay.specs.Starts.{AreLeft}
+use Rattle.hail_replay.specs.Trials.{RunsTrial, RunsTo}
+use Rattle.hail_replay.specs.Answers as answers
+use Rattle.hail_replay.specs.Answers.{IsUndone, devices_seen, longest_schedule, AnswersReplay, AnswersTrial}
+use Rattle.hail_replay.specs.declared.forms.Form.{Form}
+use Rattle.hail_replay.specs.declared.forms.Form.TheVariants as forms
+use Rattle.trial_maker.specs.Trials.{trial_commands}
+use Rattle.hail_top.specs.Carried.{AnswersForm, GoesOn, KeepsTheHeadline}
+use Rattle.hail_top.proofs.Taken.{none-taken}
 use Rattle.hail_replay.specs.Performed.{NoCountFell}
 use Rattle.hail_top.specs.Endings.{ends}
 
@@ -50,3 +59,35 @@ carried-place {status} {heard} {end} is = ap (λ (e : Ending). e.at) is
 pub carried-heard : {status at : ℕ} {heard : List Entry} {end : Ending} {start : State} {before : List Moment} {commands : List Command} {sink : Sinking} {d : Devices}
     → end ≡ record { status = status; at = at; heard = heard } → Replays start before commands status sink heard d → Replays start before commands end.status sink end.heard d
 carried-heard {status} {at} {heard} {end} {start} {before} {commands} {sink} {d} is r = subst (λ (e : Ending). Replays start before commands e.status sink e.heard d) (sym is) r
+
+-- ---- the headline
+
+replay-keeps : (old new : Seen) (end : Ending) → AnswersReplay old new end → KeepsTheHeadline old new end
+replay-keeps old new end (answers.source_fault rose reads undone) = inl (14, 0, undone)
+replay-keeps old new end (answers.too_long front reads long undone) = inl (16, 0, undone)
+replay-keeps old new end (answers.bad_line text number reads short bad undone) = inl (19, number, undone)
+replay-keeps old new end (answers.no_memory reads undone) = inl (70, 0, undone)
+replay-keeps old new end (answers.done text reads short does) = inr (λ start before told left.
+    (let R = does.runs start before told left in record { done = R.done; later = R.later; lines = R.lines; carries = R.carries }))
+
+trial-goes-on : (number : ℕ) (start : State) (before : List Moment) (status : ℕ) (sink : Sinking) (same : Type 0) (heard : List Entry) (d : Devices)
+    → RunsTrial number start before status sink heard d ⊎ ((status ≡ 70) × same × RunsTo start before (trial_commands number) heard d) → GoesOn start before heard d
+trial-goes-on number start before status sink same heard d (inl R) =
+    record { done = reverse (trial_commands number); later = R.later; lines = R.left_out; carries = R.carries }
+trial-goes-on number start before status sink same heard d (inr (is, at, R)) =
+    record { done = R.done; later = R.later; lines = R.lines; carries = R.carries }
+
+trial-keeps : (number : ℕ) (old new : Seen) (end : Ending) → AnswersTrial number old new end → KeepsTheHeadline old new end
+trial-keeps number old new end (answers.too_few few same undone) = inl (22, 0, undone)
+trial-keeps number old new end (answers.no_memory same undone) = inl (70, 0, undone)
+trial-keeps number old new end (answers.done enough same does) = inr (λ start before told left.
+    trial-goes-on number start before end.status (sinking old new) (new.sink ≡ old.sink) end.heard (devices_seen new) (does.runs start before told left))
+
+pub form-keeps : (form : Form) (old new : Seen) (end : Ending) → AnswersForm form old new end → KeepsTheHeadline old new end
+form-keeps forms.Replay old new end a = replay-keeps old new end a
+form-keeps (forms.Trial number) old new end a = trial-keeps number old new end a
+
+-- a form for which there was no memory, and no device was called
+pub unstarted-form : (form : Form) (same : Seen) (end : Ending) → end ≡ ends 70 0 → AnswersForm form same same end
+unstarted-form forms.Replay same end is = answers.no_memory (none-taken (longest_schedule + 1) same.source) (undone 70 0 same same end is refl refl refl refl)
+unstarted-form (forms.Trial number) same end is = answers.no_memory (refl, refl) (undone 70 0 same same end is refl refl refl refl)

@@ -1,12 +1,11 @@
-ghost use Rattle.std.specs.Prelude.{◌≡◌, ℕ, None, Some, map, is_some};
+ghost use Rattle.std.specs.Prelude.{◌≡◌, map, is_some};
 ghost use Rattle.hail_commands.specs.Forms.{Command as Spelled, IsForm};
 ghost use Rattle.hail_commands.specs.Seen.{NoCountFalls};
 ghost use Rattle.hail_commands.specs.Commands.{Answers, IsUsage};
 ghost use Rattle.vault.specs.Devices.{as_seen};
 ghost use Rattle.command_words.specs.Commands.{command_of};
-ghost use Rattle.hail_replay.specs.Answers.{AnswersReplay, AnswersTrial};
-ghost use Rattle.hail_top.specs.Carried.{AnswersForm};
-ghost use Rattle.hail_replay.specs.Forms.{IsReplayForm, IsTrialForm, IsFormOf};
+ghost use Rattle.hail_top.specs.Carried.{AnswersForm, KeepsTheHeadline};
+ghost use Rattle.hail_replay.specs.Forms.{IsFormOf};
 ghost use Rattle.hail_replay.specs.declared.forms.Form.{Form as FormOf};
 ghost use Rattle.hail_top.specs.Endings.{seen, seen_of, ending_of};
 ghost use Rattle.hail_top.specs.Rows.{HasItsSymbols};
@@ -91,8 +90,7 @@ fn carry_words<D: Disk, P: Tamper, S: Source, K: Sink>(
     sink: &mut K,
 ) -> Report
     ensures usage { ((form : FormOf) → IsFormOf words.now form → ⊥) → IsUsage (seen_of D.Disk P.Provider S.Source K.Sink disk.old providers.old source.old sink.old) (seen_of D.Disk P.Provider S.Source K.Sink disk.new providers.new source.new sink.new) (ending_of result) }
-    ensures replay { IsReplayForm words.now → AnswersReplay (seen_of D.Disk P.Provider S.Source K.Sink disk.old providers.old source.old sink.old) (seen_of D.Disk P.Provider S.Source K.Sink disk.new providers.new source.new sink.new) (ending_of result) }
-    ensures trial { (number : ℕ) → IsTrialForm words.now number → AnswersTrial number (seen_of D.Disk P.Provider S.Source K.Sink disk.old providers.old source.old sink.old) (seen_of D.Disk P.Provider S.Source K.Sink disk.new providers.new source.new sink.new) (ending_of result) }
+    ensures carries { (form : FormOf) → IsFormOf words.now form → AnswersForm form (seen_of D.Disk P.Provider S.Source K.Sink disk.old providers.old source.old sink.old) (seen_of D.Disk P.Provider S.Source K.Sink disk.new providers.new source.new sink.new) (ending_of result) }
     ensures counts { NoCountFalls (seen_of D.Disk P.Provider S.Source K.Sink disk.old providers.old source.old sink.old) (seen_of D.Disk P.Provider S.Source K.Sink disk.new providers.new source.new sink.new) }
     ensures tells { is_some (D.holds disk.new) ≡ is_some (D.holds disk.old) }
 {
@@ -117,10 +115,10 @@ pub fn hail<D: Disk, P: Tamper, S: Source, K: Sink>(
     ensures answers { (command : Spelled) → IsForm words.now command → Answers command
         (seen_of D.Disk P.Provider S.Source K.Sink disk.old providers.old.items source.old sink.old)
         (seen_of D.Disk P.Provider S.Source K.Sink disk.new providers.new.items source.new sink.new) (ending_of result) }
-    ensures replay { IsReplayForm words.now → AnswersReplay
+    ensures carries { (form : FormOf) → IsFormOf words.now form → AnswersForm form
         (seen_of D.Disk P.Provider S.Source K.Sink disk.old providers.old.items source.old sink.old)
         (seen_of D.Disk P.Provider S.Source K.Sink disk.new providers.new.items source.new sink.new) (ending_of result) }
-    ensures trial { (number : ℕ) → IsTrialForm words.now number → AnswersTrial number
+    ensures headline { (form : FormOf) → IsFormOf words.now form → KeepsTheHeadline
         (seen_of D.Disk P.Provider S.Source K.Sink disk.old providers.old.items source.old sink.old)
         (seen_of D.Disk P.Provider S.Source K.Sink disk.new providers.new.items source.new sink.new) (ending_of result) }
     ensures counts { NoCountFalls

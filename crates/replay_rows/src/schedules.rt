@@ -73,6 +73,19 @@ fn lines_are_those_of_the_events(rt: HostRuntime) {
 }
 
 #[test]
+fn eight_jobs_run_and_a_ninth_is_busy(rt: HostRuntime) {
+    let rows = [Row {
+        front: "reopen\nbegin put a 00\nrun 1\n",
+        steps: 0,
+        step: "",
+        rest: "begin get a\nbegin get a\nbegin get a\nbegin get a\nbegin get a\nbegin get a\nbegin get a\nbegin get a\nbegin get a\nrun 9\nbegin get a\nrun 2\n",
+        told_front: "opened\njob 1\nput\n",
+        told_rest: "job 2\njob 3\njob 4\njob 5\njob 6\njob 7\njob 8\njob 9\nrefused Busy\ngot 00\njob 10\ngot 00\n",
+    }];
+    assert_eq!(rt; first_wrong(rt.alloc(), &rows), rows.len());
+}
+
+#[test]
 fn two_drops_of_a_name_write_one_record(rt: HostRuntime) {
     let row = plain(
         "reopen\nbegin put a 00\nrun 1\nbegin drop a\nbegin drop a\nrun 2\nrun 3\n",
@@ -103,13 +116,10 @@ fn stopped_first(steps: usize, rest: &'static str, told_rest: &'static str) -> R
     }
 }
 
-/// Nothing is in effect, and the next put makes the first object.
-const FIRST_OBJECT: &str = "stopped\nopened\nnames 0\njob 2\nput\nreplaced\nnothing held\n";
+/// Nothing is in effect; the object that is lost first is the one that the next put makes.
+const NOT_KEPT: &str = "stopped\nopened\nnames 0\njob 2\nput\nreplaced\nnothing held\n";
 
-/// Nothing is in effect, and the next put makes the second object.
-const SECOND_OBJECT: &str = "stopped\nopened\nnames 0\njob 2\nput\nreplaced\nnothing held\n";
-
-/// The file is in effect, and the next put makes the second object.
+/// The file is in effect; the object that is lost first is the one that the next put makes.
 const KEPT: &str = "stopped\nopened\nnames 1\na 3\njob 2\nput\nreplaced\nnothing held\n";
 
 #[test]
@@ -118,32 +128,32 @@ fn stops_leave_what_the_loose_bytes_say(rt: HostRuntime) {
         stopped_first(
             1,
             "stop 010101010101010101010101\nreopen\nlist\nbegin put c 00\nrun 2\nlose 0 1 0\nlose 0 2 0\n",
-            FIRST_OBJECT,
+            NOT_KEPT,
         ),
         stopped_first(
             3,
             "stop 00\nreopen\nlist\nbegin put c 00\nrun 2\nlose 0 1 0\nlose 0 2 0\n",
-            FIRST_OBJECT,
+            NOT_KEPT,
         ),
         stopped_first(
             3,
             "stop 01\nreopen\nlist\nbegin put c 00\nrun 2\nlose 0 2 0\nlose 0 1 0\n",
-            SECOND_OBJECT,
+            NOT_KEPT,
         ),
         stopped_first(
             3,
             "stop -\nreopen\nlist\nbegin put c 00\nrun 2\nlose 0 2 0\nlose 0 1 0\n",
-            SECOND_OBJECT,
+            NOT_KEPT,
         ),
         stopped_first(
             9,
             "stop ffffffffffffffffffffffffffff\nreopen\nlist\nbegin put c 00\nrun 2\nlose 0 2 0\nlose 0 3 0\n",
-            SECOND_OBJECT,
+            NOT_KEPT,
         ),
         stopped_first(
             11,
             "stop 00\nreopen\nlist\nbegin put c 00\nrun 2\nlose 0 2 0\nlose 0 3 0\n",
-            SECOND_OBJECT,
+            NOT_KEPT,
         ),
         stopped_first(
             11,
