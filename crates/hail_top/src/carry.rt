@@ -69,8 +69,12 @@ pub fn replay_source<D: Disk, P: Tamper, S: Source, K: Sink>(
     source: &mut S,
     sink: &mut K,
 ) -> Report
-    ensures answers { AnswersReplay (seen_of D.Disk P.Provider S.Source K.Sink disk.old providers.old source.old sink.old) (seen_of D.Disk P.Provider S.Source K.Sink disk.new providers.new source.new sink.new) (ending_of result) }
-    ensures counts { NoCountFalls (seen_of D.Disk P.Provider S.Source K.Sink disk.old providers.old source.old sink.old) (seen_of D.Disk P.Provider S.Source K.Sink disk.new providers.new source.new sink.new) }
+    ensures answers { AnswersReplay
+        (seen_of D.Disk P.Provider S.Source K.Sink disk.old providers.old source.old sink.old)
+        (seen_of D.Disk P.Provider S.Source K.Sink disk.new providers.new source.new sink.new) (ending_of result) }
+    ensures counts { NoCountFalls
+        (seen_of D.Disk P.Provider S.Source K.Sink disk.old providers.old source.old sink.old)
+        (seen_of D.Disk P.Provider S.Source K.Sink disk.new providers.new source.new sink.new) }
     ensures tells { is_some (D.holds disk.new) ≡ is_some (D.holds disk.old) }
 {
     match read_up_to(alloc, LONGEST + 1, source) {

@@ -70,8 +70,12 @@ fn carry<D: Disk, P: Tamper, S: Source, K: Sink>(
     source: &mut S,
     sink: &mut K,
 ) -> Report
-    ensures answers { AnswersForm form (seen_of D.Disk P.Provider S.Source K.Sink disk.old providers.old source.old sink.old) (seen_of D.Disk P.Provider S.Source K.Sink disk.new providers.new source.new sink.new) (ending_of result) }
-    ensures counts { NoCountFalls (seen_of D.Disk P.Provider S.Source K.Sink disk.old providers.old source.old sink.old) (seen_of D.Disk P.Provider S.Source K.Sink disk.new providers.new source.new sink.new) }
+    ensures answers { AnswersForm form
+        (seen_of D.Disk P.Provider S.Source K.Sink disk.old providers.old source.old sink.old)
+        (seen_of D.Disk P.Provider S.Source K.Sink disk.new providers.new source.new sink.new) (ending_of result) }
+    ensures counts { NoCountFalls
+        (seen_of D.Disk P.Provider S.Source K.Sink disk.old providers.old source.old sink.old)
+        (seen_of D.Disk P.Provider S.Source K.Sink disk.new providers.new source.new sink.new) }
     ensures tells { is_some (D.holds disk.new) ≡ is_some (D.holds disk.old) }
 {
     match form {
@@ -89,9 +93,15 @@ fn carry_words<D: Disk, P: Tamper, S: Source, K: Sink>(
     source: &mut S,
     sink: &mut K,
 ) -> Report
-    ensures usage { ((form : FormOf) → IsFormOf words.now form → ⊥) → IsUsage (seen_of D.Disk P.Provider S.Source K.Sink disk.old providers.old source.old sink.old) (seen_of D.Disk P.Provider S.Source K.Sink disk.new providers.new source.new sink.new) (ending_of result) }
-    ensures carries { (form : FormOf) → IsFormOf words.now form → AnswersForm form (seen_of D.Disk P.Provider S.Source K.Sink disk.old providers.old source.old sink.old) (seen_of D.Disk P.Provider S.Source K.Sink disk.new providers.new source.new sink.new) (ending_of result) }
-    ensures counts { NoCountFalls (seen_of D.Disk P.Provider S.Source K.Sink disk.old providers.old source.old sink.old) (seen_of D.Disk P.Provider S.Source K.Sink disk.new providers.new source.new sink.new) }
+    ensures usage { ((form : FormOf) → IsFormOf words.now form → ⊥) → IsUsage
+        (seen_of D.Disk P.Provider S.Source K.Sink disk.old providers.old source.old sink.old)
+        (seen_of D.Disk P.Provider S.Source K.Sink disk.new providers.new source.new sink.new) (ending_of result) }
+    ensures carries { (form : FormOf) → IsFormOf words.now form → AnswersForm form
+        (seen_of D.Disk P.Provider S.Source K.Sink disk.old providers.old source.old sink.old)
+        (seen_of D.Disk P.Provider S.Source K.Sink disk.new providers.new source.new sink.new) (ending_of result) }
+    ensures counts { NoCountFalls
+        (seen_of D.Disk P.Provider S.Source K.Sink disk.old providers.old source.old sink.old)
+        (seen_of D.Disk P.Provider S.Source K.Sink disk.new providers.new source.new sink.new) }
     ensures tells { is_some (D.holds disk.new) ≡ is_some (D.holds disk.old) }
 {
     match read_form(words) {
