@@ -46,7 +46,7 @@ fn columns_of_another_file_under_the_same_number_are_given(rt: HostRuntime) -> R
     };
     assert_eq!(rt; store.first_wrong(&[done("get notes.txt", OTHER)]), "none");
     let report = store.report_of("get notes.txt").expect(&rt, "memory");
-    assert_eq!(rt; report.heard.len(), 6);
+    assert_eq!(rt; report.heard.lists().0.len(), 6);
     for place in 0..6u8 {
         let provider = usize::from(place);
         let held = first_symbol(&store, provider).expect(&rt, "a block");

@@ -52,7 +52,7 @@ fn an_empty_file_has_no_block(rt: HostRuntime) -> Result<(), Fail> {
     let mut store = after(rt.alloc(), &rows).expect(&rt, "an empty file is kept");
     assert_eq!(rt; holders(&store), 0);
     let report = store.report_of("get empty").expect(&rt, "memory");
-    assert_eq!(rt; (report.status, report.heard.len()), (0, 0));
+    assert_eq!(rt; (report.status, report.heard.lists().0.len()), (0, 0));
     Ok(())
 }
 

@@ -189,7 +189,7 @@ pub fn after(alloc: Global, rows: &[Row]) -> Option<SureStore> {
 
 /// Which provider was fetched from at a place of what was heard, and the first symbol of the block that it gave.
 pub fn fetched(report: &Report, place: usize) -> Option<(u32, Symbol)> {
-    match report.heard.at(place) {
+    match report.heard.lists().0.at(place) {
         Some(
             Heard::Fetched {
                 provider,

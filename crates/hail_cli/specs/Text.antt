@@ -1,7 +1,7 @@
 -- The line on standard error.
 --
 --   status_text status      == its text; every other status than these is that of no memory
---   speaks_of_place status  == it is followed by a place: a row, a byte of the journal, a provider
+--   speaks_of_place status  == it is followed by a place: a row, a byte of the journal, a provider, a line of the schedule
 use Rattle.std.specs.Prelude.{ℕ, Bool, List, codes, ◌==◌, ◌||◌, if◌then◌else◌}
 
 -- the text of a status other than 0
@@ -23,10 +23,11 @@ status_text status =
     (if status == 16 then codes "hail: too long" else
     (if status == 17 then codes "hail: bad name" else
     (if status == 18 then codes "hail: bad key" else
+    (if status == 19 then codes "hail: bad schedule line" else
     (if status == 20 then codes "hail: bad setup" else
     (if status == 21 then codes "hail: too many files" else
-    (if status == 22 then codes "hail: too few providers" else codes "hail: no memory"))))))))))))))))))
+    (if status == 22 then codes "hail: too few providers" else codes "hail: no memory")))))))))))))))))))
 
 -- a place follows the text
 abbrev pub speaks_of_place : ℕ → Bool
-speaks_of_place status = status == 4 || (status == 8 || status == 13)
+speaks_of_place status = status == 4 || (status == 8 || (status == 13 || status == 19))

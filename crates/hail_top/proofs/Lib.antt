@@ -14,3 +14,5 @@ mod ListEnds
 mod Answered
 mod Told
 mod Taken
+mod Carried
+mod FormWords

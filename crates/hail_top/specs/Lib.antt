@@ -3,3 +3,4 @@ pub mod Telling
 pub mod Jobs
 pub mod SetUps
 pub mod Rows
+pub mod Carried

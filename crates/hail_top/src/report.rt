@@ -1,6 +1,7 @@
 ghost use Rattle.std.specs.Prelude.{◌≡◌, []};
 ghost use Rattle.hail_top.specs.Endings.{ending_of};
 
+use hail_replay::HeardLists;
 use vault::HeardList;
 
 /// The words are no form of a command.
@@ -42,7 +43,7 @@ pub const SOURCE_FAULT: u8 = 14;
 /// A write to the sink failed.
 pub const SINK_FAULT: u8 = 15;
 
-/// The file is too long.
+/// The file, or the schedule, is too long.
 pub const TOO_LONG: u8 = 16;
 
 /// The bytes are no name.
@@ -50,6 +51,9 @@ pub const BAD_NAME: u8 = 17;
 
 /// The source gave no master key.
 pub const BAD_KEY: u8 = 18;
+
+/// A line of the schedule is outside the grammar.
+pub const BAD_SCHEDULE: u8 = 19;
 
 /// The numbers are no setup, or no shape has them.
 pub const BAD_SETUP: u8 = 20;
@@ -63,14 +67,14 @@ pub const TOO_FEW_PROVIDERS: u8 = 22;
 /// There was no memory.
 pub const NO_MEMORY: u8 = 70;
 
-/// How a command ended: its status, which the program ends with; the place that the status speaks of; and what its job heard.
-/// The place is the offset of the first bad byte at status 8, the row at status 4, and the provider at status 13; it is 0 at
-/// every other status.
+/// How a command ended: its status, which the program ends with; the place that the status speaks of; and what its jobs heard, in the
+/// order of their ends. The place is the offset of the first bad byte at status 8, the row at status 4, the provider at status 13,
+/// and the line at status 19; it is 0 at every other status.
 #[derive(Drop)]
 pub struct Report {
     pub status: u8,
     pub at: u64,
-    pub heard: HeardList,
+    pub heard: HeardLists,
 }
 
 impl Report {
@@ -81,7 +85,7 @@ impl Report {
         Report {
             status,
             at,
-            heard: HeardList::new(),
+            heard: HeardLists::one(HeardList::new()),
         }
     }
 

@@ -2,14 +2,16 @@
 ghost use Rattle.std.specs.Prelude.{◌≡◌, ◌≤◌, IfOk, IfErr};
 ghost use Rattle.vault.specs.Outcomes.{answer_of};
 ghost use Rattle.command_jobs.specs.Kinds.{kind_of};
+ghost use Rattle.hail_replay.specs.Heard.{entries_of};
 ghost use Rattle.hail_top.specs.Telling.{IsSubject, IsTextOf, IsFaultOf, TellsAnswer, no_memory};
 
 use crate::report::{DISK_FAULT, LOST_ROW, NO_MEMORY, PROVIDER_FAULT, Report};
 use command_jobs::Job;
 use command_lines::{audit_lines, dropped_line, repaired_line, stored_line, write_text};
+use hail_replay::HeardLists;
 use std::alloc::Global;
 use stream_model::{Bytes, Memory, Sink};
-use vault::{Answer, Ended, HeardList};
+use vault::{Answer, Ended};
 
 /// What the lines of answers speak of beside the answer: the name and the length of a job's file, and how many wrong rounds an
 /// audit tolerates.
@@ -94,10 +96,10 @@ fn text(alloc: Global, subject: &Subject, answer: Answer) -> Result<Bytes, Fault
 pub fn ended<K: Sink>(alloc: Global, subject: &Subject, ended: Ended, sink: &mut K) -> Report
     ensures told { TellsAnswer subject.now (answer_of ended.answer) result.status result.at
         (record { old = K.written sink.old; new = K.written sink.new; before = K.faults sink.old; now = K.faults sink.new }) }
-    ensures heard { result.heard ≡ ended.heard }
+    ensures heard { entries_of result.heard ≡ ended.heard }
     ensures count { K.faults sink.old ≤ K.faults sink.new }
 {
-    let heard = ended.heard;
+    let heard = HeardLists::one(ended.heard);
     match text(alloc, subject, ended.answer) {
         Ok(text) => Report {
             status: write_text(text.as_slice(), sink),

@@ -4,10 +4,14 @@ ghost use Rattle.hail_commands.specs.Seen.{NoCountFalls};
 ghost use Rattle.hail_commands.specs.Commands.{Answers, IsUsage};
 ghost use Rattle.vault.specs.Devices.{as_seen};
 ghost use Rattle.command_words.specs.Commands.{command_of};
-ghost use Rattle.hail_top.specs.Endings.{seen, ending_of};
+ghost use Rattle.hail_top.specs.Carried.{AnswersForm, KeepsTheHeadline};
+ghost use Rattle.hail_replay.specs.Forms.{IsFormOf};
+ghost use Rattle.hail_replay.specs.declared.forms.Form.{Form as FormOf};
+ghost use Rattle.hail_top.specs.Endings.{seen, seen_of, ending_of};
 ghost use Rattle.hail_top.specs.Rows.{HasItsSymbols};
 
 use crate::alone::alone;
+use crate::carry::{do_trial, replay_source};
 use crate::list::list;
 use crate::put::put;
 use crate::report::{NO_MEMORY, Report, USAGE};
@@ -18,6 +22,7 @@ use command_words::laws::words_spell_one_command;
 use command_words::{Command, read_command};
 use disk_model::Disk;
 use hail_field::Memory;
+use hail_replay::{Form, read_form};
 use provider_model::Tamper;
 use std::alloc::Global;
 use stream_model::{Sink, Source};
@@ -56,6 +61,55 @@ fn answer<D: Disk, P: Tamper, S: Source, K: Sink>(
     }
 }
 
+/// Does what a form asks for.
+fn carry<D: Disk, P: Tamper, S: Source, K: Sink>(
+    alloc: Global,
+    form: Form,
+    disk: &mut D,
+    providers: &mut [P],
+    source: &mut S,
+    sink: &mut K,
+) -> Report
+    ensures answers { AnswersForm form
+        (seen_of D.Disk P.Provider S.Source K.Sink disk.old providers.old source.old sink.old)
+        (seen_of D.Disk P.Provider S.Source K.Sink disk.new providers.new source.new sink.new) (ending_of result) }
+    ensures counts { NoCountFalls
+        (seen_of D.Disk P.Provider S.Source K.Sink disk.old providers.old source.old sink.old)
+        (seen_of D.Disk P.Provider S.Source K.Sink disk.new providers.new source.new sink.new) }
+    ensures tells { is_some (D.holds disk.new) ≡ is_some (D.holds disk.old) }
+{
+    match form {
+        Form::Replay => replay_source(alloc, disk, providers, source, sink),
+        Form::Trial(number) => do_trial(alloc, number, disk, providers, sink),
+    }
+}
+
+/// Does what words ask for that are no command: a replay, a trial or nothing.
+fn carry_words<D: Disk, P: Tamper, S: Source, K: Sink>(
+    alloc: Global,
+    words: &[String],
+    disk: &mut D,
+    providers: &mut [P],
+    source: &mut S,
+    sink: &mut K,
+) -> Report
+    ensures usage { ((form : FormOf) → IsFormOf words.now form → ⊥) → IsUsage
+        (seen_of D.Disk P.Provider S.Source K.Sink disk.old providers.old source.old sink.old)
+        (seen_of D.Disk P.Provider S.Source K.Sink disk.new providers.new source.new sink.new) (ending_of result) }
+    ensures carries { (form : FormOf) → IsFormOf words.now form → AnswersForm form
+        (seen_of D.Disk P.Provider S.Source K.Sink disk.old providers.old source.old sink.old)
+        (seen_of D.Disk P.Provider S.Source K.Sink disk.new providers.new source.new sink.new) (ending_of result) }
+    ensures counts { NoCountFalls
+        (seen_of D.Disk P.Provider S.Source K.Sink disk.old providers.old source.old sink.old)
+        (seen_of D.Disk P.Provider S.Source K.Sink disk.new providers.new source.new sink.new) }
+    ensures tells { is_some (D.holds disk.new) ≡ is_some (D.holds disk.old) }
+{
+    match read_form(words) {
+        Some(form) => carry(alloc, form, disk, providers, source, sink),
+        None => Report::of(USAGE),
+    }
+}
+
 /// Does what the words of the command line ask for. Want of memory, status 70, may come at any of them.
 pub fn hail<D: Disk, P: Tamper, S: Source, K: Sink>(
     alloc: Global,
@@ -65,27 +119,27 @@ pub fn hail<D: Disk, P: Tamper, S: Source, K: Sink>(
     source: &mut S,
     sink: &mut K,
 ) -> Report
-    ensures usage { ((command : Spelled) → IsForm words.now command → ⊥) → IsUsage
-        (seen (D.holds disk.old) (D.faults disk.old) (map (as_seen P.held P.store_faults P.other_faults P.fetches) providers.old.items) (S.left source.old)
-        (S.faults source.old) (K.written sink.old) (K.faults sink.old))
-        (seen (D.holds disk.new) (D.faults disk.new) (map (as_seen P.held P.store_faults P.other_faults P.fetches) providers.new.items) (S.left source.new)
-        (S.faults source.new) (K.written sink.new) (K.faults sink.new)) (ending_of result) }
+    ensures usage { ((command : Spelled) → IsForm words.now command → ⊥) → ((form : FormOf) → IsFormOf words.now form → ⊥) → IsUsage
+        (seen_of D.Disk P.Provider S.Source K.Sink disk.old providers.old.items source.old sink.old)
+        (seen_of D.Disk P.Provider S.Source K.Sink disk.new providers.new.items source.new sink.new) (ending_of result) }
     ensures answers { (command : Spelled) → IsForm words.now command → Answers command
-        (seen (D.holds disk.old) (D.faults disk.old) (map (as_seen P.held P.store_faults P.other_faults P.fetches) providers.old.items) (S.left source.old)
-        (S.faults source.old) (K.written sink.old) (K.faults sink.old))
-        (seen (D.holds disk.new) (D.faults disk.new) (map (as_seen P.held P.store_faults P.other_faults P.fetches) providers.new.items) (S.left source.new)
-        (S.faults source.new) (K.written sink.new) (K.faults sink.new)) (ending_of result) }
+        (seen_of D.Disk P.Provider S.Source K.Sink disk.old providers.old.items source.old sink.old)
+        (seen_of D.Disk P.Provider S.Source K.Sink disk.new providers.new.items source.new sink.new) (ending_of result) }
+    ensures carries { (form : FormOf) → IsFormOf words.now form → AnswersForm form
+        (seen_of D.Disk P.Provider S.Source K.Sink disk.old providers.old.items source.old sink.old)
+        (seen_of D.Disk P.Provider S.Source K.Sink disk.new providers.new.items source.new sink.new) (ending_of result) }
+    ensures headline { (form : FormOf) → IsFormOf words.now form → KeepsTheHeadline
+        (seen_of D.Disk P.Provider S.Source K.Sink disk.old providers.old.items source.old sink.old)
+        (seen_of D.Disk P.Provider S.Source K.Sink disk.new providers.new.items source.new sink.new) (ending_of result) }
     ensures counts { NoCountFalls
-        (seen (D.holds disk.old) (D.faults disk.old) (map (as_seen P.held P.store_faults P.other_faults P.fetches) providers.old.items) (S.left source.old)
-        (S.faults source.old) (K.written sink.old) (K.faults sink.old))
-        (seen (D.holds disk.new) (D.faults disk.new) (map (as_seen P.held P.store_faults P.other_faults P.fetches) providers.new.items) (S.left source.new)
-        (S.faults source.new) (K.written sink.new) (K.faults sink.new)) }
+        (seen_of D.Disk P.Provider S.Source K.Sink disk.old providers.old.items source.old sink.old)
+        (seen_of D.Disk P.Provider S.Source K.Sink disk.new providers.new.items source.new sink.new) }
     ensures tells { is_some (D.holds disk.new) ≡ is_some (D.holds disk.old) }
 {
     words_spell_one_command();
     match read_command(alloc, words) {
         Ok(Some(command)) => answer(alloc, command, disk, providers, source, sink),
-        Ok(None) => Report::of(USAGE),
+        Ok(None) => carry_words(alloc, words, disk, providers, source, sink),
         Err(Memory) => Report::of(NO_MEMORY),
     }
 }

@@ -25,7 +25,7 @@ fn is_held_block(store: &Store<Untold<SureProvider>>, report: &Report, place: us
         Some(provider) => provider.inner.held(1, 0),
         None => None,
     };
-    match report.heard.at(place) {
+    match report.heard.lists().0.at(place) {
         Some(
             Heard::Fetched {
                 provider,
@@ -51,7 +51,7 @@ fn columns_of_another_file_are_given_untold(rt: HostRuntime) -> Result<(), Fail>
     );
     let mut sink = SureSink::new(rt.alloc())?;
     let report = store.report("get a", b"", &mut sink).expect(&rt, "memory");
-    assert_eq!(rt; report.heard.len(), 6);
+    assert_eq!(rt; report.heard.lists().0.len(), 6);
     for place in 0..6usize {
         assert!(rt; is_held_block(&store, &report, place), "provider {place}");
     }

@@ -7,4 +7,4 @@ pub answer-requires : goal.answer-requires
 answer-requires g c = HasItsSymbols-IsForm c.args.words.now (command_of c.in-Ok-Some.command) (rw c.in-Ok-Some.field-0-is at c.in-Ok-Some.ensures.found)
 
 pub returns-in-Err-clause-answers : goal.returns-in-Err-clause-answers
-returns-in-Err-clause-answers g c command form = no_memory-told command _ _ c.of-in-Err.ensures
+returns-in-Err-clause-answers g c command form = no_memory-told command _ _ c.of.ensures

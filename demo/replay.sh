@@ -1,0 +1,154 @@
+#!/bin/bash
+# Schedules and trials by the program, over memory and over real folders: the status, the text and the bytes that are due.
+# It tells each that goes otherwise, ends with 0 exactly where none does, and leaves nothing behind.
+set -u
+
+root=$(CDPATH='' cd -P -- "$(dirname "$0")/.." && pwd -P)
+hail=${HAIL:-$root/hail}
+scratch=$(mktemp -d) || exit 1
+trap 'rm -rf "$scratch"' EXIT
+cd "$scratch" || exit 1
+failed=0
+
+wrong() {
+    echo "replay: $1" >&2
+    failed=1
+}
+
+# The words end with this status and write this text, the line on standard error behind it: SOURCE is their input.
+row() {
+    local wanted=$1 text=$2 source=$3
+    shift 3
+    "$hail" "$@" <"$source" >out 2>err
+    local status=$?
+    [ "$status" -eq "$wanted" ] || wrong "$* ends with $status, not $wanted"
+    [ "$(cat out err)" = "$text" ] || wrong "$* writes $(cat out err), not $text"
+}
+
+# A new home.
+new_home() {
+    rm -rf home
+    mkdir home
+}
+
+digits=000102030405060708090a0b0c0d0e0f101112131415161718191a1b1c1d1e1f
+: >empty
+
+# Two puts beside one another, an audit that is given up, a get and a drop: the same lines over memory and over folders.
+cat >schedule <<SCHEDULE
+# a store of four providers
+begin get a
+reopen
+init 4 1 1 0 2 2 0 $digits
+reopen
+begin put a 6861696c
+step 1
+begin put b 73746f6e65
+step 2
+run 1
+run 2
+step 2
+begin audit
+stop -
+step 3
+reopen
+step 3
+begin get a
+run 4
+begin drop a
+run 5
+list
+SCHEDULE
+told='closed
+refused NotSetUp
+ready
+opened
+job 1
+more
+job 2
+waiting 1
+put
+put
+refused NoSuchJob
+job 3
+stopped
+closed
+opened
+refused NoSuchJob
+job 4
+got 6861696c
+job 5
+dropped
+names 1
+b 5'
+row 0 "$told" schedule - replay
+new_home
+row 0 "$told" schedule home replay
+row 0 'b 5' empty home list
+row 0 stone empty home get b
+
+# A later schedule goes on with the store, and numbers its jobs from 1: damage, an audit that finds it, a repair, and more damage.
+cat >schedule <<SCHEDULE
+reopen
+alter 2 2 0 0 5
+lose 2 2 0
+lose 2 2 0
+alter 4 2 0 0 5
+begin repair
+begin audit
+run 1
+begin repair
+run 2
+lose 2 2 0
+begin get b
+run 3
+SCHEDULE
+told='opened
+replaced
+replaced
+nothing held
+nothing held
+refused NothingDue
+job 1
+audited 1 undecided 0 counts 0 0 2 0
+job 2
+repaired 1
+replaced
+job 3
+got 73746f6e65'
+row 0 "$told" schedule home replay
+
+# Where the output is full the events end with the first line; a bad line and a folder as input leave the store as it is.
+cp -r home kept
+"$hail" home replay <schedule >/dev/full 2>err
+[ $? -eq 15 ] && [ "$(cat err)" = 'hail: sink fault' ] || wrong 'a full output is no sink fault'
+printf 'reopen\nbegin drop b\nfly\n' >bad
+row 19 'hail: bad schedule line 3' bad home replay
+row 14 'hail: source fault' . home replay
+diff -r kept home || wrong 'a replay that did no event leaves another store'
+
+# The longest schedule, and one that is a byte longer.
+head -c 16777216 /dev/zero | tr '\0' '#' >long
+row 0 '' long home replay
+printf '#' >>long
+row 16 'hail: too long' long home replay
+
+# Words that spell neither.
+row 2 'hail: usage' empty - replay 7
+row 2 'hail: usage' empty - trial
+row 2 'hail: usage' empty - trial 07
+row 2 'hail: usage' empty - trial 18446744073709551616
+
+# The trial: what is lost is found and mended, over memory and over folders.
+seven='trial 7
+events 225
+gets 6 right 6
+audits 3 flagged 2 3 4
+repairs 3
+stops 2'
+row 0 "$seven" empty - trial 7
+new_home
+row 0 "$seven" empty home trial 7
+row 0 'trial 65536' empty home list
+
+exit "$failed"
