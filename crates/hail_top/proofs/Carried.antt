@@ -91,3 +91,11 @@ form-keeps (forms.Trial number) old new end a = trial-keeps number old new end a
 pub unstarted-form : (form : Form) (same : Seen) (end : Ending) → end ≡ ends 70 0 → AnswersForm form same same end
 unstarted-form forms.Replay same end is = answers.no_memory (none-taken (longest_schedule + 1) same.source) (undone 70 0 same same end is refl refl refl refl)
 unstarted-form (forms.Trial number) same end is = answers.no_memory (refl, refl) (undone 70 0 same same end is refl refl refl refl)
+
+-- it is this form
+pub carried-as : (form other : Form) (old new : Seen) (end : Ending) → form ≡ other → AnswersForm other old new end → AnswersForm form old new end
+carried-as form other old new end is a = subst (λ (f : Form). AnswersForm f old new end) (sym is) a
+
+-- what holds of a list and what was left of it holds of the same under other names
+pub over-lists : {X : Type 0} (F : List X → List X → Type 0) (held old left new : List X) → held ≡ old → left ≡ new → F held new → F old left
+over-lists F held old left new held_is left_is h = subst (λ o. F o left) held_is (subst (λ n. F held n) (sym left_is) h)
