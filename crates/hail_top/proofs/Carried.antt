@@ -1,6 +1,5 @@
 -- A schedule or a trial, carried out or not.
-use Rattle.std.proofs.Common.{◌≡◌, ◌⊎◌, inl, inr, ℕ, ◌<◌, ◌≤◌, ◌+◌, List, [], length, reverse, Option, refl, ap, sym, subst, ◌∙◌, arith}
-use Rattle.std.specs.Prelude.{IsSome}
+use Rattle.std.proofs.Common.{◌≡◌, ◌⊎◌, inl, inr, ℕ, ◌≤◌, ◌+◌, List, length, reverse, refl, ap, sym, subst, arith}
 use Rattle.hail_commands.specs.Seen.{Seen, Ending, NoCountFalls, provider_at, sinking}
 use Rattle.hail_devices.specs.Faults.{Rose}
 use Rattle.hail_commands.specs.Sinking.{Sinking}
@@ -9,8 +8,7 @@ use Rattle.hail_machine.specs.Runs.{Moment}
 use Rattle.hail_machine.specs.States.{State}
 use Rattle.hail_machine.specs.Transcripts.{Command}
 use Rattle.vault.specs.Devices.{Devices}
-use Rattle.hail_replay.specs.Replayed.{Replays, CarriesOn}
-use Rattle.hail_replay.specs.Starts.{AreLeft}
+use Rattle.hail_replay.specs.Replayed.{Replays}
 use Rattle.hail_replay.specs.Trials.{RunsTrial, RunsTo}
 use Rattle.hail_replay.specs.Answers as answers
 use Rattle.hail_replay.specs.Answers.{IsUndone, devices_seen, longest_schedule, AnswersReplay, AnswersTrial}

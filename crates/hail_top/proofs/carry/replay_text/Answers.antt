@@ -1,5 +1,4 @@
-use Rattle.std.proofs.Common.{◌<◌, length, map, inl, inr, refl, ap, sym, subst, ◌∙◌, arith}
-use Rattle.std.proofs.lemmas.List.{length-map}
+use Rattle.std.proofs.Common.{refl, arith}
 use Rattle.schedule_text.specs.Events.{commands_of}
 use Rattle.hail_replay.specs.Answers as answers
 use Rattle.hail_top.proofs.Carried.{undone, carried-place, carried-status, carried-heard}

@@ -1,4 +1,4 @@
-use Rattle.std.proofs.Common.{rules, arith, ◌+◌, ◌≤◌, length}
+use Rattle.std.proofs.Common.{rules, ◌+◌, ◌≤◌, length}
 use Rattle.hail_top.proofs.Taken.{more-taken}
 use Rattle.hail_top.proofs.reading.read_up_to.Goals as goal
 

@@ -26,8 +26,8 @@ returns-in-Ok-Some-clause-headline g c = λ form is.
 pub returns-in-Ok-None-clause-carries : goal.returns-in-Ok-None-clause-carries
 returns-in-Ok-None-clause-carries g c = λ form is.
     over-lists (λ old new. AnswersForm form
-        (seen_of g.D.Disk g.P.Provider g.S.Source g.K.Sink c.args.disk.now old c.args.source.now c.args.sink.now)
-        (seen_of g.D.Disk g.P.Provider g.S.Source g.K.Sink c.carry_words.new.disk new c.carry_words.new.source c.carry_words.new.sink) (ending_of c.carry_words.result))
+    (seen_of g.D.Disk g.P.Provider g.S.Source g.K.Sink c.args.disk.now old c.args.source.now c.args.sink.now)
+    (seen_of g.D.Disk g.P.Provider g.S.Source g.K.Sink c.carry_words.new.disk new c.carry_words.new.source c.carry_words.new.sink) (ending_of c.carry_words.result))
     c.deref_mut-in-Ok-None.result.now c.args.providers.now.items _ c.carry_words.new.providers c.deref_mut-in-Ok-None.ensures.value
     (take_at c.carry_words.new.providers _ c.args.providers.now.len (omega (arith, c.carry_words.auto.providers, c.deref_mut-in-Ok-None.ensures.len)))
     (c.carry_words.ensures.carries form is)
