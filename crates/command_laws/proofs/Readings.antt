@@ -10,7 +10,7 @@ use Rattle.hail_records.specs.Reading.{IsNotSetUp}
 use Rattle.hail_records.specs.Acceptance.{refused, AreAccepted}
 use Rattle.record_codec.proofs.Takes.{one_front}
 use Rattle.journal_core.proofs.Meanings.{one_meaning, bad_is_none, one_place}
-use Rattle.hail_commands.specs.Openings.{journal_read, IsRead, IsBadStart, RefusesBehind, StopsBehind}
+use Rattle.hail_openings.specs.Journals.{journal_read, IsRead, IsBadStart, RefusesBehind, StopsBehind}
 
 -- ---- lists of records whose texts begin the same bytes
 

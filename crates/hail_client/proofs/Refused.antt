@@ -8,7 +8,7 @@ use Rattle.hail_records.specs.Journal.{magic, before_gate, StandsFor}
 use Rattle.hail_records.specs.Acceptance.{refused, AreAccepted}
 use Rattle.record_codec.proofs.Takes.{one_front}
 use Rattle.journal_core.proofs.Meanings.{bad_is_none}
-use Rattle.vault.specs.Openings.{IsBadStart, RefusesBehind}
+use Rattle.hail_openings.specs.Journals.{IsBadStart, RefusesBehind}
 
 -- ---- lists of records whose texts begin the same bytes
 

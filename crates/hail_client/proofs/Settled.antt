@@ -14,7 +14,7 @@ use Rattle.hail_machine.specs.Stands.{StandsForState, StandsWithDoubt}
 use Rattle.journal_core.proofs.Meanings.{one_meaning}
 use Rattle.sound_states.specs.Sound.{IsSound}
 use Rattle.sound_states.proofs.Events.{events-sound}
-use Rattle.vault.specs.Openings.{journal_read}
+use Rattle.hail_openings.specs.Journals.{journal_read}
 use Rattle.vault.proofs.Opened.{stands-front, least_size}
 use Rattle.vault.proofs.Emptied.{image-firm}
 

@@ -16,8 +16,8 @@ use Rattle.vault.specs.Seen.{table_of}
 use Rattle.hail_client.specs.declared.client.Client.{Client}
 use Rattle.hail_client.specs.Client.{is_open, next_job_by, names_of}
 use Rattle.hail_client.specs.Outcomes.{names_outcome}
-use Rattle.hail_client.specs.Start.{provider_at}
-use Rattle.hail_client.specs.Stands.{StandsBy, ClientStands, Makes, IsStanding}
+use Rattle.hail_client.specs.Start.{provider_or_empty}
+use Rattle.hail_client.specs.Stands.{StandsBy, ClientStands, MakesEvent, IsStanding}
 
 pub devices-of : (o : Option Vault) (next : ℕ) (d : Devices) (w : State) → StandsBy o next d w → AreDevices d w
 devices-of (Some v) next d w S = S.devices
@@ -36,7 +36,7 @@ lists-by : (o : Option Vault) (next : ℕ) (d : Devices) (w : State) → StandsB
 lists-by (Some v) next d w S = subst (λ b. Lists w b (events.Listed (table_of v).files) w) (sym S.core.is_open) (S.core.table.files, refl)
 lists-by None next d w S = subst (λ b. Lists w b Closed w) (sym S.closed) refl
 
-pub lists : (w : State) (moment : ℕ) (c : Client) (d : Devices) → ClientStands c d w → Makes w moment Names (names_outcome (names_of c)) c d
+pub lists : (w : State) (moment : ℕ) (c : Client) (d : Devices) → ClientStands c d w → MakesEvent w moment Names (names_outcome (names_of c)) c d
 lists w moment c d S = record { state = w; spelled = tt; happens = lists-by c.vault c.next_job d w S; stands = S }
 
 -- ---- no vault is open
@@ -51,7 +51,7 @@ bare next ps = record {
   next_job = next;
   append = None;
   doubt = None;
-  providers = provider_at ps;
+  providers = provider_or_empty ps;
   handed = length ps;
   disk_faults = 0;
   is_open = false;
@@ -70,7 +70,7 @@ bare-rests next ps = record {
   handed = λ opened. absurd (false≢true opened);
 }
 
-each-at : (ps : List Provider) (j : ℕ) → j < length ps → slice_get ps j ≡ Some (provider_at ps j)
+each-at : (ps : List Provider) (j : ℕ) → j < length ps → slice_get ps j ≡ Some (provider_or_empty ps j)
 each-at [] j l = absurd (omega (arith, l))
 each-at (p ∷ ps) zero l = refl
 each-at (p ∷ ps) (suc j) l = each-at ps j (omega (arith, l))

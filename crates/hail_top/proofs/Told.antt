@@ -5,7 +5,7 @@ use Rattle.std.specs.Option.{option_map}
 use Rattle.hail_devices.specs.Cells.{Cells}
 use Rattle.hail_devices.specs.Disks.{synced}
 use Rattle.hail_devices.specs.Told.{Goes}
-use Rattle.hail_commands.specs.Seen.{IsResynced}
+use Rattle.hail_openings.specs.Journals.{IsResynced}
 
 -- a fact of what is told follows from another
 pub IfSome-map : {A : Type 0} (told : Option A) (P Q : A → Type 0) → ((x : A) → P x → Q x) → IfSome told P → IfSome told Q

@@ -2,7 +2,7 @@
 ghost use Rattle.std.specs.Prelude.{◌≡◌, ◌≤◌, IfOk, IfErr};
 ghost use Rattle.vault.specs.Outcomes.{answer_of};
 ghost use Rattle.command_jobs.specs.Kinds.{kind_of};
-ghost use Rattle.hail_top.specs.Telling.{IsSubject, IsTextOf, IsFaultOf, TellsAnswer, no_memory};
+ghost use Rattle.hail_top.specs.Telling.{TellsOf, IsTextOf, IsFaultEnd, TellsAnswer, no_memory};
 
 use crate::report::{DISK_FAULT, LOST_ROW, NO_MEMORY, PROVIDER_FAULT, Report};
 use command_jobs::Job;
@@ -23,7 +23,7 @@ pub struct Subject<'a> {
 impl<'a> Subject<'a> {
     /// What the line of this job's answer speaks of, in a store that tolerates so many wrong rounds.
     pub fn new(job: &Job<'a>, tolerance: u16) -> Subject<'a>
-        ensures { IsSubject result tolerance (kind_of job.now) }
+        ensures { TellsOf result tolerance (kind_of job.now) }
     {
         let (name, length): (&'a [u8], usize) = match job {
             Job::Put { name, bytes } => (*name, bytes.as_slice().len()),
@@ -59,7 +59,7 @@ impl From<Memory> for Fault {
 /// The text of an answer, or its fault.
 fn text(alloc: Global, subject: &Subject, answer: Answer) -> Result<Bytes, Fault>
     ensures text { IfOk result (IsTextOf subject.now (answer_of answer)) }
-    ensures fault { IfErr result (λ fault. IsFaultOf (answer_of answer) fault.status fault.at) }
+    ensures fault { IfErr result (λ fault. IsFaultEnd (answer_of answer) fault.status fault.at) }
 {
     match answer {
         Answer::Put => Ok(stored_line(alloc, subject.name, subject.length)?),

@@ -49,8 +49,9 @@ use Rattle.vault.specs.declared.tasks.Task.{Task}
 use Rattle.vault.specs.declared.tasks.Task.TheVariants as task
 use Rattle.vault.specs.declared.turn.Turn.TheVariants as turn
 use Rattle.vault.specs.declared.vault.Vault.{Vault}
-use Rattle.vault.specs.Asking.{length_among, length_at, length_in, length_found, IsSubject, IsQuestion, challenge_put, sums_on, TakesAsk, HasJudged, CanAsk, Asked, MayAsk, TellsAsk, MayTell, MayPut, object_put}
-use Rattle.vault.specs.Devices.{devices, AreHanded}
+use Rattle.vault.specs.Asking.{length_among, length_at, length_in, length_found, IsAuditNumber, IsQuestion, challenge_put, sums_on, TakesAsk, HasJudged, CanAsk, Asked, MayAsk, TellsAsk, MayTell, MayPut, object_put}
+use Rattle.hail_openings.specs.Opened.{AreHanded}
+use Rattle.vault.specs.Devices.{devices}
 use Rattle.vault.specs.Orders.{is_ask}
 use Rattle.vault.specs.Rounds.{Round, rounds_in, asked_after, AsksOn, JudgesAll}
 use Rattle.vault.specs.Running.{place_in, KeepsAll, IsFed}
@@ -295,7 +296,7 @@ module _ (v : Vault) (w : State) (holds : Option Cells) (faults moment number k 
       length_is = told_size;
       few = (sound_job.pinned nx.x.file (of_file (Contains coming.job.pinned) (contains_each coming.job.pinned)).file).size;
       number = in_core.0.subject;
-      number_is = subst (λ (j : Option CoreJob). IsSubject j in_core.0.subject) (sym in_core.1) refl;
+      number_is = subst (λ (j : Option CoreJob). IsAuditNumber j in_core.0.subject) (sym in_core.1) refl;
       rows =
           (let rows : stripes (object_put v o) (length nx.x.file.bytes) ≡ stripes_of (setup_in w) (length nx.x.file.bytes) =
           (λ i. (length nx.x.file.bytes + (16 * (l_is i * (profile_is i).keep) - 1)) / (16 * (l_is i * (profile_is i).keep))) in
@@ -335,7 +336,7 @@ module _ (v : Vault) (w : State) (holds : Option Cells) (faults moment number k 
       q_length = same_value _ q.file.length (length nx.x.file.bytes) put.length_is told_size
 
       q_number : q.number ≡ coming.job.subject
-      q_number = subst (λ (j : Option CoreJob). IsSubject j q.number) in_core.1 put.number_is ∙ in_core.2.subject
+      q_number = subst (λ (j : Option CoreJob). IsAuditNumber j q.number) in_core.1 put.number_is ∙ in_core.2.subject
 
       q_n : q.file.shape.n ≡ (setup_in w).n
       q_n = ap (λ (x : ShapeValue). x.n) put.shape_is ∙ n_is

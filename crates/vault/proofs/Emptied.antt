@@ -10,7 +10,7 @@ use Rattle.hail_devices.specs.Images.{IsImage, EachImage}
 use Rattle.hail_devices.specs.Told.{Goes}
 use Rattle.hail_records.specs.Journal.{text}
 use Rattle.journal_core.proofs.CellLemmas.{written-behind, settled-loose}
-use Rattle.vault.specs.Openings.{IsResynced}
+use Rattle.hail_openings.specs.Journals.{IsResynced}
 use Rattle.vault.specs.Preparing.{IsBlank, AreShort, emptied}
 
 -- ---- images

@@ -31,7 +31,8 @@ use Rattle.sound_states.specs.Sound.{IsSound}
 use Rattle.vault.specs.declared.fault.InitFault.{InitFault}
 use Rattle.vault.specs.declared.fault.InitFault.TheVariants as init_fault
 use Rattle.vault.specs.Devices.{Devices, devices, AreDevices}
-use Rattle.vault.specs.Openings.{journal_read, IsInitFault, IsNoWrite, IsSetUpOn, BeginsWithSetup, BeginsOtherwise, IsBadInit}
+use Rattle.hail_openings.specs.Journals.{journal_read, IsSetUpOn, BeginsWithSetup, BeginsOtherwise, IsBadInit}
+use Rattle.vault.specs.Causes.{IsInitFault, IsNoWrite}
 use Rattle.vault.specs.Inits.{MayInit, MakesInit}
 use Rattle.vault.specs.Faults.{init_answer}
 use Rattle.vault.specs.Preparing.{IsBlank, IsReadied, IsHalfReady}

@@ -42,7 +42,8 @@ use Rattle.vault.specs.declared.turn.Answer.TheVariants as answer
 use Rattle.vault.specs.declared.turn.Turn.{Turn}
 use Rattle.vault.specs.declared.turn.Turn.TheVariants as turn
 use Rattle.vault.specs.declared.vault.Vault.{Vault}
-use Rattle.vault.specs.Devices.{devices, AreHanded, IsSameBeyond, records_in_flight}
+use Rattle.hail_openings.specs.Opened.{AreHanded}
+use Rattle.vault.specs.Devices.{devices, IsSameBeyond, records_in_flight}
 use Rattle.vault.specs.Flights.{HasFailed, MakesMove, GoesOn, GivesUp}
 use Rattle.vault.specs.Outcomes.{answer_of}
 use Rattle.vault.specs.Running.{place_in, KeepsAll, IsFed, IsStopped}

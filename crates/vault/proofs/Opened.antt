@@ -24,11 +24,12 @@ use Rattle.vault.specs.declared.fault.StartFault.{StartFault}
 use Rattle.vault.specs.declared.fault.StartFault.TheVariants as start_fault
 use Rattle.vault.specs.declared.vault.Vault.{Vault}
 use Rattle.vault.specs.Devices.{devices}
-use Rattle.vault.specs.Openings.{journal_read, IsStartFault, IsRead}
+use Rattle.hail_openings.specs.Journals.{journal_read, IsRead}
+use Rattle.vault.specs.Causes.{IsStartFault}
 use Rattle.vault.specs.Stands.{Stands, Carries}
-use Rattle.vault.specs.Starts.{IsJustOpened}
+use Rattle.hail_openings.specs.Opened.{IsJustOpened}
 use Rattle.vault.specs.Folding.{IsFolded, IsFoldFault}
-use Rattle.vault.specs.Fresh.{IsFresh, IsFreshFault}
+use Rattle.vault.specs.Fresh.{IsFreshVault, IsFreshFault}
 
 -- bytes whose front stands for records stand for them
 pub stands-front : (n : ℕ) (bytes : List ℕ) (rs : List Record) → StandsFor (take n bytes) rs → StandsFor bytes rs
@@ -85,7 +86,7 @@ module _ (bytes : List ℕ) (rs : List Record) (t : Kept) (end : ℕ) (is : IsFo
       let good : IsTrue (is_setup s && is_master s.master) = setup-spelled rs s is.stands.in_grammar (sym is.folds.setup ∙ e) in
       grind (arith, good)
 
-  module _ (v : Vault) (first : ℕ) (fresh : IsFresh v t end first) where
+  module _ (v : Vault) (first : ℕ) (fresh : IsFreshVault v t end first) where
     -- ---- what was read
 
     some : rs ≢ []
@@ -131,15 +132,15 @@ module _ (bytes : List ℕ) (rs : List Record) (t : Kept) (end : ℕ) (is : IsFo
 
       core : CoreIs v.core w
       core = subst (λ (c : CoreView). CoreIs c w) (sym fresh.core) (record {
-        sound = rest-sound 8 w j.at_rest;
-        is_open = j.is_open;
+        sound = rest-sound 8 w j.at_rest.rest;
+        is_open = j.at_rest.opened;
         table = subst (λ (l : List Record). IsFoldOf l t) (sym j.records) is.folds;
         setup = sym in_effect;
         end = is.end_is ∙ ap text_size (sym j.records);
-        jobs = rw j.at_rest.idle.0 tt;
-        next_job = sym j.next_job;
-        append = rw j.at_rest.idle.1 refl;
-        barred = sym j.at_rest.idle.2;
+        jobs = rw j.at_rest.rest.idle.0 tt;
+        next_job = sym j.at_rest.next;
+        append = rw j.at_rest.rest.idle.1 refl;
+        barred = sym j.at_rest.rest.idle.2;
       })
 
       pub stands : (told now : Option Cells) → now ≡ option_map synced told → IsLookedAt told bytes → Stands v (devices now faults providers) w
@@ -150,6 +151,6 @@ module _ (bytes : List ℕ) (rs : List Record) (t : Kept) (end : ℕ) (is : IsFo
             core = core;
             setup = in_effect ∙ ap setup_or_none fresh.setup;
             shaped = fresh.shaped;
-            jobs = rw (fresh.jobs, j.at_rest.idle.0) tt;
-            flight = (λ unbarred. rw (fresh.flight, j.at_rest.idle.1, j.records) shut);
+            jobs = rw (fresh.jobs, j.at_rest.rest.idle.0) tt;
+            flight = (λ unbarred. rw (fresh.flight, j.at_rest.rest.idle.1, j.records) shut);
           }
