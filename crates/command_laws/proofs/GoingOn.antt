@@ -39,7 +39,7 @@ use Rattle.hail_commands.specs.Refusals.{refusal_over, status_of}
 use Rattle.hail_commands.specs.Commands.{AnswersPut, AnswersAlone, AnswersList, Answers}
 use Rattle.command_laws.specs.Ends.{RunsKind, opens_store}
 use Rattle.command_laws.specs.Pieces.{IsStore, IsSpelledCommand, IsCall, moment}
-use Rattle.command_laws.proofs.Readings.{read-once, read-set_up, read-good as read-never-bad}
+use Rattle.hail_openings.proofs.Readings.{read-once, read-set_up, read-good as read-never-bad}
 use Rattle.command_laws.proofs.Telling.{over-opened}
 use Rattle.command_laws.proofs.Images.{reads-image, image-firm, refused-keeps}
 use Rattle.command_laws.proofs.LastStates.{last-state}

@@ -21,7 +21,7 @@ use Rattle.hail_commands.specs.Jobs.{AnswersJob, EndsByAnswer}
 use Rattle.hail_commands.specs.Commands.{AnswersAlone}
 use Rattle.sound_states.proofs.Records.{is_some-at}
 use Rattle.command_laws.specs.Ends.{IsKnown, GivesUnlessMemory}
-use Rattle.command_laws.proofs.Readings.{read-once, read-set_up, read-good}
+use Rattle.hail_openings.proofs.Readings.{read-once, read-set_up, read-good}
 
 -- ---- what was written
 

@@ -14,7 +14,7 @@ use Rattle.hail_openings.specs.Journals.{journal_read, IsRead, IsBadStart}
 use Rattle.hail_commands.specs.Opens.{IsOpened, Unstarted, setup_at}
 use Rattle.hail_commands.specs.Commands.{AnswersPut, AnswersAlone, AnswersList, Answers}
 use Rattle.command_laws.specs.Ends.{opens_store}
-use Rattle.command_laws.proofs.Readings.{read-once, read-set_up, read-good, fresh-good, bad-once}
+use Rattle.hail_openings.proofs.Readings.{read-once, read-set_up, read-good, fresh-good, bad-once}
 use Rattle.command_laws.proofs.Known.{is_unopened, job-opened}
 
 -- how a command goes that looks at a store: it is not started, or it has a status of its own, over records that were read or none

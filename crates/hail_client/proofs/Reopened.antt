@@ -37,7 +37,7 @@ use Rattle.hail_client.specs.Outcomes.{start_refusal}
 use Rattle.hail_client.specs.Start.{anyone}
 use Rattle.hail_client.specs.Stands.{StandsClosed, MakesEvent}
 use Rattle.hail_client.proofs.Settled.{AreKept, settled, settles, settled-sound, read-kept, kept-accepted, kept-fits, firm-stands, stands-take, short-read, whole-read}
-use Rattle.hail_client.proofs.Refused.{bad-none}
+use Rattle.hail_openings.proofs.Readings.{bad-none}
 
 each-anyone : (n j : ℕ) → j < n → slice_get (replicate n anyone) j ≡ Some anyone
 each-anyone zero j l = absurd (omega (arith, l))
