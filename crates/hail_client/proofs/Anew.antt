@@ -33,12 +33,13 @@ use Rattle.hail_client.specs.declared.fault.ReopenFault.TheVariants as reopen_fa
 use Rattle.hail_client.specs.Client.{next_job_of}
 use Rattle.hail_client.specs.Outcomes.{start_refusal, reopen_outcome, UnlessBadJournal}
 use Rattle.hail_client.specs.Start.{provider_or_empty}
-use Rattle.hail_client.specs.Stands.{StandsClosed, ClientStands, MakesEvent, IsMadeAnew, IsStanding, OpensOver}
+use Rattle.hail_client.specs.Stands.{StandsClosed, ClientStands, IsMadeAnew, IsStanding, OpensOver}
 use Rattle.hail_client.proofs.Settled.{settled, settles}
 use Rattle.hail_client.proofs.Held.{zeros, zeros-held}
 use Rattle.hail_client.proofs.Fresh.{each-at}
 use Rattle.hail_client.proofs.Reopened.{without_vault, stands-opened, count-is, has-setup, opened}
-use Rattle.hail_client.proofs.Reopening.{WasOpened, err-is}
+use Rattle.hail_client.proofs.Reopening.{WasOpened}
+use Rattle.vault.proofs.InitEvents.{err-is}
 
 -- by whether a disk tells
 pub by-told : {A X : Type 0} (told : Option A) → (IsSome told → X) → (is_some told ≡ false → X) → X

@@ -30,14 +30,16 @@ use Rattle.hail_openings.specs.Journals.{journal_read, IsRead, IsResynced}
 use Rattle.vault.specs.Causes.{IsStartFault, LiesInJournal}
 use Rattle.vault.specs.Seen.{provider_count}
 use Rattle.vault.specs.Stands.{Stands}
-use Rattle.vault.proofs.Emptied.{reads-image, image-firm}
+use Rattle.vault.proofs.Emptied.{image-firm}
 use Rattle.vault.proofs.Ways.{images_on}
 use Rattle.hail_client.specs.declared.client.Client.{Client}
 use Rattle.hail_client.specs.Outcomes.{start_refusal}
 use Rattle.hail_client.specs.Start.{anyone}
 use Rattle.hail_client.specs.Stands.{StandsClosed, MakesEvent}
-use Rattle.hail_client.proofs.Settled.{AreKept, settled, settles, settled-sound, read-kept, kept-accepted, kept-fits, firm-stands, stands-take, short-read, whole-read}
+use Rattle.hail_client.proofs.Settled.{AreKept, settled, settles, settled-sound, read-kept, kept-accepted, kept-fits, firm-stands, short-read, whole-read}
 use Rattle.hail_openings.proofs.Readings.{bad-none}
+use Rattle.hail_devices.proofs.PickLaws.{IsImage-reads}
+use Rattle.vault.proofs.Texts.{stands-take}
 
 each-anyone : (n j : ℕ) → j < n → slice_get (replicate n anyone) j ≡ Some anyone
 each-anyone zero j l = absurd (omega (arith, l))
@@ -107,7 +109,7 @@ module _ (w : State) (moment next : ℕ) (old : Cells) (f0 f1 : ℕ) (ps : List 
   le = (let e = are.faults in omega (arith, e, never))
 
   read : StandsOrIsEmpty (reads old) w.records ⊎ StandsWithDoubt w (reads old)
-  read = are.images (reads old) (reads-image old)
+  read = are.images (reads old) (IsImage-reads old)
 
   -- a state in which no vault is open, and job numbers go on
   closed-at : (new : Option Cells) (u : State) → Reopens w events.Opened u ⊎ ((why : refusal.Refusal) × Reopens w (events.Refused why) u) → StandsForState new u → u.disk_faults ≡ f1 → u.handed ≡ w.handed → ((j : ℕ) → u.providers j ≡ w.providers j) →

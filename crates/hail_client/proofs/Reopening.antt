@@ -1,5 +1,5 @@
 -- A reopening by a client, as an event of the machine.
-use Rattle.std.proofs.Common.{◌≡◌, ℕ, ◌<◌, ◌≤◌, List, length, Option, Some, None, Result, Ok, Err, ap, sym, subst}
+use Rattle.std.proofs.Common.{◌≡◌, ℕ, ◌<◌, ◌≤◌, List, length, Option, Some, None, Result, sym, subst}
 use Rattle.std.specs.Prelude.{IfSome, IsSome, IsErrAnd}
 use Rattle.std.specs.Option.{option_map}
 use Rattle.std.proofs.lemmas.Bool.{false≢true}
@@ -30,10 +30,7 @@ use Rattle.hail_client.specs.Stands.{ClientStands, MakesEvent}
 use Rattle.hail_client.proofs.Standing.{devices-of, sound-of, next-of}
 use Rattle.hail_client.proofs.Reopened as reopened
 use Rattle.hail_client.proofs.Reopened.{without_vault}
-
-pub err-is : {T E : Type 0} (r : Result T E) (x : E) → IsErrAnd r (λ e. e ≡ x) → r ≡ Err x
-err-is (Ok t) x is = absurd is
-err-is (Err e) x is = ap (λ y. Err y) is
+use Rattle.vault.proofs.InitEvents.{err-is}
 
 -- records that a start read, and the vault that was opened over them
 abbrev pub WasOpened : Vault → Option Cells → Option Cells → ℕ → ℕ → Type 0

@@ -15,6 +15,7 @@
 use Rattle.std.specs.Prelude.{◌≡◌, ℕ, ◌<◌, ◌≤◌, List, [], length, slice_get, unwrap_or, Option, None, IfSome}
 use Rattle.std.specs.Option.{option_map}
 use Rattle.hail_devices.specs.Told.{Goes, then_told}
+use Rattle.hail_devices.specs.Cells.{Cells}
 use Rattle.hail_devices.specs.Disks.{synced}
 use Rattle.hail_devices.specs.Providers.{Provider}
 use Rattle.hail_machine.specs.Events.{AreBytes}

@@ -23,7 +23,8 @@ use Rattle.hail_replay.specs.Performed.{StandsWhereOpen, NoCountFell, KeepsStand
 use Rattle.hail_replay.proofs.Same.{Same, OneMore, steps, begins, both, going, step_of}
 use Rattle.hail_replay.proofs.Counts.{none-fell, fell, onward-over}
 use Rattle.hail_replay.proofs.Behind.{open-same}
-use Rattle.hail_replay.proofs.Standing.{devices-of, next-of, standing-closed}
+use Rattle.hail_replay.proofs.Standing.{standing-closed}
+use Rattle.hail_client.proofs.Standing.{devices-of, next-of}
 
 -- client and devices stand for a state, here or, where no vault is open, elsewhere
 record Somewhere (c : Client) (d : Devices) : Type 0 where

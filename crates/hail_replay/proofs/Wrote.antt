@@ -1,21 +1,18 @@
 -- The lines of several events, one behind the other.
 use Rattle.std.proofs.Common.{◌≡◌, ◌≢◌, ◌⊎◌, inl, inr, ℕ, zero, suc, ◌+◌, ◌<◌, ◌≤◌, List, [], ◌∷◌, ◌++◌, length, take, Option, Some, None, refl, ap, sym, subst, ◌∙◌, arith}
 use Rattle.std.proofs.lemmas.Bool.{cases_lt}
-use Rattle.std.proofs.lemmas.List.{append-nil, append_assoc, length-append, take_all}
+use Rattle.std.proofs.lemmas.List.{append-nil, length-append, take_all}
 use Rattle.hail_devices.specs.Faults.{Rose, last_count}
 use Rattle.hail_devices.specs.Told.{told_then, TakesFront}
 use Rattle.hail_commands.specs.Sinking.{Sinking, WritesLine}
 use Rattle.hail_replay.specs.Answers.{CarriedOut}
+use Rattle.stream_model.proofs.ToldLemmas.{told_then-append}
 
 -- a sink told and counted these
 abbrev pub sank : Option (List ℕ) → Option (List ℕ) → ℕ → ℕ → Sinking
 sank old new before now = record { old = old; new = new; before = before; now = now }
 
 -- ---- what is told
-
-told-append : (told : Option (List ℕ)) (xs ys : List ℕ) → told_then (told_then told xs) ys ≡ told_then told (xs ++ ys)
-told-append None xs ys = refl
-told-append (Some zs) xs ys = ap Some (append_assoc zs xs ys)
 
 told-none : (told : Option (List ℕ)) → told ≡ told_then told []
 told-none None = refl
@@ -29,7 +26,7 @@ front-behind : (first mid last : Option (List ℕ)) (xs ys : List ℕ) → mid �
 front-behind first mid last xs ys is (n, few, takes) = (
   length xs + n,
   (let l = length-append xs ys in omega (arith, l, few)),
-  takes ∙ ap (λ t. told_then t (take n ys)) is ∙ told-append first xs (take n ys) ∙ ap (told_then first) (sym (take-behind xs ys n)),
+  takes ∙ ap (λ t. told_then t (take n ys)) is ∙ told_then-append first xs (take n ys) ∙ ap (told_then first) (sym (take-behind xs ys n)),
 )
 
 whole-front : (first mid : Option (List ℕ)) (xs : List ℕ) → mid ≡ told_then first xs → TakesFront first mid xs
@@ -63,7 +60,7 @@ pub written-on : (first mid last : Option (List ℕ)) (b f g : ℕ) (lines more 
     → WritesLine lines 0 (sank first mid b f) → WritesLine more status (sank mid last f g) → WritesLine (lines ++ more) status (sank first last b g)
 written-on first mid last b f g lines more status low never so_far (inl (s, is)) =
     (let here = all-written first mid b f lines so_far in
-    inl (s, is ∙ ap (λ t. told_then t more) here ∙ told-append first lines more))
+    inl (s, is ∙ ap (λ t. told_then t more) here ∙ told_then-append first lines more))
 written-on first mid last b f g lines more status low never so_far (inr (inl (ne, s, rose, front))) =
     (let here = all-written first mid b f lines so_far in
     inr (inl (not-empty lines more ne, s, rose-since b f g low never rose, front-behind first mid last lines more here front)))

@@ -9,7 +9,7 @@ use Rattle.std.proofs.lemmas.Bool.Decides.{nat_tests}
 use Rattle.std.proofs.lemmas.List.{append-nil}
 use Rattle.std.proofs.lemmas.List.Sums.{sum_by-cons}
 use Rattle.std.proofs.lemmas.Iterator.Adapters.{position_from-zero}
-use Rattle.std.proofs.Common.{zero-add, add-zero}
+use Rattle.std.proofs.Common.{zero-add}
 use Rattle.code_points.specs.Profile.{plain_profile}
 use Rattle.hail_codes.specs.Profiles.{Profile as PlainProfile, profile_of}
 use Rattle.hail_columns.specs.Challenges.{challenge_of, honest_answer}
@@ -61,7 +61,7 @@ use Rattle.vault.proofs.Allowed.{IsAllowed, next_allowed}
 use Rattle.vault.proofs.Asks.{Rising, IsRound, rounds_rise, each_round, each_middle, each_both, sizes_found, contains_each, few_rounds, enough_answers, sums_within, as_files, behind_last, IsAnAsk}
 use Rattle.vault.proofs.AskStep.{IsNext, IsPut, next_round, audit_kept, audit_judged, zero_all}
 use Rattle.vault.proofs.Fetched.{after}
-use Rattle.vault.proofs.JobPlaces.{place_is, put_back}
+use Rattle.vault.proofs.JobPlaces.{place_is, put_back, one_further, from_zero}
 use Rattle.vault.proofs.Ways.{happens_by, setup_same, actions_same, handed_on, stands_on, entry_kept, same_beyond, at_place, working}
 
 -- ---- the length of a file among those of a job
@@ -71,20 +71,12 @@ abbrev at_id : List PinnedValue → ℕ → Option ℕ
 at_id [] k = None
 at_id (f ∷ fs) k = cond (f.id == k) (Some 0) (option_map suc (at_id fs k))
 
-one_further : (i : ℕ) (o : Option ℕ) → option_map (λ p. p + (i + 1)) o ≡ option_map (λ p. p + i) (option_map suc o)
-one_further i None = refl
-one_further i (Some q) = (let e : q + (i + 1) ≡ suc q + i = omega arith in ap Some e)
-
 from_is : (fs : List PinnedValue) (k i : ℕ) → position_from (λ (f : PinnedValue). f.id == k) i fs ≡ option_map (λ p. p + i) (at_id fs k)
 from_is [] k i = refl
 from_is (f ∷ fs) k i = elim (f.id == k) as (λ b. cond b (Some i) (position_from (λ (x : PinnedValue). x.id == k) (i + 1) fs) ≡ option_map (λ p. p + i) (cond b (Some 0) (option_map suc (at_id fs k)))) [
   | true ↦ ap Some (sym (zero-add i))
   | false ↦ from_is fs k (i + 1) ∙ one_further i (at_id fs k)
 ]
-
-from_zero : (o : Option ℕ) → option_map (λ p. p + 0) o ≡ o
-from_zero None = refl
-from_zero (Some q) = ap Some (add-zero q)
 
 -- the length of the file of a number, by recursion
 abbrev size_at : List PinnedValue → ℕ → Option ℕ

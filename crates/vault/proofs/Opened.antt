@@ -1,5 +1,5 @@
 -- A vault that was just opened, and why none was.
-use Rattle.std.proofs.Common.{◌≡◌, ◌≢◌, inl, inr, ℕ, ◌<◌, ◌≤◌, ◌&&◌, List, [], ◌∷◌, ◌++◌, length, take, drop, Option, Some, None, refl, sym, ap, ◌∙◌, subst, arith, append_assoc, take-append-drop, length-take}
+use Rattle.std.proofs.Common.{◌≡◌, ◌≢◌, inl, inr, ℕ, ◌<◌, ◌≤◌, ◌&&◌, List, [], ◌∷◌, ◌++◌, length, Option, Some, None, refl, sym, ap, ◌∙◌, subst, arith, length-take}
 use Rattle.std.specs.Prelude.{IfSome, IsTrue}
 use Rattle.std.specs.Option.{option_map}
 use Rattle.hail_devices.specs.Cells.{Cells, reads}
@@ -30,21 +30,7 @@ use Rattle.vault.specs.Stands.{Stands, Carries}
 use Rattle.hail_openings.specs.Opened.{IsJustOpened}
 use Rattle.vault.specs.Folding.{IsFolded, IsFoldFault}
 use Rattle.vault.specs.Fresh.{IsFreshVault, IsFreshFault}
-
--- bytes whose front stands for records stand for them
-pub stands-front : (n : ℕ) (bytes : List ℕ) (rs : List Record) → StandsFor (take n bytes) rs → StandsFor bytes rs
-stands-front n bytes rs is = record {
-  in_grammar = is.in_grammar;
-  gate = is.gate;
-  rest = is.rest ++ drop n bytes;
-  closed = is.closed;
-  bytes_are = sym (take-append-drop n bytes) ∙ ap (λ (l : List ℕ). l ++ drop n bytes) is.bytes_are ∙ append_assoc (before_gate rs) (is.gate ∷ is.rest) (drop n bytes);
-}
-
--- a text has nine bytes at least
-pub least_size : (rs : List Record) → 9 ≤ text_size rs
-least_size [] = omega arith
-least_size (r ∷ rs) = (let l = least_size rs in omega (arith, l))
+use Rattle.vault.proofs.Texts.{stands-front}
 
 -- these bytes were looked at, of a disk that tells what it holds
 abbrev pub IsLookedAt : Option Cells → List ℕ → Type 0

@@ -16,8 +16,9 @@ use Rattle.hail_openings.specs.Journals.{journal_read, IsResynced, MayBeLeft}
 use Rattle.vault.specs.Causes.{IsInitFault}
 use Rattle.vault.specs.Preparing.{IsBlank, IsReadied, IsHalfReady, emptied, IsTextFault}
 use Rattle.vault.proofs.Readings.{reads-synced}
-use Rattle.vault.proofs.Opened.{IsLookedAt, stands-front}
+use Rattle.vault.proofs.Opened.{IsLookedAt}
 use Rattle.vault.proofs.Emptied.{emptied-is, resynced-image, text-blank}
+use Rattle.vault.proofs.Texts.{stands-front}
 
 abbrev IsShort : Cells → Type 0
 IsShort cells = length (reads cells) ≤ 9
