@@ -11,7 +11,6 @@ use Rattle.journal_core.proofs.Meanings.{one_meaning}
 use Rattle.sound_states.specs.Sound.{IsSound}
 use Rattle.sound_states.proofs.Events.{events-sound}
 use Rattle.hail_openings.specs.Journals.{journal_read}
-
 use Rattle.vault.proofs.Emptied.{image-firm}
 use Rattle.vault.proofs.Texts.{stands-front, short-none}
 

@@ -21,7 +21,6 @@ use Rattle.hail_replay.specs.Starts.{AreLeft, called_behind}
 use Rattle.hail_replay.specs.Performed.{outcome_in, heard_in_came, AreMomentsOf, Performs}
 use Rattle.hail_replay.specs.Replayed.{CarriesOn}
 use Rattle.hail_replay.specs.UnderWay.{HasCome, HasDone, HasRun, HasCounted}
-
 use Rattle.hail_replay.proofs.Wrote.{sank, written-on}
 use Rattle.hail_client.proofs.Standing.{devices-of}
 

@@ -33,7 +33,6 @@ use Rattle.vault.specs.Causes.{IsInitFault, IsNoWrite}
 use Rattle.vault.specs.Inits.{MayInit, MakesInit}
 use Rattle.vault.specs.Faults.{init_answer}
 use Rattle.vault.specs.Preparing.{IsBlank, IsReadied, IsHalfReady}
-
 use Rattle.vault.proofs.Emptied.{image-firm}
 use Rattle.vault.proofs.Texts.{stands-front, stands-take, short-none}
 use Rattle.hail_devices.proofs.PickLaws.{IsImage-reads}

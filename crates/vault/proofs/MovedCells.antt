@@ -24,7 +24,6 @@ use Rattle.vault.specs.Devices.{devices}
 use Rattle.vault.specs.Running.{IsStopped}
 use Rattle.vault.specs.Seen.{entry_of, closed_gate_of}
 use Rattle.vault.specs.Stands.{Stands, Comes}
-
 use Rattle.vault.proofs.LaterMoves.{next, held, mine, made_so_far, entry_is}
 use Rattle.vault.proofs.Texts.{size-before}
 
