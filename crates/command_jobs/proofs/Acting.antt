@@ -16,7 +16,8 @@ use Rattle.hail_machine.proofs.JobLists.{cond_true, cond_false, same_value}
 use Rattle.sound_states.specs.Orders.{moves_before}
 use Rattle.sound_states.proofs.Given.{holder}
 use Rattle.sound_states.proofs.Records.{some-none}
-use Rattle.lone_laws.specs.Walked.{IsOpened, Walked}
+use Rattle.hail_openings.specs.Opened.{IsOpenAtRest}
+use Rattle.lone_laws.specs.Walked.{Walked}
 use Rattle.lone_laws.proofs.Walk.{found}
 use Rattle.vault.specs.Devices.{records_in_flight}
 
@@ -105,7 +106,7 @@ acts-grow w job action new free h = moves-grow w job action w.append new refl fr
 
 -- ---- the only job
 
-module _ (start : State) (O : IsOpened start) (kind : Kind) (w : State) (job : Job) (W : Walked start kind w job) where
+module _ (start : State) (O : IsOpenAtRest start 1) (kind : Kind) (w : State) (job : Job) (W : Walked start kind w job) where
   -- with an append in flight the next action is a later move of it
   in-flight : (a : Append) (action : Action) → w.append ≡ Some a → next_action w job ≡ Some action → 1 ≤ moves_before action
   in-flight a action flight next =

@@ -20,10 +20,9 @@ use Rattle.hail_commands.specs.Seen.{Seen, nobody}
 use Rattle.hail_commands.specs.Opens as opens
 use Rattle.hail_commands.specs.Opens.{setup_at}
 use Rattle.hail_commands.specs.Refusals as commands
-use Rattle.hail_commands.specs.JobRuns.{IsOpenedOver, GoesOnTo}
-use Rattle.hail_commands.specs.JobRuns as job_runs
+use Rattle.hail_openings.specs.Opened.{AreHanded, IsOpenedOver, IsOpenAtRest}
+use Rattle.hail_commands.specs.JobRuns.{GoesOnTo}
 use Rattle.hail_commands.specs.Jobs.{past, with_next, SameBehind, SamePast, RanAlone, RunsAlone, LeftAlone}
-use Rattle.lone_laws.specs.Walked.{IsOpened}
 use Rattle.lone_laws.proofs.Walk.{walk-begin}
 use Rattle.vault_core.specs.declared.wish.BeginFault.{BeginFault}
 use Rattle.vault_core.specs.declared.wish.BeginFault.TheVariants as begin_fault
@@ -33,7 +32,7 @@ use Rattle.vault.specs.declared.vault.Vault.{Vault}
 use Rattle.vault.specs.Devices.{Devices, devices}
 use Rattle.vault.specs.Outcomes.{answer_of}
 use Rattle.vault.specs.Stands.{Stands, MakesBegin}
-use Rattle.command_jobs.specs.Opened.{IsFresh}
+use Rattle.command_jobs.specs.Opened.{IsFreshOver}
 use Rattle.command_jobs.specs.Going.{IsOnly, IsUnderWay, GoesToEnd}
 use Rattle.command_jobs.specs.Ends.{IsSeenBefore, IsSeenAfter, IsRefusedOver, EndsOver}
 use Rattle.command_laws.proofs.BeginRefusals.{refusal-of}
@@ -83,9 +82,9 @@ record HasBegun (w : State) (moment : ℕ) (kind : Kind) (number : ℕ) (v : Vau
   spelled : IsSpelledKind kind
   first : number ≡ 1
   only : IsOnly w kind made.state
-  unrefused : commands.refusal_of w.records kind ≡ None
+  unrefused : commands.refusal_over w.records kind ≡ None
 
-has-begun : (w : State) (moment : ℕ) (kind : Kind) (number : ℕ) (old new : Vault) (d : Devices) → IsOpened w → Stands old d w → BeginsAs old kind number new → HasBegun w moment kind number new d
+has-begun : (w : State) (moment : ℕ) (kind : Kind) (number : ℕ) (old new : Vault) (d : Devices) → IsOpenAtRest w 1 → Stands old d w → BeginsAs old kind number new → HasBegun w moment kind number new d
 has-begun w moment kind number old new d O stands begins =
     (let M = begins w d moment stands in
     let s = spelled-begun w M.state moment kind number O.rest.idle.0 M.begins M.stands.core.sound in
@@ -100,11 +99,11 @@ has-begun w moment kind number old new d O stands begins =
 
 -- ---- over a vault that was just opened
 
-module _ (law : OpensAll) (there : ThereIsOne) (v : Vault) (records : List Record) (holds : Option Cells) (faults : ℕ) (F : IsFresh v records holds faults) where
+module _ (law : OpensAll) (there : ThereIsOne) (v : Vault) (records : List Record) (holds : Option Cells) (faults : ℕ) (F : IsFreshOver v records holds faults) where
   -- a state that was just opened, for which the vault stands
   record Opened (providers : List Provider) (w : State) : Type 0 where
     over : IsOpenedOver w records faults providers
-    opened : IsOpened w
+    opened : IsOpenAtRest w 1
     stands : Stands v (devices holds faults providers) w
 
   opened-at : (providers : List Provider) (w : State) → (setup_at records).n ≤ length providers → IsOpenedOver w records faults providers → Opened providers w
@@ -141,7 +140,7 @@ module _ (law : OpensAll) (there : ThereIsOne) (v : Vault) (records : List Recor
       let O = x.1.opened in
       let M = refuses x.0 (devices holds faults ps) 1 x.1.stands in
       elim M.begins.1 [
-        | inl e ↦ inr (subst (λ rs. commands.refusal_of rs kind ≡ Some (refusal_of why)) x.1.over.records (sym (refusal-of x.0 kind O.rest.idle.0 O.rest.idle.2) ∙ e))
+        | inl e ↦ inr (subst (λ rs. commands.refusal_over rs kind ≡ Some (refusal_of why)) x.1.over.records (sym (refusal-of x.0 kind O.rest.idle.0 O.rest.idle.2) ∙ e))
         | inr e ↦ inl (memory-is why e)
       ])
 
@@ -167,7 +166,7 @@ module _ (law : OpensAll) (there : ThereIsOne) (v : Vault) (records : List Recor
           };
           images = subst (λ told. StandsForState told G.last) (sym A.disk) G.stands.devices.images;
           faults_are = G.stands.devices.faults ∙ sym A.faults;
-          handed = subst (λ (ps : List Provider). job_runs.AreHanded ps G.last) (sym A.providers) (record { count = G.stands.devices.providers.count; each = G.stands.devices.providers.each });
+          handed = subst (λ (ps : List Provider). AreHanded ps G.last) (sym A.providers) G.stands.devices.providers;
           past_text = subst (λ told. SamePast kind (answer_of ended.answer) records G.last.records old.disk told) (sym A.disk)
               (past-before kind (answer_of ended.answer) records G.last.records old.disk holds new_holds B.reads
               (subst (λ rs. SamePast kind (answer_of ended.answer) rs G.last.records holds new_holds) over.records G.past_text));
@@ -188,7 +187,7 @@ module _ (law : OpensAll) (there : ThereIsOne) (v : Vault) (records : List Recor
 
     pub ends-over : EndsOver records kind ended old new
     ends-over = record {
-      unrefused = subst (λ rs. commands.refusal_of rs kind ≡ None) begun-one.1.1 begun-one.1.0.unrefused;
+      unrefused = subst (λ rs. commands.refusal_over rs kind ≡ None) begun-one.1.1 begun-one.1.0.unrefused;
       runs = runs-alone;
       left = left-alone;
       counts = record {

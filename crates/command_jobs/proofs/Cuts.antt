@@ -21,7 +21,8 @@ use Rattle.sound_states.proofs.Events.{moves-next}
 use Rattle.sound_states.proofs.Given.{holder}
 use Rattle.sound_states.proofs.Orders.{appends-order}
 use Rattle.sound_states.proofs.Written.{body-left, small-sums}
-use Rattle.lone_laws.specs.Walked.{IsOpened, first_record, IsSecondRecord, Walked}
+use Rattle.hail_openings.specs.Opened.{IsOpenAtRest}
+use Rattle.lone_laws.specs.Walked.{first_record, IsSecondRecord, Walked}
 use Rattle.lone_laws.proofs.Walk.{found, runs, Wrote, wrote}
 use Rattle.vault_core.specs.Carried.{IsWriting}
 use Rattle.vault_core.specs.Coming.{is_move}
@@ -56,7 +57,7 @@ acts-memory w job (Store j object stripe) new (p, call, is) = (ap (λ (v : State
 acts-memory w job End new (ends, is) = (ap (λ (v : State). v.records) is, inl (refl, ap (λ (v : State). v.append) is))
 acts-memory w job action new h = moves-memory w job action w.append new h
 
-module _ (start : State) (O : IsOpened start) (kind : Kind) (w : State) (job : Job) (W : Walked start kind w job) where
+module _ (start : State) (O : IsOpenAtRest start 1) (kind : Kind) (w : State) (job : Job) (W : Walked start kind w job) where
   pub fault-records : (moment : ℕ) (new : State) → Happens 8 moment w (Step 1) (Ended answer.DiskFault) new → new.records ≡ w.records
   fault-records moment new h = (let a = step-makes start O kind w job W (Ended answer.DiskFault) new h in acts-fault w job a.0 new a.2)
 

@@ -9,22 +9,20 @@ use Rattle.hail_machine.specs.States.{State, setup_in}
 use Rattle.hail_commands.specs.Seen.{Seen, nobody}
 use Rattle.hail_commands.specs.Opens as opens
 use Rattle.hail_commands.specs.Opens.{setup_at}
-use Rattle.hail_commands.specs.JobRuns.{IsOpenedOver}
+use Rattle.hail_openings.specs.Journals.{IsRead}
+use Rattle.hail_openings.specs.Opened.{IsOpenedOver, IsOpenAtRest, IsJustOpened}
 use Rattle.record_codec.specs.Entries.{with_master}
-use Rattle.lone_laws.specs.Walked.{IsOpened}
 use Rattle.vault_table.specs.Values.{IsFoldOf}
 use Rattle.vault.specs.declared.vault.Vault.{Vault}
 use Rattle.vault.specs.Devices.{Devices, devices}
-use Rattle.vault.specs.Openings as opening
 use Rattle.vault.specs.Seen.{setup_of, master_of, table_of, next_job_of, provider_count}
 use Rattle.vault.specs.Stands.{Stands}
-use Rattle.vault.specs.Starts.{IsJustOpened}
-use Rattle.command_jobs.specs.Opened.{AreRecords, IsFresh}
+use Rattle.command_jobs.specs.Opened.{AreRecords, IsFreshOver}
 use Rattle.command_jobs.proofs.Readings.{read-records}
 
 -- what the laws on commands say of opened states
 abbrev pub OpensAll : Type 0
-OpensAll = (w : State) (old : Seen) (records : List Record) (faults : ℕ) → opens.IsOpened old records → IsOpenedOver w records faults old.providers → IsOpened w
+OpensAll = (w : State) (old : Seen) (records : List Record) (faults : ℕ) → opens.IsOpened old records → IsOpenedOver w records faults old.providers → IsOpenAtRest w 1
 
 abbrev pub ThereIsOne : Type 0
 ThereIsOne = (records : List Record) (faults : ℕ) (providers : List Provider) → AreAccepted records → (w : State) × IsOpenedOver w records faults providers
@@ -33,18 +31,16 @@ ThereIsOne = (records : List Record) (faults : ℕ) (providers : List Provider) 
 abbrev seen_of : List Provider → Seen
 seen_of providers = record { disk = None; disk_faults = 0; providers = providers; source = None; source_faults = 0; sink = None; sink_faults = 0 }
 
-pub over-opened : OpensAll → (w : State) (records : List Record) (faults : ℕ) (providers : List Provider) → AreRecords records → (setup_at records).n ≤ length providers → IsOpenedOver w records faults providers → IsOpened w
+pub over-opened : OpensAll → (w : State) (records : List Record) (faults : ℕ) (providers : List Provider) → AreRecords records → (setup_at records).n ≤ length providers → IsOpenedOver w records faults providers → IsOpenAtRest w 1
 over-opened law w records faults providers R enough over =
     law w (seen_of providers) records faults (record { read = record { some = R.some; in_grammar = R.in_grammar; accepted = R.accepted; room = R.room; reads_are = tt }; enough = enough }) over
 
-pub just-opened : (w : State) (records : List Record) (faults : ℕ) (providers : List Provider) → IsOpened w → IsOpenedOver w records faults providers → IsJustOpened w records 1 faults providers
+pub just-opened : (w : State) (records : List Record) (faults : ℕ) (providers : List Provider) → IsOpenAtRest w 1 → IsOpenedOver w records faults providers → IsJustOpened w records 1 faults providers
 just-opened w records faults providers O over = record {
-  at_rest = O.rest;
-  is_open = O.opened;
+  at_rest = O;
   records = over.records;
-  next_job = over.next_job;
   faults_are = over.faults_are;
-  handed = record { count = over.handed.count; each = over.handed.each };
+  handed = over.handed;
 }
 
 -- the setup of a vault that was just opened
@@ -53,8 +49,8 @@ fresh-setup : (v : Vault) (records : List Record) (holds : Option Cells) (faults
 unfolding setup_in
 fresh-setup v records holds faults w providers e S = (sym S.setup ∙ ap setup_at e, subst (λ rs. IsFoldOf rs (table_of v)) e S.core.table)
 
-pub fresh-vault : OpensAll → ThereIsOne → (v : Vault) (records : List Record) (told holds : Option Cells) (faults : ℕ) → opening.IsRead told records →
-    ((w : State) (providers : List Provider) → IsJustOpened w records 1 faults providers → Stands v (devices holds faults providers) w) → next_job_of v ≡ 1 → IsFresh v records holds faults
+pub fresh-vault : OpensAll → ThereIsOne → (v : Vault) (records : List Record) (told holds : Option Cells) (faults : ℕ) → IsRead told records →
+    ((w : State) (providers : List Provider) → IsJustOpened w records 1 faults providers → Stands v (devices holds faults providers) w) → next_job_of v ≡ 1 → IsFreshOver v records holds faults
 fresh-vault law there v records told holds faults r stands first =
     (let ps : List Provider = replicate (setup_at records).n nobody in
     let few : (setup_at records).n ≤ length ps = (let e = length-replicate (setup_at records).n nobody in omega (arith, e)) in

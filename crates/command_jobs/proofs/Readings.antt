@@ -6,37 +6,25 @@ use Rattle.std.specs.Option.{option_map}
 use Rattle.hail_devices.specs.Cells.{Cells, reads}
 use Rattle.hail_devices.specs.Told.{Goes}
 use Rattle.hail_records.specs.Records.{Record}
-use Rattle.hail_commands.specs.Openings as commands
+use Rattle.hail_openings.specs.Journals.{journal_read, IsRead, IsResynced}
 use Rattle.journal_core.proofs.CellLemmas.{reads-firm}
 use Rattle.vault.specs.declared.fault.StartFault.{StartFault}
 use Rattle.vault.specs.declared.fault.StartFault.TheVariants as start_fault
-use Rattle.vault.specs.Openings as opening
+use Rattle.vault.specs.Causes.{IsStartFault}
 use Rattle.command_jobs.specs.Opened.{AreRecords, unopened_of, IsUnopened}
 
-pub read-seen : (told : Option Cells) (rs : List Record) → opening.IsRead told rs → commands.IsRead told rs
-read-seen told rs r = record { some = r.some; in_grammar = r.in_grammar; accepted = r.accepted; room = r.room; reads_are = r.reads_are }
-
-pub read-records : (told : Option Cells) (rs : List Record) → opening.IsRead told rs → AreRecords rs
+pub read-records : (told : Option Cells) (rs : List Record) → IsRead told rs → AreRecords rs
 read-records told rs r = record { some = r.some; in_grammar = r.in_grammar; accepted = r.accepted; room = r.room }
 
-stops-seen : (bytes : List ℕ) (rs : List Record) (at : ℕ) → opening.StopsBehind bytes rs at → commands.StopsBehind bytes rs at
-stops-seen bytes rs at (inl h) = inl h
-stops-seen bytes rs at (inr (inl h)) = inr (inl h)
-stops-seen bytes rs at (inr (inr h)) = inr (inr (record { entry = h.entry; rest = h.rest; in_grammar = h.in_grammar; bytes_are = h.bytes_are; refused_is = h.refused_is; place = h.place }))
-
-bad-seen : (bytes : List ℕ) (at : ℕ) → opening.IsBadStart bytes at → commands.IsBadStart bytes at
-bad-seen bytes at (inl h) = inl h
-bad-seen bytes at (inr (rs, accepted, stops)) = inr (rs, accepted, stops-seen bytes rs at stops)
-
-pub fault-seen : (told : Option Cells) (handed : ℕ) (why : StartFault) → IfSome told (λ cells. opening.IsStartFault (opening.journal_read cells) why) → IsUnopened told handed (unopened_of why)
+pub fault-seen : (told : Option Cells) (handed : ℕ) (why : StartFault) → IfSome told (λ cells. IsStartFault (journal_read cells) why) → IsUnopened told handed (unopened_of why)
 fault-seen told handed start_fault.DiskFault h = tt
 fault-seen None handed start_fault.NotSetUp h = tt
 fault-seen (Some cells) handed start_fault.NotSetUp h = h
 fault-seen None handed (start_fault.BadJournal at) h = tt
-fault-seen (Some cells) handed (start_fault.BadJournal at) h = (h.0, bad-seen (opening.journal_read cells) at h.1)
+fault-seen (Some cells) handed (start_fault.BadJournal at) h = h
 fault-seen told handed start_fault.Memory h = tt
 
-pub reads-resynced : (old new : Option Cells) → Goes opening.IsResynced old new → option_map reads new ≡ option_map reads old
+pub reads-resynced : (old new : Option Cells) → Goes IsResynced old new → option_map reads new ≡ option_map reads old
 reads-resynced None None h = refl
 reads-resynced None (Some new) h = absurd h
 reads-resynced (Some old) None h = absurd h

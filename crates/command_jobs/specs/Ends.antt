@@ -34,7 +34,7 @@ pub record IsSeenAfter (seen : Seen) (d : Devices) : Type 0 where
 
 -- the begin is refused with its cause, or found no memory
 abbrev pub IsRefusedOver : List Record → Kind → BeginFault → Type 0
-IsRefusedOver records kind why = (why ≡ begin_fault.Memory) ⊎ (commands.refusal_of records kind ≡ Some (refusal_of why))
+IsRefusedOver records kind why = (why ≡ begin_fault.Memory) ⊎ (commands.refusal_over records kind ≡ Some (refusal_of why))
 
 -- no count of faults of the disk or of a provider fell
 pub record NoFaultUndone (old new : Seen) : Type 0 where
@@ -45,7 +45,7 @@ pub record NoFaultUndone (old new : Seen) : Type 0 where
 
 -- the job was not refused, and ran to this end
 pub record EndsOver (records : List Record) (kind : Kind) (ended : Ended) (old new : Seen) : Type 0 where
-  pub unrefused : commands.refusal_of records kind ≡ None
+  pub unrefused : commands.refusal_over records kind ≡ None
   pub runs : RunsAlone records kind (answer_of ended.answer) old new ended.heard
   pub left : LeftAlone records kind (answer_of ended.answer) old new ended.heard
   pub counts : NoFaultUndone old new

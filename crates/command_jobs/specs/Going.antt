@@ -10,7 +10,8 @@ use Rattle.hail_machine.specs.Jobs.{Kind, Job}
 use Rattle.hail_machine.specs.States.{State}
 use Rattle.hail_commands.specs.JobRuns.{GoesOnTo}
 use Rattle.hail_commands.specs.Jobs.{SamePast}
-use Rattle.lone_laws.specs.Walked.{IsOpened, Walked}
+use Rattle.hail_openings.specs.Opened.{IsOpenAtRest}
+use Rattle.lone_laws.specs.Walked.{Walked}
 use Rattle.vault.specs.declared.turn.Ended.{Ended}
 use Rattle.vault.specs.declared.vault.Vault.{Vault}
 use Rattle.vault.specs.Devices.{Devices}
@@ -19,7 +20,7 @@ use Rattle.vault.specs.Stands.{Stands}
 
 -- the only job of a state, since it began in another one
 pub record IsOnly (start : State) (kind : Kind) (w : State) : Type 0 where
-  pub opened : IsOpened start
+  pub opened : IsOpenAtRest start 1
   pub job : Job
   pub walked : Walked start kind w job
 

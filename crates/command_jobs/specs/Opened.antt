@@ -2,9 +2,9 @@
 --
 --   AreRecords records        == records that a start reads: there is one, the journal may hold them, and each may follow those before it
 --   IsReadFor told records handed  == the disk, where it tells, reads these records, and enough providers are handed in
---   IsFresh v records holds faults == a vault that was just opened over these records and this disk: it stands for each state that was,
+--   IsFreshOver v records holds faults == a vault that was just opened over these records and this disk: it stands for each state that was,
 --                                     whatever providers are handed in
---   IsReady v holds faults handed  == the same over some records, with enough providers
+--   IsFreshFor v holds faults handed  == the same over some records, with enough providers
 --   unopened_of fault         == why no vault is opened, where a start gave this fault
 --   IsUnopened told handed why     == the cause for which no vault is opened
 use Rattle.std.specs.Prelude.{◌≡◌, ◌≢◌, ℕ, ◌<◌, ◌≤◌, IsTrue, IfSome, List, [], length, Option}
@@ -16,7 +16,7 @@ use Rattle.hail_records.specs.Journal.{text_size}
 use Rattle.hail_records.specs.Acceptance.{AreAccepted}
 use Rattle.hail_records.specs.Reading.{IsNotSetUp}
 use Rattle.hail_machine.specs.States.{State}
-use Rattle.hail_commands.specs.Openings.{journal_read, IsRead, IsBadStart}
+use Rattle.hail_openings.specs.Journals.{journal_read, IsRead, IsBadStart}
 use Rattle.hail_commands.specs.Opens.{setup_at}
 use Rattle.vault_table.specs.Values.{IsFoldOf}
 use Rattle.vault.specs.declared.fault.StartFault.{StartFault}
@@ -25,7 +25,7 @@ use Rattle.vault.specs.declared.vault.Vault.{Vault}
 use Rattle.vault.specs.Devices.{devices}
 use Rattle.vault.specs.Seen.{setup_of, table_of, next_job_of, provider_count}
 use Rattle.vault.specs.Stands.{Stands}
-use Rattle.vault.specs.Starts.{IsJustOpened}
+use Rattle.hail_openings.specs.Opened.{IsJustOpened}
 use Rattle.command_jobs.specs.declared.open.Unopened.{Unopened}
 use Rattle.command_jobs.specs.declared.open.Unopened.TheVariants as unopened
 
@@ -42,7 +42,7 @@ pub record IsReadFor (told : Option Cells) (records : List Record) (handed : ℕ
   pub enough : (setup_at records).n ≤ handed
 
 -- a vault that was just opened over these records and this disk
-pub record IsFresh (v : Vault) (records : List Record) (holds : Option Cells) (faults : ℕ) : Type 0 where
+pub record IsFreshOver (v : Vault) (records : List Record) (holds : Option Cells) (faults : ℕ) : Type 0 where
   pub read : AreRecords records
   pub stands : (w : State) (providers : List Provider) → IsJustOpened w records 1 faults providers → Stands v (devices holds faults providers) w
   pub providers : provider_count v ≡ (setup_at records).n
@@ -51,9 +51,9 @@ pub record IsFresh (v : Vault) (records : List Record) (holds : Option Cells) (f
   pub next_job : next_job_of v ≡ 1
 
 -- a vault that was just opened over this disk, with enough providers
-pub record IsReady (v : Vault) (holds : Option Cells) (faults handed : ℕ) : Type 0 where
+pub record IsFreshFor (v : Vault) (holds : Option Cells) (faults handed : ℕ) : Type 0 where
   pub records : List Record
-  pub fresh : IsFresh v records holds faults
+  pub fresh : IsFreshOver v records holds faults
   pub enough : (setup_at records).n ≤ handed
 
 -- why no vault is opened, where a start gave this fault

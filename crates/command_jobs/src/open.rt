@@ -5,9 +5,9 @@ ghost use Rattle.hail_devices.specs.Disks.{synced};
 ghost use Rattle.hail_devices.specs.Faults.{HasCause};
 ghost use Rattle.hail_devices.specs.Told.{Goes};
 ghost use Rattle.hail_records.specs.Records.{Record};
-ghost use Rattle.hail_commands.specs.Seen.{IsResynced};
+ghost use Rattle.hail_openings.specs.Journals.{IsResynced};
 ghost use Rattle.command_jobs.specs.declared.open.Unopened.TheVariants as unopened;
-ghost use Rattle.command_jobs.specs.Opened.{IsFresh, IsReadFor, IsReady, IsUnopened, unopened_of};
+ghost use Rattle.command_jobs.specs.Opened.{IsFreshOver, IsReadFor, IsFreshFor, IsUnopened, unopened_of};
 
 use command_laws::alone::opened_states;
 use disk_model::Disk;
@@ -48,8 +48,8 @@ impl From<StartFault> for Unopened {
 /// Opens the vault over what a disk reads, where so many providers are handed in.
 pub fn open_vault<D: Disk>(alloc: Global, disk: &mut D, handed: usize) -> Result<Vault, Unopened>
     ensures opened { IfOk result (λ vault. (records : List Record) × IsReadFor (D.holds disk.old) records handed
-        × IsFresh vault records (D.holds disk.new) (D.faults disk.new)) }
-    ensures ready { IfOk result (λ vault. IsReady vault (D.holds disk.new) (D.faults disk.new) handed) }
+        × IsFreshOver vault records (D.holds disk.new) (D.faults disk.new)) }
+    ensures ready { IfOk result (λ vault. IsFreshFor vault (D.holds disk.new) (D.faults disk.new) handed) }
     ensures refused { IfErr result (IsUnopened (D.holds disk.old) handed) }
     ensures reads { option_map reads (D.holds disk.new) ≡ option_map reads (D.holds disk.old) }
     ensures disk { Goes IsResynced (D.holds disk.old) (D.holds disk.new) }

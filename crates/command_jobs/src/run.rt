@@ -8,7 +8,7 @@ ghost use Rattle.vault.specs.Devices.{Devices, as_seen, devices};
 ghost use Rattle.vault.specs.Outcomes.{HasPaddedCounts};
 ghost use Rattle.vault.specs.Seen.{next_job_of};
 ghost use Rattle.vault.specs.Stands.{Stands, MakesBegin};
-ghost use Rattle.command_jobs.specs.Opened.{IsFresh, IsReady};
+ghost use Rattle.command_jobs.specs.Opened.{IsFreshOver, IsFreshFor};
 ghost use Rattle.command_jobs.specs.Kinds.{kind_of};
 ghost use Rattle.command_jobs.specs.Going.{IsOnly, IsUnderWay, GoesToEnd};
 ghost use Rattle.command_jobs.specs.Ends.{IsSeenBefore, IsSeenAfter, IsRefusedOver, EndsOver};
@@ -27,15 +27,15 @@ pub fn run_job<D: Disk, P: Provider>(
     disk: &mut D,
     providers: &mut [P],
 ) -> Result<Ended, BeginFault>
-    requires ready { IsReady vault (D.holds disk.old) (D.faults disk.old) (length providers.old) }
+    requires ready { IsFreshFor vault (D.holds disk.old) (D.faults disk.old) (length providers.old) }
     ensures ended { IfOk result (λ ended. (records : List Record) (old new : Seen)
-        → IsFresh vault records (D.holds disk.old) (D.faults disk.old) → opens.IsOpened old records
+        → IsFreshOver vault records (D.holds disk.old) (D.faults disk.old) → opens.IsOpened old records
         → IsSeenBefore old (devices (D.holds disk.old) (D.faults disk.old) (map (as_seen P.held P.store_faults P.other_faults P.fetches) providers.old))
         → IsSeenAfter new (devices (D.holds disk.new) (D.faults disk.new) (map (as_seen P.held P.store_faults P.other_faults P.fetches) providers.new))
         → EndsOver records (kind_of job.entry) ended old new) }
     ensures padded { IfOk result (λ ended. HasPaddedCounts ended.answer) }
     ensures refused { IfErr result (λ why. (records : List Record)
-        → IsFresh vault records (D.holds disk.old) (D.faults disk.old) → IsRefusedOver records (kind_of job.entry) why) }
+        → IsFreshOver vault records (D.holds disk.old) (D.faults disk.old) → IsRefusedOver records (kind_of job.entry) why) }
     ensures tells { is_some (D.holds disk.new) ≡ is_some (D.holds disk.old) }
     ensures untouched { OnErr result ((disk.new ≡ disk.old) × (providers.new ≡ providers.old)) }
 {

@@ -11,9 +11,9 @@ use Rattle.hail_records.specs.Records.{Record, Setup, largest_journal}
 use Rattle.hail_records.specs.Journal.{StandsFor}
 use Rattle.hail_machine.specs.Jobs.{Kind, PutJob, GetJob, DropJob, AuditJob, RepairJob}
 use Rattle.hail_commands.specs.Forms.{Command, Numbers, RowOf, InitWith, PutUnder, GetOf, DropOf, ListAll, AuditAll, RepairDue}
-use Rattle.hail_commands.specs.Sinking.{Writes, Tells}
-use Rattle.hail_commands.specs.Seen.{Seen, Ending, IsRefused, IsResynced, sinking}
-use Rattle.hail_commands.specs.Openings.{IsRead}
+use Rattle.hail_commands.specs.Sinking.{WritesLine, TellsLine}
+use Rattle.hail_openings.specs.Journals.{IsResynced, IsRead}
+use Rattle.hail_commands.specs.Seen.{Seen, Ending, IsRefused, sinking}
 use Rattle.hail_commands.specs.Opens.{Unstarted, setup_at}
 use Rattle.hail_commands.specs.Inits.{setup_with, AnswersInit, InitsDisk}
 use Rattle.hail_commands.specs.Jobs.{AnswersJob}
@@ -83,12 +83,12 @@ no-end status (EndStatus.by_provider e) refuses = other-status status 13 e refl 
 no-end status (EndStatus.by_sink e) refuses = other-status status 15 e refl refuses
 no-end status (EndStatus.by_memory e) refuses = other-status status 70 e refl refuses
 
-no-text : (line : List ℕ) (old new : Seen) (end : Ending) → Writes line end.status (sinking old new) → is_refusal end.status ≡ true → ⊥
+no-text : (line : List ℕ) (old new : Seen) (end : Ending) → WritesLine line end.status (sinking old new) → is_refusal end.status ≡ true → ⊥
 no-text line old new end (inl w) refuses = other-status end.status 0 w.0 refl refuses
 no-text line old new end (inr (inl w)) refuses = other-status end.status 15 w.1 refl refuses
 no-text line old new end (inr (inr w)) refuses = other-status end.status 70 w.0 refl refuses
 
-no-tale : (line : List ℕ) (old new : Seen) (end : Ending) → Tells 4 line end.status (sinking old new) → is_refusal end.status ≡ true → ⊥
+no-tale : (line : List ℕ) (old new : Seen) (end : Ending) → TellsLine 4 line end.status (sinking old new) → is_refusal end.status ≡ true → ⊥
 no-tale line old new end (inl w) refuses = other-status end.status 4 w.0 refl refuses
 no-tale line old new end (inr (inl w)) refuses = other-status end.status 4 w.0 refl refuses
 no-tale line old new end (inr (inr w)) refuses = other-status end.status 70 w.0 refl refuses

@@ -13,7 +13,7 @@ use Rattle.hail_machine.specs.Answers as answer
 use Rattle.hail_machine.specs.Answers.{Answer}
 use Rattle.hail_machine.proofs.JobLists.{same_value}
 use Rattle.hail_commands.specs.Seen.{Seen, Ending, IsRefused}
-use Rattle.hail_commands.specs.Openings.{journal_read}
+use Rattle.hail_openings.specs.Journals.{journal_read}
 use Rattle.hail_commands.specs.Ran.{Ran}
 use Rattle.hail_commands.specs.Audits.{HearsRounds, CountsHeard, AuditIsCut, AuditGives}
 use Rattle.hail_commands.specs.Jobs.{AnswersJob, LeftAlone}

@@ -13,7 +13,8 @@ use Rattle.hail_machine.specs.Machine.{Happens}
 use Rattle.hail_machine.specs.Runs.{Moment}
 use Rattle.hail_machine.specs.States.{State, Append, setup_in, going_on, ended}
 use Rattle.hail_commands.specs.Forms.{AuditAll}
-use Rattle.hail_commands.specs.JobRuns.{AreHanded, AreSteps}
+use Rattle.hail_openings.specs.Opened.{AreHanded}
+use Rattle.hail_commands.specs.JobRuns.{AreSteps}
 use Rattle.hail_commands.specs.Jobs.{RanAlone, RunsAlone, AnswersJob}
 use Rattle.hail_commands.specs.Commands.{AnswersAlone, Answers}
 use Rattle.command_laws.specs.After.{IsSure}

@@ -37,7 +37,8 @@ use Rattle.sound_states.proofs.Given.{valid-shape}
 use Rattle.sound_states.proofs.Orders.{audit_rest, audit-list, audit-first, audit-later, appends_in, appends-cons, drop-get, next-listed}
 use Rattle.sound_states.proofs.Written.{setup-valid}
 use Rattle.lone_laws.specs.Made.{With, Made}
-use Rattle.lone_laws.specs.Walked.{IsOpened, RecordsAre, with_job_of, Walked}
+use Rattle.hail_openings.specs.Opened.{IsOpenAtRest}
+use Rattle.lone_laws.specs.Walked.{RecordsAre, with_job_of, Walked}
 use Rattle.lone_laws.proofs.Lists.{made-append, made-split, made-one}
 use Rattle.lone_laws.proofs.Walk.{Wrote, wrote, runs, left-start, opened-sound, first-body}
 use Rattle.command_laws.proofs.Runs.{Ends, job-ends}
@@ -93,7 +94,7 @@ rose-before a b c l m rose below = elim (cases_lt b last_count) [
   | inr more ↦ omega (arith, m, more, below)
 ]
 
-module _ (start : State) (O : IsOpened start) (w : State) (job : Job) (W : Walked start AuditJob w job) where
+module _ (start : State) (O : IsOpenAtRest start 1) (w : State) (job : Job) (W : Walked start AuditJob w job) where
   abbrev s : Setup
   s = setup_in start
 
@@ -362,7 +363,7 @@ module _ (start : State) (O : IsOpened start) (w : State) (job : Job) (W : Walke
 
 -- ---- all ends of an audit
 
-module _ (start new : State) (how : Answer) (heard : List Entry) (O : IsOpened start) (E : Ends start AuditJob how heard new) where
+module _ (start new : State) (how : Answer) (heard : List Entry) (O : IsOpenAtRest start 1) (E : Ends start AuditJob how heard new) where
   abbrev w : State
   w = E.before
 
@@ -502,7 +503,7 @@ module _ (start new : State) (how : Answer) (heard : List Entry) (O : IsOpened s
     fetches = λ j l. ap (λ (g : ℕ → Provider). (g j).fetches) gives.1 ∙ fetches-kept start O E.before E.job E.walked j;
   }
 
-pub audits-leave : (start new : State) (moment : ℕ) (how : Answer) (heard : List Entry) → IsOpened start → RunsJob start moment AuditJob how heard new → Leaves (ran_from start new heard) AuditJob how
+pub audits-leave : (start new : State) (moment : ℕ) (how : Answer) (heard : List Entry) → IsOpenAtRest start 1 → RunsJob start moment AuditJob how heard new → Leaves (ran_from start new heard) AuditJob how
 unfolding setup_in
 audits-leave start new moment how heard O r =
     (let E = job-ends start new moment AuditJob how heard O tt r in

@@ -22,7 +22,7 @@ module _ (w : State) where
   room-alone : (kind : Kind) → nat_lt largest_journal (text_size w.records + 0 + sum (append_sizes (setup_at w.records) kind)) ≡ nat_lt largest_journal (text_size w.records + sum (append_sizes (setup_at w.records) kind))
   room-alone kind = ap (λ n. nat_lt largest_journal (n + sum (append_sizes (setup_at w.records) kind))) (add-zero (text_size w.records))
 
-  refusal-alone : (kind : Kind) → begin_refusal 8 alone kind ≡ commands.refusal_of w.records kind
+  refusal-alone : (kind : Kind) → begin_refusal 8 alone kind ≡ commands.refusal_over w.records kind
   unfolding setup_in
   refusal-alone (PutJob name bytes) = ap (λ (b : Bool). first_refusal (
       record { applies = not (is_name name); refusal = refusal.BadName }
@@ -42,7 +42,7 @@ module _ (w : State) where
       ∷ record { applies = b || has_no_number w.records RepairJob; refusal = refusal.JournalFull } ∷ [])) (room-alone RepairJob)
 
   -- where no job runs, a begin is refused as a command's
-  pub refusal-of : (kind : Kind) → w.jobs ≡ [] → w.is_barred ≡ false → begin_refusal 8 w kind ≡ commands.refusal_of w.records kind
+  pub refusal-of : (kind : Kind) → w.jobs ≡ [] → w.is_barred ≡ false → begin_refusal 8 w kind ≡ commands.refusal_over w.records kind
   refusal-of kind none unbarred =
-      subst (λ (b : Bool). begin_refusal 8 (record w { jobs = w.jobs; is_barred = b }) kind ≡ commands.refusal_of w.records kind) (sym unbarred)
-      (subst (λ (js : List Job). begin_refusal 8 (record w { jobs = js; is_barred = false }) kind ≡ commands.refusal_of w.records kind) (sym none) (refusal-alone kind))
+      subst (λ (b : Bool). begin_refusal 8 (record w { jobs = w.jobs; is_barred = b }) kind ≡ commands.refusal_over w.records kind) (sym unbarred)
+      (subst (λ (js : List Job). begin_refusal 8 (record w { jobs = js; is_barred = false }) kind ≡ commands.refusal_over w.records kind) (sym none) (refusal-alone kind))

@@ -21,9 +21,9 @@ use Rattle.hail_machine.proofs.JobLists.{cond_true, cond_false}
 use Rattle.sound_states.specs.Sound.{IsSound}
 use Rattle.sound_states.proofs.Resting.{rest-sound}
 use Rattle.hail_commands.specs.Seen.{Seen}
-use Rattle.hail_commands.specs.JobRuns.{AreHanded}
+use Rattle.hail_openings.specs.Opened.{AreHanded}
 use Rattle.command_laws.specs.After.{IsSure}
-use Rattle.command_laws.specs.Pieces.{IsStore, IsCall, moment, IsReplaced, AreReplaced, IsLater, AreBetween, Call, last_seen, IsChain, AreCalls}
+use Rattle.command_laws.specs.Pieces.{IsStore, IsCall, moment, ReplacesHeld, AreReplaced, IsLater, AreBetween, Call, last_seen, IsChain, AreCalls}
 use Rattle.command_laws.proofs.Images.{image-firm}
 use Rattle.command_laws.proofs.Telling.{opened_state, state-over, over-opened}
 use Rattle.command_laws.proofs.GoingOn.{now-more, run-sound, settled, settled-by, command-on, each-more}
@@ -88,7 +88,7 @@ record Goes-so (w : State) (event : Event) (ps : List Provider) : Type 0 where
   happens : (n : ℕ) → Happens 8 n w event outcome (replaced_in w j q)
   handed : AreHanded ps (replaced_in w j q)
 
-one-goes : (w : State) (event : Event) (ps next : List Provider) → AreHanded ps w → IsReplaced event ps next → Goes-so w event next
+one-goes : (w : State) (event : Event) (ps next : List Provider) → AreHanded ps w → ReplacesHeld event ps next → Goes-so w event next
 one-goes w (Alter j object stripe place symbol) ps next H (p, q, below, at, (found, call), is) = record {
   j = j;
   q = q;

@@ -10,12 +10,12 @@ use Rattle.hail_machine.specs.Answers.{Answer}
 use Rattle.hail_machine.specs.Refusals as refusal
 use Rattle.hail_machine.specs.Refusals.{Refusal}
 use Rattle.hail_commands.specs.Forms.{Command, Numbers, RowOf, InitWith, PutUnder, GetOf, DropOf, ListAll, AuditAll, RepairDue}
-use Rattle.hail_commands.specs.Sinking.{Writes}
+use Rattle.hail_commands.specs.Sinking.{WritesLine}
 use Rattle.hail_commands.specs.Seen.{Seen, Ending, provider_at, sinking}
 use Rattle.hail_commands.specs.Opens.{Unstarted}
 use Rattle.hail_commands.specs.Refusals.{status_of}
 use Rattle.hail_commands.specs.Ran.{Ran}
-use Rattle.hail_commands.specs.Jobs.{AnswersJob, EndsBy, LeavesBy, LeftAlone}
+use Rattle.hail_commands.specs.Jobs.{AnswersJob, EndsByAnswer, LeavesBy, LeftAlone}
 use Rattle.hail_commands.specs.Inits.{AnswersInit, InitsDisk}
 use Rattle.hail_commands.specs.Commands.{AnswersPut, AnswersAlone, AnswersList, Answers}
 use Rattle.command_laws.specs.Ends.{FaultsHaveCauses, opens_store}
@@ -73,7 +73,7 @@ module _ (old new : Seen) (end : Ending) where
     sink = λ e. rose;
   }
 
-  written-causes : (text : List ℕ) → Writes text end.status (sinking old new) → FaultsHaveCauses old new end
+  written-causes : (text : List ℕ) → WritesLine text end.status (sinking old new) → FaultsHaveCauses old new end
   written-causes text (inl w) = none-rose 0 refl w.0
   written-causes text (inr (inl w)) = sink-rose w.1 w.2
   written-causes text (inr (inr w)) = none-rose 70 refl w.0
@@ -119,7 +119,7 @@ module _ (old new : Seen) (end : Ending) where
   provider-by x AuditJob j L = absurd L.gives
   provider-by x RepairJob j L = L.0.gives.2
 
-  ended-causes : (kind : Kind) (records : List Record) (text : List ℕ) (how : Answer) → LeftAlone records kind how old new end.heard → EndsBy text how old new end → FaultsHaveCauses old new end
+  ended-causes : (kind : Kind) (records : List Record) (text : List ℕ) (how : Answer) → LeftAlone records kind how old new end.heard → EndsByAnswer text how old new end → FaultsHaveCauses old new end
   ended-causes kind records text (answer.Lost stripe row) left by = none-rose 4 refl by.status_is
   ended-causes kind records text (answer.ProviderFault j) left by =
       provider-rose by.status_is (subst (λ k. Rose (provider_at old.providers k).store_faults (provider_at new.providers k).store_faults) (sym by.place)

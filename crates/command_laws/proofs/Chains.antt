@@ -18,17 +18,17 @@ use Rattle.hail_machine.proofs.RecordFacts.{same_name-refl}
 use Rattle.hail_commands.specs.Forms.{Numbers, AuditAll}
 use Rattle.hail_commands.specs.Keys.{IsKeyForm}
 use Rattle.hail_commands.specs.Seen.{Seen, Ending, provider_at}
-use Rattle.hail_commands.specs.Openings.{IsFree}
+use Rattle.hail_openings.specs.Journals.{IsFree}
 use Rattle.hail_commands.specs.Opens.{setup_at}
 use Rattle.hail_commands.specs.Lines.{ready_line, stored_line, audit_lines}
 use Rattle.hail_commands.specs.Audits.{audit_records}
 use Rattle.hail_commands.specs.Jobs.{IsTold}
 use Rattle.hail_commands.specs.Inits.{AnswersInit, setup_with}
-use Rattle.hail_commands.specs.Refusals.{refusal_of, takes_too_much}
+use Rattle.hail_commands.specs.Refusals.{refusal_over, takes_too_much}
 use Rattle.hail_commands.specs.Commands.{AnswersPut, AnswersAlone, Answers}
 use Rattle.sound_states.proofs.Records.{file-spelled}
-use Rattle.command_laws.specs.Ends.{IsDone, IsKnown, Gives, EndsWell, after_put, after_drop, after_audit, after_repair}
-use Rattle.command_laws.specs.After.{Follows, IsThen, HasFile, IsUntouched, IsSteady, spoilt_below, IsFaultless}
+use Rattle.command_laws.specs.Ends.{IsDone, IsKnown, GivesText, GivesUnlessMemory, after_put, after_drop, after_audit, after_repair}
+use Rattle.command_laws.specs.After.{Follows, IsThen, HasRightFile, IsUntouched, IsSteady, spoilt_below, IsFaultless}
 use Rattle.command_laws.specs.Opened.{IsKeyed}
 use Rattle.command_laws.proofs.Known.{known-once, known-always}
 use Rattle.command_laws.proofs.GetEnds.{seen-complete, seen-right}
@@ -41,17 +41,17 @@ use Rattle.command_laws.proofs.FilesKept.{reads-have, repair-has}
 
 -- ---- gets
 
-pub get-complete : (name bytes : List ℕ) (records : List Record) (spoilt : ℕ → Bool) (old new : Seen) (end : Ending) → AnswersAlone (GetJob name) old new end → IsKnown old records → HasFile old records name bytes spoilt →
-    IsSteady (setup_at records).n spoilt old new → spoilt_below (setup_at records).n spoilt ≤ (setup_at records).b → (Rose old.disk_faults new.disk_faults → ⊥) → (Rose old.sink_faults new.sink_faults → ⊥) → EndsWell bytes old new end
+pub get-complete : (name bytes : List ℕ) (records : List Record) (spoilt : ℕ → Bool) (old new : Seen) (end : Ending) → AnswersAlone (GetJob name) old new end → IsKnown old records → HasRightFile old records name bytes spoilt →
+    IsSteady (setup_at records).n spoilt old new → spoilt_below (setup_at records).n spoilt ≤ (setup_at records).b → (Rose old.disk_faults new.disk_faults → ⊥) → (Rose old.sink_faults new.sink_faults → ⊥) → GivesUnlessMemory bytes old new end
 get-complete name bytes records spoilt old new end A K H steady few disk sink =
     seen-complete name bytes records H.file old new end K H.in_effect H.are_bytes H.size A (let b = bad-few name bytes records spoilt old new H steady in omega (arith, b, few)) disk sink
 
-pub get-right : (name bytes : List ℕ) (records : List Record) (spoilt : ℕ → Bool) (old new : Seen) (end : Ending) → AnswersAlone (GetJob name) old new end → IsKnown old records → HasFile old records name bytes spoilt →
+pub get-right : (name bytes : List ℕ) (records : List Record) (spoilt : ℕ → Bool) (old new : Seen) (end : Ending) → AnswersAlone (GetJob name) old new end → IsKnown old records → HasRightFile old records name bytes spoilt →
     IsSteady (setup_at records).n spoilt old new → spoilt_below (setup_at records).n spoilt ≤ (setup_at records).b + 1 → end.status ≡ 0 → new.sink ≡ told_then old.sink bytes
 get-right name bytes records spoilt old new end A K H steady few zero =
     (seen-right name bytes records H.file old new end K H.in_effect H.are_bytes H.size A (let b = bad-few name bytes records spoilt old new H steady in omega (arith, b, few))).1 zero
 
-get-refused : (name : List ℕ) (records : List Record) → is_name name ≡ true → file_of records name ≡ None → refusal_of records (GetJob name) ≡ Some refusal.NoSuchName
+get-refused : (name : List ℕ) (records : List Record) → is_name name ≡ true → file_of records name ≡ None → refusal_over records (GetJob name) ≡ Some refusal.NoSuchName
 get-refused name records named none = (λ i. cond (not (named i)) (Some refusal.BadName) (cond (not (is_some (none i))) (Some refusal.NoSuchName) None))
 
 pub get-missing : (name : List ℕ) (records : List Record) (old new : Seen) (end : Ending) → AnswersAlone (GetJob name) old new end → IsKnown old records → is_name name ≡ true → file_of records name ≡ None →
@@ -65,7 +65,7 @@ get-missing name records old new end A K named none disk = elim (known-always (G
 
 pub put-get : (name bytes : List ℕ) (records : List Record) (spoilt : ℕ → Bool) (c d e f : Seen) (second last : Ending) → AnswersPut name c d second → AnswersAlone (GetJob name) e f last → Follows d e → IsKnown c records →
     c.source ≡ Some bytes → IsDone second → ((j : ℕ) → j < (setup_at records).n → spoilt j ≡ false → is_some (provider_at c.providers j).held ≡ true) → IsUntouched (setup_at records).n spoilt d e → IsSteady (setup_at records).n spoilt e f →
-    spoilt_below (setup_at records).n spoilt ≤ (setup_at records).b → (Rose e.disk_faults f.disk_faults → ⊥) → (Rose e.sink_faults f.sink_faults → ⊥) → EndsWell bytes e f last
+    spoilt_below (setup_at records).n spoilt ≤ (setup_at records).b → (Rose e.disk_faults f.disk_faults → ⊥) → (Rose e.sink_faults f.sink_faults → ⊥) → GivesUnlessMemory bytes e f last
 put-get name bytes records spoilt c d e f second last P G N K source done tells untouched steady few disk sink =
     (let after : List Record = after_put records name (length bytes) in
     let sure = sure-next after d e (put-sure name bytes records c d second P done K source) N in
@@ -75,7 +75,7 @@ put-get name bytes records spoilt c d e f second last P G N K source done tells 
 pub init-put-get : (numbers : Numbers) (key name bytes : List ℕ) (spoilt : ℕ → Bool) (a b c d e f : Seen) (first second last : Ending) → AnswersInit numbers a b first → AnswersPut name c d second → AnswersAlone (GetJob name) e f last →
     Follows b c → Follows d e → is_some a.disk ≡ true → ((text : List ℕ) × (a.source ≡ Some text) × IsKeyForm text key) → c.source ≡ Some bytes → IsDone first → IsDone second →
     ((j : ℕ) → j < numbers.n → spoilt j ≡ false → is_some (provider_at c.providers j).held ≡ true) → IsUntouched numbers.n spoilt d e → IsSteady numbers.n spoilt e f → spoilt_below numbers.n spoilt ≤ numbers.b →
-    (Rose e.disk_faults f.disk_faults → ⊥) → (Rose e.sink_faults f.sink_faults → ⊥) → EndsWell bytes e f last
+    (Rose e.disk_faults f.disk_faults → ⊥) → (Rose e.sink_faults f.sink_faults → ⊥) → GivesUnlessMemory bytes e f last
 init-put-get numbers key name bytes spoilt a b c d e f first second last I P G N M told text source done also tells untouched steady few disk sink =
     (let records : List Record = SetUp (setup_with numbers key) ∷ [] in
     let sure = sure-next records b c (init-sure numbers key a b first I done told text) N in
@@ -83,7 +83,7 @@ init-put-get numbers key name bytes spoilt a b c d e f first second last I P G N
 
 -- ---- all three with no fault
 
-ends-zero : (text : List ℕ) (old new : Seen) (end : Ending) → EndsWell text old new end → end.status ≢ 70 → Gives text old new end
+ends-zero : (text : List ℕ) (old new : Seen) (end : Ending) → GivesUnlessMemory text old new end → end.status ≢ 70 → GivesText text old new end
 ends-zero text old new end (inl gives) some = gives
 ends-zero text old new end (inr (memory, front)) some = absurd (some memory)
 
@@ -94,7 +94,7 @@ not-less : (a b : ℕ) → b ≤ a → nat_lt a b ≡ false
 not-less a b l = grind (arith, nat_tests, l)
 
 -- over a store that was just set up a put is not refused
-pub put-begins : (s : Setup) (name bytes : List ℕ) → is_name name ≡ true → length bytes ≤ largest_file → refusal_of (SetUp s ∷ []) (PutJob name bytes) ≡ None
+pub put-begins : (s : Setup) (name bytes : List ℕ) → is_name name ≡ true → length bytes ≤ largest_file → refusal_over (SetUp s ∷ []) (PutJob name bytes) ≡ None
 put-begins s name bytes named short =
     (let long : nat_lt largest_file (length bytes) ≡ false = not-less largest_file (length bytes) short in
     let full : nat_lt largest_journal (51 + (11 + (length name + 14))) ≡ false = not-less largest_journal (51 + (11 + (length name + 14))) (let l = short-name name named in omega (arith, l)) in
@@ -104,7 +104,7 @@ put-begins s name bytes named short =
 pub all-whole : (numbers : Numbers) (key name bytes : List ℕ) (spoilt : ℕ → Bool) (cells : Cells) (a b c d e f : Seen) (first second last : Ending) → AnswersInit numbers a b first → AnswersPut name c d second →
     AnswersAlone (GetJob name) e f last → Follows b c → Follows d e → a.disk ≡ Some cells → IsFree cells → IsKeyed numbers key a → c.source ≡ Some bytes → is_name name ≡ true → length bytes ≤ largest_file →
     ((j : ℕ) → j < numbers.n → spoilt j ≡ false → is_some (provider_at c.providers j).held ≡ true) → IsUntouched numbers.n spoilt d e → IsSteady numbers.n spoilt e f → spoilt_below numbers.n spoilt ≤ numbers.b →
-    IsFaultless a b → IsFaultless c d → IsFaultless e f → first.status ≢ 70 → second.status ≢ 70 → last.status ≢ 70 → (first.status ≡ 0) × (second.status ≡ 0) × Gives bytes e f last
+    IsFaultless a b → IsFaultless c d → IsFaultless e f → first.status ≢ 70 → second.status ≢ 70 → last.status ≢ 70 → (first.status ≡ 0) × (second.status ≡ 0) × GivesText bytes e f last
 all-whole numbers key name bytes spoilt cells a b c d e f first second last I P G N M disk free K source named short tells untouched steady few calm quiet still some more most =
     (let records : List Record = SetUp (setup_with numbers key) ∷ [] in
     let zero = (ends-zero ready_line a b first (init-well numbers key cells a b first I K disk free calm.source calm.disk calm.sink) some).0 in
@@ -129,7 +129,7 @@ drop-get name records c d e f second last D G N K done disk =
 
 -- ---- a get after a repair
 
-fewer : (name bytes : List ℕ) (records : List Record) (s : Seen) (spoilt later : ℕ → Bool) → HasFile s records name bytes spoilt → ((j : ℕ) → later j ≡ false → spoilt j ≡ false) → HasFile s records name bytes later
+fewer : (name bytes : List ℕ) (records : List Record) (s : Seen) (spoilt later : ℕ → Bool) → HasRightFile s records name bytes spoilt → ((j : ℕ) → later j ≡ false → spoilt j ≡ false) → HasRightFile s records name bytes later
 fewer name bytes records s spoilt later H less = record {
   file = H.file;
   in_effect = H.in_effect;
@@ -139,11 +139,11 @@ fewer name bytes records s spoilt later H less = record {
 }
 
 pub repair-get : (name bytes : List ℕ) (records : List Record) (spoilt later : ℕ → Bool) (due : Due) (c d e f : Seen) (second last : Ending) → AnswersAlone RepairJob c d second → AnswersAlone (GetJob name) e f last → Follows d e →
-    IsKnown c records → due_of records ≡ Some due → HasFile c records name bytes spoilt → IsDone second → IsSteady (setup_at records).n spoilt c d → spoilt_below (setup_at records).n spoilt ≤ (setup_at records).b →
+    IsKnown c records → due_of records ≡ Some due → HasRightFile c records name bytes spoilt → IsDone second → IsSteady (setup_at records).n spoilt c d → spoilt_below (setup_at records).n spoilt ≤ (setup_at records).b →
     ((j : ℕ) → j < (setup_at records).n → is_flagged (setup_at records).tolerance due.counts j ≡ true → is_some (provider_at c.providers j).held ≡ true) →
     ((j : ℕ) → later j ≡ false → (spoilt j && not (is_flagged (setup_at records).tolerance due.counts j)) ≡ false) →
     IsUntouched (setup_at records).n later d e → IsSteady (setup_at records).n later e f → spoilt_below (setup_at records).n later ≤ (setup_at records).b →
-    (Rose e.disk_faults f.disk_faults → ⊥) → (Rose e.sink_faults f.sink_faults → ⊥) → EndsWell bytes e f last
+    (Rose e.disk_faults f.disk_faults → ⊥) → (Rose e.sink_faults f.sink_faults → ⊥) → GivesUnlessMemory bytes e f last
 repair-get name bytes records spoilt later due c d e f second last R G N K is_due H done steady few tells less untouched calm also disk sink =
     (let after : List Record = after_repair records due in
     let sure = sure-next after d e (repair-sure records due c d second R done K is_due) N in
@@ -178,7 +178,7 @@ pub put-audit-repair-get : (name bytes : List ℕ) (records : List Record) (spoi
     IsUntouched (setup_at records).n spoilt b c → IsUntouched (setup_at records).n spoilt d e → IsSteady (setup_at records).n spoilt e f → spoilt_below (setup_at records).n spoilt ≤ (setup_at records).b →
     (undecided : ℕ) × (counts : List ℕ) × IsTold (audit_lines (setup_at records).tolerance (next_audit records) undecided counts) c d second
     × (((j : ℕ) → j < (setup_at records).n → is_flagged (setup_at records).tolerance counts j ≡ true → is_some (provider_at e.providers j).held ≡ true) → (later : ℕ → Bool) → ((j : ℕ) → later j ≡ false → (spoilt j && not (is_flagged (setup_at records).tolerance counts j)) ≡ false) → IsUntouched (setup_at records).n later f g → IsSteady (setup_at records).n later g h →
-    spoilt_below (setup_at records).n later ≤ (setup_at records).b → (Rose g.disk_faults h.disk_faults → ⊥) → (Rose g.sink_faults h.sink_faults → ⊥) → EndsWell bytes g h last)
+    spoilt_below (setup_at records).n later ≤ (setup_at records).b → (Rose g.disk_faults h.disk_faults → ⊥) → (Rose g.sink_faults h.sink_faults → ⊥) → GivesUnlessMemory bytes g h last)
 put-audit-repair-get name bytes records spoilt a b c d e f g h first second third last P A R G N M L K source put audited repaired told one two steady few =
     (let stored : List Record = after_put records name (length bytes) in
     let sure-c = sure-next stored b c (put-sure name bytes records a b first P put K source) N in

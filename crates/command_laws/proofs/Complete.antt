@@ -33,7 +33,7 @@ use Rattle.hail_commands.specs.Ran.{Ran, ran_from, setup_at_begin, job_number}
 use Rattle.hail_commands.specs.Truthful.{missing, IsTruthful}
 use Rattle.sound_states.proofs.Given.{valid-shape}
 use Rattle.sound_states.proofs.Written.{setup-valid}
-use Rattle.lone_laws.specs.Walked.{IsOpened}
+use Rattle.hail_openings.specs.Opened.{IsOpenAtRest}
 use Rattle.lone_laws.proofs.Walk.{opened-sound}
 use Rattle.command_laws.specs.Failing.{has_risen, is_bad_with, is_bad, bad_count}
 
@@ -189,7 +189,7 @@ module _ (x : Ran) (file : File) (bytes : List ℕ) where
 
 -- ---- the same of a run
 
-pub shape-of : (w new : State) (heard : List Entry) → IsOpened w → IsShape (setup_at_begin (ran_from w new heard)).n (setup_at_begin (ran_from w new heard)).l (setup_at_begin (ran_from w new heard)).b
+pub shape-of : (w new : State) (heard : List Entry) → IsOpenAtRest w 1 → IsShape (setup_at_begin (ran_from w new heard)).n (setup_at_begin (ran_from w new heard)).l (setup_at_begin (ran_from w new heard)).b
 unfolding setup_in
 shape-of w new heard O = valid-shape (setup_in w) (setup-valid 8 w (opened-sound w O) O.opened)
 

@@ -24,7 +24,7 @@ use Rattle.hail_machine.proofs.JobLists.{same_value}
 use Rattle.hail_commands.specs.Forms.{Command, Numbers, RowOf, InitWith, PutUnder, GetOf, DropOf, ListAll, AuditAll, RepairDue}
 use Rattle.hail_commands.specs.Keys.{IsKeyForm}
 use Rattle.hail_commands.specs.Seen.{Seen, Ending, IsRefused, ReadsUpTo}
-use Rattle.hail_commands.specs.Openings.{journal_read, IsSetUpOn}
+use Rattle.hail_openings.specs.Journals.{journal_read, IsSetUpOn}
 use Rattle.hail_commands.specs.Opens.{IsOpened, Unstarted, setup_at}
 use Rattle.hail_commands.specs.Refusals.{status_of}
 use Rattle.hail_commands.specs.Lines.{audit_lines}
@@ -33,7 +33,7 @@ use Rattle.hail_commands.specs.Gets.{GetLeaves}
 use Rattle.hail_commands.specs.Jobs.{AnswersJob, SamePast, past, with_next, IsTold}
 use Rattle.hail_commands.specs.Commands.{AnswersPut, AnswersAlone, AnswersList, Answers}
 use Rattle.sound_states.proofs.Records.{is_some-at}
-use Rattle.command_laws.specs.Ends.{IsDone, IsKnown, IsJobOf, DiskHas, opens_store, after_put, after_drop, after_audit, after_repair}
+use Rattle.command_laws.specs.Ends.{IsDone, IsKnown, RunsKind, DiskHas, opens_store, after_put, after_drop, after_audit, after_repair}
 use Rattle.command_laws.specs.Kept.{IsAfter, after_start}
 use Rattle.command_laws.specs.After.{IsSure, Follows, IsThen}
 use Rattle.command_laws.proofs.Known.{known-once, alone-known, unstarted-known, refused-not}
@@ -306,7 +306,7 @@ abbrev Told : Command → List Record → Seen → Seen → List ℕ → Type 0
 Told command records old new image = (rs : List Record) × IsGood (setup_at records) image rs × IsThen command records old new rs
 
 image-told : (command : Command) (records : List Record) (old new : Seen) (image : List ℕ) (rs : List Record) → IsGood (setup_at records) image rs →
-    StandsFor image records ⊎ ((kind : Kind) × IsJobOf command old new kind × IsAfter records kind image) → Told command records old new image
+    StandsFor image records ⊎ ((kind : Kind) × RunsKind command old new kind × IsAfter records kind image) → Told command records old new image
 image-told command records old new image rs G (inl stands) = (rs, G, inl (one_meaning image rs records G.stands stands))
 image-told command records old new image rs G (inr (kind, is, after)) = (
   rs,

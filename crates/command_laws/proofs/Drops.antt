@@ -31,7 +31,8 @@ use Rattle.sound_states.specs.Orders.{moves_made, IsInOrder}
 use Rattle.sound_states.proofs.Orders.{drop_rest, appends_in, appends-cons, drop-get, next-listed}
 use Rattle.sound_states.proofs.Gates.{drop-list}
 use Rattle.lone_laws.specs.Made.{With, Made}
-use Rattle.lone_laws.specs.Walked.{IsOpened, RecordsAre, with_job_of}
+use Rattle.hail_openings.specs.Opened.{IsOpenAtRest}
+use Rattle.lone_laws.specs.Walked.{RecordsAre, with_job_of}
 use Rattle.lone_laws.proofs.Prefixes.{appends-whole}
 use Rattle.lone_laws.proofs.Lists.{made-append, made-split, made-one}
 use Rattle.lone_laws.proofs.Walk.{Wrote, wrote, runs, left-start}
@@ -88,7 +89,7 @@ not-idle w job name f h = elim (cases_Bool (is_idle_drop w job (DropJob name))) 
 
 -- ---- the drop
 
-module _ (start new : State) (name : List ℕ) (how : Answer) (heard : List Entry) (O : IsOpened start) (E : Ends start (DropJob name) how heard new) (file : File) (in_effect : file_in start name ≡ Some file) where
+module _ (start new : State) (name : List ℕ) (how : Answer) (heard : List Entry) (O : IsOpenAtRest start 1) (E : Ends start (DropJob name) how heard new) (file : File) (in_effect : file_in start name ≡ Some file) where
   abbrev drop_with : With
   drop_with = with_job_of start (DropJob name) E.job
 

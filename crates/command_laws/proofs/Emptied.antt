@@ -6,12 +6,12 @@ use Rattle.hail_machine.specs.Jobs.{GetJob}
 use Rattle.hail_machine.specs.Answers as answer
 use Rattle.hail_machine.specs.Answers.{Answer}
 use Rattle.hail_machine.proofs.JobLists.{same_value}
-use Rattle.hail_commands.specs.Sinking.{Writes}
+use Rattle.hail_commands.specs.Sinking.{WritesLine}
 use Rattle.hail_commands.specs.Seen.{Seen, Ending, sinking}
 use Rattle.hail_commands.specs.Opens.{setup_at}
 use Rattle.hail_commands.specs.Lines.{list_lines, text_of}
 use Rattle.hail_commands.specs.Gets.{GetLeaves}
-use Rattle.hail_commands.specs.Jobs.{AnswersJob, EndsBy, LeftAlone}
+use Rattle.hail_commands.specs.Jobs.{AnswersJob, EndsByAnswer, LeftAlone}
 use Rattle.hail_commands.specs.Commands.{AnswersAlone, AnswersList}
 use Rattle.command_laws.specs.Ends.{IsKnown}
 use Rattle.command_laws.proofs.Known.{known-once, alone-known, unstarted-known, refused-not}
@@ -28,7 +28,7 @@ take-zero n l zero = ap (λ k. take k l) zero ∙ none l
 not-fifteen : (status n : ℕ) → status ≡ n → n ≢ 15 → status ≡ 15 → ⊥
 not-fifteen status n is other sink = other (sym is ∙ sink)
 
-written-empty : (text : List ℕ) (old new : Seen) (end : Ending) → Writes text end.status (sinking old new) → text ≡ [] → end.status ≡ 15 → ⊥
+written-empty : (text : List ℕ) (old new : Seen) (end : Ending) → WritesLine text end.status (sinking old new) → text ≡ [] → end.status ≡ 15 → ⊥
 written-empty text old new end (inl w) none sink = not-fifteen end.status 0 w.0 (λ e. omega (arith, e)) sink
 written-empty text old new end (inr (inl w)) none sink = w.0 none
 written-empty text old new end (inr (inr w)) none sink = not-fifteen end.status 70 w.0 (λ e. omega (arith, e)) sink
@@ -48,7 +48,7 @@ list-empty records old new end (AnswersList.listed other opened L) K none sink =
 
 module _ (name : List ℕ) (records : List Record) (file : File) (old new : Seen) (end : Ending) (in_effect : file_of records name ≡ Some file) (none : file.size ≡ 0) where
   by-answer : (how : Answer) (left : LeftAlone records (GetJob name) how old new end.heard) → GetLeaves (ran_left records (GetJob name) how old new end.heard left) name how →
-      EndsBy (text_of (setup_at records).tolerance (GetJob name) how) how old new end → end.status ≡ 15 → ⊥
+      EndsByAnswer (text_of (setup_at records).tolerance (GetJob name) how) how old new end → end.status ≡ 15 → ⊥
   by-answer (answer.Got bytes) left L by sink =
       (let same : L.file ≡ file = same_value (file_of records name) L.file file L.in_effect in_effect in
       let zero : L.file.size ≡ 0 = ap (λ (f : File). f.size) same ∙ none in

@@ -9,7 +9,7 @@ use Rattle.hail_machine.specs.Jobs.{Kind, PutJob, GetJob, DropJob, AuditJob, Rep
 use Rattle.hail_machine.specs.Refusals as refusal
 use Rattle.hail_machine.specs.Refusals.{Refusal}
 use Rattle.hail_commands.specs.Forms.{Command, Numbers, RowOf, InitWith, PutUnder, GetOf, DropOf, ListAll, AuditAll, RepairDue}
-use Rattle.hail_commands.specs.Sinking.{Writes, Tells}
+use Rattle.hail_commands.specs.Sinking.{WritesLine, TellsLine}
 use Rattle.hail_commands.specs.Seen.{Seen, Ending, sinking}
 use Rattle.hail_commands.specs.Opens.{Unstarted}
 use Rattle.hail_commands.specs.Refusals.{status_of}
@@ -57,7 +57,7 @@ ended-ending n (EndStatus.by_provider e) = ap is_ending e
 ended-ending n (EndStatus.by_sink e) = ap is_ending e
 ended-ending n (EndStatus.by_memory e) = ap is_ending e
 
-written-ending : (line : List ℕ) (old new : Seen) (end : Ending) → Writes line end.status (sinking old new) → is_ending end.status ≡ true
+written-ending : (line : List ℕ) (old new : Seen) (end : Ending) → WritesLine line end.status (sinking old new) → is_ending end.status ≡ true
 written-ending line old new end (inl w) = ap is_ending w.0
 written-ending line old new end (inr (inl w)) = ap is_ending w.1
 written-ending line old new end (inr (inr w)) = ap is_ending w.0
@@ -107,12 +107,12 @@ module _ (n l b : ℕ) (seen : List (Option ℕ)) (old new : Seen) (end : Ending
       other m f told e = false≢true (sym f ∙ (ap is_ending e ∙ told))
 
   -- a line that was written tells of no row lost, nor of numbers that are no shape
-  written-not : (line : List ℕ) (m : ℕ) → Writes line end.status (sinking old new) → end.status ≡ m → m ≢ 0 → m ≢ 15 → m ≢ 70 → ⊥
+  written-not : (line : List ℕ) (m : ℕ) → WritesLine line end.status (sinking old new) → end.status ≡ m → m ≢ 0 → m ≢ 15 → m ≢ 70 → ⊥
   written-not line m (inl w) is zero sink memory = zero (sym is ∙ w.0)
   written-not line m (inr (inl w)) is zero sink memory = sink (sym is ∙ w.1)
   written-not line m (inr (inr w)) is zero sink memory = memory (sym is ∙ w.0)
 
-  told-twice : (line : List ℕ) → Tells 4 line end.status (sinking old new) → (end.status ≡ 4) ⊎ (end.status ≡ 70)
+  told-twice : (line : List ℕ) → TellsLine 4 line end.status (sinking old new) → (end.status ≡ 4) ⊎ (end.status ≡ 70)
   told-twice line (inl w) = inl w.0
   told-twice line (inr (inl w)) = inl w.0
   told-twice line (inr (inr w)) = inr w.0

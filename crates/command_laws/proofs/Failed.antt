@@ -16,7 +16,7 @@ use Rattle.hail_machine.specs.Answers.{Answer}
 use Rattle.hail_machine.specs.Heard.{Entry}
 use Rattle.hail_machine.specs.Refusals.{Refusal}
 use Rattle.hail_commands.specs.Forms.{Command, Numbers, RowOf, InitWith, PutUnder, GetOf, DropOf, ListAll, AuditAll, RepairDue}
-use Rattle.hail_commands.specs.Sinking.{Writes}
+use Rattle.hail_commands.specs.Sinking.{WritesLine}
 use Rattle.hail_commands.specs.Seen.{Seen, Ending, IsRefused, ReadsUpTo, provider_at, sinking}
 use Rattle.hail_commands.specs.Opens.{IsOpened, Unstarted, setup_at}
 use Rattle.hail_commands.specs.Refusals.{status_of}
@@ -24,8 +24,8 @@ use Rattle.hail_commands.specs.Ran.{Ran}
 use Rattle.hail_commands.specs.Lines.{text_of}
 use Rattle.hail_commands.specs.Puts.{PutLeaves}
 use Rattle.hail_commands.specs.Gets.{GetLeaves, LosesStripe}
-use Rattle.hail_commands.specs.Repairs.{RepairGives, LosesPlace}
-use Rattle.hail_commands.specs.Jobs.{AnswersJob, EndsBy, LeavesBy, LeftAlone}
+use Rattle.hail_commands.specs.Repairs.{RepairGives, LosesAtPlace}
+use Rattle.hail_commands.specs.Jobs.{AnswersJob, EndsByAnswer, LeavesBy, LeftAlone}
 use Rattle.hail_commands.specs.Inits.{AnswersInit, InitsDisk}
 use Rattle.hail_commands.specs.Commands.{AnswersPut, AnswersAlone, AnswersList, Answers}
 use Rattle.command_laws.specs.Ends.{ran_to}
@@ -115,7 +115,7 @@ memory-own : (m status : ℕ) → status ≡ 70 → status ≡ m → IsOwn m →
 memory-own m status at is (inl k) = differ status 70 m at is (λ e. omega (arith, k, e))
 memory-own m status at is (inr k) = differ status 70 m at is (λ e. omega (arith, k, e))
 
-written-own : (m : ℕ) (text : List ℕ) (old new : Seen) (end : Ending) → Writes text end.status (sinking old new) → end.status ≡ m → IsOwn m → ⊥
+written-own : (m : ℕ) (text : List ℕ) (old new : Seen) (end : Ending) → WritesLine text end.status (sinking old new) → end.status ≡ m → IsOwn m → ⊥
 written-own m text old new end (inl w) is (inl k) = differ end.status 0 m w.0 is (λ e. omega (arith, k, e))
 written-own m text old new end (inl w) is (inr k) = differ end.status 0 m w.0 is (λ e. omega (arith, k, e))
 written-own m text old new end (inr (inl w)) is (inl k) = differ end.status 15 m w.1 is (λ e. omega (arith, k, e))
@@ -130,7 +130,7 @@ images-same told after (first ∷ rest) doubt some is sure h = images-have told 
 
 -- what a command ends with, by the answer of its job
 abbrev EndsWith : List Record → Kind → Answer → Seen → Seen → Ending → Type 0
-EndsWith records kind how old new end = EndsBy (text_of (setup_at records).tolerance kind how) how old new end
+EndsWith records kind how old new end = EndsByAnswer (text_of (setup_at records).tolerance kind how) how old new end
 
 -- ---- puts
 
@@ -229,7 +229,7 @@ lost-by records old new end opened (answer.Lost stripe row) left due is_due L by
       stripe = stripe;
       opened = opened;
       is_due = is_due;
-      lost = subst (λ k. LosesPlace (ran_to records records old new end.heard) due stripe k) (sym by.place) (record {
+      lost = subst (λ k. LosesAtPlace (ran_to records records old new end.heard) due stripe k) (sym by.place) (record {
         done = S.done;
         place = S.place;
         rest = S.rest;
@@ -270,7 +270,7 @@ data OwnEnd (how : Answer) : Type 0 where
   store : (j : ℕ) → how ≡ answer.ProviderFault j → OwnEnd how
   lost : (stripe row : ℕ) → how ≡ answer.Lost stripe row → OwnEnd how
 
-own-end : (m : ℕ) (text : List ℕ) (how : Answer) (old new : Seen) (end : Ending) → EndsBy text how old new end → end.status ≡ m → IsOwn m → OwnEnd how
+own-end : (m : ℕ) (text : List ℕ) (how : Answer) (old new : Seen) (end : Ending) → EndsByAnswer text how old new end → end.status ≡ m → IsOwn m → OwnEnd how
 own-end m text (answer.Lost stripe row) old new end by is own = OwnEnd.lost stripe row refl
 own-end m text (answer.ProviderFault j) old new end by is own = OwnEnd.store j refl
 own-end m text answer.DiskFault old new end by is (inl k) = absurd (differ end.status 12 m by.status_is is (λ e. omega (arith, k, e)))
@@ -307,19 +307,19 @@ lost-kind x (DropJob name) stripe row L = L.0
 lost-kind x AuditJob stripe row L = L.gives
 lost-kind x RepairJob stripe row L = tt
 
-ended-13 : (kind : Kind) (text : List ℕ) (how : Answer) (x : Ran) (old new : Seen) (end : Ending) → LeavesBy x kind how → EndsBy text how old new end → end.status ≡ 13 → Ends13 kind
+ended-13 : (kind : Kind) (text : List ℕ) (how : Answer) (x : Ran) (old new : Seen) (end : Ending) → LeavesBy x kind how → EndsByAnswer text how old new end → end.status ≡ 13 → Ends13 kind
 ended-13 kind text how x old new end L by is = go (own-end 13 text how old new end by is (inl refl))
   where
     go : OwnEnd how → Ends13 kind
     go (OwnEnd.store j same) = store-kind x kind j (subst (LeavesBy x kind) same L)
-    go (OwnEnd.lost stripe row same) = absurd (let told = subst (λ h. EndsBy text h old new end) same by in differ end.status 4 13 told.status_is is (λ e. omega (arith, e)))
+    go (OwnEnd.lost stripe row same) = absurd (let told = subst (λ h. EndsByAnswer text h old new end) same by in differ end.status 4 13 told.status_is is (λ e. omega (arith, e)))
 
-ended-4 : (kind : Kind) (text : List ℕ) (how : Answer) (x : Ran) (old new : Seen) (end : Ending) → LeavesBy x kind how → EndsBy text how old new end → end.status ≡ 4 → Ends4 kind
+ended-4 : (kind : Kind) (text : List ℕ) (how : Answer) (x : Ran) (old new : Seen) (end : Ending) → LeavesBy x kind how → EndsByAnswer text how old new end → end.status ≡ 4 → Ends4 kind
 ended-4 kind text how x old new end L by is = go (own-end 4 text how old new end by is (inr refl))
   where
     go : OwnEnd how → Ends4 kind
     go (OwnEnd.lost stripe row same) = lost-kind x kind stripe row (subst (LeavesBy x kind) same L)
-    go (OwnEnd.store j same) = absurd (let told = subst (λ h. EndsBy text h old new end) same by in differ end.status 13 4 told.status_is is (λ e. omega (arith, e)))
+    go (OwnEnd.store j same) = absurd (let told = subst (λ h. EndsByAnswer text h old new end) same by in differ end.status 13 4 told.status_is is (λ e. omega (arith, e)))
 
 alone-13 : (kind : Kind) (old new : Seen) (end : Ending) → AnswersAlone kind old new end → end.status ≡ 13 → Ends13 kind
 alone-13 kind old new end (AnswersAlone.unstarted u) is = absurd (unstarted-own 13 old new end u is (inl refl))

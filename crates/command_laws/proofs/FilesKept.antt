@@ -27,7 +27,7 @@ use Rattle.hail_commands.specs.Commands.{AnswersPut, AnswersAlone, Answers}
 use Rattle.sound_states.proofs.Records.{sound-accepted}
 use Rattle.command_laws.specs.Ends.{IsDone, IsKnown, SameHolds, after_repair, IsRepaired}
 use Rattle.command_laws.specs.Kept.{AreAppended}
-use Rattle.command_laws.specs.After.{is_wrong_told, HasFile, IsThen, HasGrown, IsSteady, spoilt_below, keeps_blocks, IsOther}
+use Rattle.command_laws.specs.After.{is_wrong_or_untold, HasRightFile, IsThen, HasGrown, IsSteady, spoilt_below, keeps_blocks, IsOfAnother}
 use Rattle.command_laws.proofs.Complete.{each-not-wrong, not-wrong-each}
 use Rattle.command_laws.proofs.Known.{known-once}
 use Rattle.command_laws.proofs.GetEnds.{ran_left}
@@ -52,21 +52,21 @@ same-told id a b same = subst (SameAt id a) (sym same) (none a)
     none None = tt
     none (Some held) = λ stripe. refl
 
-pub wrong-same : (o : Object) (bytes : List ℕ) (j : ℕ) (a b : Option Held) → SameAt o.id a b → is_wrong_told o bytes j a ≡ false → is_wrong_told o bytes j b ≡ false
+pub wrong-same : (o : Object) (bytes : List ℕ) (j : ℕ) (a b : Option Held) → SameAt o.id a b → is_wrong_or_untold o bytes j a ≡ false → is_wrong_or_untold o bytes j b ≡ false
 wrong-same o bytes j None None same right = right
 wrong-same o bytes j None (Some b) same right = absurd same
 wrong-same o bytes j (Some a) None same right = absurd same
 wrong-same o bytes j (Some a) (Some b) same right = each-not-wrong o bytes j (b o.id) (λ t l. ap (is_wrong_block o bytes j t) (same t) ∙ not-wrong-each o bytes j (a o.id) right t l)
 
-has-same : (name bytes : List ℕ) (records after : List Record) (spoilt : ℕ → Bool) (old new : Seen) (H : HasFile old records name bytes spoilt) → file_of after name ≡ file_of records name → setup_at after ≡ setup_at records →
-    ((j : ℕ) → j < (setup_at records).n → SameAt H.file.id (provider_at old.providers j).held (provider_at new.providers j).held) → HasFile new after name bytes spoilt
+has-same : (name bytes : List ℕ) (records after : List Record) (spoilt : ℕ → Bool) (old new : Seen) (H : HasRightFile old records name bytes spoilt) → file_of after name ≡ file_of records name → setup_at after ≡ setup_at records →
+    ((j : ℕ) → j < (setup_at records).n → SameAt H.file.id (provider_at old.providers j).held (provider_at new.providers j).held) → HasRightFile new after name bytes spoilt
 has-same name bytes records after spoilt old new H file setup same = record {
   file = H.file;
   in_effect = file ∙ H.in_effect;
   are_bytes = H.are_bytes;
   size = H.size;
   right = λ j below clean. (let l : j < (setup_at records).n = subst (λ (s : Setup). j < s.n) setup below in
-      subst (λ s. is_wrong_told (object_of s H.file.id) bytes j (provider_at new.providers j).held ≡ false) (sym setup)
+      subst (λ s. is_wrong_or_untold (object_of s H.file.id) bytes j (provider_at new.providers j).held ≡ false) (sym setup)
       (wrong-same (object_of (setup_at records) H.file.id) bytes j (provider_at old.providers j).held (provider_at new.providers j).held (same j l) (H.right j l clean)));
 }
 
@@ -129,11 +129,11 @@ then-by command name records after old new grown (inr G) = grown G
 
 -- ---- commands that keep all blocks
 
-reads-by : (command : Command) (name bytes : List ℕ) (records after : List Record) (spoilt : ℕ → Bool) (old new : Seen) → SameHolds old new → HasFile old records name bytes spoilt → Stays name records after → HasFile new after name bytes spoilt
+reads-by : (command : Command) (name bytes : List ℕ) (records after : List Record) (spoilt : ℕ → Bool) (old new : Seen) → SameHolds old new → HasRightFile old records name bytes spoilt → Stays name records after → HasRightFile new after name bytes spoilt
 reads-by command name bytes records after spoilt old new holds H S = has-same name bytes records after spoilt old new H S.0 S.1 (λ j below. same-told H.file.id (provider_at old.providers j).held (provider_at new.providers j).held (holds j))
 
 pub reads-have : (command : Command) (name bytes : List ℕ) (records after : List Record) (spoilt : ℕ → Bool) (old new : Seen) (end : Ending) → Answers command old new end → keeps_blocks command ≡ true →
-    HasFile old records name bytes spoilt → IsThen command records old new after → HasFile new after name bytes spoilt
+    HasRightFile old records name bytes spoilt → IsThen command records old new after → HasRightFile new after name bytes spoilt
 reads-have (GetOf got) name bytes records after spoilt old new end A keeps H T = reads-by (GetOf got) name bytes records after spoilt old new (get-holds got old new end A.0) H (then-by (GetOf got) name records after old new (get-grown name records after got old new) T)
 reads-have ListAll name bytes records after spoilt old new end A keeps H T = reads-by ListAll name bytes records after spoilt old new (list-holds old new end A.0) H (then-by ListAll name records after old new (λ G. absurd G.of_command) T)
 reads-have AuditAll name bytes records after spoilt old new end A keeps H T = reads-by AuditAll name bytes records after spoilt old new (audit-holds old new end A.0) H (then-by AuditAll name records after old new (audit-grown name records after old new) T)
@@ -143,7 +143,7 @@ reads-have (PutUnder other) name bytes records after spoilt old new end A keeps 
 reads-have (DropOf other) name bytes records after spoilt old new end A keeps H T = absurd (false≢true keeps)
 reads-have RepairDue name bytes records after spoilt old new end A keeps H T = absurd (false≢true keeps)
 
-pub refused-has : (status at : ℕ) (name bytes : List ℕ) (records : List Record) (spoilt : ℕ → Bool) (old new : Seen) (end : Ending) → IsRefused status at old new end → HasFile old records name bytes spoilt → HasFile new records name bytes spoilt
+pub refused-has : (status at : ℕ) (name bytes : List ℕ) (records : List Record) (spoilt : ℕ → Bool) (old new : Seen) (end : Ending) → IsRefused status at old new end → HasRightFile old records name bytes spoilt → HasRightFile new records name bytes spoilt
 refused-has status at name bytes records spoilt old new end r H = has-same name bytes records records spoilt old new H refl refl
     (λ j below. same-told H.file.id (provider_at old.providers j).held (provider_at new.providers j).held (ap (λ ps. (provider_at ps j).held) r.providers))
 
@@ -221,20 +221,20 @@ module _ (name other : List ℕ) (records : List Record) (file : File) (sound : 
   drop-job old new end (AnswersJob.no_memory synced r) = refused-keeps 70 0 records file.id old new end r
   drop-job old new end (AnswersJob.ended how none runs left by) = drop-keeps how old new end left left.leaves.by_kind.0
 
-put-command : (name other bytes : List ℕ) (records : List Record) (spoilt : ℕ → Bool) (old new : Seen) (end : Ending) → other ≢ name → IsKnown old records → (H : HasFile old records name bytes spoilt) → AnswersPut other old new end → KeepsObject records H.file.id old new
+put-command : (name other bytes : List ℕ) (records : List Record) (spoilt : ℕ → Bool) (old new : Seen) (end : Ending) → other ≢ name → IsKnown old records → (H : HasRightFile old records name bytes spoilt) → AnswersPut other old new end → KeepsObject records H.file.id old new
 put-command name other bytes records spoilt old new end differ K H (AnswersPut.unstarted u same) = (let r = unstarted-refused old new end u in refused-keeps r.0 r.1 records H.file.id old new end r.3)
 put-command name other bytes records spoilt old new end differ K H (AnswersPut.source_fault rs opened rose synced taken r) = refused-keeps 14 0 records H.file.id old new end r
 put-command name other bytes records spoilt old new end differ K H (AnswersPut.no_memory taken r) = refused-keeps 70 0 records H.file.id old new end r
 put-command name other bytes records spoilt old new end differ K H (AnswersPut.begun rs seen opened read A) =
     put-job name other records H.file (sound-accepted records K.opened.read.accepted) H.in_effect differ seen old new end (subst (λ l. AnswersJob (PutJob other seen) l old new end) (known-once old records rs K opened.read) A)
 
-drop-command : (name other bytes : List ℕ) (records : List Record) (spoilt : ℕ → Bool) (old new : Seen) (end : Ending) → other ≢ name → IsKnown old records → (H : HasFile old records name bytes spoilt) → AnswersAlone (DropJob other) old new end → KeepsObject records H.file.id old new
+drop-command : (name other bytes : List ℕ) (records : List Record) (spoilt : ℕ → Bool) (old new : Seen) (end : Ending) → other ≢ name → IsKnown old records → (H : HasRightFile old records name bytes spoilt) → AnswersAlone (DropJob other) old new end → KeepsObject records H.file.id old new
 drop-command name other bytes records spoilt old new end differ K H (AnswersAlone.unstarted u) = (let r = unstarted-refused old new end u in refused-keeps r.0 r.1 records H.file.id old new end r.3)
 drop-command name other bytes records spoilt old new end differ K H (AnswersAlone.begun rs opened A) =
     drop-job name other records H.file (sound-accepted records K.opened.read.accepted) H.in_effect differ old new end (subst (λ l. AnswersJob (DropJob other) l old new end) (known-once old records rs K opened.read) A)
 
-pub others-have : (command : Command) (name bytes : List ℕ) (records after : List Record) (spoilt : ℕ → Bool) (old new : Seen) (end : Ending) → Answers command old new end → IsOther name command → IsKnown old records →
-    HasFile old records name bytes spoilt → IsThen command records old new after → HasFile new after name bytes spoilt
+pub others-have : (command : Command) (name bytes : List ℕ) (records after : List Record) (spoilt : ℕ → Bool) (old new : Seen) (end : Ending) → Answers command old new end → IsOfAnother name command → IsKnown old records →
+    HasRightFile old records name bytes spoilt → IsThen command records old new after → HasRightFile new after name bytes spoilt
 others-have (PutUnder other) name bytes records after spoilt old new end A differ K H T =
     (let S = then-by (PutUnder other) name records after old new (put-grown name other records after old new differ) T in
     has-same name bytes records after spoilt old new H S.0 S.1 (put-command name other bytes records spoilt old new end differ K H A))
@@ -263,7 +263,7 @@ goes-tells change (Some a) None tells g = absurd g
 goes-tells change (Some a) (Some b) tells g = refl
 
 pub columns-right : (s : Setup) (file : File) (bytes : List ℕ) (j : ℕ) (told : Option Held) → length bytes ≡ file.size → is_some told ≡ true →
-    ((stripe : ℕ) → stripe < stripes_of s file.size → IfSome told (λ held. held file.id stripe ≡ Some (columns (object_of s file.id) bytes j stripe))) → is_wrong_told (object_of s file.id) bytes j told ≡ false
+    ((stripe : ℕ) → stripe < stripes_of s file.size → IfSome told (λ held. held file.id stripe ≡ Some (columns (object_of s file.id) bytes j stripe))) → is_wrong_or_untold (object_of s file.id) bytes j told ≡ false
 columns-right s file bytes j None size tells h = absurd (false≢true tells)
 columns-right s file bytes j (Some held) size tells h =
     each-not-wrong (object_of s file.id) bytes j (held file.id) (λ t l. ap (is_wrong_block (object_of s file.id) bytes j t) (h t (subst (λ n. t < stripes_of s n) size l)) ∙ own-right (object_of s file.id) bytes j t)
@@ -286,9 +286,9 @@ repaired-goes id old new end P j below = (
 )
 
 pub repair-has : (name bytes : List ℕ) (records : List Record) (due : Due) (spoilt : ℕ → Bool) (old new : Seen) (end : Ending) → AnswersAlone RepairJob old new end → IsDone end → IsKnown old records → due_of records ≡ Some due →
-    HasFile old records name bytes spoilt → IsSteady (setup_at records).n spoilt old new → spoilt_below (setup_at records).n spoilt ≤ (setup_at records).b →
+    HasRightFile old records name bytes spoilt → IsSteady (setup_at records).n spoilt old new → spoilt_below (setup_at records).n spoilt ≤ (setup_at records).b →
     ((j : ℕ) → j < (setup_at records).n → is_flagged (setup_at records).tolerance due.counts j ≡ true → is_some (provider_at old.providers j).held ≡ true) →
-    HasFile new (after_repair records due) name bytes (λ j. spoilt j && not (is_flagged (setup_at records).tolerance due.counts j))
+    HasRightFile new (after_repair records due) name bytes (λ j. spoilt j && not (is_flagged (setup_at records).tolerance due.counts j))
 repair-has name bytes records due spoilt old new end A done K is_due H steady few tells = record {
   file = H.file;
   in_effect = H.in_effect;
@@ -304,7 +304,7 @@ repair-has name bytes records due spoilt old new end A done K is_due H steady fe
         subst (λ (d : Due). GoesFlagged H.file.id records d old new j) due_is (subst (λ rs. GoesFlagged H.file.id rs P.due old new j) same (repaired-goes H.file.id old new end P j (subst (λ rs. j < (setup_at rs).n) (sym same) below))))
 
     right : (j : ℕ) → j < (setup_at records).n → (spoilt j && not (is_flagged (setup_at records).tolerance due.counts j)) ≡ false →
-        is_wrong_told (object_of (setup_at records) H.file.id) bytes j (provider_at new.providers j).held ≡ false
+        is_wrong_or_untold (object_of (setup_at records) H.file.id) bytes j (provider_at new.providers j).held ≡ false
     right j below clean = (let g = goes j below in elim (cases_Bool (is_flagged (setup_at records).tolerance due.counts j)) [
       | inl flagged ↦ columns-right (setup_at records) H.file bytes j (provider_at new.providers j).held H.size (g.1 (tells j below flagged))
           (repair-right name bytes records H.file due j old new end A K done is_due H.in_effect H.size (let b = bad-few name bytes records spoilt old new H steady in omega (arith, b, few)) below flagged)

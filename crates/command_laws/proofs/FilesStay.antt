@@ -21,7 +21,7 @@ use Rattle.hail_commands.specs.Blocks.{StoredOn}
 use Rattle.hail_commands.specs.Commands.{AnswersPut}
 use Rattle.command_laws.specs.Failing.{has_risen, is_bad_with, is_bad_for, bad_seen}
 use Rattle.command_laws.specs.Ends.{IsDone, IsKnown, after_put, IsPut}
-use Rattle.command_laws.specs.After.{is_wrong_told, HasFile, IsUntouched, IsSteady, spoilt_below}
+use Rattle.command_laws.specs.After.{is_wrong_or_untold, HasRightFile, IsUntouched, IsSteady, spoilt_below}
 use Rattle.command_laws.proofs.Complete.{each-not-wrong}
 use Rattle.command_laws.proofs.Known.{known-once}
 use Rattle.command_laws.proofs.JobEnds.{put-done}
@@ -36,7 +36,7 @@ own-right o bytes j stripe = not-wrong (length (columns o bytes j stripe)) o.pro
     not-wrong : (n size fix d : ℕ) → n ≡ size → d ≡ 0 → not (n == size) || nat_lt fix d ≡ false
     not-wrong n size fix d a b = grind (arith, a, b)
 
-pub stored-right : (o : Object) (bytes : List ℕ) (older : Option File) (rose : Type 0) (j : ℕ) (a b : Option Held) → is_some a ≡ true → Goes (StoredOn o bytes older rose j) a b → is_wrong_told o bytes j b ≡ false
+pub stored-right : (o : Object) (bytes : List ℕ) (older : Option File) (rose : Type 0) (j : ℕ) (a b : Option Held) → is_some a ≡ true → Goes (StoredOn o bytes older rose j) a b → is_wrong_or_untold o bytes j b ≡ false
 stored-right o bytes older rose j None b tells g = absurd (false≢true tells)
 stored-right o bytes older rose j (Some a) None tells g = absurd g
 stored-right o bytes older rose j (Some a) (Some b) tells g = each-not-wrong o bytes j (b o.id) (λ t l. ap (is_wrong_block o bytes j t) (g.stored t l) ∙ own-right o bytes j t)
@@ -44,7 +44,7 @@ stored-right o bytes older rose j (Some a) (Some b) tells g = each-not-wrong o b
 -- ---- a put that is done
 
 put-file : (name : List ℕ) (spoilt : ℕ → Bool) (old new : Seen) (end : Ending) (P : IsPut name old new end) → ((j : ℕ) → j < (setup_at P.records).n → spoilt j ≡ false → is_some (provider_at old.providers j).held ≡ true) →
-    HasFile new (after_put P.records name (length P.bytes)) name P.bytes spoilt
+    HasRightFile new (after_put P.records name (length P.bytes)) name P.bytes spoilt
 put-file name spoilt old new end P tells = record {
   file = record { name = name; id = next_id P.records; size = length P.bytes };
   in_effect = P.in_effect;
@@ -54,24 +54,24 @@ put-file name spoilt old new end P tells = record {
 }
 
 pub put-has : (name bytes : List ℕ) (records : List Record) (spoilt : ℕ → Bool) (old new : Seen) (end : Ending) → AnswersPut name old new end → IsDone end → IsKnown old records → old.source ≡ Some bytes →
-    ((j : ℕ) → j < (setup_at records).n → spoilt j ≡ false → is_some (provider_at old.providers j).held ≡ true) → HasFile new (after_put records name (length bytes)) name bytes spoilt
+    ((j : ℕ) → j < (setup_at records).n → spoilt j ≡ false → is_some (provider_at old.providers j).held ≡ true) → HasRightFile new (after_put records name (length bytes)) name bytes spoilt
 put-has name bytes records spoilt old new end A done K source tells =
     (let P = put-done name old new end A done in
     let same = known-once old records P.records K P.opened.read in
     let read = whole-read (largest_file + 1) old.source new.source bytes P.bytes source P.read P.whole in
-    subst (λ rs. HasFile new (after_put rs name (length bytes)) name bytes spoilt) same
-    (subst (λ bs. HasFile new (after_put P.records name (length bs)) name bs spoilt) read (put-file name spoilt old new end P
+    subst (λ rs. HasRightFile new (after_put rs name (length bytes)) name bytes spoilt) same
+    (subst (λ bs. HasRightFile new (after_put P.records name (length bs)) name bs spoilt) read (put-file name spoilt old new end P
     (subst (λ rs. (j : ℕ) → j < (setup_at rs).n → spoilt j ≡ false → is_some (provider_at old.providers j).held ≡ true) (sym same) tells))))
 
 -- ---- between two commands
 
-pub next-has : (name bytes : List ℕ) (records : List Record) (spoilt : ℕ → Bool) (new next : Seen) → HasFile new records name bytes spoilt → IsUntouched (setup_at records).n spoilt new next → HasFile next records name bytes spoilt
+pub next-has : (name bytes : List ℕ) (records : List Record) (spoilt : ℕ → Bool) (new next : Seen) → HasRightFile new records name bytes spoilt → IsUntouched (setup_at records).n spoilt new next → HasRightFile next records name bytes spoilt
 next-has name bytes records spoilt new next H U = record {
   file = H.file;
   in_effect = H.in_effect;
   are_bytes = H.are_bytes;
   size = H.size;
-  right = λ j below clean. ap (is_wrong_told (object_of (setup_at records) H.file.id) bytes j) (U j below clean) ∙ H.right j below clean;
+  right = λ j below clean. ap (is_wrong_or_untold (object_of (setup_at records) H.file.id) bytes j) (U j below clean) ∙ H.right j below clean;
 }
 
 -- ---- how many providers are bad at a get
@@ -94,11 +94,11 @@ calm-risen before now calm = elim (cases_lt before now) [
     or-false : (b c : Bool) → b ≡ false → c ≡ false → (b || c) ≡ false
     or-false b c e f = (λ i. e i || f i)
 
-bad-off : (o : Object) (bytes : List ℕ) (j : ℕ) (p q : Provider) (told : Option Held) → is_wrong_told o bytes j told ≡ false → has_risen p.other_faults q.other_faults ≡ false → is_bad_with o bytes j p q told ≡ false
+bad-off : (o : Object) (bytes : List ℕ) (j : ℕ) (p q : Provider) (told : Option Held) → is_wrong_or_untold o bytes j told ≡ false → has_risen p.other_faults q.other_faults ≡ false → is_bad_with o bytes j p q told ≡ false
 bad-off o bytes j p q None right calm = absurd (false≢true (sym right))
 bad-off o bytes j p q (Some held) right calm = (λ i. right i || calm i)
 
-pub bad-few : (name bytes : List ℕ) (records : List Record) (spoilt : ℕ → Bool) (old new : Seen) (H : HasFile old records name bytes spoilt) → IsSteady (setup_at records).n spoilt old new →
+pub bad-few : (name bytes : List ℕ) (records : List Record) (spoilt : ℕ → Bool) (old new : Seen) (H : HasRightFile old records name bytes spoilt) → IsSteady (setup_at records).n spoilt old new →
     bad_seen records old new H.file.id bytes ≤ spoilt_below (setup_at records).n spoilt
 bad-few name bytes records spoilt old new H steady =
     count_of-within (λ j. is_bad_for (object_of (setup_at records) H.file.id) bytes j (provider_at old.providers j) (provider_at new.providers j)) spoilt 0 (setup_at records).n within

@@ -14,18 +14,18 @@ use Rattle.hail_machine.specs.Events.{AreBytes}
 use Rattle.hail_machine.specs.Heard.{Entry, HoldsForgery}
 use Rattle.hail_machine.specs.Refusals as refusal
 use Rattle.hail_machine.specs.Refusals.{Refusal}
-use Rattle.hail_commands.specs.Sinking.{Writes}
+use Rattle.hail_commands.specs.Sinking.{WritesLine}
 use Rattle.hail_commands.specs.Seen.{Seen, Ending, IsRefused, sinking}
 use Rattle.hail_commands.specs.Opens.{IsOpened, setup_at}
-use Rattle.hail_commands.specs.Refusals.{refusal_of}
+use Rattle.hail_commands.specs.Refusals.{refusal_over}
 use Rattle.hail_commands.specs.Ran.{Ran, ran_alone, job_number}
 use Rattle.hail_commands.specs.Lines.{text_of}
 use Rattle.hail_commands.specs.Gets.{GetLeaves}
-use Rattle.hail_commands.specs.Jobs.{AnswersJob, EndsBy, LeftAlone}
+use Rattle.hail_commands.specs.Jobs.{AnswersJob, EndsByAnswer, LeftAlone}
 use Rattle.hail_commands.specs.Commands.{AnswersAlone}
 use Rattle.sound_states.proofs.Records.{file-spelled}
 use Rattle.command_laws.specs.Failing.{bad_seen}
-use Rattle.command_laws.specs.Ends.{IsKnown, EndsWell}
+use Rattle.command_laws.specs.Ends.{IsKnown, GivesUnlessMemory}
 use Rattle.command_laws.proofs.Complete.{shape-of, get-complete, get-right, get-forged}
 use Rattle.command_laws.proofs.Telling.{over-opened, opened_state, state-over}
 use Rattle.command_laws.proofs.Known.{none-written, written-well, written-zero, written-front, alone-known}
@@ -43,18 +43,18 @@ module _ (name bytes : List ℕ) (records : List Record) (file : File) (old new 
   shape : IsShape (setup_at records).n (setup_at records).l (setup_at records).b
   shape = shape-at old records K.opened
 
-  begins : refusal_of records (GetJob name) ≡ None
+  begins : refusal_over records (GetJob name) ≡ None
   begins = (let named : is_name name ≡ true = (file-spelled records name file K.opened.read.in_grammar in_effect).0 in
       (λ i. cond (not (named i)) (Some refusal.BadName) (cond (not (is_some (in_effect i))) (Some refusal.NoSuchName) None)))
 
-  no-refusal : (why : Refusal) → refusal_of records (GetJob name) ≡ Some why → ⊥
+  no-refusal : (why : Refusal) → refusal_over records (GetJob name) ≡ Some why → ⊥
   no-refusal why is = (let e : None ≡ Some why = sym begins ∙ is in cc)
 
   -- what a get ends with, by its answer
   abbrev EndsWith : Answer → Type 0
-  EndsWith how = EndsBy (text_of (setup_at records).tolerance (GetJob name) how) how old new end
+  EndsWith how = EndsByAnswer (text_of (setup_at records).tolerance (GetJob name) how) how old new end
 
-  job-complete : AnswersJob (GetJob name) records old new end → bad_seen records old new file.id bytes ≤ (setup_at records).b → Writes bytes end.status (sinking old new)
+  job-complete : AnswersJob (GetJob name) records old new end → bad_seen records old new file.id bytes ≤ (setup_at records).b → WritesLine bytes end.status (sinking old new)
   job-complete (AnswersJob.refused why is synced r) few = absurd (no-refusal why is)
   job-complete (AnswersJob.no_memory synced r) few = inr (inr (r.status_is, none-written bytes old.sink new.sink r.sink))
   job-complete (AnswersJob.ended how none runs left by) few =
@@ -62,7 +62,7 @@ module _ (name bytes : List ℕ) (records : List Record) (file : File) (old new 
       let told : EndsWith (answer.Got bytes) = subst (λ h. EndsWith h) same by in told.written)
 
   right-by : (x : Ran) (how : Answer) → ((got : List ℕ) → how ≡ answer.Got got → got ≡ bytes) → GetLeaves x name how → EndsWith how → TakesFront old.sink new.sink bytes × (end.status ≡ 0 → new.sink ≡ told_then old.sink bytes)
-  right-by x (answer.Got got) right L by = (let same = right got refl in let told : Writes bytes end.status (sinking old new) = subst (λ t. Writes t end.status (sinking old new)) same by.written in
+  right-by x (answer.Got got) right L by = (let same = right got refl in let told : WritesLine bytes end.status (sinking old new) = subst (λ t. WritesLine t end.status (sinking old new)) same by.written in
       (written-front bytes old new end told, written-zero bytes old new end told))
   right-by x (answer.Lost stripe row) right L by = (none-written bytes old.sink new.sink by.sink, λ zero. absurd (let e : 4 ≡ 0 = sym by.status_is ∙ zero in omega (arith, e)))
   right-by x how right L by = absurd L.gives
@@ -84,7 +84,7 @@ module _ (name bytes : List ℕ) (records : List Record) (file : File) (old new 
 
   forged-by : (x : Ran) (how : Answer) → ((got : List ℕ) → how ≡ answer.Got got → (got ≡ bytes) ⊎ Forged) → GetLeaves x name how → EndsWith how → (TakesFront old.sink new.sink bytes × (end.status ≡ 0 → new.sink ≡ told_then old.sink bytes)) ⊎ Forged
   forged-by x (answer.Got got) right L by = elim (right got refl) [
-    | inl same ↦ (let told : Writes bytes end.status (sinking old new) = subst (λ t. Writes t end.status (sinking old new)) same by.written in
+    | inl same ↦ (let told : WritesLine bytes end.status (sinking old new) = subst (λ t. WritesLine t end.status (sinking old new)) same by.written in
         inl (written-front bytes old new end told, written-zero bytes old new end told))
     | inr forged ↦ inr forged
   ]
@@ -100,7 +100,7 @@ module _ (name bytes : List ℕ) (records : List Record) (file : File) (old new 
       left.leaves.by_kind by
 
   pub seen-complete : AnswersAlone (GetJob name) old new end → bad_seen records old new file.id bytes ≤ (setup_at records).b → (Rose old.disk_faults new.disk_faults → ⊥) → (Rose old.sink_faults new.sink_faults → ⊥) →
-      EndsWell bytes old new end
+      GivesUnlessMemory bytes old new end
   seen-complete A few disk sink = elim (alone-known (GetJob name) old new end records K A) [
     | inl (inl (rose, r)) ↦ absurd (disk rose)
     | inl (inr r) ↦ inr (r.status_is, none-written bytes old.sink new.sink r.sink)

@@ -36,7 +36,8 @@ use Rattle.hail_commands.specs.Truthful.{missing, IsTruthful}
 use Rattle.sound_states.specs.Orders.{moves_made}
 use Rattle.sound_states.proofs.Orders.{appends-order, get-none}
 use Rattle.lone_laws.specs.Made.{With, Did, Made}
-use Rattle.lone_laws.specs.Walked.{IsOpened, RecordsAre, with_job_of, Walked}
+use Rattle.hail_openings.specs.Opened.{IsOpenAtRest}
+use Rattle.lone_laws.specs.Walked.{RecordsAre, with_job_of, Walked}
 use Rattle.lone_laws.proofs.Lists.{made-split, take-append-add}
 use Rattle.lone_laws.proofs.Walk.{runs}
 use Rattle.command_laws.proofs.Runs.{Ends}
@@ -394,7 +395,7 @@ get-list : (s : Setup) (job : Job) (name : List ℕ) → job.kind ≡ GetJob nam
 unfolding actions_of
 get-list s job name kind = ap (actions_by s job) kind
 
-module _ (start new : State) (name : List ℕ) (how : Answer) (heard : List Entry) (O : IsOpened start) (E : Ends start (GetJob name) how heard new) where
+module _ (start new : State) (name : List ℕ) (how : Answer) (heard : List Entry) (O : IsOpenAtRest start 1) (E : Ends start (GetJob name) how heard new) where
   abbrev s : Setup
   s = setup_in start
 

@@ -29,16 +29,17 @@ use Rattle.sound_states.proofs.Events.{events-sound}
 use Rattle.sound_states.proofs.Records.{is_some-at, setup-more}
 use Rattle.hail_commands.specs.Forms.{Command, RowOf, InitWith, PutUnder, GetOf, DropOf, ListAll, AuditAll, RepairDue}
 use Rattle.hail_commands.specs.Seen.{Seen, Ending, NoCountFalls, IsRefused, IsSynced}
-use Rattle.hail_commands.specs.Openings.{journal_read, IsRead, IsBadStart}
+use Rattle.hail_openings.specs.Journals.{journal_read, IsRead, IsBadStart}
 use Rattle.hail_commands.specs.Opens.{IsOpened, Unstarted, setup_at}
-use Rattle.hail_commands.specs.JobRuns.{AreHanded, AreSteps, GoesOnTo, IsOpenedOver}
-use Rattle.hail_commands.specs.Jobs.{AnswersJob, EndsBy, RunsAlone, RanAlone}
+use Rattle.hail_openings.specs.Opened.{AreHanded, IsOpenedOver}
+use Rattle.hail_commands.specs.JobRuns.{AreSteps, GoesOnTo}
+use Rattle.hail_commands.specs.Jobs.{AnswersJob, EndsByAnswer, RunsAlone, RanAlone}
 use Rattle.hail_commands.specs.Lines.{text_of}
-use Rattle.hail_commands.specs.Refusals.{refusal_of, status_of}
+use Rattle.hail_commands.specs.Refusals.{refusal_over, status_of}
 use Rattle.hail_commands.specs.Commands.{AnswersPut, AnswersAlone, AnswersList, Answers}
-use Rattle.command_laws.specs.Ends.{IsJobOf, opens_store}
+use Rattle.command_laws.specs.Ends.{RunsKind, opens_store}
 use Rattle.command_laws.specs.Pieces.{IsStore, IsSpelledCommand, IsCall, moment}
-use Rattle.command_laws.proofs.Readings.{read-once, read-set_up, read-good as read-never-bad}
+use Rattle.hail_openings.proofs.Readings.{read-once, read-set_up, read-good as read-never-bad}
 use Rattle.command_laws.proofs.Telling.{over-opened}
 use Rattle.command_laws.proofs.Images.{reads-image, image-firm, refused-keeps}
 use Rattle.command_laws.proofs.LastStates.{last-state}
@@ -312,8 +313,8 @@ module _ (start : State) (ms : List Moment) (R : IsRun 8 start ms) (old : Seen) 
         store-opened sync same,
       )
 
-      module _ (kind : Kind) (is_job : IsJobOf command old new kind) where
-        refused-on : (status at : ℕ) (why : Refusal) → IsSpelledKind kind → (refusal_of rs kind ≡ Some why) ⊎ (why ≡ refusal.Memory) → end.status ≡ status_of why → IsSynced old new → IsRefused status at old new end → GoesOn
+      module _ (kind : Kind) (is_job : RunsKind command old new kind) where
+        refused-on : (status at : ℕ) (why : Refusal) → IsSpelledKind kind → (refusal_over rs kind ≡ Some why) ⊎ (why ≡ refusal.Memory) → end.status ≡ status_of why → IsSynced old new → IsRefused status at old new end → GoesOn
         refused-on status at why spelled cause status_is sync r = (
           moment (Begin kind) (Refused why) opened ∷ reopened ∷ later ∷ [],
           IsCall.refused kind (continued w) opened opened why is_job refl status_is r.heard,
@@ -321,11 +322,11 @@ module _ (start : State) (ms : List Moment) (R : IsRun 8 start ms) (old : Seen) 
           store-opened sync r.providers,
         )
           where
-            by_cause : (refusal_of rs kind ≡ Some why) ⊎ (why ≡ refusal.Memory) → (begin_refusal 8 opened kind ≡ Some why) ⊎ (why ≡ refusal.Memory)
+            by_cause : (refusal_over rs kind ≡ Some why) ⊎ (why ≡ refusal.Memory) → (begin_refusal 8 opened kind ≡ Some why) ⊎ (why ≡ refusal.Memory)
             by_cause (inl e) = inl (refusal-of opened kind refl refl ∙ e)
             by_cause (inr e) = inr e
 
-        ended-on : (how : Answer) → IsSpelledKind kind → RunsAlone rs kind how old new end.heard → EndsBy (text_of (setup_at rs).tolerance kind how) how old new end → GoesOn
+        ended-on : (how : Answer) → IsSpelledKind kind → RunsAlone rs kind how old new end.heard → EndsByAnswer (text_of (setup_at rs).tolerance kind how) how old new end → GoesOn
         unfolding setup_in
         ended-on how spelled A by =
             (let v : State = opened_at A.faults in
@@ -370,7 +371,7 @@ module _ (start : State) (ms : List Moment) (R : IsRun 8 start ms) (old : Seen) 
     enough-of : (other : List Record) → IsOpened old other → (setup_at rs).n ≤ length old.providers
     enough-of other O = subst (λ l. (setup_at l).n ≤ length old.providers) (once other O.read) O.enough
 
-    alone-on : (kind : Kind) → IsJobOf command old new kind → IsSpelledKind kind → AnswersAlone kind old new end → GoesOn
+    alone-on : (kind : Kind) → RunsKind command old new kind → IsSpelledKind kind → AnswersAlone kind old new end → GoesOn
     alone-on kind is spelled (AnswersAlone.unstarted u) = unstarted-on u
     alone-on kind is spelled (AnswersAlone.begun other O A) = job-on (enough-of other O) kind is spelled (subst (λ l. AnswersJob kind l old new end) (once other O.read) A)
 

@@ -18,8 +18,8 @@ use Rattle.hail_machine.specs.Jobs.{Kind, PutJob, GetJob, DropJob, AuditJob, Rep
 use Rattle.hail_machine.specs.Answers as answer
 use Rattle.hail_machine.specs.Answers.{Answer}
 use Rattle.hail_commands.specs.Forms.{Command, Numbers, RowOf, InitWith, PutUnder, GetOf, DropOf, ListAll, AuditAll, RepairDue}
-use Rattle.hail_commands.specs.Seen.{Seen, Ending, IsRefused, IsResynced}
-use Rattle.hail_commands.specs.Openings.{IsFree, IsSetUpOn, MayBeLeft}
+use Rattle.hail_openings.specs.Journals.{IsResynced, IsFree, IsSetUpOn, MayBeLeft}
+use Rattle.hail_commands.specs.Seen.{Seen, Ending, IsRefused}
 use Rattle.hail_commands.specs.Opens.{IsOpened, Unstarted}
 use Rattle.hail_commands.specs.Ran.{Ran, IsWhole, IsCut, IsCutInDoubt}
 use Rattle.hail_commands.specs.Puts.{put_records, PutIsCut}
@@ -27,7 +27,7 @@ use Rattle.hail_commands.specs.Audits.{audit_records, AuditIsCut}
 use Rattle.hail_commands.specs.Jobs.{AnswersJob, LeavesBy}
 use Rattle.hail_commands.specs.Inits.{setup_with, AnswersInit, InitsDisk}
 use Rattle.hail_commands.specs.Commands.{AnswersPut, AnswersAlone, AnswersList, Answers}
-use Rattle.command_laws.specs.Ends.{IsKnown, IsJobOf, opens_store}
+use Rattle.command_laws.specs.Ends.{IsKnown, RunsKind, opens_store}
 use Rattle.command_laws.specs.Kept.{KeepsImages, AreAppended, IsAfter, LeavesImages, InitImages}
 use Rattle.command_laws.proofs.Known.{known-once}
 use Rattle.command_laws.proofs.GetEnds.{ran_left}
@@ -195,7 +195,7 @@ job-images kind records old new end opened (AnswersJob.no_memory after r) = inl 
 job-images kind records old new end opened (AnswersJob.ended how none runs left by) =
     inr (images-after (ran_left records kind how old new end.heard left) kind opened.read.some (wrote-by (ran_left records kind how old new end.heard left) kind how left.leaves.by_kind) new.disk left.images)
 
-of-job : (command : Command) (kind : Kind) (records : List Record) (old new : Seen) → IsOpened old records → IsJobOf command old new kind →
+of-job : (command : Command) (kind : Kind) (records : List Record) (old new : Seen) → IsOpened old records → RunsKind command old new kind →
     KeepsImages old new ⊎ EachImage new.disk (IsAfter records kind) → LeavesImages command old new
 of-job command kind records old new opened is (inl kept) = LeavesImages.kept kept
 of-job command kind records old new opened is (inr images) = LeavesImages.ran records kind opened is images
@@ -207,7 +207,7 @@ put-images name old new end (AnswersPut.no_memory taken r) = LeavesImages.kept (
 put-images name old new end (AnswersPut.begun records bytes opened read A) =
     of-job (PutUnder name) (PutJob name bytes) records old new opened (bytes, read, refl) (job-images (PutJob name bytes) records old new end opened A)
 
-alone-images : (command : Command) (kind : Kind) (old new : Seen) (end : Ending) → IsJobOf command old new kind → AnswersAlone kind old new end → LeavesImages command old new
+alone-images : (command : Command) (kind : Kind) (old new : Seen) (end : Ending) → RunsKind command old new kind → AnswersAlone kind old new end → LeavesImages command old new
 alone-images command kind old new end is (AnswersAlone.unstarted u) = LeavesImages.kept (unstarted-keeps old new end u)
 alone-images command kind old new end is (AnswersAlone.begun records opened A) = of-job command kind records old new opened is (job-images kind records old new end opened A)
 
@@ -228,7 +228,7 @@ store-images RepairDue old new end A opens = alone-images RepairDue RepairJob ol
 
 -- what each image stands for, where each stood for the records before
 abbrev StandsAfter : Command → List Record → Seen → Seen → List ℕ → Type 0
-StandsAfter command records old new image = StandsFor image records ⊎ ((kind : Kind) × IsJobOf command old new kind × IsAfter records kind image)
+StandsAfter command records old new image = StandsFor image records ⊎ ((kind : Kind) × RunsKind command old new kind × IsAfter records kind image)
 
 kept-stand : (command : Command) (records : List Record) (old new : Seen) (before after : Option Cells) → IfSome before (λ cells. EachImage after (IsImage cells)) → before ≢ None →
     EachImage before (λ image. StandsFor image records) → EachImage after (StandsAfter command records old new)
@@ -236,7 +236,7 @@ kept-stand command records old new None after kept tells stand = absurd (tells r
 kept-stand command records old new (Some cells) None kept tells stand = tt
 kept-stand command records old new (Some cells) (Some now) kept tells stand = λ image is. inl (stand image (kept image is))
 
-ran-stand : (command : Command) (records : List Record) (kind : Kind) (old new : Seen) → IsJobOf command old new kind → (after : Option Cells) → EachImage after (IsAfter records kind) →
+ran-stand : (command : Command) (records : List Record) (kind : Kind) (old new : Seen) → RunsKind command old new kind → (after : Option Cells) → EachImage after (IsAfter records kind) →
     EachImage after (StandsAfter command records old new)
 ran-stand command records kind old new is None h = tt
 ran-stand command records kind old new is (Some cells) h = λ image of. inr (kind, is, h image of)

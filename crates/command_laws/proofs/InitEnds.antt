@@ -13,13 +13,13 @@ use Rattle.journal_core.proofs.Meanings.{one_meaning, bad_is_none, one_place}
 use Rattle.hex.specs.Hex.{decode_of}
 use Rattle.hail_commands.specs.Forms.{Numbers}
 use Rattle.hail_commands.specs.Keys.{IsKeyForm, longest_key}
-use Rattle.hail_commands.specs.Sinking.{Writes}
+use Rattle.hail_commands.specs.Sinking.{WritesLine}
 use Rattle.hail_commands.specs.Seen.{Seen, Ending, IsRefused, ReadsUpTo, sinking}
-use Rattle.hail_commands.specs.Openings.{journal_read, BeginsWithSetup, BeginsOtherwise, IsBadInit, IsSetUpAlready, IsFree, IsSetUpOn}
+use Rattle.hail_openings.specs.Journals.{journal_read, BeginsWithSetup, BeginsOtherwise, IsBadInit, IsSetUpAlready, IsFree, IsSetUpOn}
 use Rattle.hail_commands.specs.Inits.{setup_with, AnswersInit, InitsDisk}
 use Rattle.hail_commands.specs.Lines.{ready_line, list_lines}
 use Rattle.hail_commands.specs.Commands.{AnswersList}
-use Rattle.command_laws.specs.Ends.{IsDone, IsKnown, EndsWell}
+use Rattle.command_laws.specs.Ends.{IsDone, IsKnown, GivesUnlessMemory}
 use Rattle.command_laws.specs.Opened.{IsKeyed, IsInit, IsListed}
 use Rattle.command_laws.proofs.Known.{none-written, written-well, known-once, unstarted-known}
 use Rattle.command_laws.proofs.JobEnds.{unstarted-done, not-done, memory-well}
@@ -135,7 +135,7 @@ init-done numbers old new end (AnswersInit.keyed seen key good enough read form 
 status-not : (status n m : ℕ) → status ≡ n → status ≡ m → n ≢ m → ⊥
 status-not status n m is also differ = differ (sym is ∙ also)
 
-written-not : (text : List ℕ) (old new : Seen) (end : Ending) (m : ℕ) → Writes text end.status (sinking old new) → end.status ≡ m → 0 ≢ m → 15 ≢ m → 70 ≢ m → ⊥
+written-not : (text : List ℕ) (old new : Seen) (end : Ending) (m : ℕ) → WritesLine text end.status (sinking old new) → end.status ≡ m → 0 ≢ m → 15 ≢ m → 70 ≢ m → ⊥
 written-not text old new end m (inl w) is zero sink memory = zero (sym w.0 ∙ is)
 written-not text old new end m (inr (inl w)) is zero sink memory = sink (sym w.1 ∙ is)
 written-not text old new end m (inr (inr w)) is zero sink memory = memory (sym w.0 ∙ is)
@@ -266,7 +266,7 @@ module _ (s : Setup) (cells : Cells) (old new : Seen) (end : Ending) (tells : ol
   disk-already long set_up (InitsDisk.no_memory F) = inr F.status_is
   disk-already long set_up (InitsDisk.ready R) = absurd (already-free cells long set_up (ready-free s cells old.disk new.disk tells R.disk))
 
-  disk-free : IsFree cells → (Rose old.sink_faults new.sink_faults → ⊥) → InitsDisk s old new end → EndsWell ready_line old new end
+  disk-free : IsFree cells → (Rose old.sink_faults new.sink_faults → ⊥) → InitsDisk s old new end → GivesUnlessMemory ready_line old new end
   disk-free free sink (InitsDisk.disk_fault rose F) = absurd (calm rose)
   disk-free free sink (InitsDisk.bad_journal at is r) = absurd (let b = told-bad at is in bad-free cells at b.0 b.1 free)
   disk-free free sink (InitsDisk.already is r) = absurd (let b = told-already is in already-free cells b.0 b.1 free)
@@ -289,7 +289,7 @@ already-always numbers key cells old new end A K tells long set_up source disk =
 ]
 
 pub init-well : (numbers : Numbers) (key : List ℕ) (cells : Cells) (old new : Seen) (end : Ending) → AnswersInit numbers old new end → IsKeyed numbers key old → old.disk ≡ Some cells → IsFree cells →
-    (Rose old.source_faults new.source_faults → ⊥) → (Rose old.disk_faults new.disk_faults → ⊥) → (Rose old.sink_faults new.sink_faults → ⊥) → EndsWell ready_line old new end
+    (Rose old.source_faults new.source_faults → ⊥) → (Rose old.disk_faults new.disk_faults → ⊥) → (Rose old.sink_faults new.sink_faults → ⊥) → GivesUnlessMemory ready_line old new end
 init-well numbers key cells old new end A K tells free source disk sink = elim (keyed-disk numbers key old new end A K source) [
   | inl D ↦ disk-free (setup_with numbers key) cells old new end tells disk free sink D
   | inr r ↦ memory-well ready_line old new end r
@@ -309,11 +309,11 @@ list-done old new end (AnswersList.listed records opened L) done = record {
 }
 
 pub list-well : (records : List Record) (old new : Seen) (end : Ending) → AnswersList old new end → IsKnown old records → (Rose old.disk_faults new.disk_faults → ⊥) → (Rose old.sink_faults new.sink_faults → ⊥) →
-    EndsWell (list_lines (files_of records)) old new end
+    GivesUnlessMemory (list_lines (files_of records)) old new end
 list-well records old new end (AnswersList.unstarted u) K disk sink = elim (unstarted-known old new end records K u) [
   | inl (rose, r) ↦ absurd (disk rose)
   | inr r ↦ memory-well (list_lines (files_of records)) old new end r
 ]
 list-well records old new end (AnswersList.no_memory r) K disk sink = memory-well (list_lines (files_of records)) old new end r
 list-well records old new end (AnswersList.listed other opened L) K disk sink =
-    subst (λ rs. EndsWell (list_lines (files_of rs)) old new end) (known-once old records other K opened.read) (written-well (list_lines (files_of other)) old new end L.written sink)
+    subst (λ rs. GivesUnlessMemory (list_lines (files_of rs)) old new end) (known-once old records other K opened.read) (written-well (list_lines (files_of other)) old new end L.written sink)

@@ -20,16 +20,16 @@ use Rattle.hail_machine.proofs.RecordFacts.{same_name-refl}
 use Rattle.hail_commands.specs.Forms.{Command, PutUnder, DropOf, AuditAll}
 use Rattle.hail_commands.specs.Seen.{Seen, Ending, IsRefused, ReadsUpTo, provider_at}
 use Rattle.hail_commands.specs.Opens.{IsOpened, Unstarted, setup_at}
-use Rattle.hail_commands.specs.Refusals.{refusal_of, status_of}
+use Rattle.hail_commands.specs.Refusals.{refusal_over, status_of}
 use Rattle.hail_commands.specs.Lines.{text_of, stored_line, dropped_line, audit_lines, repaired_line}
 use Rattle.hail_commands.specs.Puts.{PutLeaves}
 use Rattle.hail_commands.specs.Drops.{DropLeaves}
 use Rattle.hail_commands.specs.Audits.{AuditGives, HearsRounds, CountsHeard}
 use Rattle.hail_commands.specs.Repairs.{RepairGives}
-use Rattle.hail_commands.specs.Jobs.{AnswersJob, EndsBy, LeftAlone, IsTold}
+use Rattle.hail_commands.specs.Jobs.{AnswersJob, EndsByAnswer, LeftAlone, IsTold}
 use Rattle.hail_commands.specs.Commands.{AnswersPut, AnswersAlone, AnswersList}
 use Rattle.command_laws.specs.Failing.{bad_seen}
-use Rattle.command_laws.specs.Ends.{IsDone, IsKnown, EndsWell, EndsInOrder, SameHolds, after_put, IsPut, IsDropped, IsAudited, IsRepaired}
+use Rattle.command_laws.specs.Ends.{IsDone, IsKnown, GivesUnlessMemory, EndsInOrder, SameHolds, after_put, IsPut, IsDropped, IsAudited, IsRepaired}
 use Rattle.command_laws.proofs.Complete.{put-end, drop-end, audit-end}
 use Rattle.command_laws.proofs.Mended.{repair-end}
 use Rattle.command_laws.proofs.Known.{none-written, written-well, known-once, unstarted-known, alone-known, refused-not, refused-only, refused-always, own-status}
@@ -68,10 +68,10 @@ images-have (Some cells) after doubt first rest is sure h = λ image of. image-h
 
 -- what a command ends with, by the answer of its job
 abbrev EndsWith : List Record → Kind → Answer → Seen → Seen → Ending → Type 0
-EndsWith records kind how old new end = EndsBy (text_of (setup_at records).tolerance kind how) how old new end
+EndsWith records kind how old new end = EndsByAnswer (text_of (setup_at records).tolerance kind how) how old new end
 
 -- a job that found no memory, or wrote its text
-pub memory-well : (text : List ℕ) (old new : Seen) (end : Ending) → IsRefused 70 0 old new end → EndsWell text old new end
+pub memory-well : (text : List ℕ) (old new : Seen) (end : Ending) → IsRefused 70 0 old new end → GivesUnlessMemory text old new end
 memory-well text old new end r = inr (r.status_is, none-written text old.sink new.sink r.sink)
 
 pub not-done : (status n : ℕ) → status ≡ n → n ≢ 0 → n ≢ 15 → (status ≡ 0) ⊎ (status ≡ 15) → ⊥
@@ -94,7 +94,7 @@ second-off true c x y rest h = absurd (let e : Some x ≡ None = h in cc)
 second-off false true x y rest h = absurd (let e : Some y ≡ None = h in cc)
 second-off false false x y rest h = refl
 
-pub not-long : (records : List Record) (name bytes : List ℕ) → refusal_of records (PutJob name bytes) ≡ None → length bytes ≤ largest_file
+pub not-long : (records : List Record) (name bytes : List ℕ) → refusal_over records (PutJob name bytes) ≡ None → length bytes ≤ largest_file
 not-long records name bytes none = at-most largest_file (length bytes) (second-off _ (nat_lt largest_file (length bytes)) _ _ _ none)
   where
     at-most : (a b : ℕ) → nat_lt a b ≡ false → b ≤ a
@@ -105,7 +105,7 @@ put-in_effect records name size = cond_true (is_start_of name (started_as (PutSt
     (ap (is_start_of name) (cond_true (next_id records == next_id records) (Some name) (started_as records (next_id records)) (eq-eqb (next_id records) (next_id records) refl)) ∙ same_name-refl name)
 
 put-by : (name bytes : List ℕ) (records : List Record) (old new : Seen) (end : Ending) → IsOpened old records → ReadsUpTo (largest_file + 1) old.source new.source bytes →
-    refusal_of records (PutJob name bytes) ≡ None → (how : Answer) (left : LeftAlone records (PutJob name bytes) how old new end.heard) →
+    refusal_over records (PutJob name bytes) ≡ None → (how : Answer) (left : LeftAlone records (PutJob name bytes) how old new end.heard) →
     PutLeaves (ran_left records (PutJob name bytes) how old new end.heard left) name bytes how → EndsWith records (PutJob name bytes) how old new end → IsDone end → IsPut name old new end
 put-by name bytes records old new end opened read begins answer.Put left L by done = record {
   records = records;
@@ -143,9 +143,9 @@ read-all old (Some left) bytes seen is small R =
     let none : left ≡ [] = R.end (omega (arith, size, sum, small)) in
     sym (f ∙ (ap (λ l. seen ++ l) none ∙ append-nil seen)))
 
-put-job-well : (name bytes : List ℕ) (records : List Record) (old new : Seen) (end : Ending) → refusal_of records (PutJob name bytes) ≡ None → (Rose old.disk_faults new.disk_faults → ⊥) →
+put-job-well : (name bytes : List ℕ) (records : List Record) (old new : Seen) (end : Ending) → refusal_over records (PutJob name bytes) ≡ None → (Rose old.disk_faults new.disk_faults → ⊥) →
     ((j : ℕ) → j < (setup_at records).n → Rose (provider_at old.providers j).store_faults (provider_at new.providers j).store_faults → ⊥) → (Rose old.sink_faults new.sink_faults → ⊥) →
-    AnswersJob (PutJob name bytes) records old new end → EndsWell (stored_line name (length bytes)) old new end
+    AnswersJob (PutJob name bytes) records old new end → GivesUnlessMemory (stored_line name (length bytes)) old new end
 put-job-well name bytes records old new end begins disk stores sink (AnswersJob.refused why is synced r) = absurd (let e : None ≡ Some why = sym begins ∙ is in cc)
 put-job-well name bytes records old new end begins disk stores sink (AnswersJob.no_memory synced r) = memory-well (stored_line name (length bytes)) old new end r
 put-job-well name bytes records old new end begins disk stores sink (AnswersJob.ended how none runs left by) =
@@ -157,9 +157,9 @@ put-job-well name bytes records old new end begins disk stores sink (AnswersJob.
     ]
 
 pub put-well : (name bytes : List ℕ) (records : List Record) (old new : Seen) (end : Ending) → AnswersPut name old new end → IsKnown old records → old.source ≡ Some bytes →
-    refusal_of records (PutJob name bytes) ≡ None → (Rose old.disk_faults new.disk_faults → ⊥) →
+    refusal_over records (PutJob name bytes) ≡ None → (Rose old.disk_faults new.disk_faults → ⊥) →
     ((j : ℕ) → j < (setup_at records).n → Rose (provider_at old.providers j).store_faults (provider_at new.providers j).store_faults → ⊥) →
-    (Rose old.source_faults new.source_faults → ⊥) → (Rose old.sink_faults new.sink_faults → ⊥) → EndsWell (stored_line name (length bytes)) old new end
+    (Rose old.source_faults new.source_faults → ⊥) → (Rose old.sink_faults new.sink_faults → ⊥) → GivesUnlessMemory (stored_line name (length bytes)) old new end
 put-well name bytes records old new end (AnswersPut.unstarted u same) K is begins disk stores source sink = elim (unstarted-known old new end records K u) [
   | inl (rose, r) ↦ absurd (disk rose)
   | inr r ↦ memory-well (stored_line name (length bytes)) old new end r
@@ -177,7 +177,7 @@ second-on : (b c : Bool) (x y : Refusal) (rest : Option Refusal) → c ≡ true 
 second-on true c x y rest h = refl
 second-on false c x y rest h = cond_true c (Some y) rest h
 
-too-long : (records : List Record) (name a b : List ℕ) → largest_file < length a → largest_file < length b → refusal_of records (PutJob name a) ≡ refusal_of records (PutJob name b)
+too-long : (records : List Record) (name a b : List ℕ) → largest_file < length a → largest_file < length b → refusal_over records (PutJob name a) ≡ refusal_over records (PutJob name b)
 too-long records name a b la lb = second-on _ (nat_lt largest_file (length a)) _ _ _ (lt-ltb largest_file (length a) la) ∙ sym (second-on _ (nat_lt largest_file (length b)) _ _ _ (lt-ltb largest_file (length b) lb))
 
 -- what is read of a longer source is too long as well
@@ -192,14 +192,14 @@ read-long old (Some left) bytes seen is long R = elim (cases_lt largest_file (le
 ]
 
 read-same : (records : List Record) (name : List ℕ) (old new : Option (List ℕ)) (bytes seen : List ℕ) → old ≡ Some bytes → ReadsUpTo (largest_file + 1) old new seen →
-    refusal_of records (PutJob name seen) ≡ refusal_of records (PutJob name bytes)
+    refusal_over records (PutJob name seen) ≡ refusal_over records (PutJob name bytes)
 read-same records name old new bytes seen is R = elim (cases_lt largest_file (length bytes)) [
   | inl l ↦ too-long records name seen bytes (read-long old new bytes seen is l R) l
-  | inr l ↦ ap (λ b. refusal_of records (PutJob name b)) (read-all old new bytes seen is l R)
+  | inr l ↦ ap (λ b. refusal_over records (PutJob name b)) (read-all old new bytes seen is l R)
 ]
 
 pub put-only : (name bytes : List ℕ) (records : List Record) (old new : Seen) (end : Ending) (why : Refusal) → AnswersPut name old new end → IsKnown old records → old.source ≡ Some bytes →
-    status_of why ≢ 70 → end.status ≡ status_of why → refusal_of records (PutJob name bytes) ≡ Some why
+    status_of why ≢ 70 → end.status ≡ status_of why → refusal_over records (PutJob name bytes) ≡ Some why
 put-only name bytes records old new end why (AnswersPut.unstarted u same) K is own e = elim (unstarted-known old new end records K u) [
   | inl (rose, r) ↦ absurd (own-status end why 12 refl r.status_is own e)
   | inr r ↦ absurd (own-status end why 70 refl r.status_is own e)
@@ -211,7 +211,7 @@ put-only name bytes records old new end why (AnswersPut.begun other seen opened 
     ∙ refused-only (PutJob name seen) records old new end why (subst (λ rs. AnswersJob (PutJob name seen) rs old new end) (known-once old records other K opened.read) A) own e
 
 pub put-always : (name bytes : List ℕ) (records : List Record) (old new : Seen) (end : Ending) (why : Refusal) → AnswersPut name old new end → IsKnown old records → old.source ≡ Some bytes →
-    (Rose old.disk_faults new.disk_faults → ⊥) → (Rose old.source_faults new.source_faults → ⊥) → refusal_of records (PutJob name bytes) ≡ Some why →
+    (Rose old.disk_faults new.disk_faults → ⊥) → (Rose old.source_faults new.source_faults → ⊥) → refusal_over records (PutJob name bytes) ≡ Some why →
     IsRefused (status_of why) 0 old new end ⊎ IsRefused 70 0 old new end
 put-always name bytes records old new end why (AnswersPut.unstarted u same) K is disk source applies = elim (unstarted-known old new end records K u) [
   | inl (rose, r) ↦ absurd (disk rose)
@@ -247,8 +247,8 @@ drop-done name old new end (AnswersAlone.begun records opened (AnswersJob.refuse
 drop-done name old new end (AnswersAlone.begun records opened (AnswersJob.no_memory synced r)) done = absurd (not-done end.status 70 r.status_is (λ e. omega (arith, e)) (λ e. omega (arith, e)) done)
 drop-done name old new end (AnswersAlone.begun records opened (AnswersJob.ended how none runs left by)) done = drop-by name records old new end opened how left left.leaves.by_kind.0 by done
 
-drop-job-well : (name : List ℕ) (records : List Record) (old new : Seen) (end : Ending) → refusal_of records (DropJob name) ≡ None → (Rose old.disk_faults new.disk_faults → ⊥) → (Rose old.sink_faults new.sink_faults → ⊥) →
-    AnswersJob (DropJob name) records old new end → EndsWell (dropped_line name) old new end
+drop-job-well : (name : List ℕ) (records : List Record) (old new : Seen) (end : Ending) → refusal_over records (DropJob name) ≡ None → (Rose old.disk_faults new.disk_faults → ⊥) → (Rose old.sink_faults new.sink_faults → ⊥) →
+    AnswersJob (DropJob name) records old new end → GivesUnlessMemory (dropped_line name) old new end
 drop-job-well name records old new end begins disk sink (AnswersJob.refused why is synced r) = absurd (let e : None ≡ Some why = sym begins ∙ is in cc)
 drop-job-well name records old new end begins disk sink (AnswersJob.no_memory synced r) = memory-well (dropped_line name) old new end r
 drop-job-well name records old new end begins disk sink (AnswersJob.ended how none runs left by) =
@@ -260,7 +260,7 @@ drop-job-well name records old new end begins disk sink (AnswersJob.ended how no
     ]
 
 pub drop-well : (name : List ℕ) (records : List Record) (old new : Seen) (end : Ending) → AnswersAlone (DropJob name) old new end → IsKnown old records →
-    refusal_of records (DropJob name) ≡ None → (Rose old.disk_faults new.disk_faults → ⊥) → (Rose old.sink_faults new.sink_faults → ⊥) → EndsWell (dropped_line name) old new end
+    refusal_over records (DropJob name) ≡ None → (Rose old.disk_faults new.disk_faults → ⊥) → (Rose old.sink_faults new.sink_faults → ⊥) → GivesUnlessMemory (dropped_line name) old new end
 drop-well name records old new end A K begins disk sink = elim (alone-known (DropJob name) old new end records K A) [
   | inl (inl (rose, r)) ↦ absurd (disk rose)
   | inl (inr r) ↦ memory-well (dropped_line name) old new end r
@@ -293,7 +293,7 @@ audit-done old new end (AnswersAlone.begun records opened (AnswersJob.no_memory 
 audit-done old new end (AnswersAlone.begun records opened (AnswersJob.ended how none runs left by)) done = audit-by records old new end opened how left left.leaves.by_kind.gives by done
 
 -- a text that was written whole, or cut for want of memory
-pub zero-or-memory : (text : List ℕ) (old new : Seen) (end : Ending) → EndsWell text old new end → (end.status ≡ 0) ⊎ (end.status ≡ 70)
+pub zero-or-memory : (text : List ℕ) (old new : Seen) (end : Ending) → GivesUnlessMemory text old new end → (end.status ≡ 0) ⊎ (end.status ≡ 70)
 zero-or-memory text old new end (inl w) = inl w.0
 zero-or-memory text old new end (inr w) = inr w.0
 
@@ -301,7 +301,7 @@ pub in-order : (command : Command) (old new : Seen) (end : Ending) → (end.stat
 in-order command old new end (inl is) = EndsInOrder.done is
 in-order command old new end (inr is) = EndsInOrder.no_memory is
 
-audit-job-well : (records : List Record) (old new : Seen) (end : Ending) → refusal_of records AuditJob ≡ None → (Rose old.disk_faults new.disk_faults → ⊥) → (Rose old.sink_faults new.sink_faults → ⊥) →
+audit-job-well : (records : List Record) (old new : Seen) (end : Ending) → refusal_over records AuditJob ≡ None → (Rose old.disk_faults new.disk_faults → ⊥) → (Rose old.sink_faults new.sink_faults → ⊥) →
     AnswersJob AuditJob records old new end → (end.status ≡ 0) ⊎ (end.status ≡ 70)
 audit-job-well records old new end begins disk sink (AnswersJob.refused why is synced r) = absurd (let e : None ≡ Some why = sym begins ∙ is in cc)
 audit-job-well records old new end begins disk sink (AnswersJob.no_memory synced r) = inr r.status_is
@@ -313,7 +313,7 @@ audit-job-well records old new end begins disk sink (AnswersJob.ended how none r
     ]
 
 pub audit-well : (records : List Record) (old new : Seen) (end : Ending) → AnswersAlone AuditJob old new end → IsKnown old records →
-    refusal_of records AuditJob ≡ None → (Rose old.disk_faults new.disk_faults → ⊥) → (Rose old.sink_faults new.sink_faults → ⊥) → (end.status ≡ 0) ⊎ (end.status ≡ 70)
+    refusal_over records AuditJob ≡ None → (Rose old.disk_faults new.disk_faults → ⊥) → (Rose old.sink_faults new.sink_faults → ⊥) → (end.status ≡ 0) ⊎ (end.status ≡ 70)
 audit-well records old new end A K begins disk sink = elim (alone-known AuditJob old new end records K A) [
   | inl (inl (rose, r)) ↦ absurd (disk rose)
   | inl (inr r) ↦ inr r.status_is
@@ -346,7 +346,7 @@ repair-done old new end (AnswersAlone.begun records opened (AnswersJob.no_memory
 repair-done old new end (AnswersAlone.begun records opened (AnswersJob.ended how none runs left by)) done =
     (let L = left.leaves.by_kind.0 in repair-by records old new end opened how left L.due L.is_due L.gives by done)
 
-repair-job-well : (records : List Record) (old new : Seen) (end : Ending) (bytes : ℕ → List ℕ) → IsOpened old records → refusal_of records RepairJob ≡ None → (Rose old.disk_faults new.disk_faults → ⊥) →
+repair-job-well : (records : List Record) (old new : Seen) (end : Ending) (bytes : ℕ → List ℕ) → IsOpened old records → refusal_over records RepairJob ≡ None → (Rose old.disk_faults new.disk_faults → ⊥) →
     ((j : ℕ) → j < (setup_at records).n → Rose (provider_at old.providers j).store_faults (provider_at new.providers j).store_faults → ⊥) → (Rose old.sink_faults new.sink_faults → ⊥) →
     ((name : List ℕ) (file : File) → file_of records name ≡ Some file → (length (bytes file.id) ≡ file.size) × (bad_seen records old new file.id (bytes file.id) ≤ (setup_at records).b)) →
     AnswersJob RepairJob records old new end → (end.status ≡ 0) ⊎ (end.status ≡ 70)
@@ -360,7 +360,7 @@ repair-job-well records old new end bytes opened begins disk stores sink safe (A
     ]
 
 pub repair-well : (records : List Record) (old new : Seen) (end : Ending) (bytes : ℕ → List ℕ) → AnswersAlone RepairJob old new end → IsKnown old records →
-    refusal_of records RepairJob ≡ None → (Rose old.disk_faults new.disk_faults → ⊥) →
+    refusal_over records RepairJob ≡ None → (Rose old.disk_faults new.disk_faults → ⊥) →
     ((j : ℕ) → j < (setup_at records).n → Rose (provider_at old.providers j).store_faults (provider_at new.providers j).store_faults → ⊥) → (Rose old.sink_faults new.sink_faults → ⊥) →
     ((name : List ℕ) (file : File) → file_of records name ≡ Some file → (length (bytes file.id) ≡ file.size) × (bad_seen records old new file.id (bytes file.id) ≤ (setup_at records).b)) →
     (end.status ≡ 0) ⊎ (end.status ≡ 70)

@@ -22,9 +22,9 @@ use Rattle.hail_machine.specs.Setups.{setup_or_none}
 use Rattle.hail_machine.specs.States.{State, setup_in}
 use Rattle.hail_machine.specs.Stands.{StandsWithDoubt, StandsForState}
 use Rattle.hail_commands.specs.Seen.{Seen}
-use Rattle.hail_commands.specs.Openings.{journal_read, IsRead}
+use Rattle.hail_openings.specs.Journals.{journal_read, IsRead}
 use Rattle.hail_commands.specs.Opens.{IsOpened, setup_at}
-use Rattle.hail_commands.specs.Refusals.{refusal_of}
+use Rattle.hail_commands.specs.Refusals.{refusal_over}
 use Rattle.hail_commands.specs.Jobs.{RunsAlone}
 use Rattle.sound_states.proofs.Records.{setup-more}
 use Rattle.command_laws.specs.Ends.{IsKnown, DiskHas}
@@ -165,7 +165,7 @@ abbrev pub HasBytes : Kind → Type 0
 HasBytes (PutJob name bytes) = AreBytes bytes
 HasBytes kind = Unit {0}
 
-pub spelled-kind : (records : List Record) (kind : Kind) → HasBytes kind → refusal_of records kind ≡ None → IsSpelledKind kind
+pub spelled-kind : (records : List Record) (kind : Kind) → HasBytes kind → refusal_over records kind ≡ None → IsSpelledKind kind
 spelled-kind records (PutJob name bytes) are none = (name-bytes name (first-off (is_name name) _ _ none), are)
 spelled-kind records (GetJob name) are none = name-bytes name (first-off (is_name name) _ _ none)
 spelled-kind records (DropJob name) are none = name-bytes name (first-off (is_name name) _ _ none)

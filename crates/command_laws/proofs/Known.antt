@@ -12,16 +12,16 @@ use Rattle.hail_machine.specs.Answers.{Answer}
 use Rattle.hail_machine.specs.Refusals as refusal
 use Rattle.hail_machine.specs.Refusals.{Refusal}
 use Rattle.hail_machine.proofs.JobLists.{same_value}
-use Rattle.hail_commands.specs.Sinking.{Writes}
+use Rattle.hail_commands.specs.Sinking.{WritesLine}
 use Rattle.hail_commands.specs.Seen.{Seen, Ending, IsRefused, sinking}
-use Rattle.hail_commands.specs.Openings.{journal_read, IsRead, IsBadStart}
+use Rattle.hail_openings.specs.Journals.{journal_read, IsRead, IsBadStart}
 use Rattle.hail_commands.specs.Opens.{Unstarted, setup_at}
-use Rattle.hail_commands.specs.Refusals.{refusal_of, status_of}
-use Rattle.hail_commands.specs.Jobs.{AnswersJob, EndsBy}
+use Rattle.hail_commands.specs.Refusals.{refusal_over, status_of}
+use Rattle.hail_commands.specs.Jobs.{AnswersJob, EndsByAnswer}
 use Rattle.hail_commands.specs.Commands.{AnswersAlone}
 use Rattle.sound_states.proofs.Records.{is_some-at}
-use Rattle.command_laws.specs.Ends.{IsKnown, EndsWell}
-use Rattle.command_laws.proofs.Readings.{read-once, read-set_up, read-good}
+use Rattle.command_laws.specs.Ends.{IsKnown, GivesUnlessMemory}
+use Rattle.hail_openings.proofs.Readings.{read-once, read-set_up, read-good}
 
 -- ---- what was written
 
@@ -32,17 +32,17 @@ told-nothing (Some bytes) = ap Some (append-nil bytes)
 pub none-written : (text : List ℕ) (old new : Option (List ℕ)) → new ≡ old → TakesFront old new text
 none-written text old new same = (0, omega arith, same ∙ sym (told-nothing old))
 
-pub written-well : (text : List ℕ) (old new : Seen) (end : Ending) → Writes text end.status (sinking old new) → (Rose old.sink_faults new.sink_faults → ⊥) → EndsWell text old new end
+pub written-well : (text : List ℕ) (old new : Seen) (end : Ending) → WritesLine text end.status (sinking old new) → (Rose old.sink_faults new.sink_faults → ⊥) → GivesUnlessMemory text old new end
 written-well text old new end (inl done) calm = inl done
 written-well text old new end (inr (inl cut)) calm = absurd (calm cut.2)
 written-well text old new end (inr (inr cut)) calm = inr cut
 
-pub written-zero : (text : List ℕ) (old new : Seen) (end : Ending) → Writes text end.status (sinking old new) → end.status ≡ 0 → new.sink ≡ told_then old.sink text
+pub written-zero : (text : List ℕ) (old new : Seen) (end : Ending) → WritesLine text end.status (sinking old new) → end.status ≡ 0 → new.sink ≡ told_then old.sink text
 written-zero text old new end (inl done) zero = done.1
 written-zero text old new end (inr (inl cut)) zero = absurd (let e : 15 ≡ 0 = sym cut.1 ∙ zero in omega (arith, e))
 written-zero text old new end (inr (inr cut)) zero = absurd (let e : 70 ≡ 0 = sym cut.0 ∙ zero in omega (arith, e))
 
-pub written-front : (text : List ℕ) (old new : Seen) (end : Ending) → Writes text end.status (sinking old new) → TakesFront old.sink new.sink text
+pub written-front : (text : List ℕ) (old new : Seen) (end : Ending) → WritesLine text end.status (sinking old new) → TakesFront old.sink new.sink text
 written-front text old new end (inl done) = (length text, omega arith, done.1 ∙ ap (told_then old.sink) (sym (take-whole text)))
   where
     take-whole : (l : List ℕ) → take (length l) l ≡ l
@@ -141,12 +141,12 @@ pub data EndStatus (n : ℕ) : Type 0 where
   by_sink : n ≡ 15 → EndStatus n
   by_memory : n ≡ 70 → EndStatus n
 
-status-written : (text : List ℕ) (old new : Seen) (end : Ending) → Writes text end.status (sinking old new) → EndStatus end.status
+status-written : (text : List ℕ) (old new : Seen) (end : Ending) → WritesLine text end.status (sinking old new) → EndStatus end.status
 status-written text old new end (inl w) = EndStatus.by_done w.0
 status-written text old new end (inr (inl w)) = EndStatus.by_sink w.1
 status-written text old new end (inr (inr w)) = EndStatus.by_memory w.0
 
-pub status-ended : (text : List ℕ) (how : Answer) (old new : Seen) (end : Ending) → EndsBy text how old new end → EndStatus end.status
+pub status-ended : (text : List ℕ) (how : Answer) (old new : Seen) (end : Ending) → EndsByAnswer text how old new end → EndStatus end.status
 status-ended text (answer.Lost stripe row) old new end e = EndStatus.by_lost e.status_is
 status-ended text (answer.ProviderFault j) old new end e = EndStatus.by_provider e.status_is
 status-ended text answer.DiskFault old new end e = EndStatus.by_disk e.status_is
@@ -174,7 +174,7 @@ none-some : (n : ℕ) (why : Refusal) → refusal_at n ≡ None → refusal_at n
 none-some n why none some = (let e : None ≡ Some why = sym none ∙ some in cc)
 
 pub refused-only : (kind : Kind) (records : List Record) (old new : Seen) (end : Ending) (why : Refusal) → AnswersJob kind records old new end →
-    status_of why ≢ 70 → end.status ≡ status_of why → refusal_of records kind ≡ Some why
+    status_of why ≢ 70 → end.status ≡ status_of why → refusal_over records kind ≡ Some why
 refused-only kind records old new end why (AnswersJob.refused other is synced r) own e = elim (refused-at other) [
   | inl lost ↦ absurd (none-some end.status why (ap refusal_at (r.status_is ∙ lost)) (at-some why end own e))
   | inr at ↦ (let both : Some other ≡ Some why = sym (ap refusal_at r.status_is ∙ at) ∙ at-some why end own e in is ∙ both)
@@ -184,9 +184,9 @@ refused-only kind records old new end why (AnswersJob.ended how none runs left b
     absurd (none-some end.status why (ended-none end.status (status-ended _ how old new end by)) (at-some why end own e))
 
 pub refused-always : (kind : Kind) (records : List Record) (old new : Seen) (end : Ending) (why : Refusal) → AnswersJob kind records old new end →
-    refusal_of records kind ≡ Some why → IsRefused (status_of why) 0 old new end ⊎ IsRefused 70 0 old new end
+    refusal_over records kind ≡ Some why → IsRefused (status_of why) 0 old new end ⊎ IsRefused 70 0 old new end
 refused-always kind records old new end why (AnswersJob.refused other is synced r) applies =
-    inl (subst (λ w. IsRefused (status_of w) 0 old new end) (same_value (refusal_of records kind) other why is applies) r)
+    inl (subst (λ w. IsRefused (status_of w) 0 old new end) (same_value (refusal_over records kind) other why is applies) r)
 refused-always kind records old new end why (AnswersJob.no_memory synced r) applies = inr r
 refused-always kind records old new end why (AnswersJob.ended how none runs left by) applies = absurd (let e : None ≡ Some why = sym none ∙ applies in cc)
 
@@ -231,7 +231,7 @@ job-opened kind records old new end (AnswersJob.ended how none runs left by) = e
 -- ---- and they are exact of a command over a disk that tells
 
 pub known-only : (kind : Kind) (records : List Record) (old new : Seen) (end : Ending) (why : Refusal) → AnswersAlone kind old new end → IsKnown old records →
-    status_of why ≢ 70 → end.status ≡ status_of why → refusal_of records kind ≡ Some why
+    status_of why ≢ 70 → end.status ≡ status_of why → refusal_over records kind ≡ Some why
 known-only kind records old new end why A K own e = elim (alone-known kind old new end records K A) [
   | inl (inl (rose, r)) ↦ absurd (none-some end.status why (ap refusal_at r.status_is) (at-some why end own e))
   | inl (inr r) ↦ absurd (none-some end.status why (ap refusal_at r.status_is) (at-some why end own e))
@@ -239,7 +239,7 @@ known-only kind records old new end why A K own e = elim (alone-known kind old n
 ]
 
 pub known-always : (kind : Kind) (records : List Record) (old new : Seen) (end : Ending) (why : Refusal) → AnswersAlone kind old new end → IsKnown old records →
-    (Rose old.disk_faults new.disk_faults → ⊥) → refusal_of records kind ≡ Some why → IsRefused (status_of why) 0 old new end ⊎ IsRefused 70 0 old new end
+    (Rose old.disk_faults new.disk_faults → ⊥) → refusal_over records kind ≡ Some why → IsRefused (status_of why) 0 old new end ⊎ IsRefused 70 0 old new end
 known-always kind records old new end why A K disk applies = elim (alone-known kind old new end records K A) [
   | inl (inl (rose, r)) ↦ absurd (disk rose)
   | inl (inr r) ↦ inr r

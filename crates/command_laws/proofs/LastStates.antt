@@ -17,7 +17,8 @@ use Rattle.hail_machine.specs.Runs.{Moment, now}
 use Rattle.hail_commands.specs.JobRuns.{AreSteps, GoesOnTo, RunsJob}
 use Rattle.sound_states.specs.Sound.{IsSound}
 use Rattle.sound_states.proofs.Events.{events-sound}
-use Rattle.lone_laws.specs.Walked.{IsOpened, Walked}
+use Rattle.hail_openings.specs.Opened.{IsOpenAtRest}
+use Rattle.lone_laws.specs.Walked.{Walked}
 use Rattle.lone_laws.proofs.Walk.{walk-begin, walk-step, walk-last}
 
 -- the last state of a job that ran alone
@@ -51,7 +52,7 @@ module _ (w : State) (job : Job) (new : State) where
   acts-stay End how (so, is) = by-state w new _ is refl refl
   acts-stay action how h = moves-stay action w.append how h
 
-walk-steps : (start w : State) (kind : Kind) (job : Job) (moment : ℕ) (ms : List Moment) → IsOpened start → Walked start kind w job → AreSteps w moment 1 ms → (next : Job) × Walked start kind (now w ms) next
+walk-steps : (start w : State) (kind : Kind) (job : Job) (moment : ℕ) (ms : List Moment) → IsOpenAtRest start 1 → Walked start kind w job → AreSteps w moment 1 ms → (next : Job) × Walked start kind (now w ms) next
 walk-steps start w kind job moment [] O W h = (job, W)
 walk-steps start w kind job moment (m ∷ ms) O W (event, outcome, happens, rest) =
     (let r = walk-steps start w kind job moment ms O W rest in walk-step start O kind (now w ms) r.0 r.1 (moment + length ms) m.state happens)
@@ -65,7 +66,7 @@ last-of start w kind job new W sound stay = record {
   handed = stay.1 ∙ W.handed;
 }
 
-pub last-state : (start new : State) (moment : ℕ) (kind : Kind) (how : Answer) (heard : List Entry) → IsOpened start → IsSpelledKind kind → RunsJob start moment kind how heard new → IsLast start new
+pub last-state : (start new : State) (moment : ℕ) (kind : Kind) (how : Answer) (heard : List Entry) → IsOpenAtRest start 1 → IsSpelledKind kind → RunsJob start moment kind how heard new → IsLast start new
 last-state start new moment kind how heard O spelled r =
     (let b = walk-begin moment r.job start r.begun kind O spelled r.begins in
     let g : GoesOnTo r.begun (moment + 1) 1 how heard new = subst (λ n. GoesOnTo r.begun (moment + 1) n how heard new) b.0 r.goes_on in

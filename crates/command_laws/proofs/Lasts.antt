@@ -15,10 +15,11 @@ use Rattle.sound_states.proofs.Orders.{appends-order}
 use Rattle.sound_states.proofs.JobLists.{mine}
 use Rattle.sound_states.proofs.Records.{some-none}
 use Rattle.sound_states.proofs.Written.{body-left}
-use Rattle.lone_laws.specs.Walked.{IsOpened, Walked}
+use Rattle.hail_openings.specs.Opened.{IsOpenAtRest}
+use Rattle.lone_laws.specs.Walked.{Walked}
 use Rattle.lone_laws.proofs.Walk.{runs}
 
-module _ (start : State) (O : IsOpened start) (kind : Kind) (w : State) (job : Job) (W : Walked start kind w job) where
+module _ (start : State) (O : IsOpenAtRest start 1) (kind : Kind) (w : State) (job : Job) (W : Walked start kind w job) where
   -- the append in flight is the job's
   own-append : (a : Append) → w.append ≡ Some a → (a.job ≡ job.number) × Writes w job job.kind a.entry
   own-append a flight =

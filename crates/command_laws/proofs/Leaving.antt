@@ -20,7 +20,8 @@ use Rattle.hail_machine.proofs.ActionLists.{Each, each_append, each_flat, each_g
 use Rattle.hail_commands.specs.Ran.{ran_from, CountsRise}
 use Rattle.sound_states.proofs.Orders.{next-listed}
 use Rattle.lone_laws.specs.Made.{CallsOne, Made}
-use Rattle.lone_laws.specs.Walked.{IsOpened, with_job_of}
+use Rattle.hail_openings.specs.Opened.{IsOpenAtRest}
+use Rattle.lone_laws.specs.Walked.{with_job_of}
 use Rattle.command_laws.proofs.Runs.{Ends}
 use Rattle.command_laws.proofs.Providers.{calls-at, Rises, rises-same, rises-more, IsBelow, called-below, each-take, each-upto, made-keeps}
 use Rattle.command_laws.proofs.Truth.{made-rises}
@@ -126,7 +127,7 @@ module _ (w : State) (job : Job) (new : State) where
 
 -- ---- the whole run
 
-module _ (start new : State) (kind : Kind) (how : Answer) (heard : List Entry) (O : IsOpened start) (E : Ends start kind how heard new) where
+module _ (start new : State) (kind : Kind) (how : Answer) (heard : List Entry) (O : IsOpenAtRest start 1) (E : Ends start kind how heard new) where
   L : LastCall E.action E.before new × (E.before.disk_faults ≤ new.disk_faults)
   L = last-call E.before E.job new E.action how E.acts
 

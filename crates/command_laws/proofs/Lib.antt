@@ -22,7 +22,6 @@ pub mod Drops
 pub mod Complete
 pub mod Telling
 pub mod Mended
-pub mod Readings
 pub mod Known
 pub mod GetEnds
 pub mod JobEnds

@@ -23,7 +23,7 @@ use Rattle.hail_machine.proofs.ActionLists.{Each, each_append}
 use Rattle.hail_machine.proofs.RecordFacts.{listed_file}
 use Rattle.hail_commands.specs.Audits.{files_by_number}
 use Rattle.hail_commands.specs.Ran.{Ran, setup_at_begin}
-use Rattle.hail_commands.specs.Repairs.{Place, blocks_at, held_at, LosesPlace, RepairLeaves}
+use Rattle.hail_commands.specs.Repairs.{Place, blocks_at, held_at, LosesAtPlace, RepairLeaves}
 use Rattle.hail_commands.specs.Truthful.{missing, IsTruthful}
 use Rattle.command_laws.specs.Failing.{has_risen, is_bad_with, is_bad, bad_count}
 use Rattle.command_laws.proofs.Asked.{each-by_number}
@@ -77,7 +77,7 @@ each-middle P (x ∷ xs) z ys h = each-middle P xs z ys h.1
 
 -- ---- a place that is lost
 
-module _ (x : Ran) (shape : IsShape (setup_at_begin x).n (setup_at_begin x).l (setup_at_begin x).b) (due : Due) (stripe row : ℕ) (L : LosesPlace x due stripe row) (bytes : List ℕ) where
+module _ (x : Ran) (shape : IsShape (setup_at_begin x).n (setup_at_begin x).l (setup_at_begin x).b) (due : Due) (stripe row : ℕ) (L : LosesAtPlace x due stripe row) (bytes : List ℕ) where
   abbrev o : Object
   o = object_of (setup_at_begin x) L.place.object
 
@@ -115,7 +115,7 @@ module _ (x : Ran) (shape : IsShape (setup_at_begin x).n (setup_at_begin x).l (s
   abbrev pub IsSafe : File → Type 0
   IsSafe f = (length (bytes f.id) ≡ f.size) × (bad_count x f.id (bytes f.id) ≤ (setup_at_begin x).b)
 
-  lost-none : (due : Due) (stripe row : ℕ) → ((name : List ℕ) (file : File) → file_of x.records name ≡ Some file → IsSafe file) → LosesPlace x due stripe row → ⊥
+  lost-none : (due : Due) (stripe row : ℕ) → ((name : List ℕ) (file : File) → file_of x.records name ≡ Some file → IsSafe file) → LosesAtPlace x due stripe row → ⊥
   lost-none due stripe row safe L =
       (let all : Each IsSafe (files_by_number (files_of x.records)) = each-by_number IsSafe (files_of x.records) (each-in IsSafe (files_of x.records) (λ f i. safe f.name f (listed_file x.records f i))) in
       let fits = each-middle (Fits (setup_at_begin x) IsSafe) L.done L.place L.rest (subst (Each (Fits (setup_at_begin x) IsSafe)) L.part.parts (fits-places (setup_at_begin x) IsSafe (files_by_number (files_of x.records)) all)) in

@@ -23,7 +23,7 @@ use Rattle.lone_laws.proofs.Lists.{take-append-add}
 use Rattle.command_laws.proofs.Heard.{IsNot, each-mono}
 use Rattle.command_laws.proofs.Truth.{lacks, range-hit}
 use Rattle.command_laws.proofs.Questions.{each-at, each-parts}
-use Rattle.command_laws.proofs.Rewritten.{IsToldBlock, lack_block, IsOpened}
+use Rattle.command_laws.proofs.Rewritten.{IsToldBlock, lack_block, HasOpened}
 use Rattle.command_laws.proofs.Places.{fetches_at, actions_at, IsStoreAt, stores-only}
 
 -- ---- lists that open places, and lists that only fetch them
@@ -82,13 +82,13 @@ module _ (x : With) (repairs : x.kind ≡ RepairJob) (last : List Given) (j : �
       let d : lack_block x repairs last j held (Fetch j p.object p.stripe) ≡ lacks (gave p) (had p) = cond_true (j == j) (lacks (gave p) (had p)) 0 (eq-eqb j j refl) in
       let e = lacks-places ps rest r in omega (arith, a, b, c, d, e))
 
-pub gives-places : (x : With) (last : List Given) (ps : List Place) (acts : List Action) → OpensAll x.setup ps acts → Each (IsOpened x last) acts →
+pub gives-places : (x : With) (last : List Given) (ps : List Place) (acts : List Action) → OpensAll x.setup ps acts → Each (HasOpened x last) acts →
     Each (λ (p : Place). GivesSymbols (object_of x.setup p.object) p.stripe (blocks_given last x.setup.n p.object p.stripe) (symbols_given last p.object p.stripe)) ps
 gives-places x last [] acts h t = tt
 gives-places x last (p ∷ ps) acts (stores, rest, is, r) t =
-    (let a = each-parts (IsOpened x last) (open_actions x.setup p.object p.stripe ++ stores) rest (subst (Each (IsOpened x last)) is t) in
-    let b = each-parts (IsOpened x last) (open_actions x.setup p.object p.stripe) stores a.0 in
-    let c = each-parts (IsOpened x last) (fetches_at x.setup p) (Work p.object p.stripe ∷ []) b.0 in
+    (let a = each-parts (HasOpened x last) (open_actions x.setup p.object p.stripe ++ stores) rest (subst (Each (HasOpened x last)) is t) in
+    let b = each-parts (HasOpened x last) (open_actions x.setup p.object p.stripe) stores a.0 in
+    let c = each-parts (HasOpened x last) (fetches_at x.setup p) (Work p.object p.stripe ∷ []) b.0 in
     (c.1.0, gives-places x last ps rest r a.1))
 
 -- ---- where the work and the stores of a place stand

@@ -17,7 +17,7 @@ use Rattle.hail_machine.specs.Jobs.{PutJob}
 use Rattle.hail_machine.specs.Answers as answer
 use Rattle.hail_machine.specs.Answers.{Answer}
 use Rattle.hail_commands.specs.Seen.{Seen, Ending, IsRefused, provider_at}
-use Rattle.hail_commands.specs.Openings.{journal_read}
+use Rattle.hail_openings.specs.Journals.{journal_read}
 use Rattle.hail_commands.specs.Opens.{setup_at}
 use Rattle.hail_commands.specs.Ran.{Ran}
 use Rattle.hail_commands.specs.Blocks.{StoredOn}
@@ -25,7 +25,7 @@ use Rattle.hail_commands.specs.Puts.{put_records, PutIsCut, PutLeaves}
 use Rattle.hail_commands.specs.Jobs.{AnswersJob, LeftAlone}
 use Rattle.hail_commands.specs.Commands.{AnswersPut}
 use Rattle.command_laws.specs.Ends.{IsKnown, after_put}
-use Rattle.command_laws.specs.After.{IsSure, Follows, HasFile}
+use Rattle.command_laws.specs.After.{IsSure, Follows, HasRightFile}
 use Rattle.command_laws.proofs.Known.{known-once}
 use Rattle.command_laws.proofs.GetEnds.{ran_left}
 use Rattle.command_laws.proofs.JobEnds.{unstarted-refused, not-long, put-in_effect}
@@ -85,7 +85,7 @@ module _ (name bytes : List ℕ) (records : List Record) (spoilt : ℕ → Bool)
   -- where each provider holds the file, it is the one that is in effect
   has-stored : AreBytes bytes → (older : Option File) (rose : ℕ → Type 0) →
       ((j : ℕ) → j < (setup_at records).n → Goes (StoredOn (object_of (setup_at records) (next_id records)) bytes older (rose j) j) (provider_at old.providers j).held (provider_at new.providers j).held) →
-      HasFile new (after_put records name (length bytes)) name bytes spoilt
+      HasRightFile new (after_put records name (length bytes)) name bytes spoilt
   has-stored are older rose stored = record {
     file = record { name = name; id = next_id records; size = length bytes };
     in_effect = put-in_effect records name (length bytes);
@@ -115,12 +115,12 @@ module _ (name bytes : List ℕ) (records : List Record) (spoilt : ℕ → Bool)
     cut-parts : (done : List Record) (entry : Record) (rest : List Record) → put_records records name (length bytes) ≡ done ++ entry ∷ rest → length done ≤ 1
     cut-parts done entry rest parts = (let e = ap length parts in let a = length-append done (entry ∷ rest) in omega (arith, e, a))
 
-    by-answer : (h : Answer) → PutLeaves x name bytes h → HasFile new (after_put records name (length bytes)) name bytes spoilt
+    by-answer : (h : Answer) → PutLeaves x name bytes h → HasRightFile new (after_put records name (length bytes)) name bytes spoilt
     by-answer answer.Put L = has-stored are _ _ L.1
     by-answer (answer.ProviderFault k) L = absurd (let W = L.2 in cut-off (PutStart (next_id records) name ∷ []) W.after (omega arith) (λ entry is. sure-off entry (PutStart (next_id records) name ∷ []) W.sure is))
     by-answer answer.DiskFault L = by-cut L.1
       where
-        by-cut : PutIsCut x name bytes → HasFile new (after_put records name (length bytes)) name bytes spoilt
+        by-cut : PutIsCut x name bytes → HasRightFile new (after_put records name (length bytes)) name bytes spoilt
         by-cut (PutIsCut.at_start after doubt held) = absurd (cut-off [] after (omega arith) (λ entry is. omega arith))
         by-cut (PutIsCut.at_done after doubt stored) = has-stored are None (λ j. ⊥) stored
     by-answer answer.Memory L = absurd (let C = L.0 in cut-off C.done C.after (cut-parts C.done C.next C.rest C.parts) (λ entry is. sure-off entry C.done C.sure is))
@@ -129,17 +129,17 @@ module _ (name bytes : List ℕ) (records : List Record) (spoilt : ℕ → Bool)
 -- ---- the command
 
 pub put-in-effect : (name bytes : List ℕ) (records : List Record) (spoilt : ℕ → Bool) (old new next : Seen) (end : Ending) → AnswersPut name old new end → IsSure old records → old.source ≡ Some bytes →
-    Follows new next → IsKnown next (after_put records name (length bytes)) → ((j : ℕ) → j < (setup_at records).n → spoilt j ≡ false → is_some (provider_at old.providers j).held ≡ true) → HasFile new (after_put records name (length bytes)) name bytes spoilt
+    Follows new next → IsKnown next (after_put records name (length bytes)) → ((j : ℕ) → j < (setup_at records).n → spoilt j ≡ false → is_some (provider_at old.providers j).held ≡ true) → HasRightFile new (after_put records name (length bytes)) name bytes spoilt
 put-in-effect name bytes records spoilt old new next end (AnswersPut.unstarted u same) S source N F tells = absurd (let r = unstarted-refused old new end u in refused-not name bytes records spoilt old new next end S N F tells r.0 r.1 r.3)
 put-in-effect name bytes records spoilt old new next end (AnswersPut.source_fault rs opened rose synced taken r) S source N F tells = absurd (refused-not name bytes records spoilt old new next end S N F tells 14 0 r)
 put-in-effect name bytes records spoilt old new next end (AnswersPut.no_memory taken r) S source N F tells = absurd (refused-not name bytes records spoilt old new next end S N F tells 70 0 r)
 put-in-effect name bytes records spoilt old new next end (AnswersPut.begun rs seen opened read A) S source N F tells =
     job (subst (λ l. AnswersJob (PutJob name seen) l old new end) (known-once old records rs S.known opened.read) A)
   where
-    by-left : (how : Answer) → AreBytes bytes → LeftAlone records (PutJob name bytes) how old new end.heard → HasFile new (after_put records name (length bytes)) name bytes spoilt
+    by-left : (how : Answer) → AreBytes bytes → LeftAlone records (PutJob name bytes) how old new end.heard → HasRightFile new (after_put records name (length bytes)) name bytes spoilt
     by-left how are left = by-answer name bytes records spoilt old new next end S N F tells are how left how left.leaves.by_kind.0
 
-    job : AnswersJob (PutJob name seen) records old new end → HasFile new (after_put records name (length bytes)) name bytes spoilt
+    job : AnswersJob (PutJob name seen) records old new end → HasRightFile new (after_put records name (length bytes)) name bytes spoilt
     job (AnswersJob.refused why is synced r) = absurd (refused-not name bytes records spoilt old new next end S N F tells _ 0 r)
     job (AnswersJob.no_memory synced r) = absurd (refused-not name bytes records spoilt old new next end S N F tells 70 0 r)
     job (AnswersJob.ended how none runs left by) =

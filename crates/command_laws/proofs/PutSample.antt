@@ -13,8 +13,9 @@ use Rattle.hail_machine.specs.Runs.{Moment}
 use Rattle.hail_machine.specs.States.{State, Append, setup_in, going_on, ended}
 use Rattle.hail_commands.specs.Forms.{PutUnder}
 use Rattle.hail_commands.specs.Lines.{stored_line}
-use Rattle.hail_commands.specs.Refusals.{refusal_of}
-use Rattle.hail_commands.specs.JobRuns.{AreHanded, AreSteps, IsOpenedOver}
+use Rattle.hail_commands.specs.Refusals.{refusal_over}
+use Rattle.hail_openings.specs.Opened.{AreHanded, IsOpenedOver}
+use Rattle.hail_commands.specs.JobRuns.{AreSteps}
 use Rattle.hail_commands.specs.Jobs.{RanAlone, RunsAlone, AnswersJob}
 use Rattle.hail_commands.specs.Commands.{AnswersPut, Answers}
 use Rattle.command_laws.specs.Pieces.{moment}
@@ -30,7 +31,7 @@ formed w = record w { records = set_up_records; jobs = []; next_job = 1; append 
 pub form-is : (w : State) → IsOpenedOver w set_up_records 0 idle_providers → formed w ≡ w
 form-is w V = sym (λ i. record w { records = V.records i; jobs = V.jobs i; next_job = V.next_job i; append = V.append i; doubt = V.doubt i; is_open = V.is_open i; is_barred = V.unbarred i; disk_faults = V.faults_are i })
 
-begins-none : refusal_of set_up_records (PutJob held_name []) ≡ None
+begins-none : refusal_over set_up_records (PutJob held_name []) ≡ None
 begins-none = put-begins small_setup held_name [] refl (omega arith)
 
 module _ (w : State) (n : ℕ) (H : AreHanded idle_providers (formed w)) where

@@ -36,7 +36,8 @@ use Rattle.sound_states.specs.Orders.{moves_made, IsInOrder}
 use Rattle.sound_states.proofs.Orders.{put_rest, put-list, put-first, put-later, appends_in, appends-append, appends-cons, drop-get, next-listed, moves-first}
 use Rattle.sound_states.proofs.Records.{sound-accepted}
 use Rattle.lone_laws.specs.Made.{With, Made}
-use Rattle.lone_laws.specs.Walked.{IsOpened, RecordsAre, with_job_of}
+use Rattle.hail_openings.specs.Opened.{IsOpenAtRest}
+use Rattle.lone_laws.specs.Walked.{RecordsAre, with_job_of}
 use Rattle.lone_laws.proofs.Lists.{made-append, made-split, made-one}
 use Rattle.lone_laws.proofs.Walk.{Wrote, wrote, runs, left-start, first-body}
 use Rattle.command_laws.proofs.Runs.{Ends}
@@ -257,7 +258,7 @@ store-place s job bytes (suc (suc (suc (suc q)))) k o t h = (
 
 -- ---- the put
 
-module _ (start new : State) (name bytes : List ℕ) (how : Answer) (heard : List Entry) (O : IsOpened start) (E : Ends start (PutJob name bytes) how heard new) where
+module _ (start new : State) (name bytes : List ℕ) (how : Answer) (heard : List Entry) (O : IsOpenAtRest start 1) (E : Ends start (PutJob name bytes) how heard new) where
   abbrev s : Setup
   s = setup_in start
 

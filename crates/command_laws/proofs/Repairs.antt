@@ -32,7 +32,7 @@ use Rattle.hail_machine.proofs.RecordFacts.{In, listed_file}
 use Rattle.hail_commands.specs.JobRuns.{RunsJob}
 use Rattle.hail_commands.specs.Jobs.{Leaves}
 use Rattle.hail_commands.specs.Ran.{Ran, ran_from, setup_at_begin, EachHeldGoes, IsWhole, IsCut}
-use Rattle.hail_commands.specs.Repairs.{Place, places, Gave, held_at, IsTruth, GivesPlace, RewrittenOn, PartlyRewrittenOn, IfFlagged, flags, RewritesAll, RewritesPart, RewritesSome, LosesPlace, RepairGives}
+use Rattle.hail_commands.specs.Repairs.{Place, places, Gave, held_at, IsTruth, GivesPlace, RewrittenOn, PartlyRewrittenOn, IfFlagged, flags, RewritesAll, RewritesPart, RewritesSome, LosesAtPlace, RepairGives}
 use Rattle.hail_commands.specs.Truthful.{IsTruthful}
 use Rattle.sound_states.specs.Orders.{moves_made, moves_before, IsInOrder, AreAscending}
 use Rattle.sound_states.proofs.Begun.{begun-repair}
@@ -40,7 +40,8 @@ use Rattle.sound_states.proofs.Events.{moves-next}
 use Rattle.sound_states.proofs.Orders.{appends_in, appends-cons, drop-get, next-listed}
 use Rattle.sound_states.proofs.Records.{is_some-at}
 use Rattle.lone_laws.specs.Made.{With, Made}
-use Rattle.lone_laws.specs.Walked.{IsOpened, RecordsAre, with_job_of, Walked}
+use Rattle.hail_openings.specs.Opened.{IsOpenAtRest}
+use Rattle.lone_laws.specs.Walked.{RecordsAre, with_job_of, Walked}
 use Rattle.lone_laws.proofs.Prefixes.{repair-list, audit-within}
 use Rattle.lone_laws.proofs.Walk.{Wrote, wrote, runs, left-start}
 use Rattle.command_laws.proofs.Runs.{Ends, job-ends}
@@ -90,7 +91,7 @@ at-repairs p WriteGate h = absurd h
 at-repairs p SyncGate h = absurd h
 at-repairs p End h = absurd h
 
-module _ (start : State) (O : IsOpened start) (w : State) (job : Job) (W : Walked start RepairJob w job) where
+module _ (start : State) (O : IsOpenAtRest start 1) (w : State) (job : Job) (W : Walked start RepairJob w job) where
   abbrev s : Setup
   s = setup_in start
 
@@ -295,7 +296,7 @@ abbrev IsNoWork : Action → Type 0
 IsNoWork (Work o t) = ⊥
 IsNoWork action = Unit {0}
 
-module _ (start new : State) (how : Answer) (heard : List Entry) (O : IsOpened start) (E : Ends start RepairJob how heard new) (due : Due) (is-due : due_of start.records ≡ Some due) where
+module _ (start new : State) (how : Answer) (heard : List Entry) (O : IsOpenAtRest start 1) (E : Ends start RepairJob how heard new) (due : Due) (is-due : due_of start.records ≡ Some due) where
   abbrev Gives : Answer → Type 0
   Gives a = RepairGives (ran_from start new heard) due a
 
@@ -346,7 +347,7 @@ module _ (start new : State) (how : Answer) (heard : List Entry) (O : IsOpened s
     ]
 
     -- at a work all blocks of the place were fetched
-    lost-at : (o t row : ℕ) → slice_get (actions_of sx E.job) E.job.place ≡ Some (Work o t) → LosesRow (object_in E.before o) t (blocks_given E.job.given (setup_in E.before).n o t) row → LosesPlace (ran_from start new heard) due t row
+    lost-at : (o t row : ℕ) → slice_get (actions_of sx E.job) E.job.place ≡ Some (Work o t) → LosesRow (object_in E.before o) t (blocks_given E.job.given (setup_in E.before).n o t) row → LosesAtPlace (ran_from start new heard) due t row
     unfolding setup_in
     lost-at o t row h loses = elim (cut-next start O E.before E.job E.walked (Work o t) h) [
       | Cut.behind q at front ↦ absurd (each_get IsNoWork (append_actions ++ End ∷ []) q (Work o t) (tt, (tt, (tt, (tt, (tt, tt))))) at)
@@ -531,7 +532,7 @@ module _ (start new : State) (how : Answer) (heard : List Entry) (O : IsOpened s
   pub repair-silent : heard ≡ []
   repair-silent = E.heard_is ∙ ap (heard_by_kind E.job) E.walked.kind_is
 
-pub repairs-leave : (start new : State) (moment : ℕ) (how : Answer) (heard : List Entry) → IsOpened start → RunsJob start moment RepairJob how heard new → Leaves (ran_from start new heard) RepairJob how
+pub repairs-leave : (start new : State) (moment : ℕ) (how : Answer) (heard : List Entry) → IsOpenAtRest start 1 → RunsJob start moment RepairJob how heard new → Leaves (ran_from start new heard) RepairJob how
 unfolding setup_in
 repairs-leave start new moment how heard O r =
     (let E = job-ends start new moment RepairJob how heard O tt r in

@@ -324,15 +324,15 @@ module _ (x : With) (repairs : x.kind ≡ RepairJob) (last : List Given) (j : �
 -- ---- what the works gave
 
 -- the blocks that were given open to the symbols that were given, as both are looked up in the end
-abbrev pub IsOpened : With → List Given → Action → Type 0
-IsOpened x last (Work o s) = GivesSymbols (object_of x.setup o) s (blocks_given last x.setup.n o s) (symbols_given last o s)
-IsOpened x last action = Unit {0}
+abbrev pub HasOpened : With → List Given → Action → Type 0
+HasOpened x last (Work o s) = GivesSymbols (object_of x.setup o) s (blocks_given last x.setup.n o s) (symbols_given last o s)
+HasOpened x last action = Unit {0}
 
-pub works-opened : (x : With) (actions : List Action) (old new : ℕ → Provider) (given last : List Given) → AreOrdered actions → Made x actions old new given last → Each (IsOpened x last) actions
+pub works-opened : (x : With) (actions : List Action) (old new : ℕ → Provider) (given last : List Given) → AreOrdered actions → Made x actions old new given last → Each (HasOpened x last) actions
 works-opened x [] old new given last order m = tt
 works-opened x (a ∷ actions) old new given last order (mid, so_far, did, rest) = (one a order.0 did, works-opened x actions mid new so_far last order.1 rest)
   where
-    one : (a : Action) → IsBefore a actions → Did x a old mid given so_far → IsOpened x last a
+    one : (a : Action) → IsBefore a actions → Did x a old mid given so_far → HasOpened x last a
     one (Work o s) order (symbols, gives, same, is) =
         (let found : symbols_given last o s ≡ symbols = symbols-later x actions mid new so_far last o s rest (each-mono (IsNoneOf o s) (IsNot (Work o s)) actions (λ y u. none-work o s y u) order) ∙ (ap (λ g. symbols_given g o s) is ∙ symbols-newest o s symbols given) in
         let blocks : (k : ℕ) → block_given given o s k ≡ block_given last o s k = (λ k. sym (ap (λ g. block_given g o s k) is) ∙ sym (block-later x actions mid new so_far last k o s rest (each-mono (IsNoneOf o s) (IsNot (Fetch k o s)) actions (λ y u. none-fetch k o s y u) order))) in

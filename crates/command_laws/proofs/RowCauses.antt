@@ -3,7 +3,7 @@ use Rattle.std.proofs.Common.{◌≡◌, ◌≢◌, ℕ, List, Option, sym, ◌�
 use Rattle.std.proofs.lemmas.Bool.{cases_lt}
 use Rattle.hail_field.specs.Shape.{IsShape}
 use Rattle.hail_devices.specs.Faults.{Rose}
-use Rattle.hail_commands.specs.Sinking.{Writes, Tells}
+use Rattle.hail_commands.specs.Sinking.{WritesLine, TellsLine}
 use Rattle.hail_commands.specs.Seen.{Seen, Ending, sinking}
 use Rattle.hail_commands.specs.Row.{AnswersRow}
 use Rattle.command_laws.specs.Ends.{FaultsHaveCauses}
@@ -13,12 +13,12 @@ module _ (n l b : ℕ) (seen : List (Option ℕ)) (old new : Seen) (end : Ending
   none-else : (m : ℕ) → end.status ≡ m → m ≢ 0 → m ≢ 4 → m ≢ 20 → m ≢ 70 → (m ≡ 15 → Rose old.sink_faults new.sink_faults → ⊥) → ⊥
   none-else m is zero four twenty memory calm = elim (A.no_shape no-shape).0 [ inl e ↦ twenty (sym is ∙ e) | inr e ↦ memory (sym is ∙ e) ]
     where
-      written : (line : List ℕ) → Writes line end.status (sinking old new) → ⊥
+      written : (line : List ℕ) → WritesLine line end.status (sinking old new) → ⊥
       written line (inl w) = zero (sym is ∙ w.0)
       written line (inr (inl w)) = calm (sym is ∙ w.1) w.2
       written line (inr (inr w)) = memory (sym is ∙ w.0)
 
-      told : (line : List ℕ) → Tells 4 line end.status (sinking old new) → ⊥
+      told : (line : List ℕ) → TellsLine 4 line end.status (sinking old new) → ⊥
       told line (inl w) = four (sym is ∙ w.0)
       told line (inr (inl w)) = four (sym is ∙ w.0)
       told line (inr (inr w)) = memory (sym is ∙ w.0)

@@ -17,8 +17,9 @@ use Rattle.hail_machine.specs.Begins.{new_job}
 use Rattle.hail_machine.specs.Steps.{next_action, holder_of, Acts}
 use Rattle.hail_machine.specs.Runs.{Moment, now}
 use Rattle.hail_machine.specs.Heard.{Entry, heard_by}
-use Rattle.hail_commands.specs.JobRuns.{AreSteps, GoesOnTo, IsOpenedOver, RunsJob}
-use Rattle.lone_laws.specs.Walked.{IsOpened, Walked}
+use Rattle.hail_openings.specs.Opened.{IsOpenedOver, IsOpenAtRest}
+use Rattle.hail_commands.specs.JobRuns.{AreSteps, GoesOnTo, RunsJob}
+use Rattle.lone_laws.specs.Walked.{Walked}
 use Rattle.lone_laws.proofs.Walk.{walk-begin, walk-step, walk-last, found}
 
 -- the last step of a job, and the state and the job before it
@@ -32,12 +33,12 @@ pub record Ends (start : State) (kind : Kind) (answer : Answer) (heard : List En
   pub free : holder_of before.append action ≡ None
   pub acts : Acts before job action (Ended answer) new
 
-walk-steps : (start w : State) (kind : Kind) (job : Job) (moment : ℕ) (ms : List Moment) → IsOpened start → Walked start kind w job → AreSteps w moment 1 ms → (next : Job) × Walked start kind (now w ms) next
+walk-steps : (start w : State) (kind : Kind) (job : Job) (moment : ℕ) (ms : List Moment) → IsOpenAtRest start 1 → Walked start kind w job → AreSteps w moment 1 ms → (next : Job) × Walked start kind (now w ms) next
 walk-steps start w kind job moment [] O W h = (job, W)
 walk-steps start w kind job moment (m ∷ ms) O W (event, outcome, happens, rest) =
     (let r = walk-steps start w kind job moment ms O W rest in walk-step start O kind (now w ms) r.0 r.1 (moment + length ms) m.state happens)
 
-pub job-ends : (start new : State) (moment : ℕ) (kind : Kind) (answer : Answer) (heard : List Entry) → IsOpened start → IsSpelledKind kind → RunsJob start moment kind answer heard new → Ends start kind answer heard new
+pub job-ends : (start new : State) (moment : ℕ) (kind : Kind) (answer : Answer) (heard : List Entry) → IsOpenAtRest start 1 → IsSpelledKind kind → RunsJob start moment kind answer heard new → Ends start kind answer heard new
 job-ends start new moment kind answer heard O spelled r =
     (let b = walk-begin moment r.job start r.begun kind O spelled r.begins in
     let g : GoesOnTo r.begun (moment + 1) 1 answer heard new = subst (λ n. GoesOnTo r.begun (moment + 1) n answer heard new) b.0 r.goes_on in
@@ -56,7 +57,7 @@ job-ends start new moment kind answer heard O spelled r =
 
 -- a state opened over good records
 pub opened-over : (w : State) (records : List Record) (faults : ℕ) (providers : List Provider) → IsOpenedOver w records faults providers → AreAccepted records → IsTrue (list_all is_in_grammar records) →
-    text_size records ≤ largest_journal → is_some (setup_of records) ≡ true → (setup_at records).n ≤ length providers → IsOpened w
+    text_size records ≤ largest_journal → is_some (setup_of records) ≡ true → (setup_at records).n ≤ length providers → IsOpenAtRest w 1
 unfolding setup_in
 opened-over w records faults providers o accepted spelled room up enough = record {
   rest = record {

@@ -25,10 +25,10 @@ use Rattle.hail_commands.specs.Forms.{GetOf, ListAll}
 use Rattle.hail_commands.specs.Lines.{list_lines}
 use Rattle.hail_commands.specs.Opens.{IsOpened, setup_at}
 use Rattle.hail_commands.specs.Seen.{IsRefused, NoCountFalls, provider_at}
-use Rattle.hail_commands.specs.JobRuns.{AreHanded, IsOpenedOver}
+use Rattle.hail_openings.specs.Opened.{AreHanded, IsOpenedOver}
 use Rattle.hail_commands.specs.Jobs.{RanAlone, RunsAlone, AnswersJob}
 use Rattle.hail_commands.specs.Commands.{AnswersAlone, AnswersList, Answers}
-use Rattle.command_laws.specs.After.{IsSure, HasFile, is_wrong_at}
+use Rattle.command_laws.specs.After.{IsSure, HasRightFile, is_wrong_at}
 use Rattle.command_laws.specs.Instances.{store, small_setup, idle_providers, held_name, other_name, set_up_records, held_records, with_sink, ends, get_held, get_other}
 use Rattle.command_laws.specs.Pieces.{IsLater, IsChain}
 use Rattle.command_laws.specs.Failing.{bad_seen}
@@ -69,7 +69,7 @@ right-at (suc (suc zero)) l = each-not-wrong (object_of small_setup 1) [] 2 (λ 
 right-at (suc (suc (suc zero))) l = each-not-wrong (object_of small_setup 1) [] 3 (λ stripe. None) (λ t within. absurd (no-stripe t within))
 right-at (suc (suc (suc (suc j)))) l = absurd (omega (arith, l))
 
-pub held-file : HasFile (store held_records) held_records held_name [] (λ j. false)
+pub held-file : HasRightFile (store held_records) held_records held_name [] (λ j. false)
 held-file = record {
   file = record { name = held_name; id = 1; size = 0 };
   in_effect = refl;

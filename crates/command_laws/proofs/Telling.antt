@@ -22,10 +22,10 @@ use Rattle.hail_commands.specs.Seen.{Seen, nobody, provider_at}
 use Rattle.hail_commands.specs.Opens as opens
 use Rattle.hail_commands.specs.Opens.{setup_at}
 use Rattle.hail_commands.specs.Ran.{ran_from, ran_alone}
-use Rattle.hail_commands.specs.JobRuns.{IsOpenedOver, RunsJob}
+use Rattle.hail_openings.specs.Opened.{IsOpenedOver, IsOpenAtRest}
+use Rattle.hail_commands.specs.JobRuns.{RunsJob}
 use Rattle.hail_commands.specs.Jobs.{Leaves, LeftAlone, RanAlone, RunsAlone}
 use Rattle.sound_states.proofs.Records.{none-set_up, sound-accepted, start-named}
-use Rattle.lone_laws.specs.Walked.{IsOpened}
 use Rattle.command_laws.proofs.Runs.{job-ends, opened-over}
 use Rattle.command_laws.proofs.Audits.{audits-leave}
 use Rattle.command_laws.proofs.Repairs.{repairs-leave}
@@ -36,7 +36,7 @@ use Rattle.command_laws.proofs.Refused.{drop-has}
 
 -- ---- a state that was opened over records that a start read
 
-pub over-opened : (w : State) (old : Seen) (records : List Record) (faults : ℕ) → opens.IsOpened old records → IsOpenedOver w records faults old.providers → IsOpened w
+pub over-opened : (w : State) (old : Seen) (records : List Record) (faults : ℕ) → opens.IsOpened old records → IsOpenedOver w records faults old.providers → IsOpenAtRest w 1
 over-opened w old records faults R V = opened-over w records faults old.providers V R.read.accepted R.read.in_grammar R.read.room has_setup R.enough
   where
     has_setup : is_some (setup_of records) ≡ true
@@ -133,7 +133,7 @@ state-over records faults providers accepted = record {
 
 -- ---- what is left of the run
 
-module _ (records : List Record) (kind : Kind) (answer : Answer) (old new : Seen) (heard : List Entry) (law : (w last : State) (moment : ℕ) → IsOpened w → RunsJob w moment kind answer heard last → Leaves (ran_from w last heard) kind answer)
+module _ (records : List Record) (kind : Kind) (answer : Answer) (old new : Seen) (heard : List Entry) (law : (w last : State) (moment : ℕ) → IsOpenAtRest w 1 → RunsJob w moment kind answer heard last → Leaves (ran_from w last heard) kind answer)
     (R : opens.IsOpened old records) (same : length new.providers ≡ length old.providers) (A : RunsAlone records kind answer old new heard) where
   abbrev w : State
   w = opened_state records A.faults old.providers
@@ -181,7 +181,7 @@ module _ (records : List Record) (kind : Kind) (answer : Answer) (old new : Seen
 
 -- ---- each kind of job
 
-pub jobs-leave : (kind : Kind) (w last : State) (moment : ℕ) (answer : Answer) (heard : List Entry) → IsSpelledKind kind → IsOpened w → RunsJob w moment kind answer heard last → Leaves (ran_from w last heard) kind answer
+pub jobs-leave : (kind : Kind) (w last : State) (moment : ℕ) (answer : Answer) (heard : List Entry) → IsSpelledKind kind → IsOpenAtRest w 1 → RunsJob w moment kind answer heard last → Leaves (ran_from w last heard) kind answer
 jobs-leave (PutJob name bytes) w last moment answer heard spelled O r = put-leaves w last name bytes answer heard O (job-ends w last moment (PutJob name bytes) answer heard O spelled r)
 jobs-leave (GetJob name) w last moment answer heard spelled O r = all-leaves w last name answer heard O (job-ends w last moment (GetJob name) answer heard O spelled r)
 jobs-leave (DropJob name) w last moment answer heard spelled O r =

@@ -8,13 +8,13 @@ use Rattle.hail_records.specs.Records.{Record}
 use Rattle.hail_records.specs.Reading.{IsNotSetUp}
 use Rattle.hail_machine.specs.Jobs.{Kind, GetJob, DropJob, AuditJob, RepairJob}
 use Rattle.hail_commands.specs.Forms.{Command, RowOf, InitWith, PutUnder, GetOf, DropOf, ListAll, AuditAll, RepairDue}
-use Rattle.hail_commands.specs.Sinking.{Writes}
+use Rattle.hail_commands.specs.Sinking.{WritesLine}
 use Rattle.hail_commands.specs.Seen.{Seen, Ending, sinking}
-use Rattle.hail_commands.specs.Openings.{journal_read, IsRead, IsBadStart}
+use Rattle.hail_openings.specs.Journals.{journal_read, IsRead, IsBadStart}
 use Rattle.hail_commands.specs.Opens.{IsOpened, Unstarted, setup_at}
 use Rattle.hail_commands.specs.Commands.{AnswersPut, AnswersAlone, AnswersList, Answers}
 use Rattle.command_laws.specs.Ends.{opens_store}
-use Rattle.command_laws.proofs.Readings.{read-once, read-set_up, read-good, fresh-good, bad-once}
+use Rattle.hail_openings.proofs.Readings.{read-once, read-set_up, read-good, fresh-good, bad-once}
 use Rattle.command_laws.proofs.Known.{is_unopened, job-opened}
 
 -- how a command goes that looks at a store: it is not started, or it has a status of its own, over records that were read or none
@@ -33,7 +33,7 @@ alone-opening : (kind : Kind) (old new : Seen) (end : Ending) → AnswersAlone k
 alone-opening kind old new end (AnswersAlone.unstarted u) = Opening.before u
 alone-opening kind old new end (AnswersAlone.begun records opened A) = Opening.over records opened (job-opened kind records old new end A)
 
-written-opened : (text : List ℕ) (old new : Seen) (end : Ending) → Writes text end.status (sinking old new) → is_unopened end.status ≡ false
+written-opened : (text : List ℕ) (old new : Seen) (end : Ending) → WritesLine text end.status (sinking old new) → is_unopened end.status ≡ false
 written-opened text old new end (inl w) = ap is_unopened w.0
 written-opened text old new end (inr (inl w)) = ap is_unopened w.1
 written-opened text old new end (inr (inr w)) = ap is_unopened w.0

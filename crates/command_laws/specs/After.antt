@@ -6,13 +6,13 @@
 --   is_refusal status          == the status tells that a command was refused, or that its source failed
 --   is_ending status          == the status is one with which a command ends whose words have a form
 --   is_wrong_at records s id bytes j == provider j is wrong for an object of these bytes, or does not tell what it holds
---   HasFile s records name bytes spoilt == a file of these bytes is in effect, and each provider that is not spoilt is right for it
+--   HasRightFile s records name bytes spoilt == a file of these bytes is in effect, and each provider that is not spoilt is right for it
 --   IsUntouched n spoilt new next == each of n providers that is not spoilt holds what it held
 --   IsSteady n spoilt old new  == of none of n providers that is not spoilt the count of failed calls rose
 --   spoilt_below n spoilt      == how many of n providers are spoilt
 --   IsFaultless old new        == no count rose that could end a command: the disk's, of a provider's stores, the source's, the sink's
 --   keeps_blocks command       == a get, a list and an audit
---   IsOther name command       == a put or a drop of another name
+--   IsOfAnother name command       == a put or a drop of another name
 use Rattle.std.specs.Prelude.{◌≡◌, ◌≢◌, ◌⊎◌, ℕ, ◌<◌, ◌==◌, ◌||◌, Bool, true, false, List, ◌++◌, length, reverse, take, Option, None, Some}
 use Rattle.hail_codes.specs.Points.{upto}
 use Rattle.hail_columns.specs.Objects.{Object}
@@ -30,7 +30,7 @@ use Rattle.hail_machine.specs.Events.{AreBytes}
 use Rattle.hail_commands.specs.Forms.{Command, PutUnder, GetOf, DropOf, ListAll, AuditAll}
 use Rattle.hail_commands.specs.Seen.{Seen, provider_at}
 use Rattle.hail_commands.specs.Opens.{setup_at}
-use Rattle.command_laws.specs.Ends.{IsKnown, IsJobOf, DiskHas}
+use Rattle.command_laws.specs.Ends.{IsKnown, RunsKind, DiskHas}
 use Rattle.command_laws.specs.Kept.{AreAppended}
 
 -- the store is known, and each image of its disk stands for these records
@@ -46,7 +46,7 @@ pub record Follows (new next : Seen) : Type 0 where
 -- these are records before a command with the first few of those that its job appends
 pub record HasGrown (command : Command) (records : List Record) (old new : Seen) (after : List Record) : Type 0 where
   pub kind : Kind
-  pub of_command : IsJobOf command old new kind
+  pub of_command : RunsKind command old new kind
   pub own : List Record
   pub are_own : AreAppended records kind own
   pub count : ℕ
@@ -68,16 +68,16 @@ is_ending status =
     (status == 0) || (status == 4) || (status == 12) || (status == 13) || (status == 15) || (status == 70) || is_refusal status
 
 -- a provider with this content is wrong for an object of these bytes
-abbrev pub is_wrong_told : Object → List ℕ → ℕ → Option Held → Bool
-is_wrong_told o bytes j None = true
-is_wrong_told o bytes j (Some held) = is_wrong o bytes j (held o.id)
+abbrev pub is_wrong_or_untold : Object → List ℕ → ℕ → Option Held → Bool
+is_wrong_or_untold o bytes j None = true
+is_wrong_or_untold o bytes j (Some held) = is_wrong o bytes j (held o.id)
 
 -- so is a provider as it is seen
 abbrev pub is_wrong_at : List Record → Seen → ℕ → List ℕ → ℕ → Bool
-is_wrong_at records s id bytes j = is_wrong_told (object_of (setup_at records) id) bytes j (provider_at s.providers j).held
+is_wrong_at records s id bytes j = is_wrong_or_untold (object_of (setup_at records) id) bytes j (provider_at s.providers j).held
 
 -- a file of these bytes is in effect under this name, and each provider that is not spoilt is right for it
-pub record HasFile (s : Seen) (records : List Record) (name bytes : List ℕ) (spoilt : ℕ → Bool) : Type 0 where
+pub record HasRightFile (s : Seen) (records : List Record) (name bytes : List ℕ) (spoilt : ℕ → Bool) : Type 0 where
   pub file : File
   pub in_effect : file_of records name ≡ Some file
   pub are_bytes : AreBytes bytes
@@ -113,7 +113,7 @@ keeps_blocks AuditAll = true
 keeps_blocks command = false
 
 -- a put or a drop of another name
-abbrev pub IsOther : List ℕ → Command → Type 0
-IsOther name (PutUnder other) = other ≢ name
-IsOther name (DropOf other) = other ≢ name
-IsOther name command = ⊥
+abbrev pub IsOfAnother : List ℕ → Command → Type 0
+IsOfAnother name (PutUnder other) = other ≢ name
+IsOfAnother name (DropOf other) = other ≢ name
+IsOfAnother name command = ⊥

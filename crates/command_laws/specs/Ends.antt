@@ -2,13 +2,13 @@
 --
 --   IsKnown old records        == the disk tells what it holds and reads these records, and enough providers are handed in
 --   IsDone end                 == status 0, or 15: it is done, and the sink took its text, or failed at it
---   Gives text old new end     == status 0, with the text behind what the sink held
---   EndsWell text old new end  == the same, or status 70, with a front of the text at most
+--   GivesText text old new end     == status 0, with the text behind what the sink held
+--   GivesUnlessMemory text old new end  == the same, or status 70, with a front of the text at most
 --   SameHolds old new          == each provider that was handed in holds what it held, where it tells it
 --   opens_store command        == the command looks at the records of a store
 --   after_put records name size, after_drop, after_audit, after_repair  == the records that such a job that is done leaves
 --   ran_to after records old new heard  == what a job left that was done, as it is seen
---   IsJobOf command old new kind  == the command runs a job of this kind: a put of what it read
+--   RunsKind command old new kind  == the command runs a job of this kind: a put of what it read
 --   EndsInOrder command old new end  == status 0, or 70, or the command is refused, with its cause
 --   FaultsHaveCauses old new end  == a status of a fault comes only where the count of that device rose
 --   AreSafe records old new bytes == for each file in effect at most b providers are wrong for its bytes, or failed
@@ -29,7 +29,7 @@ use Rattle.hail_machine.specs.Refusals.{Refusal}
 use Rattle.hail_machine.specs.Heard.{Entry}
 use Rattle.hail_commands.specs.Seen.{Seen, Ending, ReadsUpTo, IsRefused, provider_at}
 use Rattle.hail_commands.specs.Opens.{IsOpened, Unstarted, setup_at}
-use Rattle.hail_commands.specs.Refusals.{refusal_of, status_of}
+use Rattle.hail_commands.specs.Refusals.{refusal_over, status_of}
 use Rattle.hail_commands.specs.Ran.{Ran, ran_alone, EachHeldGoes}
 use Rattle.hail_commands.specs.Forms.{Command, RowOf, InitWith, PutUnder, GetOf, DropOf, AuditAll, RepairDue}
 use Rattle.hail_commands.specs.Lines.{stored_line, dropped_line, audit_lines, repaired_line}
@@ -50,12 +50,12 @@ abbrev pub IsDone : Ending → Type 0
 IsDone end = (end.status ≡ 0) ⊎ (end.status ≡ 15)
 
 -- the text was written, at status 0
-abbrev pub Gives : List ℕ → Seen → Seen → Ending → Type 0
-Gives text old new end = (end.status ≡ 0) × (new.sink ≡ told_then old.sink text)
+abbrev pub GivesText : List ℕ → Seen → Seen → Ending → Type 0
+GivesText text old new end = (end.status ≡ 0) × (new.sink ≡ told_then old.sink text)
 
 -- the text was written, or no memory was found
-abbrev pub EndsWell : List ℕ → Seen → Seen → Ending → Type 0
-EndsWell text old new end = Gives text old new end ⊎ ((end.status ≡ 70) × TakesFront old.sink new.sink text)
+abbrev pub GivesUnlessMemory : List ℕ → Seen → Seen → Ending → Type 0
+GivesUnlessMemory text old new end = GivesText text old new end ⊎ ((end.status ≡ 70) × TakesFront old.sink new.sink text)
 
 -- each provider holds what it held
 abbrev pub SameHolds : Seen → Seen → Type 0
@@ -68,20 +68,20 @@ opens_store (InitWith numbers) = false
 opens_store command = true
 
 -- the kind of the job that a command runs
-abbrev pub IsJobOf : Command → Seen → Seen → Kind → Type 0
-IsJobOf (PutUnder name) old new kind = (bytes : List ℕ) × ReadsUpTo (largest_file + 1) old.source new.source bytes × (kind ≡ PutJob name bytes)
-IsJobOf (GetOf name) old new kind = kind ≡ GetJob name
-IsJobOf (DropOf name) old new kind = kind ≡ DropJob name
-IsJobOf AuditAll old new kind = kind ≡ AuditJob
-IsJobOf RepairDue old new kind = kind ≡ RepairJob
-IsJobOf command old new kind = ⊥
+abbrev pub RunsKind : Command → Seen → Seen → Kind → Type 0
+RunsKind (PutUnder name) old new kind = (bytes : List ℕ) × ReadsUpTo (largest_file + 1) old.source new.source bytes × (kind ≡ PutJob name bytes)
+RunsKind (GetOf name) old new kind = kind ≡ GetJob name
+RunsKind (DropOf name) old new kind = kind ≡ DropJob name
+RunsKind AuditAll old new kind = kind ≡ AuditJob
+RunsKind RepairDue old new kind = kind ≡ RepairJob
+RunsKind command old new kind = ⊥
 
 -- a command is done, or found no memory, or is refused: before its begin, or for the first cause that applies over records that a start accepts
 pub data EndsInOrder (command : Command) (old new : Seen) (end : Ending) : Type 0 where
   done : end.status ≡ 0 → EndsInOrder command old new end
   no_memory : end.status ≡ 70 → EndsInOrder command old new end
   unstarted : Unstarted old new end → EndsInOrder command old new end
-  refused : (records : List Record) (kind : Kind) (why : Refusal) → IsOpened old records → IsJobOf command old new kind → refusal_of records kind ≡ Some why →
+  refused : (records : List Record) (kind : Kind) (why : Refusal) → IsOpened old records → RunsKind command old new kind → refusal_over records kind ≡ Some why →
       IsRefused (status_of why) 0 old new end → EndsInOrder command old new end
 
 -- a status of a fault comes only where the count of that device rose; that of a provider is told by its place

@@ -22,14 +22,14 @@ use Rattle.hail_machine.specs.Events.{AreBytes}
 use Rattle.hail_machine.specs.Jobs.{Kind, PutJob, GetJob, DropJob, AuditJob, RepairJob}
 use Rattle.hail_commands.specs.Forms.{Command, Numbers, RowOf, PutUnder, GetOf, RepairDue}
 use Rattle.hail_commands.specs.Seen.{Seen, Ending, ReadsUpTo, provider_at}
-use Rattle.hail_commands.specs.Openings.{IsSetUpOn, MayBeLeft}
+use Rattle.hail_openings.specs.Journals.{IsSetUpOn, MayBeLeft}
 use Rattle.hail_commands.specs.Opens.{IsOpened, setup_at}
 use Rattle.hail_commands.specs.Inits.{setup_with}
 use Rattle.hail_commands.specs.Puts.{put_records, StoresPart}
 use Rattle.hail_commands.specs.Gets.{LosesStripe}
 use Rattle.hail_commands.specs.Audits.{audit_records}
-use Rattle.hail_commands.specs.Repairs.{LosesPlace, RewritesSome}
-use Rattle.command_laws.specs.Ends.{IsJobOf, DiskHas, ran_to}
+use Rattle.hail_commands.specs.Repairs.{LosesAtPlace, RewritesSome}
+use Rattle.command_laws.specs.Ends.{RunsKind, DiskHas, ran_to}
 
 -- each image of the disk is one that it had before
 abbrev pub KeepsImages : Seen → Seen → Type 0
@@ -53,7 +53,7 @@ pub record IsAfter (records : List Record) (kind : Kind) (image : List ℕ) : Ty
 -- the images are images as before, or those of records that were read, with some that the job wrote
 pub data LeavesImages (command : Command) (old new : Seen) : Type 0 where
   kept : KeepsImages old new → LeavesImages command old new
-  ran : (records : List Record) (kind : Kind) → IsOpened old records → IsJobOf command old new kind → EachImage new.disk (IsAfter records kind) →
+  ran : (records : List Record) (kind : Kind) → IsOpened old records → RunsKind command old new kind → EachImage new.disk (IsAfter records kind) →
       LeavesImages command old new
 
 -- a store was set up, or each image is one that a failed init may leave
@@ -128,6 +128,6 @@ pub record LosesRepair (old new : Seen) (end : Ending) : Type 0 where
   pub stripe : ℕ
   pub opened : IsOpened old records
   pub is_due : due_of records ≡ Some due
-  pub lost : LosesPlace (ran_to records records old new end.heard) due stripe end.at
+  pub lost : LosesAtPlace (ran_to records records old new end.heard) due stripe end.at
   pub sink : new.sink ≡ old.sink
   pub disk : DiskHas records new

@@ -10,7 +10,7 @@ use Rattle.hail_records.specs.Table.{files_of}
 use Rattle.hail_commands.specs.Forms.{Numbers}
 use Rattle.hail_commands.specs.Keys.{IsKeyForm, longest_key}
 use Rattle.hail_commands.specs.Seen.{Seen, Ending, ReadsUpTo, IsSynced}
-use Rattle.hail_commands.specs.Openings.{IsSetUpOn}
+use Rattle.hail_openings.specs.Journals.{IsSetUpOn}
 use Rattle.hail_commands.specs.Opens.{IsOpened}
 use Rattle.hail_commands.specs.Inits.{setup_with}
 use Rattle.hail_commands.specs.Lines.{ready_line, list_lines}

@@ -30,12 +30,12 @@ use Rattle.hail_records.specs.Table.{files_of}
 use Rattle.sound_states.specs.Sound.{IsSound}
 use Rattle.hail_commands.specs.Forms.{Command, PutUnder, GetOf, DropOf, ListAll}
 use Rattle.hail_commands.specs.Seen.{Seen, Ending, NoCountFalls}
-use Rattle.hail_commands.specs.JobRuns.{AreHanded}
-use Rattle.hail_commands.specs.Jobs.{EndsBy}
+use Rattle.hail_openings.specs.Opened.{AreHanded}
+use Rattle.hail_commands.specs.Jobs.{EndsByAnswer}
 use Rattle.hail_commands.specs.Lines.{text_of}
 use Rattle.hail_commands.specs.Refusals.{status_of}
 use Rattle.hail_commands.specs.Commands.{Answers}
-use Rattle.command_laws.specs.Ends.{IsJobOf, opens_store}
+use Rattle.command_laws.specs.Ends.{RunsKind, opens_store}
 
 -- a sound state of a store that is set up stands for what is seen: each image of the disk for its records, or for these with the one in
 -- doubt, and the providers are its own
@@ -65,16 +65,16 @@ pub data IsCall (command : Command) (old new : Seen) (end : Ending) (w : State) 
       IsCall command old new end w own
   opened : (a b : State) → own ≡ moment Reopen Opened b ∷ moment Continue Continued a ∷ [] → (end.status ≡ 14) ⊎ (end.status ≡ 70) → end.heard ≡ [] →
       IsCall command old new end w own
-  refused : (kind : Kind) (a b c : State) (why : Refusal) → IsJobOf command old new kind →
+  refused : (kind : Kind) (a b c : State) (why : Refusal) → RunsKind command old new kind →
       own ≡ moment (Begin kind) (Refused why) c ∷ moment Reopen Opened b ∷ moment Continue Continued a ∷ [] →
       end.status ≡ status_of why → end.heard ≡ [] → IsCall command old new end w own
   listed : (a b c : State) → command ≡ ListAll →
       own ≡ moment Names (Listed (files_of b.records)) c ∷ moment Reopen Opened b ∷ moment Continue Continued a ∷ [] → end.heard ≡ [] →
       IsCall command old new end w own
-  ended : (kind : Kind) (a b c d : State) (steps : List Moment) (answer : Answer) → IsJobOf command old new kind → GoOn 1 steps →
+  ended : (kind : Kind) (a b c d : State) (steps : List Moment) (answer : Answer) → RunsKind command old new kind → GoOn 1 steps →
       own ≡ moment (Step 1) (Ended answer) d
       ∷ (steps ++ moment (Begin kind) (Begun 1) c ∷ moment Reopen Opened b ∷ moment Continue Continued a ∷ []) →
-      EndsBy (text_of (setup_in b).tolerance kind answer) answer old new end → end.heard ≡ heard_by (job_of (now c steps).jobs 1) →
+      EndsByAnswer (text_of (setup_in b).tolerance kind answer) answer old new end → end.heard ≡ heard_by (job_of (now c steps).jobs 1) →
       IsCall command old new end w own
 
 -- provider j, which was handed in, goes so, and all others are as before
@@ -82,17 +82,17 @@ abbrev pub GoesAt : ℕ → (Provider → Provider → Type 0) → List Provider
 GoesAt j call old new = (p : Provider) × (q : Provider) × (j < length old) × (slice_get old j ≡ Some p) × call p q × (new ≡ slice_set old j q)
 
 -- an event replaced what a provider holds, or found nothing there
-abbrev pub IsReplaced : Event → List Provider → List Provider → Type 0
-IsReplaced (Alter j object stripe place symbol) old new =
+abbrev pub ReplacesHeld : Event → List Provider → List Provider → Type 0
+ReplacesHeld (Alter j object stripe place symbol) old new =
     GoesAt j (λ p q. (found : Bool) × Replaces (λ held. HasPlace (held object stripe) place) (with_symbol object stripe place symbol) found p q) old new
-IsReplaced (Lose j object stripe) old new =
+ReplacesHeld (Lose j object stripe) old new =
     GoesAt j (λ p q. (found : Bool) × Replaces (λ held. IsSome (held object stripe)) (without_block object stripe) found p q) old new
-IsReplaced event old new = ⊥
+ReplacesHeld event old new = ⊥
 
 -- these events did so, the first one first
 abbrev pub AreReplaced : List Event → List Provider → List Provider → Type 0
 AreReplaced [] old new = new ≡ old
-AreReplaced (event ∷ events) old new = IsSpelled event × ((mid : List Provider) × IsReplaced event old mid × AreReplaced events mid new)
+AreReplaced (event ∷ events) old new = IsSpelled event × ((mid : List Provider) × ReplacesHeld event old mid × AreReplaced events mid new)
 
 -- what the next command finds: the disk as it was left or as a stop then left it, and providers with some replacements
 pub record IsLater (new next : Seen) : Type 0 where
@@ -102,16 +102,16 @@ pub record IsLater (new next : Seen) : Type 0 where
   pub replaced : AreReplaced events new.providers next.providers
 
 -- a stop, or a replacement of what a provider holds
-abbrev pub IsBetween : Event → Type 0
-IsBetween (Alter j object stripe place symbol) = Unit {0}
-IsBetween (Lose j object stripe) = Unit {0}
-IsBetween (Stop picks) = Unit {0}
-IsBetween event = ⊥
+abbrev pub MayComeBetween : Event → Type 0
+MayComeBetween (Alter j object stripe place symbol) = Unit {0}
+MayComeBetween (Lose j object stripe) = Unit {0}
+MayComeBetween (Stop picks) = Unit {0}
+MayComeBetween event = ⊥
 
 -- moments are stops and replacements
 abbrev pub AreBetween : List Moment → Type 0
 AreBetween [] = Unit {0}
-AreBetween (m ∷ ms) = IsBetween m.event × AreBetween ms
+AreBetween (m ∷ ms) = MayComeBetween m.event × AreBetween ms
 
 -- a call of the program: its words, what was seen before and after it, and how it ended
 pub record Call : Type 0 where

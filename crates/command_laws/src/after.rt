@@ -10,15 +10,15 @@ ghost use Rattle.hail_records.specs.Table.{File, Due, next_audit, file_of, due_o
 ghost use Rattle.hail_commands.specs.Forms.{Command, Numbers, RowOf, InitWith, PutUnder, GetOf, DropOf, ListAll, AuditAll, RepairDue};
 ghost use Rattle.hail_commands.specs.Keys.{IsKeyForm};
 ghost use Rattle.hail_commands.specs.Seen.{Seen, Ending, IsRefused, provider_at};
-ghost use Rattle.hail_commands.specs.Openings.{IsFree};
+ghost use Rattle.hail_openings.specs.Journals.{IsFree};
 ghost use Rattle.hail_commands.specs.Opens.{setup_at};
 ghost use Rattle.hail_commands.specs.Inits.{setup_with};
 ghost use Rattle.hail_commands.specs.Lines.{audit_lines};
 ghost use Rattle.hail_commands.specs.Audits.{HearsRounds, CountsHeard};
 ghost use Rattle.hail_commands.specs.Jobs.{IsTold};
 ghost use Rattle.hail_commands.specs.Commands.{Answers, IsUsage};
-ghost use Rattle.command_laws.specs.Ends.{IsDone, IsKnown, Gives, EndsWell, opens_store, after_put, after_drop, after_audit, after_repair, ran_to};
-ghost use Rattle.command_laws.specs.After.{IsSure, Follows, IsThen, is_refusal, HasFile, IsUntouched, IsSteady, spoilt_below, IsFaultless, keeps_blocks, IsOther};
+ghost use Rattle.command_laws.specs.Ends.{IsDone, IsKnown, GivesText, GivesUnlessMemory, opens_store, after_put, after_drop, after_audit, after_repair, ran_to};
+ghost use Rattle.command_laws.specs.After.{IsSure, Follows, IsThen, is_refusal, HasRightFile, IsUntouched, IsSteady, spoilt_below, IsFaultless, keeps_blocks, IsOfAnother};
 ghost use Rattle.command_laws.specs.Kept.{after_start};
 ghost use Rattle.command_laws.specs.Opened.{IsKeyed};
 
@@ -76,33 +76,33 @@ pub fn files_stay()
     ensures put { (name bytes : List ℕ) (records : List Record) (spoilt : ℕ → Bool) (old new : Seen) (end : Ending) →
         Answers (PutUnder name) old new end → IsDone end → IsKnown old records → old.source ≡ Some bytes →
         ((j : ℕ) → j < (setup_at records).n → spoilt j ≡ false → is_some (provider_at old.providers j).held ≡ true) →
-        HasFile new (after_put records name (length bytes)) name bytes spoilt }
+        HasRightFile new (after_put records name (length bytes)) name bytes spoilt }
     ensures put_in_effect { (name bytes : List ℕ) (records : List Record) (spoilt : ℕ → Bool) (old new next : Seen) (end : Ending) →
         Answers (PutUnder name) old new end → IsSure old records → old.source ≡ Some bytes → Follows new next →
         IsKnown next (after_put records name (length bytes)) →
         ((j : ℕ) → j < (setup_at records).n → spoilt j ≡ false → is_some (provider_at old.providers j).held ≡ true) →
-        HasFile new (after_put records name (length bytes)) name bytes spoilt }
-    ensures next { (name bytes : List ℕ) (records : List Record) (spoilt : ℕ → Bool) (new next : Seen) → HasFile new records name bytes spoilt →
-        IsUntouched (setup_at records).n spoilt new next → HasFile next records name bytes spoilt }
+        HasRightFile new (after_put records name (length bytes)) name bytes spoilt }
+    ensures next { (name bytes : List ℕ) (records : List Record) (spoilt : ℕ → Bool) (new next : Seen) → HasRightFile new records name bytes spoilt →
+        IsUntouched (setup_at records).n spoilt new next → HasRightFile next records name bytes spoilt }
     ensures reads { (command : Command) (name bytes : List ℕ) (records after : List Record) (spoilt : ℕ → Bool) (old new : Seen) (end : Ending) →
-        Answers command old new end → keeps_blocks command ≡ true → HasFile old records name bytes spoilt →
-        IsThen command records old new after → HasFile new after name bytes spoilt }
+        Answers command old new end → keeps_blocks command ≡ true → HasRightFile old records name bytes spoilt →
+        IsThen command records old new after → HasRightFile new after name bytes spoilt }
     ensures refused { (status at : ℕ) (name bytes : List ℕ) (records : List Record) (spoilt : ℕ → Bool) (old new : Seen) (end : Ending) →
-        IsRefused status at old new end → HasFile old records name bytes spoilt → HasFile new records name bytes spoilt }
+        IsRefused status at old new end → HasRightFile old records name bytes spoilt → HasRightFile new records name bytes spoilt }
     ensures others { (command : Command) (name bytes : List ℕ) (records after : List Record) (spoilt : ℕ → Bool) (old new : Seen) (end : Ending) →
-        Answers command old new end → IsOther name command → IsKnown old records → HasFile old records name bytes spoilt →
-        IsThen command records old new after → HasFile new after name bytes spoilt }
+        Answers command old new end → IsOfAnother name command → IsKnown old records → HasRightFile old records name bytes spoilt →
+        IsThen command records old new after → HasRightFile new after name bytes spoilt }
     ensures repair { (name bytes : List ℕ) (records : List Record) (due : Due) (spoilt : ℕ → Bool) (old new : Seen) (end : Ending) →
-        Answers RepairDue old new end → IsDone end → IsKnown old records → due_of records ≡ Some due → HasFile old records name bytes spoilt →
+        Answers RepairDue old new end → IsDone end → IsKnown old records → due_of records ≡ Some due → HasRightFile old records name bytes spoilt →
         IsSteady (setup_at records).n spoilt old new → spoilt_below (setup_at records).n spoilt ≤ (setup_at records).b →
         ((j : ℕ) → j < (setup_at records).n → is_flagged (setup_at records).tolerance due.counts j ≡ true → is_some (provider_at old.providers j).held ≡ true) →
-        HasFile new (after_repair records due) name bytes (λ j. spoilt j && not (is_flagged (setup_at records).tolerance due.counts j)) }
+        HasRightFile new (after_repair records due) name bytes (λ j. spoilt j && not (is_flagged (setup_at records).tolerance due.counts j)) }
     ensures repair_in_effect { (name bytes : List ℕ) (records : List Record) (due : Due) (spoilt : ℕ → Bool) (old new next : Seen) (end : Ending) →
         Answers RepairDue old new end → IsSure old records → due_of records ≡ Some due → Follows new next →
-        IsKnown next (after_repair records due) → HasFile old records name bytes spoilt →
+        IsKnown next (after_repair records due) → HasRightFile old records name bytes spoilt →
         IsSteady (setup_at records).n spoilt old new → spoilt_below (setup_at records).n spoilt ≤ (setup_at records).b →
         ((j : ℕ) → j < (setup_at records).n → is_flagged (setup_at records).tolerance due.counts j ≡ true → is_some (provider_at old.providers j).held ≡ true) →
-        HasFile new (after_repair records due) name bytes (λ j. spoilt j && not (is_flagged (setup_at records).tolerance due.counts j)) }
+        HasRightFile new (after_repair records due) name bytes (λ j. spoilt j && not (is_flagged (setup_at records).tolerance due.counts j)) }
 {}
 
 /// However an audit ended, where the next command finds its end in effect, it has asked each question of each provider, and its counts are the
@@ -119,11 +119,11 @@ pub fn audits_in_effect_count_what_they_heard()
 /// memory, unless the disk failed. A get of an empty file never ends in a fault of the sink.
 pub fn gets_tell_what_stands()
     ensures complete { (name bytes : List ℕ) (records : List Record) (spoilt : ℕ → Bool) (old new : Seen) (end : Ending) →
-        Answers (GetOf name) old new end → IsKnown old records → HasFile old records name bytes spoilt →
+        Answers (GetOf name) old new end → IsKnown old records → HasRightFile old records name bytes spoilt →
         IsSteady (setup_at records).n spoilt old new → spoilt_below (setup_at records).n spoilt ≤ (setup_at records).b →
-        (Rose old.disk_faults new.disk_faults → ⊥) → (Rose old.sink_faults new.sink_faults → ⊥) → EndsWell bytes old new end }
+        (Rose old.disk_faults new.disk_faults → ⊥) → (Rose old.sink_faults new.sink_faults → ⊥) → GivesUnlessMemory bytes old new end }
     ensures right { (name bytes : List ℕ) (records : List Record) (spoilt : ℕ → Bool) (old new : Seen) (end : Ending) →
-        Answers (GetOf name) old new end → IsKnown old records → HasFile old records name bytes spoilt →
+        Answers (GetOf name) old new end → IsKnown old records → HasRightFile old records name bytes spoilt →
         IsSteady (setup_at records).n spoilt old new → spoilt_below (setup_at records).n spoilt ≤ (setup_at records).b + 1 → end.status ≡ 0 →
         new.sink ≡ told_then old.sink bytes }
     ensures missing { (name : List ℕ) (records : List Record) (old new : Seen) (end : Ending) → Answers (GetOf name) old new end →
@@ -144,31 +144,31 @@ pub fn put_files_are_got()
         ((j : ℕ) → j < numbers.n → spoilt j ≡ false → is_some (provider_at c.providers j).held ≡ true) →
         IsUntouched numbers.n spoilt d e → IsSteady numbers.n spoilt e f → spoilt_below numbers.n spoilt ≤ numbers.b →
         IsFaultless a b → IsFaultless c d → IsFaultless e f → first.status ≢ 70 → second.status ≢ 70 → last.status ≢ 70 →
-        (first.status ≡ 0) × (second.status ≡ 0) × Gives bytes e f last }
+        (first.status ≡ 0) × (second.status ≡ 0) × GivesText bytes e f last }
     ensures got { (numbers : Numbers) (key name bytes : List ℕ) (spoilt : ℕ → Bool) (a b c d e f : Seen) (first second last : Ending) →
         Answers (InitWith numbers) a b first → Answers (PutUnder name) c d second → Answers (GetOf name) e f last → Follows b c → Follows d e →
         is_some a.disk ≡ true → ((text : List ℕ) × (a.source ≡ Some text) × IsKeyForm text key) → c.source ≡ Some bytes →
         IsDone first → IsDone second → ((j : ℕ) → j < numbers.n → spoilt j ≡ false → is_some (provider_at c.providers j).held ≡ true) →
         IsUntouched numbers.n spoilt d e → IsSteady numbers.n spoilt e f → spoilt_below numbers.n spoilt ≤ numbers.b →
-        (Rose e.disk_faults f.disk_faults → ⊥) → (Rose e.sink_faults f.sink_faults → ⊥) → EndsWell bytes e f last }
+        (Rose e.disk_faults f.disk_faults → ⊥) → (Rose e.sink_faults f.sink_faults → ⊥) → GivesUnlessMemory bytes e f last }
     ensures again { (name bytes : List ℕ) (records : List Record) (spoilt : ℕ → Bool) (c d e f : Seen) (second last : Ending) →
         Answers (PutUnder name) c d second → Answers (GetOf name) e f last → Follows d e → IsKnown c records → c.source ≡ Some bytes →
         IsDone second → ((j : ℕ) → j < (setup_at records).n → spoilt j ≡ false → is_some (provider_at c.providers j).held ≡ true) →
         IsUntouched (setup_at records).n spoilt d e → IsSteady (setup_at records).n spoilt e f →
         spoilt_below (setup_at records).n spoilt ≤ (setup_at records).b →
-        (Rose e.disk_faults f.disk_faults → ⊥) → (Rose e.sink_faults f.sink_faults → ⊥) → EndsWell bytes e f last }
+        (Rose e.disk_faults f.disk_faults → ⊥) → (Rose e.sink_faults f.sink_faults → ⊥) → GivesUnlessMemory bytes e f last }
     ensures dropped { (name : List ℕ) (records : List Record) (c d e f : Seen) (second last : Ending) → Answers (DropOf name) c d second →
         Answers (GetOf name) e f last → Follows d e → IsKnown c records → IsDone second → (Rose e.disk_faults f.disk_faults → ⊥) →
         (last.status ≡ 3) ⊎ (last.status ≡ 70) }
     ensures repaired { (name bytes : List ℕ) (records : List Record) (spoilt later : ℕ → Bool) (due : Due) (c d e f : Seen) (second last : Ending) →
         Answers RepairDue c d second → Answers (GetOf name) e f last → Follows d e → IsKnown c records → due_of records ≡ Some due →
-        HasFile c records name bytes spoilt → IsDone second → IsSteady (setup_at records).n spoilt c d →
+        HasRightFile c records name bytes spoilt → IsDone second → IsSteady (setup_at records).n spoilt c d →
         spoilt_below (setup_at records).n spoilt ≤ (setup_at records).b →
         ((j : ℕ) → j < (setup_at records).n → is_flagged (setup_at records).tolerance due.counts j ≡ true → is_some (provider_at c.providers j).held ≡ true) →
         ((j : ℕ) → later j ≡ false → (spoilt j && not (is_flagged (setup_at records).tolerance due.counts j)) ≡ false) →
         IsUntouched (setup_at records).n later d e → IsSteady (setup_at records).n later e f →
         spoilt_below (setup_at records).n later ≤ (setup_at records).b →
-        (Rose e.disk_faults f.disk_faults → ⊥) → (Rose e.sink_faults f.sink_faults → ⊥) → EndsWell bytes e f last }
+        (Rose e.disk_faults f.disk_faults → ⊥) → (Rose e.sink_faults f.sink_faults → ⊥) → GivesUnlessMemory bytes e f last }
     ensures mended { (name bytes : List ℕ) (records : List Record) (spoilt : ℕ → Bool) (a b c d e f g h : Seen) (first second third last : Ending) →
         Answers (PutUnder name) a b first → Answers AuditAll c d second → Answers RepairDue e f third → Answers (GetOf name) g h last →
         Follows b c → Follows d e → Follows f g → IsKnown a records → a.source ≡ Some bytes → IsDone first → IsDone second → IsDone third →
@@ -180,5 +180,5 @@ pub fn put_files_are_got()
         ((j : ℕ) → later j ≡ false → (spoilt j && not (is_flagged (setup_at records).tolerance counts j)) ≡ false) →
         IsUntouched (setup_at records).n later f g → IsSteady (setup_at records).n later g h →
         spoilt_below (setup_at records).n later ≤ (setup_at records).b →
-        (Rose g.disk_faults h.disk_faults → ⊥) → (Rose g.sink_faults h.sink_faults → ⊥) → EndsWell bytes g h last) }
+        (Rose g.disk_faults h.disk_faults → ⊥) → (Rose g.sink_faults h.sink_faults → ⊥) → GivesUnlessMemory bytes g h last) }
 {}

@@ -10,15 +10,14 @@ ghost use Rattle.hail_machine.specs.States.{State};
 ghost use Rattle.hail_machine.specs.Heard.{Entry};
 ghost use Rattle.hail_commands.specs.Seen.{Seen};
 ghost use Rattle.hail_commands.specs.Opens as opens;
-ghost use Rattle.hail_commands.specs.JobRuns.{IsOpenedOver};
+ghost use Rattle.hail_openings.specs.Opened.{IsOpenedOver, IsOpenAtRest};
 ghost use Rattle.hail_commands.specs.Jobs.{RunsAlone, LeftAlone};
-ghost use Rattle.lone_laws.specs.Walked.{IsOpened};
 
 /// A state that was opened over records which a start has read, with enough providers, is one from which the laws of runs speak; and
 /// over all accepted records there is one.
 pub fn opened_states()
     ensures opened { (w : State) (old : Seen) (records : List Record) (faults : ℕ) → opens.IsOpened old records →
-        IsOpenedOver w records faults old.providers → IsOpened w }
+        IsOpenedOver w records faults old.providers → IsOpenAtRest w 1 }
     ensures there_is_one { (records : List Record) (faults : ℕ) (providers : List Provider) → AreAccepted records →
         (w : State) × IsOpenedOver w records faults providers }
 {}

@@ -14,14 +14,14 @@ ghost use Rattle.hail_machine.specs.Heard.{HoldsForgery};
 ghost use Rattle.hail_machine.specs.Refusals.{Refusal};
 ghost use Rattle.hail_commands.specs.Forms.{Command, Numbers, RowOf, InitWith, PutUnder, GetOf, DropOf, ListAll, AuditAll, RepairDue};
 ghost use Rattle.hail_commands.specs.Seen.{Seen, Ending, IsRefused, provider_at};
-ghost use Rattle.hail_commands.specs.Openings.{journal_read, IsRead, IsBadStart};
+ghost use Rattle.hail_openings.specs.Journals.{journal_read, IsRead, IsBadStart};
 ghost use Rattle.hail_commands.specs.Opens.{setup_at};
-ghost use Rattle.hail_commands.specs.Refusals.{refusal_of, status_of};
+ghost use Rattle.hail_commands.specs.Refusals.{refusal_over, status_of};
 ghost use Rattle.hail_commands.specs.Lines.{stored_line, dropped_line, repaired_line};
 ghost use Rattle.hail_commands.specs.Jobs.{AnswersJob};
 ghost use Rattle.hail_commands.specs.Commands.{AnswersAlone, Answers};
 ghost use Rattle.command_laws.specs.Failing.{bad_seen};
-ghost use Rattle.command_laws.specs.Ends.{IsDone, IsKnown, EndsWell, EndsInOrder, SameHolds, opens_store, FaultsHaveCauses, AreSafe, HoldsFile, IsPut, IsDropped, IsAudited, IsRepaired};
+ghost use Rattle.command_laws.specs.Ends.{IsDone, IsKnown, GivesUnlessMemory, EndsInOrder, SameHolds, opens_store, FaultsHaveCauses, AreSafe, HoldsFile, IsPut, IsDropped, IsAudited, IsRepaired};
 ghost use Rattle.command_laws.specs.Kept.{LosesFile, LosesRepair};
 
 /// A get of a file gives it whole, or finds no memory, where at most b providers are wrong for the file or failed, unless the disk or the
@@ -32,7 +32,7 @@ pub fn gets_give_the_file()
     ensures complete { (name bytes : List ℕ) (records : List Record) (file : File) (old new : Seen) (end : Ending) → Answers (GetOf name) old new end →
         IsKnown old records → file_of records name ≡ Some file → AreBytes bytes → length bytes ≡ file.size →
         bad_seen records old new file.id bytes ≤ (setup_at records).b → (Rose old.disk_faults new.disk_faults → ⊥) →
-        (Rose old.sink_faults new.sink_faults → ⊥) → EndsWell bytes old new end }
+        (Rose old.sink_faults new.sink_faults → ⊥) → GivesUnlessMemory bytes old new end }
     ensures right { (name bytes : List ℕ) (records : List Record) (file : File) (old new : Seen) (end : Ending) → Answers (GetOf name) old new end →
         IsKnown old records → file_of records name ≡ Some file → AreBytes bytes → length bytes ≡ file.size →
         bad_seen records old new file.id bytes ≤ (setup_at records).b + 1 → end.status ≡ 0 → new.sink ≡ told_then old.sink bytes }
@@ -65,10 +65,10 @@ pub fn reads_leave_what_is_held()
 pub fn puts_store_the_source()
     ensures done { (name : List ℕ) (old new : Seen) (end : Ending) → Answers (PutUnder name) old new end → IsDone end → IsPut name old new end }
     ensures ends_well { (name bytes : List ℕ) (records : List Record) (old new : Seen) (end : Ending) → Answers (PutUnder name) old new end →
-        IsKnown old records → old.source ≡ Some bytes → refusal_of records (PutJob name bytes) ≡ None → (Rose old.disk_faults new.disk_faults → ⊥) →
+        IsKnown old records → old.source ≡ Some bytes → refusal_over records (PutJob name bytes) ≡ None → (Rose old.disk_faults new.disk_faults → ⊥) →
         ((j : ℕ) → j < (setup_at records).n → Rose (provider_at old.providers j).store_faults (provider_at new.providers j).store_faults → ⊥) →
         (Rose old.source_faults new.source_faults → ⊥) → (Rose old.sink_faults new.sink_faults → ⊥) →
-        EndsWell (stored_line name (length bytes)) old new end }
+        GivesUnlessMemory (stored_line name (length bytes)) old new end }
     ensures ends { (name : List ℕ) (old new : Seen) (end : Ending) → Answers (PutUnder name) old new end → (Rose old.disk_faults new.disk_faults → ⊥) →
         ((j : ℕ) → Rose (provider_at old.providers j).store_faults (provider_at new.providers j).store_faults → ⊥) →
         (Rose old.source_faults new.source_faults → ⊥) → (Rose old.sink_faults new.sink_faults → ⊥) → EndsInOrder (PutUnder name) old new end }
@@ -79,8 +79,8 @@ pub fn puts_store_the_source()
 pub fn drops_take_the_file_away()
     ensures done { (name : List ℕ) (old new : Seen) (end : Ending) → Answers (DropOf name) old new end → IsDone end → IsDropped name old new end }
     ensures ends_well { (name : List ℕ) (records : List Record) (old new : Seen) (end : Ending) → Answers (DropOf name) old new end →
-        IsKnown old records → refusal_of records (DropJob name) ≡ None → (Rose old.disk_faults new.disk_faults → ⊥) →
-        (Rose old.sink_faults new.sink_faults → ⊥) → EndsWell (dropped_line name) old new end }
+        IsKnown old records → refusal_over records (DropJob name) ≡ None → (Rose old.disk_faults new.disk_faults → ⊥) →
+        (Rose old.sink_faults new.sink_faults → ⊥) → GivesUnlessMemory (dropped_line name) old new end }
     ensures ends { (name : List ℕ) (old new : Seen) (end : Ending) → Answers (DropOf name) old new end → (Rose old.disk_faults new.disk_faults → ⊥) →
         (Rose old.sink_faults new.sink_faults → ⊥) → EndsInOrder (DropOf name) old new end }
 {}
@@ -90,7 +90,7 @@ pub fn drops_take_the_file_away()
 pub fn audits_count_what_they_hear()
     ensures done { (old new : Seen) (end : Ending) → Answers AuditAll old new end → IsDone end → IsAudited old new end }
     ensures ends_well { (records : List Record) (old new : Seen) (end : Ending) → Answers AuditAll old new end → IsKnown old records →
-        refusal_of records AuditJob ≡ None → (Rose old.disk_faults new.disk_faults → ⊥) → (Rose old.sink_faults new.sink_faults → ⊥) →
+        refusal_over records AuditJob ≡ None → (Rose old.disk_faults new.disk_faults → ⊥) → (Rose old.sink_faults new.sink_faults → ⊥) →
         (end.status ≡ 0) ⊎ (end.status ≡ 70) }
     ensures ends { (old new : Seen) (end : Ending) → Answers AuditAll old new end → (Rose old.disk_faults new.disk_faults → ⊥) →
         (Rose old.sink_faults new.sink_faults → ⊥) → EndsInOrder AuditAll old new end }
@@ -103,7 +103,7 @@ pub fn audits_count_what_they_hear()
 pub fn repairs_write_anew()
     ensures done { (old new : Seen) (end : Ending) → Answers RepairDue old new end → IsDone end → IsRepaired old new end }
     ensures ends_well { (records : List Record) (old new : Seen) (end : Ending) (bytes : ℕ → List ℕ) → Answers RepairDue old new end →
-        IsKnown old records → refusal_of records RepairJob ≡ None → (Rose old.disk_faults new.disk_faults → ⊥) →
+        IsKnown old records → refusal_over records RepairJob ≡ None → (Rose old.disk_faults new.disk_faults → ⊥) →
         ((j : ℕ) → j < (setup_at records).n → Rose (provider_at old.providers j).store_faults (provider_at new.providers j).store_faults → ⊥) →
         (Rose old.sink_faults new.sink_faults → ⊥) →
         AreSafe records old new bytes → (end.status ≡ 0) ⊎ (end.status ≡ 70) }
@@ -121,20 +121,20 @@ pub fn repairs_write_anew()
 /// a disk that tells.
 pub fn refusals_are_exact()
     ensures only { (kind : Kind) (records : List Record) (old new : Seen) (end : Ending) (why : Refusal) → AnswersJob kind records old new end →
-        status_of why ≢ 70 → end.status ≡ status_of why → refusal_of records kind ≡ Some why }
+        status_of why ≢ 70 → end.status ≡ status_of why → refusal_over records kind ≡ Some why }
     ensures always { (kind : Kind) (records : List Record) (old new : Seen) (end : Ending) (why : Refusal) → AnswersJob kind records old new end →
-        refusal_of records kind ≡ Some why → IsRefused (status_of why) 0 old new end ⊎ IsRefused 70 0 old new end }
+        refusal_over records kind ≡ Some why → IsRefused (status_of why) 0 old new end ⊎ IsRefused 70 0 old new end }
     ensures known_only { (kind : Kind) (records : List Record) (old new : Seen) (end : Ending) (why : Refusal) → AnswersAlone kind old new end →
-        IsKnown old records → status_of why ≢ 70 → end.status ≡ status_of why → refusal_of records kind ≡ Some why }
+        IsKnown old records → status_of why ≢ 70 → end.status ≡ status_of why → refusal_over records kind ≡ Some why }
     ensures known_always { (kind : Kind) (records : List Record) (old new : Seen) (end : Ending) (why : Refusal) → AnswersAlone kind old new end →
-        IsKnown old records → (Rose old.disk_faults new.disk_faults → ⊥) → refusal_of records kind ≡ Some why →
+        IsKnown old records → (Rose old.disk_faults new.disk_faults → ⊥) → refusal_over records kind ≡ Some why →
         IsRefused (status_of why) 0 old new end ⊎ IsRefused 70 0 old new end }
     ensures put_only { (name bytes : List ℕ) (records : List Record) (old new : Seen) (end : Ending) (why : Refusal) →
         Answers (PutUnder name) old new end → IsKnown old records → old.source ≡ Some bytes → status_of why ≢ 70 →
-        end.status ≡ status_of why → refusal_of records (PutJob name bytes) ≡ Some why }
+        end.status ≡ status_of why → refusal_over records (PutJob name bytes) ≡ Some why }
     ensures put_always { (name bytes : List ℕ) (records : List Record) (old new : Seen) (end : Ending) (why : Refusal) →
         Answers (PutUnder name) old new end → IsKnown old records → old.source ≡ Some bytes → (Rose old.disk_faults new.disk_faults → ⊥) →
-        (Rose old.source_faults new.source_faults → ⊥) → refusal_of records (PutJob name bytes) ≡ Some why →
+        (Rose old.source_faults new.source_faults → ⊥) → refusal_over records (PutJob name bytes) ≡ Some why →
         IsRefused (status_of why) 0 old new end ⊎ IsRefused 70 0 old new end }
 {}
 

@@ -7,11 +7,11 @@ ghost use Rattle.hail_records.specs.Table.{files_of};
 ghost use Rattle.hail_commands.specs.Forms.{Numbers, InitWith, ListAll};
 ghost use Rattle.hail_commands.specs.Keys.{IsKeyForm};
 ghost use Rattle.hail_commands.specs.Seen.{Seen, Ending};
-ghost use Rattle.hail_commands.specs.Openings.{journal_read, IsBadInit, IsSetUpAlready, IsFree};
+ghost use Rattle.hail_openings.specs.Journals.{journal_read, IsBadInit, IsSetUpAlready, IsFree};
 ghost use Rattle.hail_commands.specs.Inits.{setup_with};
 ghost use Rattle.hail_commands.specs.Lines.{ready_line, list_lines};
 ghost use Rattle.hail_commands.specs.Commands.{Answers};
-ghost use Rattle.command_laws.specs.Ends.{IsDone, IsKnown, EndsWell, EndsInOrder};
+ghost use Rattle.command_laws.specs.Ends.{IsDone, IsKnown, GivesUnlessMemory, EndsInOrder};
 ghost use Rattle.command_laws.specs.Opened.{IsKeyed, IsInit, IsListed};
 
 /// An init of status 0 or 15 has read its source to the end, a key, and has set a store up with it. With a key, over a disk that
@@ -22,7 +22,7 @@ pub fn inits_set_up()
     ensures ends_well { (numbers : Numbers) (key : List ℕ) (cells : Cells) (old new : Seen) (end : Ending) →
         Answers (InitWith numbers) old new end → IsKeyed numbers key old → old.disk ≡ Some cells → IsFree cells →
         (Rose old.source_faults new.source_faults → ⊥) → (Rose old.disk_faults new.disk_faults → ⊥) →
-        (Rose old.sink_faults new.sink_faults → ⊥) → EndsWell ready_line old new end }
+        (Rose old.sink_faults new.sink_faults → ⊥) → GivesUnlessMemory ready_line old new end }
 {}
 
 /// The refusals of an init: numbers that are no setup (20), too few providers (22), a source that tells no key (18), a disk whose bytes are
@@ -63,7 +63,7 @@ pub fn lists_give_the_files()
     ensures done { (old new : Seen) (end : Ending) → Answers ListAll old new end → IsDone end → IsListed old new end }
     ensures ends_well { (records : List Record) (old new : Seen) (end : Ending) → Answers ListAll old new end → IsKnown old records →
         (Rose old.disk_faults new.disk_faults → ⊥) → (Rose old.sink_faults new.sink_faults → ⊥) →
-        EndsWell (list_lines (files_of records)) old new end }
+        GivesUnlessMemory (list_lines (files_of records)) old new end }
     ensures empty { (records : List Record) (old new : Seen) (end : Ending) → Answers ListAll old new end → IsKnown old records →
         files_of records ≡ [] → end.status ≢ 15 }
     ensures ends { (old new : Seen) (end : Ending) → Answers ListAll old new end → (Rose old.sink_faults new.sink_faults → ⊥) →

@@ -8,7 +8,7 @@ ghost use Rattle.hail_commands.specs.Opens.{setup_at};
 ghost use Rattle.hail_commands.specs.Seen.{NoCountFalls};
 ghost use Rattle.hail_commands.specs.Commands.{Answers, IsUsage};
 ghost use Rattle.command_laws.specs.Failing.{bad_seen};
-ghost use Rattle.command_laws.specs.After.{IsSure, Follows, HasFile, IsUntouched, IsSteady, IsFaultless};
+ghost use Rattle.command_laws.specs.After.{IsSure, Follows, HasRightFile, IsUntouched, IsSteady, IsFaultless};
 ghost use Rattle.command_laws.specs.Opened.{IsKeyed};
 ghost use Rattle.command_laws.specs.Pieces.{IsStore, IsLater, IsChain};
 ghost use Rattle.command_laws.specs.Instances.{store, small_setup, small_numbers, key_devices, ready_store, put_store, held_name, other_name, set_up_records, held_records, due_records, audited_store, repaired_store, empty_devices, with_sink, ends, get_held, get_other};
@@ -19,7 +19,7 @@ pub fn there_are_known_stores()
     ensures set_up { IsSure (store set_up_records) set_up_records }
     ensures sure { IsSure (store held_records) held_records }
     ensures due { IsSure (store due_records) due_records }
-    ensures file { HasFile (store held_records) held_records held_name [] (λ j. false) }
+    ensures file { HasRightFile (store held_records) held_records held_name [] (λ j. false) }
     ensures none_bad { bad_seen held_records (store held_records) (store held_records) 1 [] ≤ (setup_at held_records).b }
     ensures between { Follows ready_store (store set_up_records) × Follows put_store (store held_records) }
     ensures faultless { IsFaultless (store set_up_records) put_store × IsFaultless (store held_records) (store held_records) }

@@ -7,7 +7,7 @@ ghost use Rattle.hail_machine.specs.Jobs.{Kind};
 ghost use Rattle.hail_commands.specs.Forms.{Command, Numbers, RowOf, InitWith, PutUnder, GetOf, DropOf, ListAll, AuditAll, RepairDue};
 ghost use Rattle.hail_commands.specs.Seen.{Seen, Ending, IsRefused};
 ghost use Rattle.hail_commands.specs.Commands.{Answers};
-ghost use Rattle.command_laws.specs.Ends.{IsKnown, IsJobOf, opens_store};
+ghost use Rattle.command_laws.specs.Ends.{IsKnown, RunsKind, opens_store};
 ghost use Rattle.command_laws.specs.Kept.{KeepsImages, IsAfter, LeavesImages, InitImages, SameFetches, stores_blocks, opens_rows, FailsToPut, FailsToRepair, LosesFile, LosesRepair};
 
 /// What a stop may leave of the disk after a command: what it could have left before, or, where a job was run, the records that were read
@@ -19,7 +19,7 @@ pub fn images_stand()
     ensures row { (n l b : ℕ) (seen : List (Option ℕ)) (old new : Seen) (end : Ending) → Answers (RowOf n l b seen) old new end → KeepsImages old new }
     ensures known { (command : Command) (records : List Record) (old new : Seen) (end : Ending) → Answers command old new end →
         opens_store command ≡ true → IsKnown old records → EachImage old.disk (λ image. StandsFor image records) →
-        EachImage new.disk (λ image. StandsFor image records ⊎ ((kind : Kind) × IsJobOf command old new kind × IsAfter records kind image)) }
+        EachImage new.disk (λ image. StandsFor image records ⊎ ((kind : Kind) × RunsKind command old new kind × IsAfter records kind image)) }
     ensures init { (numbers : Numbers) (old new : Seen) (end : Ending) → Answers (InitWith numbers) old new end → InitImages numbers old new }
     ensures init_known { (numbers : Numbers) (records : List Record) (old new : Seen) (end : Ending) → Answers (InitWith numbers) old new end →
         records ≢ [] → EachImage old.disk (λ image. StandsFor image records) → KeepsImages old new }

@@ -2,14 +2,14 @@
 ghost use Rattle.std.specs.Prelude.{◌≡◌, ◌≤◌, []};
 ghost use Rattle.hail_devices.specs.Faults.{HasCause};
 ghost use Rattle.hail_commands.specs.Line.{no_row_line};
-ghost use Rattle.hail_commands.specs.Sinking.{Sinking, Writes, Tells};
+ghost use Rattle.hail_commands.specs.Sinking.{Sinking, WritesLine, TellsLine};
 
 use crate::status::{LOST_ROW, NO_MEMORY, SINK_FAULT, WRITTEN};
 use stream_model::{Sink, WriteFault, write_all};
 
 /// Writes the text of a command that succeeded. The sink is not called for an empty text. The status is that of the command.
 pub fn write_text<K: Sink>(text: &[u8], sink: &mut K) -> u8
-    ensures writes { Writes text.now result
+    ensures writes { WritesLine text.now result
         (record { old = K.written sink.old; new = K.written sink.new; before = K.faults sink.old; now = K.faults sink.new }) }
     ensures count { K.faults sink.old ≤ K.faults sink.new }
     ensures empty { text.now ≡ [] → (result ≡ 0) × (sink.new ≡ sink.old) }
@@ -26,7 +26,7 @@ pub fn write_text<K: Sink>(text: &[u8], sink: &mut K) -> u8
 
 /// Writes that no polynomial is accepted for a row. The status is that of a lost row, also where the sink fails.
 pub fn tell_no_row<K: Sink>(sink: &mut K) -> u8
-    ensures tells { Tells 4 no_row_line result
+    ensures tells { TellsLine 4 no_row_line result
         (record { old = K.written sink.old; new = K.written sink.new; before = K.faults sink.old; now = K.faults sink.new }) }
     ensures count { K.faults sink.old ≤ K.faults sink.new }
 {

@@ -22,23 +22,24 @@ use Rattle.sound_states.proofs.Resting.{rest-sound}
 use Rattle.vault.specs.declared.fault.StartFault.{StartFault}
 use Rattle.vault.specs.declared.fault.StartFault.TheVariants as start_fault
 use Rattle.vault.specs.declared.vault.Vault.{Vault}
-use Rattle.vault.specs.Devices.{Devices, devices, AreHanded}
-use Rattle.vault.specs.Openings.{IsRead, IsResynced, MayBeLeft}
+use Rattle.hail_openings.specs.Opened.{AreHanded, IsJustOpened}
+use Rattle.vault.specs.Devices.{Devices, devices}
+use Rattle.hail_openings.specs.Journals.{IsRead, IsResynced, MayBeLeft}
 use Rattle.vault.specs.Seen.{provider_count}
 use Rattle.vault.specs.Stands.{Stands}
-use Rattle.vault.specs.Starts.{IsJustOpened}
 use Rattle.hail_client.specs.declared.client.Client.{Client}
 use Rattle.hail_client.specs.declared.fault.ReopenFault.{ReopenFault}
 use Rattle.hail_client.specs.declared.fault.ReopenFault.TheVariants as reopen_fault
 use Rattle.hail_client.specs.Client.{next_job_of}
 use Rattle.hail_client.specs.Outcomes.{start_refusal, reopen_outcome, UnlessBadJournal}
-use Rattle.hail_client.specs.Start.{provider_at}
-use Rattle.hail_client.specs.Stands.{StandsClosed, ClientStands, Makes, IsMadeAnew, IsStanding, OpensOver}
+use Rattle.hail_client.specs.Start.{provider_or_empty}
+use Rattle.hail_client.specs.Stands.{StandsClosed, ClientStands, IsMadeAnew, IsStanding, OpensOver}
 use Rattle.hail_client.proofs.Settled.{settled, settles}
 use Rattle.hail_client.proofs.Held.{zeros, zeros-held}
 use Rattle.hail_client.proofs.Fresh.{each-at}
 use Rattle.hail_client.proofs.Reopened.{without_vault, stands-opened, count-is, has-setup, opened}
-use Rattle.hail_client.proofs.Reopening.{WasOpened, err-is}
+use Rattle.hail_client.proofs.Reopening.{WasOpened}
+use Rattle.vault.proofs.InitEvents.{err-is}
 
 -- by whether a disk tells
 pub by-told : {A X : Type 0} (told : Option A) → (IsSome told → X) → (is_some told ≡ false → X) → X
@@ -64,7 +65,7 @@ closed-over rs next faults ps = record {
   next_job = next;
   append = None;
   doubt = None;
-  providers = provider_at ps;
+  providers = provider_or_empty ps;
   handed = length ps;
   disk_faults = faults;
   is_open = false;
@@ -155,28 +156,30 @@ module _ (told : Option Cells) (rs : List Record) (is_read : IsRead told rs) (v 
     pub uses-as : provider_count v ≡ (setup_in start).n
     uses-as = count-is start rs sound (inl refl) is_read.some v holds g next refl stands
 
-    pub stands-open : provider_count v ≤ length ps → Stands v (devices holds g ps) (opened start rs (provider_at ps) (length ps) g)
+    pub stands-open : provider_count v ≤ length ps → Stands v (devices holds g ps) (opened start rs (provider_or_empty ps) (length ps) g)
     stands-open enough =
-        stands-opened start rs sound (inl refl) is_read.some v holds g next refl stands (provider_at ps) ps (record { count = refl; each = each-at ps })
+        stands-opened start rs sound (inl refl) is_read.some v holds g next refl stands (provider_or_empty ps) ps (record { count = refl; each = each-at ps })
         (let e = uses-as in omega (arith, enough, e))
 
     -- there is a state that was just opened over them
     pub just-opened : provider_count v ≤ length ps → IsJustOpened (record (closed-over rs next g ps) { is_open = true }) rs next g ps
     unfolding setup_in
     just-opened enough = record {
-      at_rest = (let r = rest next g ps in record {
-        idle = r.idle;
-        undoubted = r.undoubted;
-        accepted = r.accepted;
-        in_grammar = r.in_grammar;
-        room = r.room;
-        files = r.files;
-        set_up = λ is. is-up;
-        handed = λ is. (let e = uses-as in omega (arith, enough, e));
-      });
-      is_open = refl;
+      at_rest = record {
+        rest = (let r = rest next g ps in record {
+          idle = r.idle;
+          undoubted = r.undoubted;
+          accepted = r.accepted;
+          in_grammar = r.in_grammar;
+          room = r.room;
+          files = r.files;
+          set_up = λ is. is-up;
+          handed = λ is. (let e = uses-as in omega (arith, enough, e));
+        });
+        opened = refl;
+        next = refl;
+      };
       records = refl;
-      next_job = refl;
       faults_are = refl;
       handed = record { count = refl; each = each-at ps };
     }
@@ -192,7 +195,7 @@ module _ (told : Option Cells) (rs : List Record) (is_read : IsRead told rs) (v 
         before = start;
         stands_before = stands-over rs rest next f ps old (untold-images old start old_is);
         makes = record {
-          state = opened start rs (provider_at ps) (length ps) g;
+          state = opened start rs (provider_or_empty ps) (length ps) g;
           spelled = tt;
           happens = (start, inl refl, is-up, (let e = uses-as in omega (arith, enough, e)), (g, never, refl));
           stands = stands-open enough;

@@ -16,7 +16,7 @@ use Rattle.vault.specs.Devices.{Devices, devices, AreDevices}
 use Rattle.vault.specs.Inits.{MayInit, MakesInit}
 use Rattle.vault.specs.Outcomes.{init_outcome}
 use Rattle.hail_client.specs.declared.client.Client.{Client}
-use Rattle.hail_client.specs.Stands.{StandsBy, ClientStands, Makes}
+use Rattle.hail_client.specs.Stands.{StandsBy, ClientStands, MakesEvent}
 
 -- a vault is open or not as before, and job numbers go on
 abbrev Keeps : State → State → Type 0
@@ -56,7 +56,7 @@ module _ (w : State) (moment : ℕ) (s : Setup) (spelled : IsSpelled (Init s)) w
   open-by None next d some S = absurd (false≢true some)
 
   -- while a vault is open
-  pub init-open : (c : Client) (d : Devices) → is_some c.vault ≡ true → ClientStands c d w → Makes w moment (Init s) (Refused refusal.Already) c d
+  pub init-open : (c : Client) (d : Devices) → is_some c.vault ≡ true → ClientStands c d w → MakesEvent w moment (Init s) (Refused refusal.Already) c d
   init-open c d some S = record {
     state = w;
     spelled = spelled;
@@ -82,7 +82,7 @@ module _ (w : State) (moment : ℕ) (s : Setup) (spelled : IsSpelled (Init s)) w
 
   -- while none is open
   pub init-closed : (c : Client) (old new : Option Cells) (f g : ℕ) (ps : List Provider) (result : Result Unit InitFault) → is_some c.vault ≡ false → IsSome old →
-      (MayInit w old → AreDevices (devices old f ps) w → MakesInit w moment s result (devices new g ps)) → ClientStands c (devices old f ps) w → Makes w moment (Init s) (init_outcome result) c (devices new g ps)
+      (MayInit w old → AreDevices (devices old f ps) w → MakesInit w moment s result (devices new g ps)) → ClientStands c (devices old f ps) w → MakesEvent w moment (Init s) (init_outcome result) c (devices new g ps)
   init-closed c old new f g ps result none told makes S =
       (let M = init-by c.vault c.next_job old new f g ps result none told makes S in
       record { state = M.0.state; spelled = spelled; happens = M.0.happens; stands = M.1 })

@@ -9,7 +9,7 @@ use Rattle.hail_records.specs.Journal.{StandsFor, StandsOrIsEmpty}
 use Rattle.hail_machine.specs.States.{State, IsStart, AreFirst}
 use Rattle.hail_machine.specs.Stands.{IsFresh, StandsForState}
 use Rattle.vault.specs.Devices.{Devices, AreDevices}
-use Rattle.hail_client.specs.Start.{provider_at, start_of, TellAll}
+use Rattle.hail_client.specs.Start.{provider_or_empty, start_of, TellAll}
 use Rattle.hail_client.proofs.Settled.{firm-stands}
 
 -- cells of which none is loose
@@ -39,13 +39,13 @@ fresh-first bytes rs (inr (s, one, stands)) = inr (s, spelled (subst (λ (l : Li
 pub is-start : (d : Devices) (cells : Cells) (rs : List Record) → d.holds ≡ Some cells → IsFresh cells rs → IsStart (start_of d rs)
 is-start d cells rs told fresh = record { records = fresh-first (reads cells) rs fresh.stands; jobs = refl; first_job = refl; append = refl; doubt = refl; closed = refl; unbarred = refl }
 
-pub each-at : (ps : List Provider) (j : ℕ) → j < length ps → slice_get ps j ≡ Some (provider_at ps j)
+pub each-at : (ps : List Provider) (j : ℕ) → j < length ps → slice_get ps j ≡ Some (provider_or_empty ps j)
 each-at [] j l = absurd (omega (arith, l))
 each-at (p ∷ ps) zero l = refl
 each-at (p ∷ ps) (suc j) l = each-at ps j (omega (arith, l))
 
 -- where each provider handed in tells, so does each
-pub start-tells : (ps : List Provider) → TellAll ps → (j : ℕ) → IsSome (provider_at ps j).held
+pub start-tells : (ps : List Provider) → TellAll ps → (j : ℕ) → IsSome (provider_or_empty ps j).held
 start-tells [] tell j = refl
 start-tells (p ∷ ps) tell zero = tell zero p refl
 start-tells (p ∷ ps) tell (suc j) = start-tells ps (λ k q h. tell (suc k) q h) j

@@ -3,7 +3,6 @@ pub mod Made
 pub mod Replaced
 pub mod Settled
 pub mod Stopped
-pub mod Refused
 pub mod Reopened
 pub mod Fresh
 pub mod Begun

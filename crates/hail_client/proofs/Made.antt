@@ -21,11 +21,11 @@ use Rattle.vault.specs.Stands.{Stands, MakesBegin}
 use Rattle.vault.specs.Stands as vault
 use Rattle.hail_client.specs.declared.client.Client.{Client}
 use Rattle.hail_client.specs.Outcomes.{begin_outcome, names_outcome}
-use Rattle.hail_client.specs.Stands.{StandsBy, ClientStands, Makes, MakesStep}
+use Rattle.hail_client.specs.Stands.{StandsBy, ClientStands, MakesEvent, MakesStep}
 
 -- an open vault makes them
 pub begin-of : (c : Client) (v next : Vault) (kind : Kind) (result : Result ℕ BeginFault) → c.vault ≡ Some v → IsSpelledKind kind → ((w : State) (d : Devices) (moment : ℕ) → Stands v d w → MakesBegin w moment kind result next d) →
-    (w : State) (d : Devices) (moment : ℕ) → ClientStands c d w → Makes w moment (Begin kind) (begin_outcome (Some result)) (record { vault = Some next; next_job = c.next_job }) d
+    (w : State) (d : Devices) (moment : ℕ) → ClientStands c d w → MakesEvent w moment (Begin kind) (begin_outcome (Some result)) (record { vault = Some next; next_job = c.next_job }) d
 begin-of c v next kind result is spelled makes w d moment S =
     (let M = makes w d moment (subst (λ (o : Option Vault). StandsBy o c.next_job d w) is S) in
     record { state = M.state; spelled = spelled; happens = M.begins; stands = M.stands })
@@ -63,5 +63,5 @@ names-by : (o : Option Vault) (next : ℕ) (w : State) (d : Devices) → StandsB
 names-by (Some v) next w d S = subst (λ b. Lists w b (events.Listed (table_of v).files) w) (sym S.core.is_open) (S.core.table.files, refl)
 names-by None next w d S = subst (λ b. Lists w b Closed w) (sym S.closed) refl
 
-pub names : (w : State) (moment : ℕ) (c : Client) (d : Devices) (tables : Option Kept) → tables ≡ option_map table_of c.vault → ClientStands c d w → Makes w moment Names (names_outcome tables) c d
+pub names : (w : State) (moment : ℕ) (c : Client) (d : Devices) (tables : Option Kept) → tables ≡ option_map table_of c.vault → ClientStands c d w → MakesEvent w moment Names (names_outcome tables) c d
 names w moment c d tables is S = record { state = w; spelled = tt; happens = subst (λ (t : Option Kept). Lists w w.is_open (names_outcome t) w) (sym is) (names-by c.vault c.next_job w d S); stands = S }

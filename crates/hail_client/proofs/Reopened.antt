@@ -24,19 +24,22 @@ use Rattle.sound_states.proofs.Records.{none-set_up}
 use Rattle.vault.specs.declared.fault.StartFault.{StartFault}
 use Rattle.vault.specs.declared.fault.StartFault.TheVariants as start_fault
 use Rattle.vault.specs.declared.vault.Vault.{Vault}
-use Rattle.vault.specs.Devices.{devices, AreDevices, AreHanded}
-use Rattle.vault.specs.Openings.{journal_read, IsStartFault, LiesInJournal, IsRead, IsResynced}
+use Rattle.hail_openings.specs.Opened.{AreHanded, IsJustOpened}
+use Rattle.vault.specs.Devices.{devices, AreDevices}
+use Rattle.hail_openings.specs.Journals.{journal_read, IsRead, IsResynced}
+use Rattle.vault.specs.Causes.{IsStartFault, LiesInJournal}
 use Rattle.vault.specs.Seen.{provider_count}
 use Rattle.vault.specs.Stands.{Stands}
-use Rattle.vault.specs.Starts.{IsJustOpened}
-use Rattle.vault.proofs.Emptied.{reads-image, image-firm}
+use Rattle.vault.proofs.Emptied.{image-firm}
 use Rattle.vault.proofs.Ways.{images_on}
 use Rattle.hail_client.specs.declared.client.Client.{Client}
 use Rattle.hail_client.specs.Outcomes.{start_refusal}
 use Rattle.hail_client.specs.Start.{anyone}
-use Rattle.hail_client.specs.Stands.{StandsClosed, Makes}
-use Rattle.hail_client.proofs.Settled.{AreKept, settled, settles, settled-sound, read-kept, kept-accepted, kept-fits, firm-stands, stands-take, short-read, whole-read}
-use Rattle.hail_client.proofs.Refused.{bad-none}
+use Rattle.hail_client.specs.Stands.{StandsClosed, MakesEvent}
+use Rattle.hail_client.proofs.Settled.{AreKept, settled, settles, settled-sound, read-kept, kept-accepted, kept-fits, firm-stands, short-read, whole-read}
+use Rattle.hail_openings.proofs.Readings.{bad-none}
+use Rattle.hail_devices.proofs.PickLaws.{IsImage-reads}
+use Rattle.vault.proofs.Texts.{stands-take}
 
 each-anyone : (n j : ℕ) → j < n → slice_get (replicate n anyone) j ≡ Some anyone
 each-anyone zero j l = absurd (omega (arith, l))
@@ -77,7 +80,7 @@ module _ (w : State) (rs : List Record) (sound : IsSound 8 w) (kept : AreKept w 
   module _ (v : Vault) (holds : Option Cells) (faults first : ℕ) (is_first : w.next_job ≡ first)
       (stands : (u : State) (ps : List Provider) → IsJustOpened u rs first faults ps → Stands v (devices holds faults ps) u) where
     just : (u : State) (ps : List Provider) → IsAtRest u → u.is_open ≡ true → u.records ≡ rs → u.next_job ≡ first → u.disk_faults ≡ faults → AreHanded ps u → Stands v (devices holds faults ps) u
-    just u ps rest opens records next faults_are handed = stands u ps (record { at_rest = rest; is_open = opens; records = records; next_job = next; faults_are = faults_are; handed = handed })
+    just u ps rest opens records next faults_are handed = stands u ps (record { at_rest = record { rest = rest; opened = opens; next = next }; records = records; faults_are = faults_are; handed = handed })
 
     pub stands-opened : (providers : ℕ → Provider) (ps : List Provider) → AreHanded ps (record (settled w rs) { providers = providers; handed = length ps }) → (setup_in (settled w rs)).n ≤ length ps →
         Stands v (devices holds faults ps) (opened w rs providers (length ps) faults)
@@ -106,7 +109,7 @@ module _ (w : State) (moment next : ℕ) (old : Cells) (f0 f1 : ℕ) (ps : List 
   le = (let e = are.faults in omega (arith, e, never))
 
   read : StandsOrIsEmpty (reads old) w.records ⊎ StandsWithDoubt w (reads old)
-  read = are.images (reads old) (reads-image old)
+  read = are.images (reads old) (IsImage-reads old)
 
   -- a state in which no vault is open, and job numbers go on
   closed-at : (new : Option Cells) (u : State) → Reopens w events.Opened u ⊎ ((why : refusal.Refusal) × Reopens w (events.Refused why) u) → StandsForState new u → u.disk_faults ≡ f1 → u.handed ≡ w.handed → ((j : ℕ) → u.providers j ≡ w.providers j) →
@@ -123,7 +126,7 @@ module _ (w : State) (moment next : ℕ) (old : Cells) (f0 f1 : ℕ) (ps : List 
       by (inr (why, h)) = events-sound 8 moment w sound Reopen (events.Refused why) u tt h
 
   refused-at : (new : Option Cells) (why : refusal.Refusal) (u : State) → Reopens w (events.Refused why) u → StandsForState new u → u.disk_faults ≡ f1 → u.handed ≡ w.handed → ((j : ℕ) → u.providers j ≡ w.providers j) →
-      u.is_open ≡ false → u.next_job ≡ w.next_job → Makes w moment Reopen (events.Refused why) (without_vault next) (devices new f1 ps)
+      u.is_open ≡ false → u.next_job ≡ w.next_job → MakesEvent w moment Reopen (events.Refused why) (without_vault next) (devices new f1 ps)
   refused-at new why u happens images faults handed providers closed same =
       record { state = u; spelled = tt; happens = happens; stands = closed-at new u (inr (why, happens)) images faults handed providers closed same }
 
@@ -160,7 +163,7 @@ module _ (w : State) (moment next : ℕ) (old : Cells) (f0 f1 : ℕ) (ps : List 
   free-read (inr none) = inl (whole-read old [] none)
 
   pub fault-event : (new : Option Cells) (why : StartFault) → Goes IsResynced (Some old) new → IsStartFault (journal_read old) why → (LiesInJournal why → new ≡ option_map synced (Some old)) → (why ≡ start_fault.DiskFault → Rose f0 f1) →
-      Makes w moment Reopen (events.Refused (start_refusal why)) (without_vault next) (devices new f1 ps)
+      MakesEvent w moment Reopen (events.Refused (start_refusal why)) (without_vault next) (devices new f1 ps)
   fault-event new start_fault.DiskFault goes is lies rose =
       refused-at new refusal.DiskFault left (f1, le, subst (λ (k : ℕ). Rose k f1) (sym are.faults) (rose refl), refl) (resynced-images new goes) refl refl (λ j. refl) refl refl
   fault-event new start_fault.Memory goes is lies rose = refused-at new refusal.Memory left (f1, le, refl) (resynced-images new goes) refl refl (λ j. refl) refl refl
@@ -182,14 +185,14 @@ module _ (w : State) (moment next : ℕ) (old : Cells) (f0 f1 : ℕ) (ps : List 
     uses-as : provider_count v ≡ (setup_in (settled w rs)).n
     uses-as = count-is w rs sound kept is_read.some v new f1 next is_next stands
 
-    pub few-event : length ps < provider_count v → Makes w moment Reopen (events.Refused refusal.TooFewProviders) (without_vault next) (devices new f1 ps)
+    pub few-event : length ps < provider_count v → MakesEvent w moment Reopen (events.Refused refusal.TooFewProviders) (without_vault next) (devices new f1 ps)
     few-event few =
         (let count = are.providers.count in
         let fewer : w.handed < (setup_in (settled w rs)).n = (let e = uses-as in omega (arith, count, few, e)) in
         refused-at new refusal.TooFewProviders (record (settled w rs) { disk_faults = f1 }) (settled w rs, settles w rs kept, up w rs sound kept is_read.some, fewer, (f1, le, refl))
         (synced-images new (record (settled w rs) { disk_faults = f1 }) is_synced whole) refl refl (λ j. refl) refl refl)
 
-    pub opened-event : provider_count v ≤ length ps → Makes w moment Reopen events.Opened (record { vault = Some v; next_job = next }) (devices new f1 ps)
+    pub opened-event : provider_count v ≤ length ps → MakesEvent w moment Reopen events.Opened (record { vault = Some v; next_job = next }) (devices new f1 ps)
     opened-event enough =
         (let count = are.providers.count in
         let many : (setup_in (settled w rs)).n ≤ length ps = (let e = uses-as in omega (arith, enough, e)) in

@@ -1,5 +1,5 @@
 -- A reopening by a client, as an event of the machine.
-use Rattle.std.proofs.Common.{◌≡◌, ℕ, ◌<◌, ◌≤◌, List, length, Option, Some, None, Result, Ok, Err, ap, sym, subst}
+use Rattle.std.proofs.Common.{◌≡◌, ℕ, ◌<◌, ◌≤◌, List, length, Option, Some, None, Result, sym, subst}
 use Rattle.std.specs.Prelude.{IfSome, IsSome, IsErrAnd}
 use Rattle.std.specs.Option.{option_map}
 use Rattle.std.proofs.lemmas.Bool.{false≢true}
@@ -16,23 +16,21 @@ use Rattle.vault.specs.declared.fault.StartFault.{StartFault}
 use Rattle.vault.specs.declared.fault.StartFault.TheVariants as start_fault
 use Rattle.vault.specs.declared.vault.Vault.{Vault}
 use Rattle.vault.specs.Devices.{devices}
-use Rattle.vault.specs.Openings.{journal_read, IsStartFault, LiesInJournal, IsRead, IsResynced}
+use Rattle.hail_openings.specs.Journals.{journal_read, IsRead, IsResynced}
+use Rattle.vault.specs.Causes.{IsStartFault, LiesInJournal}
 use Rattle.vault.specs.Seen.{provider_count}
 use Rattle.vault.specs.Stands.{Stands}
-use Rattle.vault.specs.Starts.{IsJustOpened}
+use Rattle.hail_openings.specs.Opened.{IsJustOpened}
 use Rattle.hail_client.specs.declared.client.Client.{Client}
 use Rattle.hail_client.specs.declared.fault.ReopenFault.{ReopenFault}
 use Rattle.hail_client.specs.declared.fault.ReopenFault.TheVariants as reopen_fault
 use Rattle.hail_client.specs.Client.{next_job_of}
 use Rattle.hail_client.specs.Outcomes.{reopen_outcome}
-use Rattle.hail_client.specs.Stands.{ClientStands, Makes}
+use Rattle.hail_client.specs.Stands.{ClientStands, MakesEvent}
 use Rattle.hail_client.proofs.Standing.{devices-of, sound-of, next-of}
 use Rattle.hail_client.proofs.Reopened as reopened
 use Rattle.hail_client.proofs.Reopened.{without_vault}
-
-pub err-is : {T E : Type 0} (r : Result T E) (x : E) → IsErrAnd r (λ e. e ≡ x) → r ≡ Err x
-err-is (Ok t) x is = absurd is
-err-is (Err e) x is = ap (λ y. Err y) is
+use Rattle.vault.proofs.InitEvents.{err-is}
 
 -- records that a start read, and the vault that was opened over them
 abbrev pub WasOpened : Vault → Option Cells → Option Cells → ℕ → ℕ → Type 0
@@ -42,28 +40,28 @@ WasOpened v old new faults first =
 module _ (w : State) (moment : ℕ) (c left : Client) where
   pub refused-event : (old new : Option Cells) (f g : ℕ) (ps : List Provider) (why : StartFault) (result : Result Unit ReopenFault) → IsSome old → left ≡ without_vault (next_job_of c) →
       IsErrAnd result (λ e. e ≡ reopen_fault.NotOpened why) → Goes IsResynced old new → IfSome old (λ cells. IsStartFault (journal_read cells) why) → (LiesInJournal why → new ≡ option_map synced old) →
-      f ≤ g → (why ≡ start_fault.DiskFault → Rose f g) → ClientStands c (devices old f ps) w → Makes w moment Reopen (reopen_outcome result) left (devices new g ps)
+      f ≤ g → (why ≡ start_fault.DiskFault → Rose f g) → ClientStands c (devices old f ps) w → MakesEvent w moment Reopen (reopen_outcome result) left (devices new g ps)
   refused-event None new f g ps why result told left_is is goes cause lies never rose S = absurd (false≢true told)
   refused-event (Some old) new f g ps why result told left_is is goes cause lies never rose S =
-      subst (λ (x : Client). Makes w moment Reopen (reopen_outcome result) x (devices new g ps)) (sym left_is)
-      (subst (λ (r : Result Unit ReopenFault). Makes w moment Reopen (reopen_outcome r) (without_vault (next_job_of c)) (devices new g ps)) (sym (err-is result (reopen_fault.NotOpened why) is))
+      subst (λ (x : Client). MakesEvent w moment Reopen (reopen_outcome result) x (devices new g ps)) (sym left_is)
+      (subst (λ (r : Result Unit ReopenFault). MakesEvent w moment Reopen (reopen_outcome r) (without_vault (next_job_of c)) (devices new g ps)) (sym (err-is result (reopen_fault.NotOpened why) is))
       (reopened.fault-event w moment (next_job_of c) old f g ps (sound-of c.vault c.next_job (devices (Some old) f ps) w S) (devices-of c.vault c.next_job (devices (Some old) f ps) w S)
       (next-of c.vault c.next_job (devices (Some old) f ps) w S) never new why goes cause lies rose))
 
   pub few-event : (old new : Option Cells) (f g : ℕ) (ps : List Provider) (v : Vault) → IsSome old → left ≡ without_vault (next_job_of c) → WasOpened v old new g left.next_job → new ≡ option_map synced old →
-      f ≤ g → length ps < provider_count v → ClientStands c (devices old f ps) w → Makes w moment Reopen (Refused TooFewProviders) left (devices new g ps)
+      f ≤ g → length ps < provider_count v → ClientStands c (devices old f ps) w → MakesEvent w moment Reopen (Refused TooFewProviders) left (devices new g ps)
   few-event None new f g ps v told left_is opened is never few S = absurd (false≢true told)
   few-event (Some old) new f g ps v told left_is opened is never few S =
       (let all : WasOpened v (Some old) new g (next_job_of c) = subst (λ (x : Client). WasOpened v (Some old) new g x.next_job) left_is opened in
-      subst (λ (x : Client). Makes w moment Reopen (Refused TooFewProviders) x (devices new g ps)) (sym left_is)
+      subst (λ (x : Client). MakesEvent w moment Reopen (Refused TooFewProviders) x (devices new g ps)) (sym left_is)
       (reopened.few-event w moment (next_job_of c) old f g ps (sound-of c.vault c.next_job (devices (Some old) f ps) w S) (devices-of c.vault c.next_job (devices (Some old) f ps) w S)
       (next-of c.vault c.next_job (devices (Some old) f ps) w S) never new all.0 all.1 is v all.2 few))
 
   pub opened-event : (old new : Option Cells) (f g : ℕ) (ps : List Provider) (v : Vault) → IsSome old → left ≡ without_vault (next_job_of c) → WasOpened v old new g left.next_job → new ≡ option_map synced old →
-      f ≤ g → provider_count v ≤ length ps → ClientStands c (devices old f ps) w → Makes w moment Reopen Opened (record { vault = Some v; next_job = left.next_job }) (devices new g ps)
+      f ≤ g → provider_count v ≤ length ps → ClientStands c (devices old f ps) w → MakesEvent w moment Reopen Opened (record { vault = Some v; next_job = left.next_job }) (devices new g ps)
   opened-event None new f g ps v told left_is opened is never enough S = absurd (false≢true told)
   opened-event (Some old) new f g ps v told left_is opened is never enough S =
       (let all : WasOpened v (Some old) new g (next_job_of c) = subst (λ (x : Client). WasOpened v (Some old) new g x.next_job) left_is opened in
-      subst (λ (x : Client). Makes w moment Reopen Opened (record { vault = Some v; next_job = x.next_job }) (devices new g ps)) (sym left_is)
+      subst (λ (x : Client). MakesEvent w moment Reopen Opened (record { vault = Some v; next_job = x.next_job }) (devices new g ps)) (sym left_is)
       (reopened.opened-event w moment (next_job_of c) old f g ps (sound-of c.vault c.next_job (devices (Some old) f ps) w S) (devices-of c.vault c.next_job (devices (Some old) f ps) w S)
       (next-of c.vault c.next_job (devices (Some old) f ps) w S) never new all.0 all.1 is v all.2 enough))

@@ -12,12 +12,13 @@ use Rattle.hail_machine.specs.Machine.{Happens}
 use Rattle.sound_states.specs.Sound.{IsSound}
 use Rattle.sound_states.proofs.Events.{devices-sound}
 use Rattle.vault.specs.declared.vault.Vault.{Vault}
-use Rattle.vault.specs.Devices.{devices, AreHanded}
+use Rattle.hail_openings.specs.Opened.{AreHanded}
+use Rattle.vault.specs.Devices.{devices}
 use Rattle.vault.specs.Stands.{Stands}
 use Rattle.vault.proofs.Ways.{images_on, handed_on, setup_same}
 use Rattle.hail_client.specs.declared.client.Client.{Client}
 use Rattle.hail_client.specs.Outcomes.{replace_outcome}
-use Rattle.hail_client.specs.Stands.{StandsBy, ClientStands, Makes}
+use Rattle.hail_client.specs.Stands.{StandsBy, ClientStands, MakesEvent}
 use Rattle.hail_client.proofs.Standing.{devices-of, sound-of}
 
 lt-is : (a b : ℕ) → a < b → nat_lt a b ≡ true
@@ -80,7 +81,7 @@ module _ (holds : Option Cells) (faults : ℕ) (ps qs : List Provider) (w : Stat
 -- a provider that is not handed in is not replaced
 pub not-handed : (event : Event) (w : State) (moment j : ℕ) (IsThere : Held → Type 0) (change : Held → Held) (c : Client) (holds : Option Cells) (faults : ℕ) (ps : List Provider) → IsSpelled event →
     ((outcome : Outcome) (new : State) → ReplacesIf (nat_lt j w.handed) w j IsThere change outcome new → Happens 8 moment w event outcome new) → length ps ≤ j →
-    ClientStands c (devices holds faults ps) w → Makes w moment event NothingHeld c (devices holds faults ps)
+    ClientStands c (devices holds faults ps) w → MakesEvent w moment event NothingHeld c (devices holds faults ps)
 not-handed event w moment j IsThere change c holds faults ps spelled is beyond S =
     let count = (devices-of c.vault c.next_job (devices holds faults ps) w S).providers.count in
     let out : nat_lt j w.handed ≡ false = lt-not j w.handed (omega (arith, count, beyond)) in
@@ -90,7 +91,7 @@ not-handed event w moment j IsThere change c holds faults ps spelled is beyond S
 pub handed : (event : Event) (w : State) (moment j : ℕ) (IsThere : Held → Type 0) (change : Held → Held) (c : Client) (holds : Option Cells) (faults : ℕ) (ps qs : List Provider) (p q : Provider) (answer : Bool) → IsSpelled event →
     ((outcome : Outcome) (new : State) → ReplacesIf (nat_lt j w.handed) w j IsThere change outcome new → Happens 8 moment w event outcome new) → j < length ps →
     slice_get ps j ≡ Some p → qs ≡ slice_set ps j q → Replaces IsThere change answer p q →
-    ClientStands c (devices holds faults ps) w → Makes w moment event (replace_outcome answer) c (devices holds faults qs)
+    ClientStands c (devices holds faults ps) w → MakesEvent w moment event (replace_outcome answer) c (devices holds faults qs)
 handed event w moment j IsThere change c holds faults ps qs p q answer spelled is within p_is qs_are made S =
     let are = (devices-of c.vault c.next_job (devices holds faults ps) w S).providers in
     let inside : nat_lt j w.handed ≡ true = lt-is j w.handed (let count = are.count in omega (arith, count, within)) in

@@ -14,7 +14,7 @@ use Rattle.vault.specs.Devices.{Devices}
 use Rattle.vault.specs.Outcomes.{IfEnded}
 use Rattle.hail_client.specs.declared.client.Client.{Client}
 use Rattle.hail_client.specs.Outcomes.{step_outcome, is_more}
-use Rattle.hail_client.specs.Stands.{Makes, IsReached, RunsJobOn}
+use Rattle.hail_client.specs.Stands.{MakesEvent, IsReached, RunsJobOn}
 
 -- a job goes on at one answer alone
 pub more : (t : Option Turn) → is_more t ≡ true → t ≡ Some turn.More
@@ -42,15 +42,15 @@ module _ (start : State) (ms : List Moment) (job : ℕ) where
     abbrev here : State
     here = now start (way.steps ++ ms)
 
-    one-step : Makes here (length (way.steps ++ ms)) (Step job) More next new → IsOnWay start ms job next new
+    one-step : MakesEvent here (length (way.steps ++ ms)) (Step job) More next new → IsOnWay start ms job next new
     one-step M = record {
       steps = record { event = Step job; outcome = More; state = M.state } ∷ way.steps;
       going = (refl, refl, way.going);
       reached = record { run = (M.spelled, M.happens, way.reached.run); stands = M.stands };
     }
 
-    pub one-more : (t : Option Turn) → is_more t ≡ true → Makes here (length (way.steps ++ ms)) (Step job) (step_outcome t) next new → IsOnWay start ms job next new
-    one-more t goes M = one-step (subst (λ (x : Option Turn). Makes here (length (way.steps ++ ms)) (Step job) (step_outcome x) next new) (more t goes) M)
+    pub one-more : (t : Option Turn) → is_more t ≡ true → MakesEvent here (length (way.steps ++ ms)) (Step job) (step_outcome t) next new → IsOnWay start ms job next new
+    one-more t goes M = one-step (subst (λ (x : Option Turn). MakesEvent here (length (way.steps ++ ms)) (Step job) (step_outcome x) next new) (more t goes) M)
 
     -- only one turn is told as going on
     goes-on : (t : Option Turn) → step_outcome t ≡ More → t ≡ Some turn.More
@@ -61,7 +61,7 @@ module _ (start : State) (ms : List Moment) (job : ℕ) where
     goes-on (Some turn.MustReopen) e = absurd cc
     goes-on None e = absurd cc
 
-    pub at-end : (t : Option Turn) → t ≢ Some turn.More → Makes here (length (way.steps ++ ms)) (Step job) (step_outcome t) next new →
+    pub at-end : (t : Option Turn) → t ≢ Some turn.More → MakesEvent here (length (way.steps ++ ms)) (Step job) (step_outcome t) next new →
         IfSome t (λ t. IfEnded t (λ ended. ended.heard ≡ heard_by (job_of here.jobs job))) → RunsJobOn start ms job t next new
     at-end t over M heard = record {
       steps = way.steps;

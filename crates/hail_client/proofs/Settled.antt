@@ -1,49 +1,20 @@
 -- What a disk that tells reads, of the records in effect and the one in doubt.
-use Rattle.std.proofs.Common.{◌≡◌, ◌⊎◌, inl, inr, ℕ, suc, ◌+◌, ◌-◌, ◌≤◌, List, [], ◌∷◌, ◌++◌, length, take, Some, None, refl, ap, sym, subst, ◌∙◌, arith, length-append, length-take}
-use Rattle.std.specs.Prelude.{IsTrue}
-use Rattle.std.specs.List.{list_all}
-use Rattle.std.proofs.Math.Seq.{take-append-add}
+use Rattle.std.proofs.Common.{◌≡◌, ◌⊎◌, inl, inr, ℕ, ◌+◌, ◌-◌, ◌≤◌, List, [], ◌∷◌, ◌++◌, length, Some, None, refl, ap, sym, subst, ◌∙◌, arith, length-take}
 use Rattle.hail_devices.specs.Cells.{Cells, reads, firm}
-use Rattle.hail_records.specs.Records.{Record, is_in_grammar, largest_journal}
-use Rattle.hail_records.specs.Journal.{before_gate, text_size, StandsFor, StandsOrIsEmpty}
+use Rattle.hail_records.specs.Records.{Record, largest_journal}
+use Rattle.hail_records.specs.Journal.{text_size, StandsFor, StandsOrIsEmpty}
 use Rattle.hail_records.specs.Acceptance.{AreAccepted}
-use Rattle.hail_records.proofs.Sizes.{length-text}
 use Rattle.hail_machine.specs.Events.{Stop, Stopped}
 use Rattle.hail_machine.specs.States.{State, Doubt, given_up, Settles}
 use Rattle.hail_machine.specs.Stands.{StandsForState, StandsWithDoubt}
 use Rattle.journal_core.proofs.Meanings.{one_meaning}
 use Rattle.sound_states.specs.Sound.{IsSound}
 use Rattle.sound_states.proofs.Events.{events-sound}
-use Rattle.vault.specs.Openings.{journal_read}
-use Rattle.vault.proofs.Opened.{stands-front, least_size}
+use Rattle.hail_openings.specs.Journals.{journal_read}
 use Rattle.vault.proofs.Emptied.{image-firm}
+use Rattle.vault.proofs.Texts.{stands-front, short-none}
 
 -- ---- what bytes stand for
-
-size-before : (rs : List Record) → IsTrue (list_all is_in_grammar rs) → length (before_gate rs) + 1 ≡ text_size rs
-size-before rs all = omega (arith, length-text rs all, length-append (before_gate rs) (0 ∷ []))
-
--- a text that fits stands at the front
-pub stands-take : (n : ℕ) (bytes : List ℕ) (rs : List Record) → StandsFor bytes rs → text_size rs ≤ n → StandsFor (take n bytes) rs
-stands-take n bytes rs is fits =
-    let front = before_gate rs in
-    let size : length front + 1 ≡ text_size rs = size-before rs is.in_grammar in
-    let m : ℕ = n - (length front + 1) in
-    let n_is : n ≡ length front + suc m = omega (arith, size, fits) in
-    record {
-      in_grammar = is.in_grammar;
-      gate = is.gate;
-      rest = take m is.rest;
-      closed = is.closed;
-      bytes_are = ap (take n) is.bytes_are ∙ ap (λ (k : ℕ). take k (front ++ is.gate ∷ is.rest)) n_is ∙ take-append-add front (is.gate ∷ is.rest) (suc m);
-    }
-
--- at most nine bytes stand for no record
-short-none : (bytes : List ℕ) (rs : List Record) → StandsFor bytes rs → length bytes ≤ 9 → rs ≡ []
-short-none bytes [] is short = refl
-short-none bytes (r ∷ rs) is short =
-    let front = before_gate (r ∷ rs) in
-    absurd (omega (arith, ap length is.bytes_are, length-append front (is.gate ∷ is.rest), size-before (r ∷ rs) is.in_grammar, least_size rs, short))
 
 -- bytes stand for one list of records
 one-reading : (bytes : List ℕ) (a b : List Record) → StandsOrIsEmpty bytes a → StandsOrIsEmpty bytes b → a ≡ b

@@ -13,7 +13,7 @@ use Rattle.sound_states.specs.Sound.{IsSound}
 use Rattle.vault.specs.Devices.{devices, AreDevices}
 use Rattle.hail_client.specs.declared.client.Client.{Client}
 use Rattle.hail_client.specs.Client.{next_job_of}
-use Rattle.hail_client.specs.Stands.{StandsClosed, ClientStands, Makes}
+use Rattle.hail_client.specs.Stands.{StandsClosed, ClientStands, MakesEvent}
 use Rattle.hail_client.proofs.Standing.{devices-of, sound-of, next-of}
 use Rattle.hail_client.proofs.Settled.{AreKept, settled, settles, settled-sound, image-kept, firm-stands}
 
@@ -32,7 +32,7 @@ stopped-kept w (Some old) (Some new) (image, is, new_is) stands =
     (k.0, k.1, subst (λ (c : Cells). StandsForState (Some c) (settled w k.0)) (sym new_is) (firm-stands image (settled w k.0) k.2)))
 
 pub stops : (w : State) (moment : ℕ) (picks : List ℕ) (c next : Client) (old new : Option Cells) (f g : ℕ) (ps : List Provider) → AreBytes picks → next ≡ record { vault = None; next_job = next_job_of c } →
-    Goes Stopped old new → g ≡ f → ClientStands c (devices old f ps) w → Makes w moment (Stop picks) events.Stopped next (devices new g ps)
+    Goes Stopped old new → g ≡ f → ClientStands c (devices old f ps) w → MakesEvent w moment (Stop picks) events.Stopped next (devices new g ps)
 stops w moment picks c next old new f g ps spelled next_is goes same S =
     let are = devices-of c.vault c.next_job (devices old f ps) w S in
     let k = stopped-kept w old new goes are.images in

@@ -15,7 +15,7 @@ use Rattle.hail_machine.specs.Examples.{empty_provider, one_file, hundred, opene
 use Rattle.hail_machine.specs.States.{State}
 use Rattle.vault.specs.Devices.{Devices, devices}
 use Rattle.hail_client.specs.declared.client.Client.{Client}
-use Rattle.hail_client.specs.Start.{provider_at}
+use Rattle.hail_client.specs.Start.{provider_or_empty}
 
 -- no vault is open, and the next job is the first
 abbrev pub closed_client : Client
@@ -43,4 +43,4 @@ notes = record { name = codes "notes.txt"; id = 1; size = 100 }
 
 -- the state at rest over that journal
 abbrev pub stored_state : State
-stored_state = record (opened one_file hundred) { providers = provider_at stored.providers; handed = 6; is_open = false }
+stored_state = record (opened one_file hundred) { providers = provider_or_empty stored.providers; handed = 6; is_open = false }

@@ -2,7 +2,7 @@
 --
 --   ClientStands c d w   == client and devices stand for a state: a vault is open in both, and stands for it, or none is open; the state
 --                           is sound
---   Makes w moment event outcome c d == from a state, after so many events, an event has this outcome, and client and devices stand for
+--   MakesEvent w moment event outcome c d == from a state, after so many events, an event has this outcome, and client and devices stand for
 --                           the state after it
 --   MakesStep w moment job answer c old new == a step is an event of the machine, and past the text of the records the disk reads as before
 --   moment_of m          == this event as a moment of a run
@@ -11,7 +11,7 @@
 --                           event has this outcome: a run begins there
 --   OpensOver read next handed c holds faults == a vault is open over some records that the disk, where it tells, reads: client and
 --                           devices stand for each state that was just opened over them, and there is one
---   HasFile name file image == an image stands for records that have this file under a name
+--   ImageHasFile name file image == an image stands for records that have this file under a name
 --   IsReached start ms c d == the moments are a run from a state, and client and devices stand for the last state of it
 --   RunsJobOn start ms job turn c d == behind these moments a job was stepped until this turn, at which it did not go on
 use Rattle.std.specs.Prelude.{◌≡◌, ◌≢◌, ℕ, false, List, ◌∷◌, ◌++◌, length, Option, Some, None, IfSome}
@@ -32,8 +32,8 @@ use Rattle.sound_states.specs.Sound.{IsSound}
 use Rattle.vault.specs.declared.turn.Turn.{Turn}
 use Rattle.vault.specs.declared.vault.Vault.{Vault}
 use Rattle.vault.specs.Devices.{Devices, devices, AreDevices, IsSameBeyond}
-use Rattle.vault.specs.Openings.{IsRead}
-use Rattle.vault.specs.Starts.{IsJustOpened}
+use Rattle.hail_openings.specs.Journals.{IsRead}
+use Rattle.hail_openings.specs.Opened.{IsJustOpened}
 use Rattle.vault.specs.Outcomes.{IfEnded}
 use Rattle.vault.specs.Stands.{Stands, IsSamePast}
 use Rattle.hail_client.specs.declared.client.Client.{Client}
@@ -61,7 +61,7 @@ pub record IsStanding (c : Client) (d : Devices) : Type 0 where
   pub stands : ClientStands c d state
 
 -- an event is one of the machine, and client and devices stand for the state after it
-pub record Makes (w : State) (moment : ℕ) (event : Event) (outcome : Outcome) (c : Client) (d : Devices) : Type 0 where
+pub record MakesEvent (w : State) (moment : ℕ) (event : Event) (outcome : Outcome) (c : Client) (d : Devices) : Type 0 where
   pub state : State
   pub spelled : IsSpelled event
   pub happens : Happens 8 moment w event outcome state
@@ -70,7 +70,7 @@ pub record Makes (w : State) (moment : ℕ) (event : Event) (outcome : Outcome) 
 -- a step is an event of the machine; past the text with the record in flight the disk reads as before, and where a call of it failed, past
 -- the text with the record that was being appended
 pub record MakesStep (w : State) (moment job : ℕ) (answer : Option Turn) (c : Client) (old new : Devices) : Type 0 where
-  pub makes : Makes w moment (Step job) (step_outcome answer) c new
+  pub makes : MakesEvent w moment (Step job) (step_outcome answer) c new
   pub beyond : step_outcome answer ≢ Ended answers.DiskFault → IsSameBeyond makes.state old new
   pub torn : step_outcome answer ≡ Ended answers.DiskFault → IsSamePast w job old new
 
@@ -78,7 +78,7 @@ pub record MakesStep (w : State) (moment job : ℕ) (answer : Option Turn) (c : 
 pub record IsMadeAnew (moment next : ℕ) (event : Event) (outcome : Outcome) (c : Client) (old new : Devices) : Type 0 where
   pub before : State
   pub stands_before : StandsClosed next old before
-  pub makes : Makes before moment event outcome c new
+  pub makes : MakesEvent before moment event outcome c new
 
 -- client and devices stand for each state that was just opened over some records that were read, and there is one
 pub record OpensOver (read : Option Cells) (next handed : ℕ) (c : Client) (holds : Option Cells) (faults : ℕ) : Type 0 where
@@ -89,13 +89,13 @@ pub record OpensOver (read : Option Cells) (next handed : ℕ) (c : Client) (hol
   pub one : (providers : List Provider) → length providers ≡ handed → (w : State) × IsJustOpened w records next faults providers
 
 -- an image stands for records that have this file under a name
-pub record HasFile (name : List ℕ) (file : File) (image : List ℕ) : Type 0 where
+pub record ImageHasFile (name : List ℕ) (file : File) (image : List ℕ) : Type 0 where
   pub records : List Record
   pub stands : StandsFor image records
   pub has : file_of records name ≡ Some file
 
 -- an event as a moment of a run
-abbrev pub moment_of : {w : State} {moment : ℕ} {event : Event} {outcome : Outcome} {c : Client} {d : Devices} → Makes w moment event outcome c d → Moment
+abbrev pub moment_of : {w : State} {moment : ℕ} {event : Event} {outcome : Outcome} {c : Client} {d : Devices} → MakesEvent w moment event outcome c d → Moment
 moment_of {w} {moment} {event} {outcome} {c} {d} m = record { event = event; outcome = outcome; state = m.state }
 
 -- client and devices stand for the last state of a run

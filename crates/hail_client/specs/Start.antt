@@ -1,6 +1,6 @@
 -- The state at the start of a run over devices.
 --
---   provider_at ps j  == what is seen of the provider of a number; one that tells that it holds nothing where none is handed in
+--   provider_or_empty ps j  == what is seen of the provider of a number; one that tells that it holds nothing where none is handed in
 --   start_of d rs     == the state before the first event over these devices, where the disk stands for these records
 --   TellAll ps        == each provider handed in tells what it holds
 use Rattle.std.specs.Prelude.{◌≡◌, ℕ, zero, suc, false, List, [], ◌∷◌, length, slice_get, None, Some, IsSome}
@@ -14,10 +14,10 @@ abbrev pub anyone : Provider
 anyone = record { held = Some (λ object stripe. None); store_faults = 0; other_faults = 0; fetches = 0 }
 
 -- the provider of a number
-abbrev pub provider_at : List Provider → ℕ → Provider
-provider_at [] j = anyone
-provider_at (p ∷ ps) zero = p
-provider_at (p ∷ ps) (suc j) = provider_at ps j
+abbrev pub provider_or_empty : List Provider → ℕ → Provider
+provider_or_empty [] j = anyone
+provider_or_empty (p ∷ ps) zero = p
+provider_or_empty (p ∷ ps) (suc j) = provider_or_empty ps j
 
 -- the state before the first event
 abbrev pub start_of : Devices → List Record → State
@@ -29,7 +29,7 @@ start_of d rs = record {
   next_job = 1;
   append = None;
   doubt = None;
-  providers = provider_at d.providers;
+  providers = provider_or_empty d.providers;
   handed = length d.providers;
   disk_faults = d.faults;
   is_open = false;

@@ -5,7 +5,7 @@ ghost use Rattle.hail_machine.specs.States.{State};
 ghost use Rattle.vault.specs.Devices.{Devices};
 ghost use Rattle.hail_client.specs.Client.{next_job_of, IsSame};
 ghost use Rattle.hail_client.specs.Outcomes.{begin_outcome, UnlessBegun};
-ghost use Rattle.hail_client.specs.Stands.{ClientStands, Makes};
+ghost use Rattle.hail_client.specs.Stands.{ClientStands, MakesEvent};
 
 use crate::client::Client;
 use stream_model::Bytes;
@@ -21,7 +21,7 @@ impl Client {
     pub fn begin_put(&mut self, name: &[u8], bytes: Bytes) -> Option<Result<u32, BeginFault>>
         requires { next_job_of self.old < 2 ^ 32 - 1 }
         ensures machine { (w : State) (d : Devices) (moment : ℕ) → ClientStands self.old d w
-            → Makes w moment (Begin (PutJob name.now bytes)) (begin_outcome result) self.new d }
+            → MakesEvent w moment (Begin (PutJob name.now bytes)) (begin_outcome result) self.new d }
         ensures unchanged { UnlessBegun result (IsSame self.old self.new) }
     {
         bytes_are_bytes(name);
@@ -36,7 +36,7 @@ impl Client {
     pub fn begin_get(&mut self, name: &[u8]) -> Option<Result<u32, BeginFault>>
         requires { next_job_of self.old < 2 ^ 32 - 1 }
         ensures machine { (w : State) (d : Devices) (moment : ℕ) → ClientStands self.old d w
-            → Makes w moment (Begin (GetJob name.now)) (begin_outcome result) self.new d }
+            → MakesEvent w moment (Begin (GetJob name.now)) (begin_outcome result) self.new d }
         ensures unchanged { UnlessBegun result (IsSame self.old self.new) }
     {
         bytes_are_bytes(name);
@@ -50,7 +50,7 @@ impl Client {
     pub fn begin_drop(&mut self, name: &[u8]) -> Option<Result<u32, BeginFault>>
         requires { next_job_of self.old < 2 ^ 32 - 1 }
         ensures machine { (w : State) (d : Devices) (moment : ℕ) → ClientStands self.old d w
-            → Makes w moment (Begin (DropJob name.now)) (begin_outcome result) self.new d }
+            → MakesEvent w moment (Begin (DropJob name.now)) (begin_outcome result) self.new d }
         ensures unchanged { UnlessBegun result (IsSame self.old self.new) }
     {
         bytes_are_bytes(name);
@@ -64,7 +64,7 @@ impl Client {
     pub fn begin_audit(&mut self) -> Option<Result<u32, BeginFault>>
         requires { next_job_of self.old < 2 ^ 32 - 1 }
         ensures machine { (w : State) (d : Devices) (moment : ℕ) → ClientStands self.old d w
-            → Makes w moment (Begin AuditJob) (begin_outcome result) self.new d }
+            → MakesEvent w moment (Begin AuditJob) (begin_outcome result) self.new d }
         ensures unchanged { UnlessBegun result (IsSame self.old self.new) }
     {
         match &mut self.vault {
@@ -77,7 +77,7 @@ impl Client {
     pub fn begin_repair(&mut self) -> Option<Result<u32, BeginFault>>
         requires { next_job_of self.old < 2 ^ 32 - 1 }
         ensures machine { (w : State) (d : Devices) (moment : ℕ) → ClientStands self.old d w
-            → Makes w moment (Begin RepairJob) (begin_outcome result) self.new d }
+            → MakesEvent w moment (Begin RepairJob) (begin_outcome result) self.new d }
         ensures unchanged { UnlessBegun result (IsSame self.old self.new) }
     {
         match &mut self.vault {

@@ -5,7 +5,7 @@ ghost use Rattle.sound_states.specs.Sound.{IsSound};
 ghost use Rattle.vault.specs.Devices.{Devices, AreDevices};
 ghost use Rattle.hail_client.specs.Client.{is_open, next_job_of, names_of, uses};
 ghost use Rattle.hail_client.specs.Outcomes.{names_outcome};
-ghost use Rattle.hail_client.specs.Stands.{ClientStands, Makes};
+ghost use Rattle.hail_client.specs.Stands.{ClientStands, MakesEvent};
 
 use vault::Vault;
 use vault_table::Table;
@@ -65,7 +65,7 @@ impl Client {
     pub fn names(&self) -> Option<&Table>
         ensures table { option_copied result ≡ names_of self.now }
         ensures machine { (w : State) (d : Devices) (moment : ℕ) → ClientStands self.now d w
-            → Makes w moment Names (names_outcome (option_copied result)) self.now d }
+            → MakesEvent w moment Names (names_outcome (option_copied result)) self.now d }
     {
         match &self.vault {
             Some(vault) => Some(vault.table()),

@@ -16,7 +16,7 @@ ghost use Rattle.hail_client.specs.declared.client.Client.{Client};
 ghost use Rattle.hail_client.specs.Client.{next_job_of, uses};
 ghost use Rattle.hail_client.specs.Examples.{closed_client, fresh, hidden, stored, stored_state, notes};
 ghost use Rattle.hail_client.specs.Start.{start_of, TellAll};
-ghost use Rattle.hail_client.specs.Stands.{ClientStands, Makes, IsReached, HasFile, moment_of};
+ghost use Rattle.hail_client.specs.Stands.{ClientStands, MakesEvent, IsReached, ImageHasFile, moment_of};
 
 /// The devices of a client are those of each state that it stands for, which is sound; no more providers are used than are handed
 /// in, and the numbers of jobs are the same.
@@ -31,7 +31,7 @@ pub fn what_a_client_stands_for()
 /// doubt added.
 pub fn images_have_the_files()
     ensures { (c : Client) (d : Devices) (w : State) (name : List ℕ) (file : File) → ClientStands c d w → IsKept w name file →
-        EachImage d.holds (HasFile name file) }
+        EachImage d.holds (ImageHasFile name file) }
 {}
 
 /// A disk before its first use stands for each state over the records that it reads.
@@ -51,7 +51,7 @@ pub fn there_is_a_start()
 pub fn runs_go_on()
     ensures starts { (start : State) (c : Client) (d : Devices) → ClientStands c d start → IsReached start [] c d }
     ensures goes_on { (start : State) (ms : List Moment) (c next : Client) (old new : Devices) (event : Event) (outcome : Outcome)
-        → IsReached start ms c old → (m : Makes (now start ms) (length ms) event outcome next new)
+        → IsReached start ms c old → (m : MakesEvent (now start ms) (length ms) event outcome next new)
         → IsReached start (moment_of m ∷ ms) next new }
 {}
 
@@ -76,5 +76,5 @@ pub fn a_fresh_disk_has_a_start()
 pub fn a_stored_file_is_kept()
     ensures stands { ClientStands closed_client stored stored_state }
     ensures kept { IsKept stored_state (codes "notes.txt") notes }
-    ensures images { EachImage stored.holds (HasFile (codes "notes.txt") notes) }
+    ensures images { EachImage stored.holds (ImageHasFile (codes "notes.txt") notes) }
 {}

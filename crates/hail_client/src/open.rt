@@ -10,7 +10,8 @@ ghost use Rattle.hail_records.specs.Records.{is_master, is_setup};
 ghost use Rattle.hail_machine.specs.States.{State};
 ghost use Rattle.record_codec.specs.Entries.{with_master};
 ghost use Rattle.vault.specs.Devices.{devices};
-ghost use Rattle.vault.specs.Openings.{journal_read, IsInitFault, IsStartFault, IsNoWrite, IsSetUpOn, IsResynced, LiesInJournal, MayBeLeft};
+ghost use Rattle.hail_openings.specs.Journals.{journal_read, IsSetUpOn, IsResynced, MayBeLeft};
+ghost use Rattle.vault.specs.Causes.{IsInitFault, IsStartFault, IsNoWrite, LiesInJournal};
 ghost use Rattle.vault.specs.declared.fault.InitFault.TheVariants as init_fault;
 ghost use Rattle.vault.specs.declared.fault.StartFault.{StartFault as StartFaultData};
 ghost use Rattle.vault.specs.declared.fault.StartFault.TheVariants as start_fault;
@@ -18,7 +19,7 @@ ghost use Rattle.hail_client.specs.declared.fault.ReopenFault.TheVariants as reo
 ghost use Rattle.vault.specs.Outcomes.{init_outcome};
 ghost use Rattle.hail_client.specs.Client.{is_open, next_job_of};
 ghost use Rattle.hail_client.specs.Outcomes.{reopen_outcome, UnlessBadJournal};
-ghost use Rattle.hail_client.specs.Stands.{ClientStands, Makes, IsMadeAnew, IsStanding, OpensOver};
+ghost use Rattle.hail_client.specs.Stands.{ClientStands, MakesEvent, IsMadeAnew, IsStanding, OpensOver};
 
 use crate::begin::bytes_are_bytes;
 use crate::client::Client;
@@ -62,7 +63,7 @@ impl Client {
     ) -> Result<(), InitFault>
         ensures machine { (w : State) (providers : List Provider) (moment : ℕ) → IsSome (D.holds disk.old)
             → ClientStands self.now (devices (D.holds disk.old) (D.faults disk.old) providers) w
-            → Makes w moment (Init (with_master setup.now master.now.0)) (init_outcome result) self.now
+            → MakesEvent w moment (Init (with_master setup.now master.now.0)) (init_outcome result) self.now
             (devices (D.holds disk.new) (D.faults disk.new) providers) }
         ensures already { is_open self.now ≡ true → (result ≡ Err init_fault.Already) × (disk.new ≡ disk.old) }
         ensures ok { OnOk result (Goes (IsSetUpOn (with_master setup.now master.now.0)) (D.holds disk.old) (D.holds disk.new)) }
@@ -93,7 +94,7 @@ impl Client {
     ) -> Result<(), ReopenFault>
         ensures machine { (w : State) (providers : List Provider) (moment : ℕ) → IsSome (D.holds disk.old) → length providers ≡ handed
             → ClientStands self.old (devices (D.holds disk.old) (D.faults disk.old) providers) w
-            → Makes w moment Reopen (reopen_outcome result) self.new (devices (D.holds disk.new) (D.faults disk.new) providers) }
+            → MakesEvent w moment Reopen (reopen_outcome result) self.new (devices (D.holds disk.new) (D.faults disk.new) providers) }
         ensures opened { OnOk result (OpensOver (D.holds disk.old) (next_job_of self.old) handed self.new (D.holds disk.new) (D.faults disk.new)) }
         ensures anew { (providers : List Provider) (moment : ℕ) → is_some (D.holds disk.old) ≡ false → length providers ≡ handed
             → UnlessBadJournal result (IsMadeAnew moment (next_job_of self.old) Reopen (reopen_outcome result) self.new
@@ -125,7 +126,7 @@ impl Client {
     pub fn stop<D: Disk>(&mut self, disk: &mut D, picks: &[u8])
         ensures machine { (w : State) (providers : List Provider) (moment : ℕ)
             → ClientStands self.old (devices (D.holds disk.old) (D.faults disk.old) providers) w
-            → Makes w moment (Stop picks.now) Stopped self.new (devices (D.holds disk.new) (D.faults disk.new) providers) }
+            → MakesEvent w moment (Stop picks.now) Stopped self.new (devices (D.holds disk.new) (D.faults disk.new) providers) }
         ensures closed { is_open self.new ≡ false }
         ensures next_job { next_job_of self.new ≡ next_job_of self.old }
         ensures count { D.faults disk.new ≡ D.faults disk.old }

@@ -6,7 +6,7 @@ ghost use Rattle.hail_machine.specs.Events.{Alter, Lose};
 ghost use Rattle.hail_machine.specs.States.{State};
 ghost use Rattle.vault.specs.Devices.{as_seen, devices};
 ghost use Rattle.hail_client.specs.Outcomes.{replace_outcome};
-ghost use Rattle.hail_client.specs.Stands.{ClientStands, Makes};
+ghost use Rattle.hail_client.specs.Stands.{ClientStands, MakesEvent};
 
 use crate::client::Client;
 use hail_field::Symbol;
@@ -43,7 +43,7 @@ impl Client {
     ) -> bool
         ensures machine { (w : State) (holds : Option Cells) (faults moment : ℕ)
             → ClientStands self.now (devices holds faults (map (as_seen P.held P.store_faults P.other_faults P.fetches) providers.old)) w
-            → Makes w moment (Alter provider object stripe place symbol) (replace_outcome result) self.now
+            → MakesEvent w moment (Alter provider object stripe place symbol) (replace_outcome result) self.now
             (devices holds faults (map (as_seen P.held P.store_faults P.other_faults P.fetches) providers.new)) }
     {
         symbol_is_number(symbol);
@@ -64,7 +64,7 @@ impl Client {
     ) -> bool
         ensures machine { (w : State) (holds : Option Cells) (faults moment : ℕ)
             → ClientStands self.now (devices holds faults (map (as_seen P.held P.store_faults P.other_faults P.fetches) providers.old)) w
-            → Makes w moment (Lose provider object stripe) (replace_outcome result) self.now
+            → MakesEvent w moment (Lose provider object stripe) (replace_outcome result) self.now
             (devices holds faults (map (as_seen P.held P.store_faults P.other_faults P.fetches) providers.new)) }
     {
         let index = provider as usize;

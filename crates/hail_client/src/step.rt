@@ -5,9 +5,9 @@ ghost use Rattle.hail_machine.specs.States.{State};
 ghost use Rattle.hail_records.specs.Records.{Record as Entry};
 ghost use Rattle.hail_records.specs.Spellings.{spelling};
 ghost use Rattle.vault.specs.declared.turn.Turn.TheVariants as turn;
-ghost use Rattle.vault.specs.Calls.{calls_disk, called_provider, moves_made, MovesCells};
+ghost use Rattle.vault.specs.Calls.{calls_disk, called_provider, moves_before_next, MovesCells};
 ghost use Rattle.vault.specs.Devices.{as_seen, devices};
-ghost use Rattle.vault.specs.Outcomes.{IfEnded, IsIdle, HasPaddedCounts};
+ghost use Rattle.vault.specs.Outcomes.{IfEnded, IsNoAction, HasPaddedCounts};
 ghost use Rattle.vault_core.specs.Coming.{IsNoJob};
 ghost use Rattle.hail_client.specs.Client.{uses, is_open, left_of, coming_of, entry_of, closed_gate_of, IsSame};
 ghost use Rattle.hail_client.specs.Stands.{ClientStands, MakesStep};
@@ -44,7 +44,7 @@ impl Client {
         ensures moves { (w : State) (entry : Entry)
             → ClientStands self.old (devices (D.holds disk.old) (D.faults disk.old) (map (as_seen P.held P.store_faults P.other_faults P.fetches) providers.old)) w
             → entry_of self.old job ≡ Some entry → calls_disk (coming_of self.old job) ≡ true
-            → IfSome result (λ turn. MovesCells (moves_made (coming_of self.old job)) (closed_gate_of self.old) (spelling entry ++ 0 ∷ []) turn (D.holds disk.old) (D.holds disk.new)) }
+            → IfSome result (λ turn. MovesCells (moves_before_next (coming_of self.old job)) (closed_gate_of self.old) (spelling entry ++ 0 ∷ []) turn (D.holds disk.old) (D.holds disk.new)) }
         ensures away { called_provider (coming_of self.old job) ≡ None → providers.new ≡ providers.old }
         ensures others { (j k : ℕ) → called_provider (coming_of self.old job) ≡ Some j → k ≢ j
             → slice_get providers.new k ≡ slice_get providers.old k }
@@ -54,7 +54,7 @@ impl Client {
             → result ≡ Some turn.NoSuchJob → coming_of self.old job ≡ IsNoJob }
         ensures waits { (w : State)
             → ClientStands self.old (devices (D.holds disk.old) (D.faults disk.old) (map (as_seen P.held P.store_faults P.other_faults P.fetches) providers.old)) w
-            → IfSome result (λ turn. IsIdle turn → IsSame self.old self.new × (disk.new ≡ disk.old) × (providers.new ≡ providers.old)) }
+            → IfSome result (λ turn. IsNoAction turn → IsSame self.old self.new × (disk.new ≡ disk.old) × (providers.new ≡ providers.old)) }
         ensures closed { result ≡ None → (self.new ≡ self.old) × (disk.new ≡ disk.old) × (providers.new ≡ providers.old) }
     {
         match &mut self.vault {

@@ -16,7 +16,7 @@ abbrev pub GoesAway : ℕ → Type 0 → Held → Held → Type 0
 GoesAway object rose old new = (stripe : ℕ) → (new object stripe ≡ None) ⊎ (rose × (new object stripe ≡ old object stripe))
 
 -- an object is none of a file's, and not that of an older file
-pub record IsOther (object stripe id count : ℕ) (older : Option File) : Type 0 where
+pub record IsElsewhere (object stripe id count : ℕ) (older : Option File) : Type 0 where
   pub stored : object ≡ id → count ≤ stripe
   pub removed : IfSome older (λ f. object ≢ f.id)
 
@@ -24,7 +24,7 @@ pub record IsOther (object stripe id count : ℕ) (older : Option File) : Type 0
 pub record StoredOn (o : Object) (bytes : List ℕ) (older : Option File) (rose : Type 0) (j : ℕ) (old new : Held) : Type 0 where
   pub stored : (stripe : ℕ) → stripe < stripes o (length bytes) → new o.id stripe ≡ Some (columns o bytes j stripe)
   pub removed : IfSome older (λ f. GoesAway f.id rose old new)
-  pub others : (object stripe : ℕ) → IsOther object stripe o.id (stripes o (length bytes)) older → new object stripe ≡ old object stripe
+  pub others : (object stripe : ℕ) → IsElsewhere object stripe o.id (stripes o (length bytes)) older → new object stripe ≡ old object stripe
 
 -- some blocks of a file were stored on a provider
 pub record PartlyStored (o : Object) (bytes : List ℕ) (j : ℕ) (old new : Held) : Type 0 where

@@ -14,7 +14,7 @@ use Rattle.hail_records.specs.Table.{files_of}
 use Rattle.hail_machine.specs.Jobs.{Kind, PutJob, GetJob, DropJob, AuditJob, RepairJob}
 use Rattle.hail_commands.specs.Forms.{Command, RowOf, InitWith, PutUnder, GetOf, DropOf, ListAll, AuditAll, RepairDue}
 use Rattle.hail_commands.specs.Seen.{Seen, Ending, IsSynced, SameSource, ReadsAtMost, ReadsUpTo, IsRefused, sinking}
-use Rattle.hail_commands.specs.Sinking.{Refuses, Writes}
+use Rattle.hail_commands.specs.Sinking.{Refuses, WritesLine}
 use Rattle.hail_commands.specs.Opens.{IsOpened, Unstarted}
 use Rattle.hail_commands.specs.Lines.{list_lines}
 use Rattle.hail_commands.specs.Row.{AnswersRow}
@@ -46,7 +46,7 @@ pub data AnswersAlone (kind : Kind) (old new : Seen) (end : Ending) : Type 0 whe
 
 -- the files in effect are written, or a part of them
 pub record ListsFiles (records : List Record) (old new : Seen) (end : Ending) : Type 0 where
-  pub written : Writes (list_lines (files_of records)) end.status (sinking old new)
+  pub written : WritesLine (list_lines (files_of records)) end.status (sinking old new)
   pub place : end.at ≡ 0
   pub heard : end.heard ≡ []
   pub disk : IsSynced old new

@@ -7,11 +7,11 @@ use Rattle.hail_devices.specs.Faults.{Rose}
 use Rattle.hail_devices.specs.Images.{EachImage}
 use Rattle.hail_devices.specs.Told.{Goes}
 use Rattle.hail_records.specs.Records.{Setup, is_setup}
-use Rattle.hail_commands.specs.Openings.{journal_read, IsBadInit, IsSetUpAlready, IsSetUpOn, MayBeLeft}
+use Rattle.hail_openings.specs.Journals.{journal_read, IsBadInit, IsSetUpAlready, IsSetUpOn, MayBeLeft}
 use Rattle.hail_commands.specs.Forms.{Numbers}
 use Rattle.hail_commands.specs.Keys.{IsKeyForm, longest_key}
 use Rattle.hail_commands.specs.Seen.{Seen, Ending, IsRefused, ReadsAtMost, ReadsUpTo, SameSource, sinking}
-use Rattle.hail_commands.specs.Sinking.{Writes}
+use Rattle.hail_commands.specs.Sinking.{WritesLine}
 use Rattle.hail_commands.specs.Lines.{ready_line}
 
 -- a setup of these numbers
@@ -37,8 +37,8 @@ pub record FailsToInit (status : ℕ) (s : Setup) (old new : Seen) (end : Ending
   pub sink : new.sink ≡ old.sink
 
 -- an init that is done
-pub record IsReady (s : Setup) (old new : Seen) (end : Ending) : Type 0 where
-  pub written : Writes ready_line end.status (sinking old new)
+pub record IsInitDone (s : Setup) (old new : Seen) (end : Ending) : Type 0 where
+  pub written : WritesLine ready_line end.status (sinking old new)
   pub place : end.at ≡ 0
   pub heard : end.heard ≡ []
   pub disk : Goes (IsSetUpOn s) old.disk new.disk
@@ -50,7 +50,7 @@ pub data InitsDisk (s : Setup) (old new : Seen) (end : Ending) : Type 0 where
   bad_journal : (at : ℕ) → IfSome old.disk (λ cells. (9 < length (journal_read cells)) × IsBadInit (journal_read cells) at) → IsRefused 8 at old new end → InitsDisk s old new end
   already : IfSome old.disk (λ cells. (9 < length (journal_read cells)) × IsSetUpAlready (journal_read cells)) → IsRefused 10 0 old new end → InitsDisk s old new end
   no_memory : FailsToInit 70 s old new end → InitsDisk s old new end
-  ready : IsReady s old new end → InitsDisk s old new end
+  ready : IsInitDone s old new end → InitsDisk s old new end
 
 -- how `init` ends, in the order of its refusals
 pub data AnswersInit (numbers : Numbers) (old new : Seen) (end : Ending) : Type 0 where

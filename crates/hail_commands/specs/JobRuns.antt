@@ -1,41 +1,17 @@
 -- A job that runs alone, as a run of the machine: a begin, and its steps up to its end.
 --
---   AreHanded ps w          == the providers handed in are those of a state
---   IsOpenedOver w rs faults ps == a state whose vault was just opened over these records; the files in effect have some bytes of the
---                              recorded lengths
 --   AreSteps w moment job ms == steps of the job that all answered more, from this state on, after so many events; the newest first
 --   RunsJob w moment kind answer heard new  == the job of this kind begins in the state, after so many events, and its steps come to
 --                              this answer and leave the new state; it heard these entries
-use Rattle.std.specs.Prelude.{◌≡◌, ℕ, ◌+◌, ◌<◌, true, false, List, [], ◌∷◌, length, slice_get, None, Some}
-use Rattle.hail_devices.specs.Providers.{Provider}
-use Rattle.hail_records.specs.Records.{Record}
-use Rattle.hail_records.specs.Table.{File, file_of}
+use Rattle.std.specs.Prelude.{◌≡◌, ℕ, ◌+◌, List, [], ◌∷◌, length}
 use Rattle.hail_machine.specs.Jobs.{Kind, job_of}
 use Rattle.hail_machine.specs.Answers.{Answer}
-use Rattle.hail_machine.specs.Events.{Step, More, Begun, Ended, AreBytes}
+use Rattle.hail_machine.specs.Events.{Step, More, Begun, Ended}
 use Rattle.hail_machine.specs.States.{State}
 use Rattle.hail_machine.specs.Begins.{Begins}
 use Rattle.hail_machine.specs.Machine.{Happens}
 use Rattle.hail_machine.specs.Runs.{Moment, now}
 use Rattle.hail_machine.specs.Heard.{Entry, heard_by}
-
--- the providers handed in are those of a state
-pub record AreHanded (providers : List Provider) (w : State) : Type 0 where
-  pub count : w.handed ≡ length providers
-  pub each : (j : ℕ) → j < length providers → slice_get providers j ≡ Some (w.providers j)
-
--- a state whose vault was just opened over these records
-pub record IsOpenedOver (w : State) (rs : List Record) (faults : ℕ) (providers : List Provider) : Type 0 where
-  pub records : w.records ≡ rs
-  pub jobs : w.jobs ≡ []
-  pub next_job : w.next_job ≡ 1
-  pub append : w.append ≡ None
-  pub doubt : w.doubt ≡ None
-  pub is_open : w.is_open ≡ true
-  pub unbarred : w.is_barred ≡ false
-  pub bytes : (name : List ℕ) (file : File) → file_of rs name ≡ Some file → AreBytes (w.bytes file.id) × (length (w.bytes file.id) ≡ file.size)
-  pub faults_are : w.disk_faults ≡ faults
-  pub handed : AreHanded providers w
 
 -- steps of a job that all answered more, from a state on, after so many events
 abbrev pub AreSteps : State → ℕ → ℕ → List Moment → Type 0

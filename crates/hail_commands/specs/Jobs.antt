@@ -5,7 +5,7 @@
 --                                 job was cut short, the disk reads as before
 --   RunsAlone records kind answer old new heard  == a job of this kind ran alone over these records and devices, as a run of the machine
 --   LeftAlone records kind answer old new heard  == the same without its run: the records then in effect, what is left and heard
---   EndsBy text answer old new end  == how the command ends: the answer is told by its text, or by the status of its fault
+--   EndsByAnswer text answer old new end  == how the command ends: the answer is told by its text, or by the status of its fault
 --   AnswersJob kind records old new end  == the job is refused, or ends, over these records
 use Rattle.std.specs.Prelude.{◌≡◌, ◌⊎◌, ℕ, ◌≤◌, List, [], ◌∷◌, ◌++◌, length, reverse, drop, Option, None, Some, IfSome, IsSomeAnd}
 use Rattle.std.specs.Option.{option_map}
@@ -21,13 +21,14 @@ use Rattle.hail_machine.specs.States.{State}
 use Rattle.hail_machine.specs.Stands.{StandsForState}
 use Rattle.hail_machine.specs.Heard.{Entry}
 use Rattle.hail_machine.specs.Refusals.{Refusal}
-use Rattle.hail_commands.specs.Sinking.{Writes}
+use Rattle.hail_commands.specs.Sinking.{WritesLine}
 use Rattle.hail_commands.specs.Seen.{Seen, Ending, IsRefused, IsSynced, sinking}
 use Rattle.hail_commands.specs.Opens.{setup_at}
-use Rattle.hail_commands.specs.Refusals.{refusal_of, status_of}
+use Rattle.hail_commands.specs.Refusals.{refusal_over, status_of}
 use Rattle.hail_commands.specs.Lines.{text_of}
 use Rattle.hail_commands.specs.Ran.{Ran, ran_alone, setup_at_begin, CountsRise, NoFetches}
-use Rattle.hail_commands.specs.JobRuns.{AreHanded, IsOpenedOver, RunsJob}
+use Rattle.hail_openings.specs.Opened.{AreHanded, IsOpenedOver}
+use Rattle.hail_commands.specs.JobRuns.{RunsJob}
 use Rattle.hail_commands.specs.Puts.{PutLeaves, put_records}
 use Rattle.hail_commands.specs.Gets.{GetLeaves}
 use Rattle.hail_commands.specs.Drops.{DropLeaves}
@@ -53,7 +54,7 @@ abbrev pub past : List Record → Cells → List ℕ
 past records cells = drop (text_size records) (reads cells)
 
 -- of these records, given the oldest first, the first ones are in effect behind those before, and this one comes next
-pub record IsNextOf (own before after : List Record) (next : Record) : Type 0 where
+pub record IsNextRecord (own before after : List Record) (next : Record) : Type 0 where
   pub done : List Record
   pub rest : List Record
   pub parts : own ≡ done ++ next ∷ rest
@@ -61,12 +62,12 @@ pub record IsNextOf (own before after : List Record) (next : Record) : Type 0 wh
 
 -- the record of a job that comes next; a get appends none
 abbrev pub IsNext : Kind → List Record → List Record → Record → Type 0
-IsNext (PutJob name bytes) before after next = IsNextOf (put_records before name (length bytes)) before after next
+IsNext (PutJob name bytes) before after next = IsNextRecord (put_records before name (length bytes)) before after next
 IsNext (GetJob name) before after next = ⊥
-IsNext (DropJob name) before after next = IsNextOf (Drop name ∷ []) before after next
+IsNext (DropJob name) before after next = IsNextRecord (Drop name ∷ []) before after next
 IsNext AuditJob before after next =
-    (undecided : ℕ) × (counts : List ℕ) × (length counts ≡ (setup_at before).n) × IsNextOf (audit_records before undecided counts) before after next
-IsNext RepairJob before after next = IsNextOf (RepairDone (due_number (due_of before)) ∷ []) before after next
+    (undecided : ℕ) × (counts : List ℕ) × (length counts ≡ (setup_at before).n) × IsNextRecord (audit_records before undecided counts) before after next
+IsNext RepairJob before after next = IsNextRecord (RepairDone (due_number (due_of before)) ∷ []) before after next
 
 -- the records in effect, with the one that was being appended
 abbrev pub with_next : Option Record → List Record → List Record
@@ -122,21 +123,21 @@ pub record IsSilent (status at : ℕ) (old new : Seen) (end : Ending) : Type 0 w
 
 -- the text was written, or cut off
 pub record IsTold (text : List ℕ) (old new : Seen) (end : Ending) : Type 0 where
-  pub written : Writes text end.status (sinking old new)
+  pub written : WritesLine text end.status (sinking old new)
   pub place : end.at ≡ 0
 
 -- how a command ends whose job ended with this answer
-abbrev pub EndsBy : List ℕ → Answer → Seen → Seen → Ending → Type 0
-EndsBy text (Lost stripe row) old new end = IsSilent 4 row old new end
-EndsBy text (ProviderFault j) old new end = IsSilent 13 j old new end
-EndsBy text DiskFault old new end = IsSilent 12 0 old new end
-EndsBy text Memory old new end = IsSilent 70 0 old new end
-EndsBy text answer old new end = IsTold text old new end
+abbrev pub EndsByAnswer : List ℕ → Answer → Seen → Seen → Ending → Type 0
+EndsByAnswer text (Lost stripe row) old new end = IsSilent 4 row old new end
+EndsByAnswer text (ProviderFault j) old new end = IsSilent 13 j old new end
+EndsByAnswer text DiskFault old new end = IsSilent 12 0 old new end
+EndsByAnswer text Memory old new end = IsSilent 70 0 old new end
+EndsByAnswer text answer old new end = IsTold text old new end
 
 -- a command whose begin comes over these records
 pub data AnswersJob (kind : Kind) (records : List Record) (old new : Seen) (end : Ending) : Type 0 where
-  refused : (why : Refusal) → refusal_of records kind ≡ Some why → IsSynced old new → IsRefused (status_of why) 0 old new end →
+  refused : (why : Refusal) → refusal_over records kind ≡ Some why → IsSynced old new → IsRefused (status_of why) 0 old new end →
       AnswersJob kind records old new end
   no_memory : IsSynced old new → IsRefused 70 0 old new end → AnswersJob kind records old new end
-  ended : (answer : Answer) → refusal_of records kind ≡ None → RunsAlone records kind answer old new end.heard →
-      LeftAlone records kind answer old new end.heard → EndsBy (text_of (setup_at records).tolerance kind answer) answer old new end → AnswersJob kind records old new end
+  ended : (answer : Answer) → refusal_over records kind ≡ None → RunsAlone records kind answer old new end.heard →
+      LeftAlone records kind answer old new end.heard → EndsByAnswer (text_of (setup_at records).tolerance kind answer) answer old new end → AnswersJob kind records old new end

@@ -6,7 +6,6 @@ pub mod Lines
 pub mod Sinking
 pub mod Seen
 pub mod Row
-pub mod Openings
 pub mod JobRuns
 pub mod Opens
 pub mod Refusals

@@ -12,7 +12,7 @@ use Rattle.hail_records.specs.Records.{Setup, Record}
 use Rattle.hail_records.specs.Table.{setup_of}
 use Rattle.hail_records.specs.Reading.{IsNotSetUp}
 use Rattle.hail_machine.specs.Setups.{setup_or_none}
-use Rattle.hail_commands.specs.Openings.{journal_read, IsRead, IsBadStart}
+use Rattle.hail_openings.specs.Journals.{journal_read, IsRead, IsBadStart}
 use Rattle.hail_commands.specs.Seen.{Seen, Ending, IsRefused, IsSynced}
 
 -- the setup in effect

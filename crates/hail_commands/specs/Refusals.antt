@@ -3,7 +3,7 @@
 --   takes_too_much records kind     == the records of such a job find no room in the journal
 --   has_no_number records kind      == the numbers that such a job draws come to their end
 --   causes_of records kind          == the causes for which the begin is refused, in order
---   refusal_of records kind         == the first one that applies; None where the job begins
+--   refusal_over records kind         == the first one that applies; None where the job begins
 --   status_of refusal               == the status that tells of it
 use Rattle.std.specs.Prelude.{ℕ, ◌+◌, ◌-◌, ◌^◌, ◌&&◌, ◌||◌, Bool, false, not, List, [], ◌∷◌, length, sum, Option, is_some, nat_le, nat_lt}
 use Rattle.hail_records.specs.Records.{Record, is_name, largest_file, largest_journal, most_files}
@@ -57,8 +57,8 @@ causes_of records RepairJob =
     ∷ record { applies = is_full_for records RepairJob; refusal = refusal.JournalFull } ∷ []
 
 -- why a begin is refused
-abbrev pub refusal_of : List Record → Kind → Option Refusal
-refusal_of records kind = first_refusal (causes_of records kind)
+abbrev pub refusal_over : List Record → Kind → Option Refusal
+refusal_over records kind = first_refusal (causes_of records kind)
 
 -- the status that tells of a refusal; the others do not come where one job runs alone
 abbrev pub status_of : Refusal → ℕ

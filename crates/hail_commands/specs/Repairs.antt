@@ -104,7 +104,7 @@ pub record RewritesSome (x : Ran) (due : Due) : Type 0 where
   pub part : RewritesPart x due done rest gave symbols
 
 -- a row of a place is not accepted
-pub record LosesPlace (x : Ran) (due : Due) (stripe row : ℕ) : Type 0 where
+pub record LosesAtPlace (x : Ran) (due : Due) (stripe row : ℕ) : Type 0 where
   pub done : List Place
   pub place : Place
   pub rest : List Place
@@ -118,7 +118,7 @@ pub record LosesPlace (x : Ran) (due : Due) (stripe row : ℕ) : Type 0 where
 -- what a repair leaves, by the audit that was due
 abbrev pub RepairGives : Ran → Due → Answer → Type 0
 RepairGives x due (Repaired number) = (number ≡ due.number) × IsWhole x (RepairDone due.number ∷ []) × RewritesAll x due
-RepairGives x due (Lost stripe row) = IsWhole x [] × LosesPlace x due stripe row
+RepairGives x due (Lost stripe row) = IsWhole x [] × LosesAtPlace x due stripe row
 RepairGives x due (ProviderFault j) =
     (j < (setup_at_begin x).n) × (flags x due j ≡ true) × Rose (x.old j).store_faults (x.new j).store_faults × IsWhole x [] × RewritesSome x due
 RepairGives x due DiskFault = Rose x.disk_before x.disk_after × IsCutInDoubt x (RepairDone due.number ∷ []) × RewritesAll x due

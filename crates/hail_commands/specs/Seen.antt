@@ -4,7 +4,6 @@
 --   provider_at ps j       == what is seen of provider j; of one that was not handed in nothing is known
 --   sinking old new        == what the sink told and counted
 --   NoCountFalls old new   == no device's count of faults fell, and no provider came or went
---   IsResynced old new     == a disk that was synced, or was left as it was
 --   KeepsDisk old new      == the disk was synced, or was left as it was; so all its images were images before
 --   IsSynced old new       == the disk was synced, and nothing else was done to it
 --   SameSource old new     == the source was not read
@@ -13,7 +12,7 @@
 --   Ending                 == how a command ended: its status, the place that the status speaks of, and what its job heard
 --   IsRefused status at old new end  == the command ended so: nothing was heard or written, the disk was at most synced, and the
 --                             providers are as before
-use Rattle.std.specs.Prelude.{◌≡◌, ◌⊎◌, ℕ, ◌<◌, ◌≤◌, List, [], length, slice_get, unwrap_or, Option, None, IfSome}
+use Rattle.std.specs.Prelude.{◌≡◌, ℕ, ◌<◌, ◌≤◌, List, [], length, slice_get, unwrap_or, Option, None, IfSome}
 use Rattle.std.specs.Option.{option_map}
 use Rattle.hail_devices.specs.Told.{Goes, then_told}
 use Rattle.hail_devices.specs.Cells.{Cells}
@@ -21,6 +20,7 @@ use Rattle.hail_devices.specs.Disks.{synced}
 use Rattle.hail_devices.specs.Providers.{Provider}
 use Rattle.hail_machine.specs.Events.{AreBytes}
 use Rattle.hail_machine.specs.Heard.{Entry}
+use Rattle.hail_openings.specs.Journals.{IsResynced}
 use Rattle.hail_commands.specs.Sinking.{Sinking}
 
 -- the devices of a command, as they are seen
@@ -53,10 +53,6 @@ pub record NoCountFalls (old new : Seen) : Type 0 where
   pub others : (j : ℕ) → (provider_at old.providers j).other_faults ≤ (provider_at new.providers j).other_faults
   pub source : old.source_faults ≤ new.source_faults
   pub sink : old.sink_faults ≤ new.sink_faults
-
--- a disk that was synced, or was left as it was
-abbrev pub IsResynced : Cells → Cells → Type 0
-IsResynced old new = (new ≡ old) ⊎ (new ≡ synced old)
 
 -- the disk was synced, or was left as it was
 abbrev pub KeepsDisk : Seen → Seen → Type 0

@@ -2,9 +2,9 @@
 --
 --   Sinking                    == what a sink told and counted, before and after
 --   Refuses due status sink    == nothing was written, and the status is the one due, or that of no memory
---   Writes line status sink    == the line was written at status 0; a counted fault of the sink, where it is not empty, or want of
+--   WritesLine line status sink    == the line was written at status 0; a counted fault of the sink, where it is not empty, or want of
 --                                 memory cut it off
---   Tells due line status sink == the line was written at the status due, unless a counted fault, or want of memory, cut it off
+--   TellsLine due line status sink == the line was written at the status due, unless a counted fault, or want of memory, cut it off
 use Rattle.std.specs.Prelude.{◌≡◌, ◌≢◌, ◌⊎◌, ℕ, List, [], Option}
 use Rattle.hail_devices.specs.Faults.{Rose}
 use Rattle.hail_devices.specs.Told.{told_then, TakesFront}
@@ -21,15 +21,15 @@ abbrev pub Refuses : ℕ → ℕ → Sinking → Type 0
 Refuses due status sink = ((status ≡ due) ⊎ (status ≡ 70)) × (sink.new ≡ sink.old)
 
 -- the line was written; or a counted fault of the sink, or want of memory, cut it off
-abbrev pub Writes : List ℕ → ℕ → Sinking → Type 0
-Writes line status sink =
+abbrev pub WritesLine : List ℕ → ℕ → Sinking → Type 0
+WritesLine line status sink =
     ((status ≡ 0) × (sink.new ≡ told_then sink.old line))
     ⊎ ((line ≢ []) × (status ≡ 15) × Rose sink.before sink.now × TakesFront sink.old sink.new line)
     ⊎ ((status ≡ 70) × TakesFront sink.old sink.new line)
 
 -- the line was written, unless a counted fault of the sink, or want of memory, cut it off; a fault leaves the status due
-abbrev pub Tells : ℕ → List ℕ → ℕ → Sinking → Type 0
-Tells due line status sink =
+abbrev pub TellsLine : ℕ → List ℕ → ℕ → Sinking → Type 0
+TellsLine due line status sink =
     ((status ≡ due) × (sink.new ≡ told_then sink.old line))
     ⊎ ((status ≡ due) × Rose sink.before sink.now × TakesFront sink.old sink.new line)
     ⊎ ((status ≡ 70) × TakesFront sink.old sink.new line)

@@ -7,7 +7,7 @@ ghost use Rattle.hail_machine.specs.Answers.{Put, Got, Dropped, Audited, Repaire
 ghost use Rattle.hail_machine.specs.Refusals.{BadName, TooLong, NoSuchName, RepairDue, NothingDue};
 ghost use Rattle.hail_machine.specs.Examples.{six, one_file, flagged_file, hundred};
 ghost use Rattle.hail_commands.specs.Lines.{ready_line, list_lines, text_of};
-ghost use Rattle.hail_commands.specs.Refusals.{refusal_of};
+ghost use Rattle.hail_commands.specs.Refusals.{refusal_over};
 
 /// What the commands write.
 pub fn lines()
@@ -24,12 +24,12 @@ pub fn lines()
 
 /// Why jobs are refused, in order.
 pub fn refusals()
-    ensures bad_name { refusal_of one_file (PutJob (codes "a/b") hundred) ≡ Some BadName }
-    ensures stored { refusal_of one_file (PutJob (codes "a") hundred) ≡ None }
-    ensures no_name { refusal_of one_file (GetJob (codes "a")) ≡ Some NoSuchName }
-    ensures bad_before_none { refusal_of one_file (DropJob []) ≡ Some BadName }
-    ensures got { refusal_of one_file (GetJob (codes "notes.txt")) ≡ None }
-    ensures due { refusal_of flagged_file AuditJob ≡ Some RepairDue }
-    ensures repaired { refusal_of flagged_file RepairJob ≡ None }
-    ensures nothing_due { refusal_of one_file RepairJob ≡ Some NothingDue }
+    ensures bad_name { refusal_over one_file (PutJob (codes "a/b") hundred) ≡ Some BadName }
+    ensures stored { refusal_over one_file (PutJob (codes "a") hundred) ≡ None }
+    ensures no_name { refusal_over one_file (GetJob (codes "a")) ≡ Some NoSuchName }
+    ensures bad_before_none { refusal_over one_file (DropJob []) ≡ Some BadName }
+    ensures got { refusal_over one_file (GetJob (codes "notes.txt")) ≡ None }
+    ensures due { refusal_over flagged_file AuditJob ≡ Some RepairDue }
+    ensures repaired { refusal_over flagged_file RepairJob ≡ None }
+    ensures nothing_due { refusal_over one_file RepairJob ≡ Some NothingDue }
 {}

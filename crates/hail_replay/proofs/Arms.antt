@@ -17,13 +17,14 @@ use Rattle.vault.specs.Devices.{Devices, devices}
 use Rattle.hail_client.specs.declared.client.Client.{Client}
 use Rattle.hail_client.specs.declared.fault.ReopenFault.{ReopenFault}
 use Rattle.hail_client.specs.Client.{is_open, next_job_of, next_job_by, coming_of, coming_by, IsSame, IsSameVault}
-use Rattle.hail_client.specs.Stands.{ClientStands, Makes, IsStanding, IsReached, RunsJobOn, OpensOver}
+use Rattle.hail_client.specs.Stands.{ClientStands, MakesEvent, IsStanding, IsReached, RunsJobOn, OpensOver}
 use Rattle.vault_core.specs.Coming.{IsNoJob}
-use Rattle.hail_replay.specs.Performed.{StandsWhereOpen, NoCountFell, IsKept}
+use Rattle.hail_replay.specs.Performed.{StandsWhereOpen, NoCountFell, KeepsStanding}
 use Rattle.hail_replay.proofs.Same.{Same, OneMore, steps, begins, both, going, step_of}
 use Rattle.hail_replay.proofs.Counts.{none-fell, fell, onward-over}
 use Rattle.hail_replay.proofs.Behind.{open-same}
-use Rattle.hail_replay.proofs.Standing.{devices-of, next-of, standing-closed}
+use Rattle.hail_replay.proofs.Standing.{standing-closed}
+use Rattle.hail_client.proofs.Standing.{devices-of, next-of}
 
 -- client and devices stand for a state, here or, where no vault is open, elsewhere
 record Somewhere (c : Client) (d : Devices) : Type 0 where
@@ -44,7 +45,7 @@ numbers c d w S = next-of c.vault c.next_job d w S
 -- ---- begins
 
 pub begun-kept : (c next : Client) (d : Devices) (kind : Kind) (outcome : Outcome) → StandsWhereOpen c d
-    → ((w : State) (there : Devices) (moment : ℕ) → ClientStands c there w → Makes w moment (Begin kind) outcome next there) → IsKept c next d d
+    → ((w : State) (there : Devices) (moment : ℕ) → ClientStands c there w → MakesEvent w moment (Begin kind) outcome next there) → KeepsStanding c next d d
 begun-kept c next d kind outcome S makes =
     (let X = somewhere c d S in
     let M = makes X.state X.there 0 X.stands in
@@ -72,7 +73,7 @@ same-number None None n m f g e = e
 same-number (Some v) p n m f g e = absurd (false≢true (sym f))
 same-number None (Some v) n m f g e = absurd (false≢true (sym g))
 
-pub closed-kept : (c next : Client) (d : Devices) → is_open c ≡ false → IsSame c next → IsKept c next d d
+pub closed-kept : (c next : Client) (d : Devices) → is_open c ≡ false → IsSame c next → KeepsStanding c next d d
 closed-kept c next d closed same =
     (let after = still-closed c.vault next.vault closed same.vault in record {
       standing = λ opened. absurd (false≢true (sym after ∙ opened));
@@ -95,7 +96,7 @@ module _ (c next : Client) (d e : Devices) (tells : is_some e.holds ≡ is_some 
   handed-same w u S T same =
       sym (devices-of next.vault next.next_job e u T).providers.count ∙ same.handed ∙ (devices-of c.vault c.next_job d w S).providers.count
 
-  kept-by : (w u : State) → ClientStands c d w → ClientStands next e u → Same w u → NoCountFell d e → IsKept c next d e
+  kept-by : (w u : State) → ClientStands c d w → ClientStands next e u → Same w u → NoCountFell d e → KeepsStanding c next d e
   kept-by w u S T same counts = record {
     standing = λ opened. record { state = u; stands = T };
     jobs = (let a = numbers c d w S in let b = numbers next e u T in let n = same.next in omega (arith, a, b, n));
@@ -104,7 +105,7 @@ module _ (c next : Client) (d e : Devices) (tells : is_some e.holds ≡ is_some 
   }
 
   pub step-kept : (job : ℕ) (outcome : Outcome) → StandsWhereOpen c d → is_open c ≡ true
-      → ((w : State) (moment : ℕ) → ClientStands c d w → Makes w moment (Step job) outcome next e) → IsKept c next d e
+      → ((w : State) (moment : ℕ) → ClientStands c d w → MakesEvent w moment (Step job) outcome next e) → KeepsStanding c next d e
   step-kept job outcome S opened makes =
       (let X = S opened in
       let M = makes X.state 0 X.stands in
@@ -114,7 +115,7 @@ module _ (c next : Client) (d e : Devices) (tells : is_some e.holds ≡ is_some 
       (handed-same X.state M.state X.stands M.stands same) (onward X.state 8 0 (Step job) outcome M.state M.happens)))
 
   pub run-kept : (job : ℕ) (t : Option Turn) → StandsWhereOpen c d → is_open c ≡ true
-      → ((start : State) (ms : List Moment) → IsReached start ms c d → RunsJobOn start ms job t next e) → IsKept c next d e
+      → ((start : State) (ms : List Moment) → IsReached start ms c d → RunsJobOn start ms job t next e) → KeepsStanding c next d e
   run-kept job t S opened runs =
       (let X = S opened in
       let R = runs X.state [] (record { run = tt; stands = X.stands }) in
@@ -128,7 +129,7 @@ module _ (c next : Client) (d e : Devices) (tells : is_some e.holds ≡ is_some 
 
 module _ (c : Client) (event : Event) (outcome : Outcome) (holds : Option Cells) (faults : ℕ) (ps qs : List Provider)
     (leaves : (w u : State) → Happens 8 0 w event outcome u → Same w u)
-    (makes : (w : State) (holds : Option Cells) (faults moment : ℕ) → ClientStands c (devices holds faults ps) w → Makes w moment event outcome c (devices holds faults qs)) where
+    (makes : (w : State) (holds : Option Cells) (faults moment : ℕ) → ClientStands c (devices holds faults ps) w → MakesEvent w moment event outcome c (devices holds faults qs)) where
   counts-at : (told : Option Cells) (n : ℕ) → IsStanding c (devices told n ps) → NoCountFell (devices told n ps) (devices told n qs)
   counts-at told n X =
       (let M = makes X.state told n 0 X.stands in
@@ -140,7 +141,7 @@ module _ (c : Client) (event : Event) (outcome : Outcome) (holds : Option Cells)
   of-these : (told : Option Cells) (n : ℕ) → NoCountFell (devices told n ps) (devices told n qs) → NoCountFell (devices holds faults ps) (devices holds faults qs)
   of-these told n F = record { disk = omega arith; handed = F.handed; stores = F.stores; others = F.others }
 
-  pub replaced-kept : StandsWhereOpen c (devices holds faults ps) → IsKept c c (devices holds faults ps) (devices holds faults qs)
+  pub replaced-kept : StandsWhereOpen c (devices holds faults ps) → KeepsStanding c c (devices holds faults ps) (devices holds faults qs)
   replaced-kept S = record {
     standing = λ opened. (let X = S opened in let M = makes X.state holds faults 0 X.stands in record { state = M.state; stands = M.stands });
     jobs = omega arith;
@@ -154,7 +155,7 @@ module _ (c : Client) (event : Event) (outcome : Outcome) (holds : Option Cells)
 -- ---- openings
 
 pub init-kept : (c : Client) (old new : Option Cells) (f g : ℕ) (ps : List Provider) → is_some new ≡ is_some old → f ≤ g
-    → (IsStanding c (devices old f ps) → IsStanding c (devices new g ps)) → StandsWhereOpen c (devices old f ps) → IsKept c c (devices old f ps) (devices new g ps)
+    → (IsStanding c (devices old f ps) → IsStanding c (devices new g ps)) → StandsWhereOpen c (devices old f ps) → KeepsStanding c c (devices old f ps) (devices new g ps)
 init-kept c old new f g ps tells never standing S = record {
   standing = λ opened. standing (S opened);
   jobs = omega arith;
@@ -163,7 +164,7 @@ init-kept c old new f g ps tells never standing S = record {
 }
 
 pub stop-kept : (c next : Client) (old new : Option Cells) (f g : ℕ) (ps : List Provider) → is_some new ≡ is_some old → f ≤ g
-    → is_open next ≡ false → next_job_of next ≡ next_job_of c → IsKept c next (devices old f ps) (devices new g ps)
+    → is_open next ≡ false → next_job_of next ≡ next_job_of c → KeepsStanding c next (devices old f ps) (devices new g ps)
 stop-kept c next old new f g ps tells never closed number = record {
   standing = λ opened. absurd (false≢true (sym closed ∙ opened));
   jobs = omega (arith, number);
@@ -173,7 +174,7 @@ stop-kept c next old new f g ps tells never closed number = record {
 
 pub reopen-kept : (c next : Client) (old new : Option Cells) (f g : ℕ) (ps : List Provider) (handed : ℕ) (result : Result Unit ReopenFault)
     → is_some new ≡ is_some old → f ≤ g → length ps ≡ handed → is_open next ≡ is_ok result → next_job_of next ≡ next_job_of c
-    → OnOk result (OpensOver old (next_job_of c) handed next new g) → IsKept c next (devices old f ps) (devices new g ps)
+    → OnOk result (OpensOver old (next_job_of c) handed next new g) → KeepsStanding c next (devices old f ps) (devices new g ps)
 reopen-kept c next old new f g ps handed result tells never count opens number over = record {
   standing = λ opened. standing result (sym opens ∙ opened) over;
   jobs = omega (arith, number);
@@ -186,7 +187,7 @@ reopen-kept c next old new f g ps handed result tells never count opens number o
     standing (Err why) t O = absurd (false≢true t)
 
 -- nothing was called
-pub same-kept : (c : Client) (d : Devices) → StandsWhereOpen c d → IsKept c c d d
+pub same-kept : (c : Client) (d : Devices) → StandsWhereOpen c d → KeepsStanding c c d d
 same-kept c d S = record { standing = S; jobs = omega arith; tells = refl; counts = none-fell d }
 
 -- a disk that went on as before goes on telling

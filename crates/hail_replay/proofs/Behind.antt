@@ -17,7 +17,7 @@ use Rattle.vault.specs.Outcomes.{IfEnded}
 use Rattle.hail_client.specs.declared.client.Client.{Client}
 use Rattle.hail_client.specs.Client.{is_open}
 use Rattle.hail_client.specs.Outcomes.{step_outcome}
-use Rattle.hail_client.specs.Stands.{ClientStands, Makes, IsReached, RunsJobOn}
+use Rattle.hail_client.specs.Stands.{ClientStands, MakesEvent, IsReached, RunsJobOn}
 use Rattle.transcript_lines.specs.declared.came.Came.{Came}
 use Rattle.transcript_lines.specs.declared.came.Came.TheVariants as came
 use Rattle.hail_replay.proofs.Standing.{open-by}
@@ -46,7 +46,7 @@ turn-heard w job None h = refl
 
 -- a call that is one event
 pub once : (event : Event) (came : Option Came) (c next : Client) (d e : Devices)
-    → ((w : State) (moment : ℕ) → ClientStands c d w → Makes w moment event (outcome_in next came) next e)
+    → ((w : State) (moment : ℕ) → ClientStands c d w → MakesEvent w moment event (outcome_in next came) next e)
     → ((w : State) (es : List Entry) → ClientStands c d w → reported_after event es ++ heard_at w event (outcome_in next came) ≡ es ++ heard_in_came came)
     → (start : State) (ms : List Moment) → IsReached start ms c d → Performs start ms (Once event) came next e
 once event came c next d e makes heard start ms R = (let M = makes (now start ms) (length ms) R.stands in record {

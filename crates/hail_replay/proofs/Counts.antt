@@ -6,7 +6,8 @@ use Rattle.hail_commands.specs.Seen.{provider_at, nobody}
 use Rattle.hail_machine.specs.Runs.{Moment, now, IsRun}
 use Rattle.hail_machine.specs.States.{State}
 use Rattle.calm_laws.proofs.Onward.{Onward, AllOnward, run_onward}
-use Rattle.vault.specs.Devices.{Devices, AreDevices, AreHanded}
+use Rattle.hail_openings.specs.Opened.{AreHanded}
+use Rattle.vault.specs.Devices.{Devices, AreDevices}
 use Rattle.hail_replay.specs.Performed.{NoCountFell}
 
 pub none-fell : (d : Devices) → NoCountFell d d

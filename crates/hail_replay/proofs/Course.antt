@@ -2,7 +2,7 @@
 use Rattle.std.proofs.Common.{◌≡◌, ◌≢◌, ℕ, ◌≤◌, List, [], ◌∷◌, ◌++◌, length, reverse, Option, Some, None, Result, Ok, Err, refl, ap, ap₂, sym, subst, ◌∙◌, arith}
 use Rattle.std.specs.Prelude.{OnOk, OnErr}
 use Rattle.std.proofs.lemmas.List.{append-nil, append_assoc, reverse-append}
-use Rattle.hail_commands.specs.Sinking.{Sinking, Writes}
+use Rattle.hail_commands.specs.Sinking.{Sinking, WritesLine}
 use Rattle.hail_machine.specs.Failures.{Count, count_in, HasFailures, RoseBy}
 use Rattle.hail_machine.specs.Heard.{Entry, heard_in}
 use Rattle.hail_machine.specs.Lines.{lines_of}
@@ -21,8 +21,8 @@ use Rattle.hail_replay.specs.Starts.{AreLeft, called_behind}
 use Rattle.hail_replay.specs.Performed.{outcome_in, heard_in_came, AreMomentsOf, Performs}
 use Rattle.hail_replay.specs.Replayed.{CarriesOn}
 use Rattle.hail_replay.specs.UnderWay.{HasCome, HasDone, HasRun, HasCounted}
-use Rattle.hail_replay.proofs.Standing.{devices-of}
 use Rattle.hail_replay.proofs.Wrote.{sank, written-on}
+use Rattle.hail_client.proofs.Standing.{devices-of}
 
 module _ (start : State) (base : List Moment) where
   -- the moments of one command more carry it out
@@ -48,7 +48,7 @@ module _ (start : State) (base : List Moment) where
   pub done-on : (command : Command) (came : Option Came) (done : List Command) (first mid last : Option (List ℕ)) (b f g status : ℕ) (text : List ℕ) (heard after : List Entry)
       (c next : Client) (d e : Devices) → b ≤ f → f ≤ g → HasDone start base done 0 (sank first mid b f) heard c d
       → ((start : State) (ms : List Moment) → IsReached start ms c d → Performs start ms command came next e)
-      → text ≡ lines_of (outcome_in next came) → Writes text status (sank mid last f g) → after ≡ heard ++ heard_in_came came
+      → text ≡ lines_of (outcome_in next came) → WritesLine text status (sank mid last f g) → after ≡ heard ++ heard_in_came came
       → HasDone start base (command ∷ done) status (sank first last b g) after next e
   done-on command came done first mid last b f g status text heard after c next d e low never H performs text_is writes after_is =
       (let P = performs start (H.later ++ base) H.come.reached in
@@ -59,7 +59,7 @@ module _ (start : State) (base : List Moment) where
         come = subst (λ (x : List Entry). HasCome start base (command ∷ done) (P.last ∷ (P.steps ++ H.later)) (H.lines ++ lines_of P.last.outcome) x next e) (sym after_is)
             (come-on command came done H.later H.lines heard c next d e H.come P);
         wrote = written-on first mid last b f g H.lines (lines_of P.last.outcome) status low never H.wrote
-            (subst (λ (x : List ℕ). Writes x status (sank mid last f g)) (sym same) writes);
+            (subst (λ (x : List ℕ). WritesLine x status (sank mid last f g)) (sym same) writes);
       })
 
   -- the same without lines

@@ -4,7 +4,7 @@ use Rattle.std.specs.Prelude.{IsSome, is_some}
 use Rattle.std.proofs.lemmas.Bool.{false≢true}
 use Rattle.std.proofs.lemmas.List.{append-nil, reverse-reverse}
 use Rattle.hail_devices.specs.Cells.{Cells}
-use Rattle.hail_commands.specs.Sinking.{Sinking, Writes}
+use Rattle.hail_commands.specs.Sinking.{Sinking, WritesLine}
 use Rattle.hail_machine.specs.Failures.{Count, count_in, HasFailures, RoseBy}
 use Rattle.hail_machine.specs.Heard.{Entry}
 use Rattle.hail_machine.specs.Runs.{Moment, now, IsRun}
@@ -20,7 +20,7 @@ use Rattle.hail_client.specs.declared.client.Client.{Client}
 use Rattle.hail_client.specs.Client.{is_open, next_job_of}
 use Rattle.hail_client.specs.Stands.{ClientStands}
 use Rattle.hail_replay.specs.Answers.{CarriedOut}
-use Rattle.hail_replay.specs.Performed.{StandsWhereOpen, NoCountFell, IsKept}
+use Rattle.hail_replay.specs.Performed.{StandsWhereOpen, NoCountFell, KeepsStanding}
 use Rattle.hail_replay.specs.Replayed.{CarriesOn, Replays}
 use Rattle.hail_replay.specs.Starts.{AreLeft, called_behind}
 use Rattle.hail_replay.specs.Trials.{RunsTrial, RunsTo, CountsTo}
@@ -66,7 +66,7 @@ first-course all c d closed first = record {
   counts = none-fell d;
 }
 
-pub course-on : (all left : List Command) (command : Command) (c next : Client) (old mid new : Devices) → IsOnCourse all (command ∷ left) c old mid → IsKept c next mid new
+pub course-on : (all left : List Command) (command : Command) (c next : Client) (old mid new : Devices) → IsOnCourse all (command ∷ left) c old mid → KeepsStanding c next mid new
     → IsOnCourse all left next old new
 course-on all left command c next old mid new W K = record {
   standing = K.standing;
@@ -227,7 +227,7 @@ module _ (laws : Laws) (expected : List ℕ) (all : List Command) (c : Client) (
 -- the six lines of its counts
 pub trial-told : (number : ℕ) (start : State) (before : List Moment) (commands : List Command) (expected text : List ℕ) (counts : TrialCounts) (heard : List Entry) (d : Devices) (status : ℕ) (sink : Sinking)
     → commands ≡ trial_commands number → expected ≡ trial_bytes number → CountsTo expected start before commands counts heard d → text ≡ trial_lines number counts
-    → Writes text status sink → RunsTrial number start before status sink heard d
+    → WritesLine text status sink → RunsTrial number start before status sink heard d
 trial-told number start before commands expected text counts heard d status sink cs es C t W =
     (let D : CountsTo (trial_bytes number) start before (trial_commands number) counts heard d =
     subst (λ (e : List ℕ). CountsTo e start before (trial_commands number) counts heard d) es (subst (λ (k : List Command). CountsTo expected start before k counts heard d) cs C) in
@@ -309,7 +309,7 @@ begin-count laws expected all left c d counts heard is none closed number begins
 module _ (all left rest : List Command) (command : Command) (c next : Client) (old mid new : Devices) (first told last : Option (List ℕ)) (b f g status : ℕ) (heard kept after : List Entry)
     (left_is : left ≡ command ∷ rest) (kept_is : kept ≡ heard)
     (way : IsOnCourse all left c old mid × AreDone all left c old mid first told b f heard × (b ≤ f))
-    (keeps : IsKept c next mid new) (one : DoesOne command c next mid new told last f g status kept after) (never : f ≤ g) where
+    (keeps : KeepsStanding c next mid new) (one : DoesOne command c next mid new told last f g status kept after) (never : f ≤ g) where
   course : IsOnCourse all (command ∷ rest) c old mid
   course = subst (λ (l : List Command). IsOnCourse all l c old mid) left_is way.0
 
@@ -348,7 +348,7 @@ module _ (expected : List ℕ) (all left rest : List Command) (command : Command
   so_far = subst (λ (h : List Entry). AreCounted expected all (command ∷ rest) c old mid counts h) (sym kept_is)
       (subst (λ (l : List Command). AreCounted expected all l c old mid counts heard) left_is counted)
 
-  pub count-course : IsKept c next mid new → IsOnCourse all rest next old new
+  pub count-course : KeepsStanding c next mid new → IsOnCourse all rest next old new
   count-course keeps = course-on all rest command c next old mid new (subst (λ (l : List Command). IsOnCourse all l c old mid) left_is course) keeps
 
   pub count-on : (more : TrialCounts) → CountsOne expected command c next mid new counts more kept after → AreCounted expected all rest next old new more after

@@ -21,11 +21,11 @@ use Rattle.vault.specs.Outcomes.{IfEnded}
 use Rattle.hail_client.specs.declared.client.Client.{Client}
 use Rattle.hail_client.specs.Client.{is_open, next_job_of, coming_of, names_of, IsSame}
 use Rattle.hail_client.specs.Outcomes.{begin_outcome, step_outcome, replace_outcome}
-use Rattle.hail_client.specs.Stands.{ClientStands, Makes, IsReached, RunsJobOn}
+use Rattle.hail_client.specs.Stands.{ClientStands, MakesEvent, IsReached, RunsJobOn}
 use Rattle.vault_core.specs.Coming.{IsNoJob}
 use Rattle.transcript_lines.specs.declared.came.Came.{Came}
 use Rattle.transcript_lines.specs.declared.came.Came.TheVariants as came
-use Rattle.hail_replay.specs.Performed.{outcome_in, StandsWhereOpen, Performs, IsKept, IsPerformed}
+use Rattle.hail_replay.specs.Performed.{outcome_in, StandsWhereOpen, Performs, KeepsStanding, IsPerformed}
 use Rattle.hail_replay.proofs.Same.{Same}
 use Rattle.hail_replay.proofs.Arms.{begun-kept, closed-kept, closed-coming, step-kept, run-kept, replaced-kept, same-kept}
 use Rattle.hail_replay.proofs.Behind.{once, run, not-run, turn-heard}
@@ -38,7 +38,7 @@ performed-as event other came c next d e is P = subst (λ (x : Read). IsPerforme
 
 -- a begin
 pub begun : (c next : Client) (d : Devices) (kind : Kind) (result : Option (Result ℕ BeginFault)) → StandsWhereOpen c d
-    → ((w : State) (there : Devices) (moment : ℕ) → ClientStands c there w → Makes w moment (Begin kind) (begin_outcome result) next there)
+    → ((w : State) (there : Devices) (moment : ℕ) → ClientStands c there w → MakesEvent w moment (Begin kind) (begin_outcome result) next there)
     → IsPerformed (Once (Begin kind)) (Some (came.Begun result)) c next d d
 begun c next d kind result S makes = record {
   machine = λ start ms told R. once (Begin kind) (Some (came.Begun result)) c next d d (λ w moment T. makes w d moment T) (λ w es T. refl) start ms R;
@@ -47,7 +47,7 @@ begun c next d kind result S makes = record {
 
 -- a step, which does nothing where no vault is open
 pub stepped : (job : ℕ) (c next : Client) (d e : Devices) (t : Option Turn) → StandsWhereOpen c d → is_some e.holds ≡ is_some d.holds
-    → ((w : State) (moment : ℕ) → ClientStands c d w → Makes w moment (Step job) (step_outcome t) next e)
+    → ((w : State) (moment : ℕ) → ClientStands c d w → MakesEvent w moment (Step job) (step_outcome t) next e)
     → ((w : State) → ClientStands c d w → IfSome t (λ t. IfEnded t (λ ended. ended.heard ≡ heard_by (job_of w.jobs job))))
     → (coming_of c job ≡ IsNoJob → IsSame c next × (e ≡ d))
     → IsPerformed (Once (Step job)) (Some (came.Stepped t)) c next d e
@@ -56,7 +56,7 @@ stepped job c next d e t S tells makes heard none = record {
       (λ w es T. ap (λ (x : List Entry). es ++ x) (turn-heard w job t (heard w T))) start ms R;
   kept = elim (cases_Bool (is_open c)) [
     | inl opened ↦ step-kept c next d e tells job (step_outcome t) S opened makes
-    | inr closed ↦ (let n = none (closed-coming c job closed) in subst (λ (x : Devices). IsKept c next d x) (sym n.1) (closed-kept c next d closed n.0))
+    | inr closed ↦ (let n = none (closed-coming c job closed) in subst (λ (x : Devices). KeepsStanding c next d x) (sym n.1) (closed-kept c next d closed n.0))
   ];
 }
 
@@ -81,7 +81,7 @@ not-ran job c d spelled S closed = record {
 pub replaced : (event : Event) (c : Client) (holds : Option Cells) (faults : ℕ) (ps qs : List Provider) (result : Bool)
     → ((w u : State) → Happens 8 0 w event (replace_outcome result) u → Same w u)
     → ((w : State) (es : List Entry) → reported_after event es ++ heard_at w event (replace_outcome result) ≡ es ++ [])
-    → ((w : State) (holds : Option Cells) (faults moment : ℕ) → ClientStands c (devices holds faults ps) w → Makes w moment event (replace_outcome result) c (devices holds faults qs))
+    → ((w : State) (holds : Option Cells) (faults moment : ℕ) → ClientStands c (devices holds faults ps) w → MakesEvent w moment event (replace_outcome result) c (devices holds faults qs))
     → StandsWhereOpen c (devices holds faults ps)
     → IsPerformed (Once event) (Some (came.Replaced result)) c c (devices holds faults ps) (devices holds faults qs)
 replaced event c holds faults ps qs result leaves quiet makes S = record {

@@ -1,6 +1,6 @@
 -- What a client stands for; and a client with no vault open stands for a state over devices of which nothing is known.
-use Rattle.std.proofs.Common.{◌≡◌, ℕ, zero, suc, ◌<◌, Bool, true, false, List, [], ◌∷◌, length, Option, Some, None, refl, sym, subst, arith}
-use Rattle.std.specs.Prelude.{is_some, slice_get}
+use Rattle.std.proofs.Common.{◌≡◌, ℕ, ◌<◌, Bool, true, false, List, [], ◌∷◌, length, Option, Some, None, refl, sym, subst, arith}
+use Rattle.std.specs.Prelude.{is_some}
 use Rattle.std.specs.Option.{option_map}
 use Rattle.std.proofs.lemmas.Bool.{false≢true}
 use Rattle.hail_devices.specs.Providers.{Provider}
@@ -11,21 +11,14 @@ use Rattle.hail_machine.specs.States.{State}
 use Rattle.sound_states.specs.Sound.{IsSound, IsAtRest}
 use Rattle.sound_states.proofs.Resting.{rest-sound}
 use Rattle.vault.specs.declared.vault.Vault.{Vault}
-use Rattle.vault.specs.Devices.{Devices, devices, AreDevices}
+use Rattle.vault.specs.Devices.{Devices, devices}
 use Rattle.vault.specs.Seen.{table_of}
 use Rattle.hail_client.specs.declared.client.Client.{Client}
-use Rattle.hail_client.specs.Client.{is_open, next_job_by, names_of}
+use Rattle.hail_client.specs.Client.{is_open, names_of}
 use Rattle.hail_client.specs.Outcomes.{names_outcome}
-use Rattle.hail_client.specs.Start.{provider_at}
-use Rattle.hail_client.specs.Stands.{StandsBy, ClientStands, Makes, IsStanding}
-
-pub devices-of : (o : Option Vault) (next : ℕ) (d : Devices) (w : State) → StandsBy o next d w → AreDevices d w
-devices-of (Some v) next d w S = S.devices
-devices-of None next d w S = S.devices
-
-pub next-of : (o : Option Vault) (next : ℕ) (d : Devices) (w : State) → StandsBy o next d w → w.next_job ≡ next_job_by o next
-next-of (Some v) next d w S = sym S.core.next_job
-next-of None next d w S = S.next_job_is
+use Rattle.hail_client.specs.Start.{provider_or_empty}
+use Rattle.hail_client.specs.Stands.{StandsBy, ClientStands, MakesEvent, IsStanding}
+use Rattle.hail_client.proofs.Fresh.{each-at}
 
 pub open-by : (o : Option Vault) (next : ℕ) (d : Devices) (w : State) → StandsBy o next d w → w.is_open ≡ is_some o
 open-by (Some v) next d w S = S.core.is_open
@@ -36,7 +29,7 @@ lists-by : (o : Option Vault) (next : ℕ) (d : Devices) (w : State) → StandsB
 lists-by (Some v) next d w S = subst (λ b. Lists w b (events.Listed (table_of v).files) w) (sym S.core.is_open) (S.core.table.files, refl)
 lists-by None next d w S = subst (λ b. Lists w b Closed w) (sym S.closed) refl
 
-pub lists : (w : State) (moment : ℕ) (c : Client) (d : Devices) → ClientStands c d w → Makes w moment Names (names_outcome (names_of c)) c d
+pub lists : (w : State) (moment : ℕ) (c : Client) (d : Devices) → ClientStands c d w → MakesEvent w moment Names (names_outcome (names_of c)) c d
 lists w moment c d S = record { state = w; spelled = tt; happens = lists-by c.vault c.next_job d w S; stands = S }
 
 -- ---- no vault is open
@@ -51,7 +44,7 @@ bare next ps = record {
   next_job = next;
   append = None;
   doubt = None;
-  providers = provider_at ps;
+  providers = provider_or_empty ps;
   handed = length ps;
   disk_faults = 0;
   is_open = false;
@@ -69,11 +62,6 @@ bare-rests next ps = record {
   set_up = λ opened. absurd (false≢true opened);
   handed = λ opened. absurd (false≢true opened);
 }
-
-each-at : (ps : List Provider) (j : ℕ) → j < length ps → slice_get ps j ≡ Some (provider_at ps j)
-each-at [] j l = absurd (omega (arith, l))
-each-at (p ∷ ps) zero l = refl
-each-at (p ∷ ps) (suc j) l = each-at ps j (omega (arith, l))
 
 stands-bare : (o : Option Vault) (next : ℕ) (ps : List Provider) → is_some o ≡ false → StandsBy o next (devices None 0 ps) (bare next ps)
 stands-bare (Some v) next ps closed = absurd (false≢true (sym closed))

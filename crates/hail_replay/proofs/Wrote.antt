@@ -1,21 +1,18 @@
 -- The lines of several events, one behind the other.
 use Rattle.std.proofs.Common.{◌≡◌, ◌≢◌, ◌⊎◌, inl, inr, ℕ, zero, suc, ◌+◌, ◌<◌, ◌≤◌, List, [], ◌∷◌, ◌++◌, length, take, Option, Some, None, refl, ap, sym, subst, ◌∙◌, arith}
 use Rattle.std.proofs.lemmas.Bool.{cases_lt}
-use Rattle.std.proofs.lemmas.List.{append-nil, append_assoc, length-append, take_all}
+use Rattle.std.proofs.lemmas.List.{append-nil, length-append, take_all}
 use Rattle.hail_devices.specs.Faults.{Rose, last_count}
 use Rattle.hail_devices.specs.Told.{told_then, TakesFront}
-use Rattle.hail_commands.specs.Sinking.{Sinking, Writes}
+use Rattle.hail_commands.specs.Sinking.{Sinking, WritesLine}
 use Rattle.hail_replay.specs.Answers.{CarriedOut}
+use Rattle.stream_model.proofs.ToldLemmas.{told_then-append}
 
 -- a sink told and counted these
 abbrev pub sank : Option (List ℕ) → Option (List ℕ) → ℕ → ℕ → Sinking
 sank old new before now = record { old = old; new = new; before = before; now = now }
 
 -- ---- what is told
-
-told-append : (told : Option (List ℕ)) (xs ys : List ℕ) → told_then (told_then told xs) ys ≡ told_then told (xs ++ ys)
-told-append None xs ys = refl
-told-append (Some zs) xs ys = ap Some (append_assoc zs xs ys)
 
 told-none : (told : Option (List ℕ)) → told ≡ told_then told []
 told-none None = refl
@@ -29,7 +26,7 @@ front-behind : (first mid last : Option (List ℕ)) (xs ys : List ℕ) → mid �
 front-behind first mid last xs ys is (n, few, takes) = (
   length xs + n,
   (let l = length-append xs ys in omega (arith, l, few)),
-  takes ∙ ap (λ t. told_then t (take n ys)) is ∙ told-append first xs (take n ys) ∙ ap (told_then first) (sym (take-behind xs ys n)),
+  takes ∙ ap (λ t. told_then t (take n ys)) is ∙ told_then-append first xs (take n ys) ∙ ap (told_then first) (sym (take-behind xs ys n)),
 )
 
 whole-front : (first mid : Option (List ℕ)) (xs : List ℕ) → mid ≡ told_then first xs → TakesFront first mid xs
@@ -40,12 +37,12 @@ nothing-taken told text = (0, omega arith, told-none told)
 
 -- ---- what was written
 
-pub all-written : (first mid : Option (List ℕ)) (b f : ℕ) (lines : List ℕ) → Writes lines 0 (sank first mid b f) → mid ≡ told_then first lines
+pub all-written : (first mid : Option (List ℕ)) (b f : ℕ) (lines : List ℕ) → WritesLine lines 0 (sank first mid b f) → mid ≡ told_then first lines
 all-written first mid b f lines (inl (s, is)) = is
 all-written first mid b f lines (inr (inl (ne, s, rose, front))) = absurd (omega (arith, s))
 all-written first mid b f lines (inr (inr (s, front))) = absurd (omega (arith, s))
 
-pub nothing-written : (first : Option (List ℕ)) (b : ℕ) → Writes [] 0 (sank first first b b)
+pub nothing-written : (first : Option (List ℕ)) (b : ℕ) → WritesLine [] 0 (sank first first b b)
 nothing-written first b = inl (refl, told-none first)
 
 not-empty : (xs ys : List ℕ) → ys ≢ [] → xs ++ ys ≢ []
@@ -60,10 +57,10 @@ rose-since b f g low never rose l = elim (cases_lt f last_count) [
 
 -- the lines of one event more
 pub written-on : (first mid last : Option (List ℕ)) (b f g : ℕ) (lines more : List ℕ) (status : ℕ) → b ≤ f → f ≤ g
-    → Writes lines 0 (sank first mid b f) → Writes more status (sank mid last f g) → Writes (lines ++ more) status (sank first last b g)
+    → WritesLine lines 0 (sank first mid b f) → WritesLine more status (sank mid last f g) → WritesLine (lines ++ more) status (sank first last b g)
 written-on first mid last b f g lines more status low never so_far (inl (s, is)) =
     (let here = all-written first mid b f lines so_far in
-    inl (s, is ∙ ap (λ t. told_then t more) here ∙ told-append first lines more))
+    inl (s, is ∙ ap (λ t. told_then t more) here ∙ told_then-append first lines more))
 written-on first mid last b f g lines more status low never so_far (inr (inl (ne, s, rose, front))) =
     (let here = all-written first mid b f lines so_far in
     inr (inl (not-empty lines more ne, s, rose-since b f g low never rose, front-behind first mid last lines more here front)))
@@ -72,11 +69,11 @@ written-on first mid last b f g lines more status low never so_far (inr (inr (s,
     inr (inr (s, front-behind first mid last lines more here front)))
 
 -- want of memory before the next event
-pub written-out : (first mid : Option (List ℕ)) (b f : ℕ) (lines : List ℕ) → Writes lines 0 (sank first mid b f) → Writes lines 70 (sank first mid b f)
+pub written-out : (first mid : Option (List ℕ)) (b f : ℕ) (lines : List ℕ) → WritesLine lines 0 (sank first mid b f) → WritesLine lines 70 (sank first mid b f)
 written-out first mid b f lines so_far = inr (inr (refl, whole-front first mid lines (all-written first mid b f lines so_far)))
 
 -- how it ends
-pub ends-of : (lines : List ℕ) (status : ℕ) (sink : Sinking) → Writes lines status sink → CarriedOut status sink
+pub ends-of : (lines : List ℕ) (status : ℕ) (sink : Sinking) → WritesLine lines status sink → CarriedOut status sink
 ends-of lines status sink (inl (s, is)) = inl s
 ends-of lines status sink (inr (inl (ne, s, rose, front))) = inr (inl (s, rose))
 ends-of lines status sink (inr (inr (s, front))) = inr (inr s)

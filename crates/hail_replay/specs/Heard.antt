@@ -1,7 +1,7 @@
 -- What several jobs heard.
 --
 --   joined lists    == the entries of some lists, one behind the other
---   entries_of h    == all that was heard, in the order of the jobs' ends
+--   entries_heard h    == all that was heard, in the order of the jobs' ends
 --   room_of h       == for how many more jobs there is room
 use Rattle.std.specs.Prelude.{ℕ, ◌-◌, List, [], ◌∷◌, ◌++◌, Option, Some, None, vec_len, vec_capacity}
 use Rattle.std.specs.declared.alloc.Global.{Global}
@@ -20,8 +20,8 @@ entries_behind None = []
 entries_behind (Some more) = joined more.items
 
 -- all that was heard
-abbrev pub entries_of : HeardLists → List Entry
-entries_of h = h.first ++ entries_behind h.more
+abbrev pub entries_heard : HeardLists → List Entry
+entries_heard h = h.first ++ entries_behind h.more
 
 -- the room of lists that may be there
 abbrev pub room_behind : Option (Vec (List Entry) Global) → ℕ

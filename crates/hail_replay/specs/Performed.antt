@@ -7,7 +7,7 @@
 --                             reached the moment behind it; what all jobs heard grows by what this one heard
 --   StandsWhereOpen c d    == where a vault is open, client and devices stand for some state
 --   NoCountFell old new    == no count of faults of the disk or of a provider fell, and no provider came or went
---   IsKept c next old new  == client and devices stand as before where a vault is open, at most one job number was used up, a disk that
+--   KeepsStanding c next old new  == client and devices stand as before where a vault is open, at most one job number was used up, a disk that
 --                             tells goes on to, and no count of faults fell
 --   IsPerformed command came c next old new == one call performs a command, behind every run, and they are kept
 use Rattle.std.specs.Prelude.{◌≡◌, ℕ, ◌+◌, ◌≤◌, true, List, [], ◌∷◌, ◌++◌, Option, Some, None, IsSome, is_some, length}
@@ -69,7 +69,7 @@ pub record NoCountFell (old new : Devices) : Type 0 where
   pub others : (j : ℕ) → (provider_at old.providers j).other_faults ≤ (provider_at new.providers j).other_faults
 
 -- what every event keeps, whatever the devices hold
-pub record IsKept (c next : Client) (old new : Devices) : Type 0 where
+pub record KeepsStanding (c next : Client) (old new : Devices) : Type 0 where
   pub standing : StandsWhereOpen next new
   pub jobs : next_job_of next ≤ next_job_of c + 1
   pub tells : is_some new.holds ≡ is_some old.holds
@@ -78,4 +78,4 @@ pub record IsKept (c next : Client) (old new : Devices) : Type 0 where
 -- one call performs a command; over a disk that tells it is an event of the machine
 pub record IsPerformed (command : Command) (came : Option Came) (c next : Client) (old new : Devices) : Type 0 where
   pub machine : (start : State) (ms : List Moment) → IsSome old.holds → IsReached start ms c old → Performs start ms command came next new
-  pub kept : IsKept c next old new
+  pub kept : KeepsStanding c next old new

@@ -6,7 +6,7 @@
 --   Replays start before commands status sink heard d == such moments carry out the commands in order, up to those left, of which there are none
 --       at status 0; their lines are written, or a front of them where a counted fault of the sink or want of memory cut them off
 use Rattle.std.specs.Prelude.{◌≡◌, ℕ, List, [], ◌++◌, reverse}
-use Rattle.hail_commands.specs.Sinking.{Sinking, Writes}
+use Rattle.hail_commands.specs.Sinking.{Sinking, WritesLine}
 use Rattle.hail_machine.specs.Failures.{Count, count_in, HasFailures, RoseBy}
 use Rattle.hail_machine.specs.Heard.{Entry, heard_in}
 use Rattle.hail_machine.specs.Runs.{Moment, now, IsRun}
@@ -35,4 +35,4 @@ pub record Replays (start : State) (before : List Moment) (commands : List Comma
   pub later : List Moment
   pub lines : List ℕ
   pub carries : CarriesOn start before done later lines heard d
-  pub wrote : Writes lines status sink
+  pub wrote : WritesLine lines status sink

@@ -5,7 +5,7 @@
 --   RunsTo start before commands heard d == commands are carried out in order, up to those left
 --   CountsTo expected start before commands counts heard d == all of these commands are carried out, and come to these counts
 use Rattle.std.specs.Prelude.{◌≡◌, ℕ, List, ◌++◌, reverse}
-use Rattle.hail_commands.specs.Sinking.{Sinking, Writes}
+use Rattle.hail_commands.specs.Sinking.{Sinking, WritesLine}
 use Rattle.hail_machine.specs.Heard.{Entry}
 use Rattle.hail_machine.specs.Runs.{Moment}
 use Rattle.hail_machine.specs.States.{State}
@@ -23,7 +23,7 @@ pub record RunsTrial (number : ℕ) (start : State) (before : List Moment) (stat
   pub carries : CarriesOn start before (reverse (trial_commands number)) later left_out heard d
   pub text : List ℕ
   pub tells : TellsTrial number later text
-  pub wrote : Writes text status sink
+  pub wrote : WritesLine text status sink
 
 -- a front of commands is carried out
 pub record RunsTo (start : State) (before : List Moment) (commands : List Command) (heard : List Entry) (d : Devices) : Type 0 where

@@ -6,7 +6,7 @@
 --   HasRun start base done heard c d == the same of some moments
 --   HasCounted expected start base done counts heard c d == the same of some moments, which come to these counts
 use Rattle.std.specs.Prelude.{◌≡◌, ℕ, List, ◌++◌}
-use Rattle.hail_commands.specs.Sinking.{Sinking, Writes}
+use Rattle.hail_commands.specs.Sinking.{Sinking, WritesLine}
 use Rattle.hail_machine.specs.Heard.{Entry, heard_in}
 use Rattle.hail_machine.specs.Runs.{Moment}
 use Rattle.hail_machine.specs.States.{State}
@@ -27,7 +27,7 @@ pub record HasDone (start : State) (base : List Moment) (done : List Command) (s
   pub later : List Moment
   pub lines : List ℕ
   pub come : HasCome start base done later lines heard c d
-  pub wrote : Writes lines status sink
+  pub wrote : WritesLine lines status sink
 
 -- some moments carry them out
 pub record HasRun (start : State) (base : List Moment) (done : List Command) (heard : List Entry) (c : Client) (d : Devices) : Type 0 where

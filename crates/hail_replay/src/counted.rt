@@ -7,8 +7,8 @@ ghost use Rattle.schedule_text.specs.Events.{command_of, commands_of};
 ghost use Rattle.trial_maker.specs.Trials.{trial_bytes, trial_commands};
 ghost use Rattle.hail_client.specs.Client.{next_job_of};
 ghost use Rattle.hail_replay.specs.Answers.{CarriedOut};
-ghost use Rattle.hail_replay.specs.Heard.{entries_of, room_of};
-ghost use Rattle.hail_replay.specs.Performed.{StandsWhereOpen, IsKept, NoCountFell};
+ghost use Rattle.hail_replay.specs.Heard.{entries_heard, room_of};
+ghost use Rattle.hail_replay.specs.Performed.{StandsWhereOpen, KeepsStanding, NoCountFell};
 ghost use Rattle.hail_replay.specs.Starts.{devices_of, sinking_of, AreLeft};
 ghost use Rattle.hail_replay.specs.Trials.{RunsTrial, RunsTo, CountsTo};
 ghost use Rattle.hail_replay.specs.UnderWay.{HasRun, HasCounted};
@@ -46,14 +46,14 @@ fn trial_event<D: Disk, P: Tamper>(
     requires room { 1 ≤ room_of heard.old }
     requires events { tally.old.events < 2 ^ 64 - 1 }
     ensures ok { OnOk result ((start : State) (base : List Moment) (done : List Command) → IsSome (D.holds disk.old)
-        → HasCounted expected.now start base done tally.old (entries_of heard.old) client.old (devices_of D.Disk P.Provider disk.old providers.old)
-        → HasCounted expected.now start base (command_of event ∷ done) tally.new (entries_of heard.new) client.new
+        → HasCounted expected.now start base done tally.old (entries_heard heard.old) client.old (devices_of D.Disk P.Provider disk.old providers.old)
+        → HasCounted expected.now start base (command_of event ∷ done) tally.new (entries_heard heard.new) client.new
         (devices_of D.Disk P.Provider disk.new providers.new)) }
     ensures err { OnErr result ((start : State) (base : List Moment) (done : List Command) → IsSome (D.holds disk.old)
-        → HasRun start base done (entries_of heard.old) client.old (devices_of D.Disk P.Provider disk.old providers.old)
-        → HasRun start base (command_of event ∷ done) (entries_of heard.new) client.new (devices_of D.Disk P.Provider disk.new providers.new)) }
+        → HasRun start base done (entries_heard heard.old) client.old (devices_of D.Disk P.Provider disk.old providers.old)
+        → HasRun start base (command_of event ∷ done) (entries_heard heard.new) client.new (devices_of D.Disk P.Provider disk.new providers.new)) }
     ensures counted { tally.new.events ≤ tally.old.events + 1 }
-    ensures kept { IsKept client.old client.new (devices_of D.Disk P.Provider disk.old providers.old) (devices_of D.Disk P.Provider disk.new providers.new) }
+    ensures kept { KeepsStanding client.old client.new (devices_of D.Disk P.Provider disk.old providers.old) (devices_of D.Disk P.Provider disk.new providers.new) }
 {
     let came = perform(alloc, client, event, disk, providers);
     let came = named(came, client);
@@ -73,11 +73,11 @@ fn count_events<D: Disk, P: Tamper>(
     providers: &mut [P],
 ) -> Result<Tally, Memory>
     requires few { length events.items < 2 ^ 32 - 2 }
-    requires nothing { entries_of heard.old ≡ [] }
+    requires nothing { entries_heard heard.old ≡ [] }
     ensures ok { IfOk result (λ tally. (start : State) (before : List Moment) → IsSome (D.holds disk.old) → AreLeft start before (devices_of D.Disk P.Provider disk.old providers.old)
-        → CountsTo expected.now start before (commands_of events.items) tally (entries_of heard.new) (devices_of D.Disk P.Provider disk.new providers.new)) }
+        → CountsTo expected.now start before (commands_of events.items) tally (entries_heard heard.new) (devices_of D.Disk P.Provider disk.new providers.new)) }
     ensures err { OnErr result ((start : State) (before : List Moment) → IsSome (D.holds disk.old) → AreLeft start before (devices_of D.Disk P.Provider disk.old providers.old)
-        → RunsTo start before (commands_of events.items) (entries_of heard.new) (devices_of D.Disk P.Provider disk.new providers.new)) }
+        → RunsTo start before (commands_of events.items) (entries_heard heard.new) (devices_of D.Disk P.Provider disk.new providers.new)) }
     ensures tells { is_some (D.holds disk.new) ≡ is_some (D.holds disk.old) }
     ensures counts { NoCountFell (devices_of D.Disk P.Provider disk.old providers.old) (devices_of D.Disk P.Provider disk.new providers.new) }
 {
@@ -115,10 +115,10 @@ fn tell_trial<D: Disk, P: Tamper, K: Sink>(
 ) -> u8
     requires events { commands_of trial.events.items ≡ trial_commands number }
     requires expected { trial.expected ≡ trial_bytes number }
-    requires nothing { entries_of heard.old ≡ [] }
+    requires nothing { entries_heard heard.old ≡ [] }
     ensures runs { (start : State) (before : List Moment) → IsSome (D.holds disk.old) → AreLeft start before (devices_of D.Disk P.Provider disk.old providers.old)
-        → RunsTrial number start before result (sinking_of K.Sink sink.old sink.new) (entries_of heard.new) (devices_of D.Disk P.Provider disk.new providers.new)
-        ⊎ ((result ≡ 70) × (K.written sink.new ≡ K.written sink.old) × RunsTo start before (trial_commands number) (entries_of heard.new)
+        → RunsTrial number start before result (sinking_of K.Sink sink.old sink.new) (entries_heard heard.new) (devices_of D.Disk P.Provider disk.new providers.new)
+        ⊎ ((result ≡ 70) × (K.written sink.new ≡ K.written sink.old) × RunsTo start before (trial_commands number) (entries_heard heard.new)
         (devices_of D.Disk P.Provider disk.new providers.new)) }
     ensures ends { CarriedOut result (sinking_of K.Sink sink.old sink.new) }
     ensures tells { is_some (D.holds disk.new) ≡ is_some (D.holds disk.old) }
@@ -145,9 +145,9 @@ pub fn trial<D: Disk, P: Tamper, K: Sink>(
     sink: &mut K,
 ) -> Replayed
     ensures runs { (start : State) (before : List Moment) → IsSome (D.holds disk.old) → AreLeft start before (devices_of D.Disk P.Provider disk.old providers.old)
-        → RunsTrial number start before result.status (sinking_of K.Sink sink.old sink.new) (entries_of result.heard)
+        → RunsTrial number start before result.status (sinking_of K.Sink sink.old sink.new) (entries_heard result.heard)
         (devices_of D.Disk P.Provider disk.new providers.new)
-        ⊎ ((result.status ≡ 70) × (K.written sink.new ≡ K.written sink.old) × RunsTo start before (trial_commands number) (entries_of result.heard)
+        ⊎ ((result.status ≡ 70) × (K.written sink.new ≡ K.written sink.old) × RunsTo start before (trial_commands number) (entries_heard result.heard)
         (devices_of D.Disk P.Provider disk.new providers.new)) }
     ensures ends { CarriedOut result.status (sinking_of K.Sink sink.old sink.new) }
     ensures tells { is_some (D.holds disk.new) ≡ is_some (D.holds disk.old) }

@@ -1,6 +1,6 @@
 // What the jobs of a replay heard.
 ghost use Rattle.std.specs.Prelude.{◌≡◌, ◌≤◌, ◌++◌, [], OnOk};
-ghost use Rattle.hail_replay.specs.Heard.{entries_of, room_of, joined};
+ghost use Rattle.hail_replay.specs.Heard.{entries_heard, room_of, joined};
 
 use std::alloc::Global;
 use stream_model::Memory;
@@ -16,7 +16,7 @@ pub struct HeardLists {
 impl HeardLists {
     /// What one job heard. It takes no memory, and there is no room for more.
     pub fn one(list: HeardList) -> HeardLists
-        ensures { entries_of result ≡ list }
+        ensures { entries_heard result ≡ list }
     {
         HeardLists {
             first: list,
@@ -26,7 +26,7 @@ impl HeardLists {
 
     /// Nothing heard.
     pub fn new(alloc: Global) -> HeardLists
-        ensures { entries_of result ≡ [] }
+        ensures { entries_heard result ≡ [] }
     {
         HeardLists {
             first: HeardList::new(),
@@ -36,7 +36,7 @@ impl HeardLists {
 
     /// Makes room for what one more job heard.
     pub fn reserve(&mut self, alloc: Global) -> Result<(), Memory>
-        ensures same { entries_of self.new ≡ entries_of self.old }
+        ensures same { entries_heard self.new ≡ entries_heard self.old }
         ensures room { OnOk result (1 ≤ room_of self.new) }
     {
         match &mut self.more {
@@ -54,7 +54,7 @@ impl HeardLists {
     #[tactic(auto, using(crate::proofs::Lists::behind_first))]
     pub fn push(&mut self, list: HeardList)
         requires { 1 ≤ room_of self.old }
-        ensures { entries_of self.new ≡ entries_of self.old ++ list }
+        ensures { entries_heard self.new ≡ entries_heard self.old ++ list }
     {
         match &mut self.more {
             Some(more) => more.push_reserved(list),
@@ -64,7 +64,7 @@ impl HeardLists {
 
     /// What was heard, job by job: the first list, and those behind it. A list may be of a job that heard nothing.
     pub fn lists(&self) -> (&HeardList, &[HeardList])
-        ensures { entries_of self.now ≡ result.0.now ++ joined result.1.now }
+        ensures { entries_heard self.now ≡ result.0.now ++ joined result.1.now }
     {
         match &self.more {
             Some(more) => (&self.first, more.as_slice()),

@@ -1,6 +1,6 @@
 // The events of a schedule, one after the other, each with its lines.
 ghost use Rattle.std.specs.Prelude.{◌≡◌, ◌≤◌, ◌<◌, ◌-◌, ◌^◌, ℕ, List, ◌∷◌, Option, Some, IsSome, is_some, length};
-ghost use Rattle.hail_commands.specs.Sinking.{Sinking, Writes};
+ghost use Rattle.hail_commands.specs.Sinking.{Sinking, WritesLine};
 ghost use Rattle.hail_machine.specs.Lines.{lines_of};
 ghost use Rattle.hail_machine.specs.Runs.{Moment};
 ghost use Rattle.hail_machine.specs.States.{State};
@@ -9,8 +9,8 @@ ghost use Rattle.schedule_text.specs.Events.{command_of, commands_of};
 ghost use Rattle.transcript_lines.specs.Came.{outcome_of};
 ghost use Rattle.hail_client.specs.Client.{next_job_of};
 ghost use Rattle.hail_replay.specs.Answers.{CarriedOut};
-ghost use Rattle.hail_replay.specs.Heard.{entries_of, room_of};
-ghost use Rattle.hail_replay.specs.Performed.{outcome_in, heard_in_came, StandsWhereOpen, IsKept, NoCountFell};
+ghost use Rattle.hail_replay.specs.Heard.{entries_heard, room_of};
+ghost use Rattle.hail_replay.specs.Performed.{outcome_in, heard_in_came, StandsWhereOpen, KeepsStanding, NoCountFell};
 ghost use Rattle.hail_replay.specs.Replayed.{Replays};
 ghost use Rattle.hail_replay.specs.Starts.{devices_of, sinking_of, sinking_since, AreLeft};
 ghost use Rattle.hail_replay.specs.UnderWay.{HasDone};
@@ -60,7 +60,7 @@ pub(crate) fn heard_of(came: Came<'_>) -> HeardList
 
 /// Writes the lines of an event.
 fn tell<K: Sink>(alloc: Global, came: &Came<'_>, sink: &mut K) -> u8
-    ensures writes { Writes (lines_of (outcome_of came.now)) result (sinking_of K.Sink sink.old sink.new) }
+    ensures writes { WritesLine (lines_of (outcome_of came.now)) result (sinking_of K.Sink sink.old sink.new) }
     ensures count { K.faults sink.old ≤ K.faults sink.new }
 {
     match came_lines(alloc, came) {
@@ -83,10 +83,10 @@ fn replay_event<D: Disk, P: Tamper, K: Sink>(
     requires number { next_job_of client.old < 2 ^ 32 - 1 }
     requires room { 1 ≤ room_of heard.old }
     ensures goes_on { (start : State) (base : List Moment) (done : List Command) (first : Option (List ℕ)) (before : ℕ) → IsSome (D.holds disk.old) → before ≤ K.faults sink.old
-        → HasDone start base done 0 (sinking_since K.Sink first before sink.old) (entries_of heard.old) client.old (devices_of D.Disk P.Provider disk.old providers.old)
-        → HasDone start base (command_of event ∷ done) result (sinking_since K.Sink first before sink.new) (entries_of heard.new) client.new
+        → HasDone start base done 0 (sinking_since K.Sink first before sink.old) (entries_heard heard.old) client.old (devices_of D.Disk P.Provider disk.old providers.old)
+        → HasDone start base (command_of event ∷ done) result (sinking_since K.Sink first before sink.new) (entries_heard heard.new) client.new
         (devices_of D.Disk P.Provider disk.new providers.new) }
-    ensures kept { IsKept client.old client.new (devices_of D.Disk P.Provider disk.old providers.old) (devices_of D.Disk P.Provider disk.new providers.new) }
+    ensures kept { KeepsStanding client.old client.new (devices_of D.Disk P.Provider disk.old providers.old) (devices_of D.Disk P.Provider disk.new providers.new) }
     ensures ends { CarriedOut result (sinking_of K.Sink sink.old sink.new) }
     ensures count { K.faults sink.old ≤ K.faults sink.new }
 {
@@ -108,7 +108,7 @@ pub fn replay<D: Disk, P: Tamper, K: Sink>(
 ) -> Replayed
     requires { length events.items < 2 ^ 32 - 2 }
     ensures runs { (start : State) (before : List Moment) → IsSome (D.holds disk.old) → AreLeft start before (devices_of D.Disk P.Provider disk.old providers.old)
-        → Replays start before (commands_of events.items) result.status (sinking_of K.Sink sink.old sink.new) (entries_of result.heard)
+        → Replays start before (commands_of events.items) result.status (sinking_of K.Sink sink.old sink.new) (entries_heard result.heard)
         (devices_of D.Disk P.Provider disk.new providers.new) }
     ensures ends { CarriedOut result.status (sinking_of K.Sink sink.old sink.new) }
     ensures tells { is_some (D.holds disk.new) ≡ is_some (D.holds disk.old) }

@@ -4,11 +4,11 @@ use Rattle.hail_field.specs.Shape.{IsShape}
 use Rattle.hail_devices.specs.Faults.{last_count}
 use Rattle.hail_codes.specs.Points.{upto}
 use Rattle.hail_codes.specs.DispersalCode.{Accepts}
-use Rattle.hail_commands.specs.Sinking.{Sinking, Writes}
+use Rattle.hail_commands.specs.Sinking.{Sinking, WritesLine}
 use Rattle.hail_commands.specs.Row.{AnswersRow}
 
 -- without a fault nothing but memory cuts a line off
-Writes-complete : (line : List ℕ) (status : ℕ) (sink : Sinking) → Writes line status sink → sink.before < last_count → sink.now ≡ sink.before → (status ≡ 0) ⊎ (status ≡ 70)
+Writes-complete : (line : List ℕ) (status : ℕ) (sink : Sinking) → WritesLine line status sink → sink.before < last_count → sink.now ≡ sink.before → (status ≡ 0) ⊎ (status ≡ 70)
 Writes-complete line status sink (inl done) below still = inl done.0
 Writes-complete line status sink (inr (inl fault)) below still = absurd (omega (arith, fault.2 below, still))
 Writes-complete line status sink (inr (inr memory)) below still = inr memory.0

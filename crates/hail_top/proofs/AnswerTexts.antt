@@ -3,16 +3,16 @@ use Rattle.std.proofs.Common.{◌≡◌, ℕ, List, take, Option, None, Some, re
 use Rattle.hail_devices.specs.Told.{told_then, TakesFront}
 use Rattle.hail_machine.specs.Jobs.{Kind, PutJob, GetJob, DropJob, AuditJob, RepairJob}
 use Rattle.hail_machine.specs.Answers.{Answer, Put, Got, Dropped, Audited, Repaired, Lost, ProviderFault, DiskFault, Memory}
-use Rattle.hail_commands.specs.Sinking.{Writes}
+use Rattle.hail_commands.specs.Sinking.{WritesLine}
 use Rattle.hail_commands.specs.Seen.{Seen, Ending, sinking}
 use Rattle.hail_commands.specs.Lines.{text_of, stored_line, dropped_line, audit_lines}
 use Rattle.hail_commands.specs.Ran.{Ran}
-use Rattle.hail_commands.specs.Jobs.{LeavesBy, EndsBy}
+use Rattle.hail_commands.specs.Jobs.{LeavesBy, EndsByAnswer}
 use Rattle.hail_top.specs.declared.tell.Subject.{Subject}
-use Rattle.hail_top.specs.Telling.{IsSubject, IsTextOf, IsFaultOf, TellsAnswer}
+use Rattle.hail_top.specs.Telling.{TellsOf, IsTextOf, IsFaultEnd, TellsAnswer}
 
 -- the text that was told is that of the kind of job, since its answer is one of this kind
-text-by_kind : (x : Ran) (s : Subject) (tolerance : ℕ) (answer : Answer) (kind : Kind) (text : List ℕ) → LeavesBy x kind answer → IsSubject s tolerance kind
+text-by_kind : (x : Ran) (s : Subject) (tolerance : ℕ) (answer : Answer) (kind : Kind) (text : List ℕ) → LeavesBy x kind answer → TellsOf s tolerance kind
     → IsTextOf s answer text → text ≡ text_of tolerance kind answer
 text-by_kind x s tolerance Put (PutJob name bytes) text leaves subject is =
     is ∙ ap (λ (n : List ℕ). stored_line n s.length) subject.0 ∙ ap (λ (n : ℕ). stored_line name n) subject.1
@@ -54,8 +54,8 @@ front-none old new text same = (0, omega arith, same ∙ nothing old)
     nothing (Some bytes) = ap (λ (xs : List ℕ). Some xs) (sym (append-nil bytes))
 
 -- an answer whose text was written
-written-ends : (s : Subject) (answer : Answer) (text : List ℕ) (old new : Seen) (end : Ending) → IsTextOf s answer text → Writes text end.status (sinking old new) → end.at ≡ 0
-    → EndsBy text answer old new end
+written-ends : (s : Subject) (answer : Answer) (text : List ℕ) (old new : Seen) (end : Ending) → IsTextOf s answer text → WritesLine text end.status (sinking old new) → end.at ≡ 0
+    → EndsByAnswer text answer old new end
 written-ends s Put text old new end is writes place = record { written = writes; place = place }
 written-ends s (Got bytes) text old new end is writes place = record { written = writes; place = place }
 written-ends s Dropped text old new end is writes place = record { written = writes; place = place }
@@ -67,7 +67,7 @@ written-ends s DiskFault text old new end is writes place = absurd is
 written-ends s Memory text old new end is writes place = absurd is
 
 -- an answer of which nothing was written
-fault-ends : (answer : Answer) (text : List ℕ) (old new : Seen) (end : Ending) → IsFaultOf answer end.status end.at → new.sink ≡ old.sink → EndsBy text answer old new end
+fault-ends : (answer : Answer) (text : List ℕ) (old new : Seen) (end : Ending) → IsFaultEnd answer end.status end.at → new.sink ≡ old.sink → EndsByAnswer text answer old new end
 fault-ends Put text old new end fault silent = record { written = inr (inr (fault.0, front-none old.sink new.sink text silent)); place = fault.1 }
 fault-ends (Got bytes) text old new end fault silent = record { written = inr (inr (fault.0, front-none old.sink new.sink text silent)); place = fault.1 }
 fault-ends Dropped text old new end fault silent = record { written = inr (inr (fault.0, front-none old.sink new.sink text silent)); place = fault.1 }
@@ -79,9 +79,9 @@ fault-ends DiskFault text old new end fault silent = record { status_is = fault.
 fault-ends Memory text old new end fault silent = record { status_is = fault.0; place = fault.1; sink = silent }
 
 -- how the command ends whose job's answer was told
-pub answer-ends : (x : Ran) (s : Subject) (tolerance : ℕ) (answer : Answer) (kind : Kind) (old new : Seen) (end : Ending) → LeavesBy x kind answer → IsSubject s tolerance kind
-    → TellsAnswer s answer end.status end.at (sinking old new) → EndsBy (text_of tolerance kind answer) answer old new end
+pub answer-ends : (x : Ran) (s : Subject) (tolerance : ℕ) (answer : Answer) (kind : Kind) (old new : Seen) (end : Ending) → LeavesBy x kind answer → TellsOf s tolerance kind
+    → TellsAnswer s answer end.status end.at (sinking old new) → EndsByAnswer (text_of tolerance kind answer) answer old new end
 answer-ends x s tolerance answer kind old new end leaves subject (inl w) =
-    subst (λ (text : List ℕ). EndsBy text answer old new end) (text-by_kind x s tolerance answer kind w.text leaves subject w.text_is)
+    subst (λ (text : List ℕ). EndsByAnswer text answer old new end) (text-by_kind x s tolerance answer kind w.text leaves subject w.text_is)
     (written-ends s answer w.text old new end w.text_is w.written w.place)
 answer-ends x s tolerance answer kind old new end leaves subject (inr f) = fault-ends answer (text_of tolerance kind answer) old new end f.fault f.silent

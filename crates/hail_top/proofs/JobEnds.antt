@@ -20,7 +20,7 @@ use Rattle.vault.specs.declared.turn.Ended.{Ended}
 use Rattle.command_jobs.specs.Ends.{IsSeenBefore, IsRefusedOver, NoFaultUndone, EndsOver}
 use Rattle.hail_top.specs.declared.tell.Subject.{Subject}
 use Rattle.hail_top.specs.Endings.{ends}
-use Rattle.hail_top.specs.Telling.{IsSubject, TellsAnswer}
+use Rattle.hail_top.specs.Telling.{TellsOf, TellsAnswer}
 use Rattle.hail_top.specs.Jobs.{AnswersOver}
 use Rattle.hail_top.proofs.Refused.{refused-told}
 use Rattle.hail_top.proofs.Told.{resynced}
@@ -28,7 +28,7 @@ use Rattle.hail_top.proofs.AnswerTexts.{answer-ends}
 
 -- the job ran to its end, and that was told
 pub ended-told : (subject : Subject) (tolerance : ℕ) (kind : Kind) (records : List Record) (old new : Seen) (end : Ending) (ended : Ended) (written : Option (List ℕ)) (count : ℕ)
-    → old.sink ≡ written → old.sink_faults ≡ count → IsSubject subject tolerance kind → tolerance ≡ (setup_at records).tolerance → EndsOver records kind ended old new
+    → old.sink ≡ written → old.sink_faults ≡ count → TellsOf subject tolerance kind → tolerance ≡ (setup_at records).tolerance → EndsOver records kind ended old new
     → TellsAnswer subject (answer_of ended.answer) end.status end.at (record { old = written; new = new.sink; before = count; now = new.sink_faults })
     → end.heard ≡ ended.heard → AnswersOver kind records old new end
 ended-told subject tolerance kind records old new end ended written count is_written is_count is_subject is over told heard = record {
@@ -36,7 +36,7 @@ ended-told subject tolerance kind records old new end ended written count is_wri
       (subst (λ (entries : List Entry). RunsAlone records kind (answer_of ended.answer) old new entries) (sym heard) over.runs)
       (subst (λ (entries : List Entry). LeftAlone records kind (answer_of ended.answer) old new entries) (sym heard) over.left)
       (answer-ends (ran_alone records old new ended.heard over.left.faults over.left.after over.left.doubt) subject (setup_at records).tolerance (answer_of ended.answer) kind old new end
-      over.left.leaves.by_kind (subst (λ (t : ℕ). IsSubject subject t kind) is is_subject) told_here);
+      over.left.leaves.by_kind (subst (λ (t : ℕ). TellsOf subject t kind) is is_subject) told_here);
   counts = over.counts;
 }
   where

@@ -5,8 +5,8 @@ use Rattle.hail_codes.specs.Polynomials.{value}
 use Rattle.hail_codes.specs.Points.{upto, values_at}
 use Rattle.hail_codes.specs.DispersalCode.{Accepts}
 use Rattle.hail_commands.specs.Line.{values_line}
-use Rattle.hail_commands.specs.Sinking.{Sinking, Writes}
-use Rattle.hail_commands.specs.Row.{Opens, AnswersRow}
+use Rattle.hail_commands.specs.Sinking.{Sinking, WritesLine}
+use Rattle.hail_commands.specs.Row.{OpensRow, AnswersRow}
 
 -- two polynomials that have one value everywhere have the same values at some points
 pub values_at-same : (points p q : List ℕ) → ((x : ℕ) → value p x ≡ value q x) → values_at points p ≡ values_at points q
@@ -14,13 +14,13 @@ values_at-same [] p q same = refl
 values_at-same (x ∷ points) p q same = ap (λ (y : ℕ). y ∷ values_at points p) (same x) ∙ ap (λ (ys : List ℕ). value q x ∷ ys) (values_at-same points p q same)
 
 -- the line of the values that were found answers the row
-pub answers_held : (n l b : ℕ) (seen : List (Option ℕ)) (values shown : List ℕ) (status : ℕ) (sink : Sinking) → IsShape n l b → Opens n l b seen values
+pub answers_held : (n l b : ℕ) (seen : List (Option ℕ)) (values shown : List ℕ) (status : ℕ) (sink : Sinking) → IsShape n l b → OpensRow n l b seen values
     → ((p q : List ℕ) → Accepts (upto n) seen l b p → Accepts (upto n) seen l b q → (x : ℕ) → value p x ≡ value q x)
-    → shown ≡ values → Writes (values_line shown) status sink → AnswersRow n l b seen status sink
+    → shown ≡ values → WritesLine (values_line shown) status sink → AnswersRow n l b seen status sink
 answers_held n l b seen values shown status sink shape opens only is writes = record {
   no_shape = λ none. absurd (none shape);
   lost = λ _ none. absurd (none opens.polynomial opens.accepted);
-  held = λ _ p accepted. subst (λ (line : List ℕ). Writes line status sink)
+  held = λ _ p accepted. subst (λ (line : List ℕ). WritesLine line status sink)
       (ap (λ (xs : List ℕ). values_line xs) (is ∙ opens.values_are ∙ values_at-same (upto l) opens.polynomial p (only opens.polynomial p opens.accepted accepted)))
       writes;
 }

@@ -14,7 +14,7 @@ use Rattle.hail_devices.specs.Cells.{Cells}
 use Rattle.hail_devices.specs.Providers.{Provider}
 use Rattle.hail_commands.specs.Seen.{Seen, Ending}
 use Rattle.vault.specs.Devices.{as_seen}
-use Rattle.hail_replay.specs.Heard.{entries_of}
+use Rattle.hail_replay.specs.Heard.{entries_heard}
 use Rattle.hail_top.specs.declared.report.Report.{Report}
 
 -- what is seen of a disk, of providers, of a source and of a sink, by what they tell and count
@@ -41,7 +41,7 @@ seen_of D P S K disk providers source sink = seen_over D P K disk providers (S.l
 
 -- how a command ended
 abbrev pub ending_of : Report → Ending
-ending_of report = record { status = report.status; at = report.at; heard = entries_of report.heard }
+ending_of report = record { status = report.status; at = report.at; heard = entries_heard report.heard }
 
 -- a command ended so, and heard nothing
 abbrev pub ends : ℕ → ℕ → Ending

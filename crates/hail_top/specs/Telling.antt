@@ -2,17 +2,17 @@
 --
 --   unread_ending fault      == how a command ends whose source was not read
 --   unopened_ending why      == how a command ends for which no vault was opened
---   IsSubject s tolerance kind == what the lines of answers speak of, for a job of this kind
+--   TellsOf s tolerance kind == what the lines of answers speak of, for a job of this kind
 --   no_memory                == there was no memory for a text
 --   IsTextOf s answer text   == the text of an answer; a fault has none
---   IsFaultOf answer status at == the status of a fault and the place that it speaks of; any other answer has want of memory
+--   IsFaultEnd answer status at == the status of a fault and the place that it speaks of; any other answer has want of memory
 --   TellsAnswer s answer status at sink == the text of the answer is written or cut off, or its fault is told
 use Rattle.std.specs.Prelude.{◌≡◌, ◌⊎◌, ℕ, List, length}
 use Rattle.hail_machine.specs.Jobs.{Kind, PutJob, GetJob, DropJob, AuditJob, RepairJob}
 use Rattle.hail_machine.specs.Answers.{Answer, Put, Got, Dropped, Audited, Repaired, Lost, ProviderFault, DiskFault}
 use Rattle.hail_commands.specs.Lines.{stored_line, dropped_line, audit_lines, repaired_line}
 use Rattle.hail_commands.specs.Seen.{Ending}
-use Rattle.hail_commands.specs.Sinking.{Sinking, Writes}
+use Rattle.hail_commands.specs.Sinking.{Sinking, WritesLine}
 use Rattle.command_jobs.specs.declared.open.Unopened.{Unopened}
 use Rattle.command_jobs.specs.declared.open.Unopened.TheVariants as unopened
 use Rattle.hail_top.specs.declared.reading.ReadFault.{ReadFault}
@@ -35,12 +35,12 @@ unopened_ending unopened.TooFewProviders = ends 22 0
 unopened_ending unopened.Memory = ends 70 0
 
 -- what the lines of answers to a job of this kind speak of beside the answer
-abbrev pub IsSubject : Subject → ℕ → Kind → Type 0
-IsSubject s tolerance (PutJob name bytes) = (s.name.now ≡ name) × (s.length ≡ length bytes)
-IsSubject s tolerance (GetJob name) = Unit {0}
-IsSubject s tolerance (DropJob name) = s.name.now ≡ name
-IsSubject s tolerance AuditJob = s.tolerance ≡ tolerance
-IsSubject s tolerance RepairJob = Unit {0}
+abbrev pub TellsOf : Subject → ℕ → Kind → Type 0
+TellsOf s tolerance (PutJob name bytes) = (s.name.now ≡ name) × (s.length ≡ length bytes)
+TellsOf s tolerance (GetJob name) = Unit {0}
+TellsOf s tolerance (DropJob name) = s.name.now ≡ name
+TellsOf s tolerance AuditJob = s.tolerance ≡ tolerance
+TellsOf s tolerance RepairJob = Unit {0}
 
 -- there was no memory for a text
 abbrev pub no_memory : Fault
@@ -56,22 +56,22 @@ IsTextOf s (Repaired number) text = text ≡ repaired_line number
 IsTextOf s answer text = ⊥
 
 -- the status of a fault, and the place that it speaks of; for any other answer, want of memory for its text
-abbrev pub IsFaultOf : Answer → ℕ → ℕ → Type 0
-IsFaultOf (Lost stripe row) status at = (status ≡ 4) × (at ≡ row)
-IsFaultOf (ProviderFault provider) status at = (status ≡ 13) × (at ≡ provider)
-IsFaultOf DiskFault status at = (status ≡ 12) × (at ≡ 0)
-IsFaultOf answer status at = (status ≡ 70) × (at ≡ 0)
+abbrev pub IsFaultEnd : Answer → ℕ → ℕ → Type 0
+IsFaultEnd (Lost stripe row) status at = (status ≡ 4) × (at ≡ row)
+IsFaultEnd (ProviderFault provider) status at = (status ≡ 13) × (at ≡ provider)
+IsFaultEnd DiskFault status at = (status ≡ 12) × (at ≡ 0)
+IsFaultEnd answer status at = (status ≡ 70) × (at ≡ 0)
 
 -- an answer's text was written
 pub record WritesAnswer (s : Subject) (answer : Answer) (status at : ℕ) (sink : Sinking) : Type 0 where
   pub text : List ℕ
   pub text_is : IsTextOf s answer text
-  pub written : Writes text status sink
+  pub written : WritesLine text status sink
   pub place : at ≡ 0
 
 -- an answer was told by its status alone
 pub record TellsFault (answer : Answer) (status at : ℕ) (sink : Sinking) : Type 0 where
-  pub fault : IsFaultOf answer status at
+  pub fault : IsFaultEnd answer status at
   pub silent : sink.new ≡ sink.old
 
 -- an answer was told

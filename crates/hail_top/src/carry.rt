@@ -2,7 +2,7 @@
 ghost use Rattle.std.specs.Prelude.{◌≡◌, ◌≤◌, ◌+◌, ℕ, List, Option, is_some};
 ghost use Rattle.hail_commands.specs.Seen.{ReadsUpTo, NoCountFalls};
 ghost use Rattle.hail_replay.specs.Answers.{longest_schedule, AnswersReplay, AnswersTrial};
-ghost use Rattle.hail_replay.specs.Heard.{entries_of};
+ghost use Rattle.hail_replay.specs.Heard.{entries_heard};
 ghost use Rattle.hail_replay.specs.Performed.{NoCountFell};
 ghost use Rattle.hail_replay.specs.Starts.{devices_of};
 ghost use Rattle.hail_top.specs.Endings.{seen_over, seen_of, ending_of};
@@ -26,7 +26,7 @@ const TRIAL_PROVIDERS: usize = 6;
 
 /// How the events ended.
 fn replayed(end: Replayed) -> Report
-    ensures { ending_of result ≡ record { status = end.status; at = 0; heard = entries_of end.heard } }
+    ensures { ending_of result ≡ record { status = end.status; at = 0; heard = entries_heard end.heard } }
 {
     Report {
         status: end.status,

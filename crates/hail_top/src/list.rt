@@ -4,7 +4,7 @@ ghost use Rattle.hail_devices.specs.Providers.{Provider};
 ghost use Rattle.hail_records.specs.Records.{Record};
 ghost use Rattle.hail_records.specs.Table.{files_of};
 ghost use Rattle.hail_commands.specs.Lines.{list_lines};
-ghost use Rattle.hail_commands.specs.Sinking.{Writes};
+ghost use Rattle.hail_commands.specs.Sinking.{WritesLine};
 ghost use Rattle.hail_commands.specs.Commands.{AnswersList};
 ghost use Rattle.vault.specs.Seen.{table_of};
 ghost use Rattle.vault_table.specs.Values.{IsFoldOf};
@@ -21,7 +21,7 @@ use vault::Vault;
 
 /// Writes the files in effect.
 fn write_files<K: Sink>(alloc: Global, vault: &Vault, sink: &mut K) -> u8
-    ensures written { (records : List Record) → IsFoldOf records (table_of vault.now) → Writes (list_lines (files_of records)) result
+    ensures written { (records : List Record) → IsFoldOf records (table_of vault.now) → WritesLine (list_lines (files_of records)) result
         (record { old = K.written sink.old; new = K.written sink.new; before = K.faults sink.old; now = K.faults sink.new }) }
     ensures count { K.faults sink.old ≤ K.faults sink.new }
 {

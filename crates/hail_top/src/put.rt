@@ -7,7 +7,7 @@ ghost use Rattle.hail_commands.specs.Seen.{Seen, NoCountFalls};
 ghost use Rattle.hail_commands.specs.Opens.{IsOpened};
 ghost use Rattle.hail_commands.specs.Commands.{AnswersPut};
 ghost use Rattle.vault.specs.Devices.{as_seen, devices};
-ghost use Rattle.command_jobs.specs.Opened.{IsFresh, IsReady};
+ghost use Rattle.command_jobs.specs.Opened.{IsFreshOver, IsFreshFor};
 ghost use Rattle.command_jobs.specs.Ends.{IsSeenBefore};
 ghost use Rattle.hail_top.specs.Endings.{seen, ending_of};
 ghost use Rattle.hail_top.specs.Jobs.{PutsOver};
@@ -36,9 +36,9 @@ fn put_read<D: Disk, P: Provider, S: Source, K: Sink>(
     source: &mut S,
     sink: &mut K,
 ) -> Report
-    requires { IsReady vault (D.holds disk.old) (D.faults disk.old) (length providers.old) }
+    requires { IsFreshFor vault (D.holds disk.old) (D.faults disk.old) (length providers.old) }
     ensures over { (records : List Record) (old : Seen)
-        → IsFresh vault records (D.holds disk.old) (D.faults disk.old) → IsOpened old records
+        → IsFreshOver vault records (D.holds disk.old) (D.faults disk.old) → IsOpened old records
         → IsSeenBefore old (devices (D.holds disk.old) (D.faults disk.old) (map (as_seen P.held P.store_faults P.other_faults P.fetches) providers.old))
         → D.holds disk.old ≡ option_map synced old.disk → old.source ≡ S.left source.old → old.source_faults ≡ S.faults source.old
         → old.sink ≡ K.written sink.old → old.sink_faults ≡ K.faults sink.old

@@ -3,9 +3,9 @@ ghost use Rattle.std.specs.Prelude.{◌≡◌, ◌≤◌, ◌↔◌, length, IsS
 ghost use Rattle.hail_field.specs.Shape.{IsShape};
 ghost use Rattle.hail_codes.specs.Points.{upto, values_at};
 ghost use Rattle.hail_codes.specs.DispersalCode.{AcceptsNone};
-ghost use Rattle.hail_commands.specs.Row.{AnswersRow, Opens};
+ghost use Rattle.hail_commands.specs.Row.{AnswersRow, OpensRow};
 ghost use Rattle.hail_commands.specs.Line.{values_line};
-ghost use Rattle.hail_commands.specs.Sinking.{Writes};
+ghost use Rattle.hail_commands.specs.Sinking.{WritesLine};
 
 use crate::report::{BAD_SETUP, NO_MEMORY};
 use command_lines::{tell_no_row, values_line, write_text};
@@ -64,7 +64,7 @@ fn open(alloc: Global, seen: &[Option<Symbol>], shape: Shape) -> Result<Option<V
     requires { length seen.now ≡ shape.n }
     ensures { IfOk result (λ opened. MatchOption opened
         (AcceptsNone (upto shape.n) seen.now shape.l shape.b)
-        (λ values. Opens shape.n shape.l shape.b seen.now values.items)) }
+        (λ values. OpensRow shape.n shape.l shape.b seen.now values.items)) }
 {
     let all = points(alloc, shape.n)?;
     let mut work = Work::new(alloc, MOST)?;
@@ -77,7 +77,7 @@ fn open(alloc: Global, seen: &[Option<Symbol>], shape: Shape) -> Result<Option<V
 
 /// Writes the line of some values.
 fn write_values<K: Sink>(alloc: Global, values: &[Symbol], sink: &mut K) -> u8
-    ensures writes { Writes (values_line values.now) result
+    ensures writes { WritesLine (values_line values.now) result
         (record { old = K.written sink.old; new = K.written sink.new; before = K.faults sink.old; now = K.faults sink.new }) }
     ensures count { K.faults sink.old ≤ K.faults sink.new }
 {

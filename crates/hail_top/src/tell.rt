@@ -2,8 +2,8 @@
 ghost use Rattle.std.specs.Prelude.{◌≡◌, ◌≤◌, IfOk, IfErr};
 ghost use Rattle.vault.specs.Outcomes.{answer_of};
 ghost use Rattle.command_jobs.specs.Kinds.{kind_of};
-ghost use Rattle.hail_replay.specs.Heard.{entries_of};
-ghost use Rattle.hail_top.specs.Telling.{IsSubject, IsTextOf, IsFaultOf, TellsAnswer, no_memory};
+ghost use Rattle.hail_replay.specs.Heard.{entries_heard};
+ghost use Rattle.hail_top.specs.Telling.{TellsOf, IsTextOf, IsFaultEnd, TellsAnswer, no_memory};
 
 use crate::report::{DISK_FAULT, LOST_ROW, NO_MEMORY, PROVIDER_FAULT, Report};
 use command_jobs::Job;
@@ -25,7 +25,7 @@ pub struct Subject<'a> {
 impl<'a> Subject<'a> {
     /// What the line of this job's answer speaks of, in a store that tolerates so many wrong rounds.
     pub fn new(job: &Job<'a>, tolerance: u16) -> Subject<'a>
-        ensures { IsSubject result tolerance (kind_of job.now) }
+        ensures { TellsOf result tolerance (kind_of job.now) }
     {
         let (name, length): (&'a [u8], usize) = match job {
             Job::Put { name, bytes } => (*name, bytes.as_slice().len()),
@@ -61,7 +61,7 @@ impl From<Memory> for Fault {
 /// The text of an answer, or its fault.
 fn text(alloc: Global, subject: &Subject, answer: Answer) -> Result<Bytes, Fault>
     ensures text { IfOk result (IsTextOf subject.now (answer_of answer)) }
-    ensures fault { IfErr result (λ fault. IsFaultOf (answer_of answer) fault.status fault.at) }
+    ensures fault { IfErr result (λ fault. IsFaultEnd (answer_of answer) fault.status fault.at) }
 {
     match answer {
         Answer::Put => Ok(stored_line(alloc, subject.name, subject.length)?),
@@ -96,7 +96,7 @@ fn text(alloc: Global, subject: &Subject, answer: Answer) -> Result<Bytes, Fault
 pub fn ended<K: Sink>(alloc: Global, subject: &Subject, ended: Ended, sink: &mut K) -> Report
     ensures told { TellsAnswer subject.now (answer_of ended.answer) result.status result.at
         (record { old = K.written sink.old; new = K.written sink.new; before = K.faults sink.old; now = K.faults sink.new }) }
-    ensures heard { entries_of result.heard ≡ ended.heard }
+    ensures heard { entries_heard result.heard ≡ ended.heard }
     ensures count { K.faults sink.old ≤ K.faults sink.new }
 {
     let heard = HeardLists::one(ended.heard);

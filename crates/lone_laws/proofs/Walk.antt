@@ -39,16 +39,17 @@ use Rattle.sound_states.proofs.Begun.{begun-job}
 use Rattle.sound_states.proofs.Resting.{rest-sound}
 use Rattle.sound_states.proofs.Events.{events-sound}
 use Rattle.lone_laws.specs.Made.{block_stored, Did, Made}
-use Rattle.lone_laws.specs.Walked.{IsOpened, appends_of, first_record, IsSecondRecord, HasSubject, RecordsAre, with_job_of, TakesAway, Walked}
+use Rattle.hail_openings.specs.Opened.{IsOpenAtRest}
+use Rattle.lone_laws.specs.Walked.{appends_of, first_record, IsSecondRecord, HasSubject, RecordsAre, with_job_of, TakesAway, Walked}
 use Rattle.lone_laws.proofs.Lists.{take-more, made-append, made-one}
 use Rattle.lone_laws.proofs.Prefixes.{same-front, appends-whole, audit-over}
 
 -- ---- the begin
 
-pub opened-sound : (start : State) → IsOpened start → IsSound 8 start
+pub opened-sound : (start : State) → IsOpenAtRest start 1 → IsSound 8 start
 opened-sound start O = rest-sound 8 start O.rest
 
-pub walk-begin : (moment number : ℕ) (start new : State) (kind : Kind) → IsOpened start → IsSpelledKind kind → Begins 8 moment start kind (Begun number) new →
+pub walk-begin : (moment number : ℕ) (start new : State) (kind : Kind) → IsOpenAtRest start 1 → IsSpelledKind kind → Begins 8 moment start kind (Begun number) new →
     (number ≡ 1) × Walked start kind new (new_job start moment kind)
 walk-begin moment number start new kind O spelled (opened, allowed, is_number, is) = (
   is_number ∙ O.next,
@@ -87,7 +88,7 @@ walk-begin moment number start new kind O spelled (opened, allowed, is_number, i
 
 -- ---- steps
 
-module _ (start : State) (O : IsOpened start) (kind : Kind) (w : State) (job : Job) (W : Walked start kind w job) where
+module _ (start : State) (O : IsOpenAtRest start 1) (kind : Kind) (w : State) (job : Job) (W : Walked start kind w job) where
   pub runs : job_of w.jobs job.number ≡ Some job
   runs = ap (λ js. job_of js job.number) W.jobs ∙ cond_true (job.number == job.number) (Some job) None (eq-eqb job.number job.number refl)
 

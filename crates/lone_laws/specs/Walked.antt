@@ -1,6 +1,5 @@
 -- A job that runs alone: where it stands after some of its steps.
 --
---   IsOpened w               == a vault was just opened: it is at rest, and the next job has number 1
 --   appends_of w kind        == how many records a job of this kind appends
 --   first_record w kind      == the first one, over the records of this state
 --   IsSecondRecord w job kind entry  == the second one: a put's end, or an audit's end with the sums of all that it heard
@@ -20,14 +19,8 @@ use Rattle.hail_machine.specs.Space.{append_sizes}
 use Rattle.hail_machine.specs.Begins.{due_number, due_flags, pinned_for}
 use Rattle.hail_machine.specs.Audits.{HasSums}
 use Rattle.hail_machine.specs.Appends.{removable}
-use Rattle.sound_states.specs.Sound.{IsSound, IsAtRest}
+use Rattle.sound_states.specs.Sound.{IsSound}
 use Rattle.lone_laws.specs.Made.{With, Made}
-
--- a vault was just opened
-pub record IsOpened (w : State) : Type 0 where
-  pub rest : IsAtRest w
-  pub opened : w.is_open ≡ true
-  pub next : w.next_job ≡ 1
 
 -- how many records a job of this kind appends
 abbrev pub appends_of : State → Kind → ℕ

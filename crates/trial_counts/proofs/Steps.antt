@@ -4,7 +4,7 @@ use Rattle.std.proofs.lemmas.List.{append-nil}
 use Rattle.hail_machine.specs.Events.{Outcome, More}
 use Rattle.hail_machine.specs.Runs.{Moment}
 use Rattle.hail_machine.specs.Transcripts.{Command, GoOn}
-use Rattle.trial_counts.specs.Counts.{TrialCounts, one_if, how_many, is_got, is_right, is_audited, is_repaired, is_stopped, flagged_by, flagged_in, counts_of, counts_on}
+use Rattle.trial_counts.specs.Counts.{TrialCounts, one_if, how_many, is_got, is_expected, is_audited, is_repaired, is_stopped, flagged_by, flagged_in, counts_of, counts_on}
 use Rattle.trial_counts.specs.Seen.{SeesOne}
 
 -- steps that went on are not counted
@@ -42,7 +42,7 @@ on-one expected commands command ms steps m job on =
     let one : length commands + 1 ≡ length (command ∷ commands) = omega arith in
     let same = λ (is_one : Outcome → Bool) (none : is_one More ≡ false).
     ap (λ (n : ℕ). n + one_if (is_one m.outcome)) (sym (how_many-more is_one none job steps ms on)) in
-    made-same _ _ _ _ _ _ _ _ _ _ _ _ _ _ one (same is_got refl) (same (is_right expected) refl) (same is_audited refl)
+    made-same _ _ _ _ _ _ _ _ _ _ _ _ _ _ one (same is_got refl) (same (is_expected expected) refl) (same is_audited refl)
     (ap (λ (js : List ℕ). js ++ flagged_by m.outcome) (sym (flagged-more job steps ms on)))
     (same is_repaired refl) (same is_stopped refl)
 

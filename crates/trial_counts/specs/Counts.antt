@@ -37,9 +37,9 @@ is_got (Ended (Got bytes)) = true
 is_got outcome = false
 
 -- a get ended with the expected bytes
-abbrev pub is_right : List ℕ → Outcome → Bool
-is_right expected (Ended (Got bytes)) = bytes_eq bytes expected
-is_right expected outcome = false
+abbrev pub is_expected : List ℕ → Outcome → Bool
+is_expected expected (Ended (Got bytes)) = bytes_eq bytes expected
+is_expected expected outcome = false
 
 -- an audit ended
 abbrev pub is_audited : Outcome → Bool
@@ -90,7 +90,7 @@ abbrev pub counts_of : List ℕ → List Command → List Moment → TrialCounts
 counts_of expected commands ms = record {
   events = length commands;
   gets = how_many is_got ms;
-  right = how_many (is_right expected) ms;
+  right = how_many (is_expected expected) ms;
   audits = how_many is_audited ms;
   flagged = flagged_in ms;
   repairs = how_many is_repaired ms;
@@ -102,7 +102,7 @@ abbrev pub counts_on : List ℕ → Outcome → TrialCounts → TrialCounts
 counts_on expected outcome old = record {
   events = old.events + 1;
   gets = old.gets + one_if (is_got outcome);
-  right = old.right + one_if (is_right expected outcome);
+  right = old.right + one_if (is_expected expected outcome);
   audits = old.audits + one_if (is_audited outcome);
   flagged = old.flagged ++ flagged_by outcome;
   repairs = old.repairs + one_if (is_repaired outcome);

@@ -11,12 +11,12 @@ use Rattle.hail_machine.specs.Runs.{Moment}
 use Rattle.hail_machine.specs.Transcripts.{Command, GoOn}
 use Rattle.trial_counts.specs.declared.seen.Seen.{Seen}
 use Rattle.trial_counts.specs.declared.tally.Tally.TheInside.{Inside}
-use Rattle.trial_counts.specs.Counts.{TrialCounts, is_got, is_right, is_audited, is_repaired, is_stopped, flagged_by, counts_of}
+use Rattle.trial_counts.specs.Counts.{TrialCounts, is_got, is_expected, is_audited, is_repaired, is_stopped, flagged_by, counts_of}
 
 -- what was seen of an event is what its outcome is to the counts
 pub record IsSeen (expected : List ℕ) (outcome : Outcome) (seen : Seen) : Type 0 where
   pub got : seen.got ≡ is_got outcome
-  pub right : seen.right ≡ is_right expected outcome
+  pub right : seen.right ≡ is_expected expected outcome
   pub audited : seen.audited ≡ is_audited outcome
   pub flagged : seen.flagged.items ≡ flagged_by outcome
   pub repaired : seen.repaired ≡ is_repaired outcome

@@ -9,7 +9,7 @@ use Rattle.std.proofs.lemmas.Bool.Decides.{nat_tests}
 use Rattle.std.proofs.lemmas.List.{append-nil}
 use Rattle.std.proofs.lemmas.List.Sums.{sum_by-cons}
 use Rattle.std.proofs.lemmas.Iterator.Adapters.{position_from-zero}
-use Rattle.std.proofs.Common.{zero-add, add-zero}
+use Rattle.std.proofs.Common.{zero-add}
 use Rattle.code_points.specs.Profile.{plain_profile}
 use Rattle.hail_codes.specs.Profiles.{Profile as PlainProfile, profile_of}
 use Rattle.hail_columns.specs.Challenges.{challenge_of, honest_answer}
@@ -49,8 +49,9 @@ use Rattle.vault.specs.declared.tasks.Task.{Task}
 use Rattle.vault.specs.declared.tasks.Task.TheVariants as task
 use Rattle.vault.specs.declared.turn.Turn.TheVariants as turn
 use Rattle.vault.specs.declared.vault.Vault.{Vault}
-use Rattle.vault.specs.Asking.{length_among, length_at, length_in, length_found, IsSubject, IsQuestion, challenge_put, sums_on, TakesAsk, HasJudged, CanAsk, Asked, MayAsk, TellsAsk, MayTell, MayPut, object_put}
-use Rattle.vault.specs.Devices.{devices, AreHanded}
+use Rattle.vault.specs.Asking.{length_among, length_at, length_in, length_found, IsAuditNumber, IsQuestion, challenge_put, sums_on, TakesAsk, HasJudged, CanAsk, Asked, MayAsk, TellsAsk, MayTell, MayPut, object_put}
+use Rattle.hail_openings.specs.Opened.{AreHanded}
+use Rattle.vault.specs.Devices.{devices}
 use Rattle.vault.specs.Orders.{is_ask}
 use Rattle.vault.specs.Rounds.{Round, rounds_in, asked_after, AsksOn, JudgesAll}
 use Rattle.vault.specs.Running.{place_in, KeepsAll, IsFed}
@@ -60,7 +61,7 @@ use Rattle.vault.proofs.Allowed.{IsAllowed, next_allowed}
 use Rattle.vault.proofs.Asks.{Rising, IsRound, rounds_rise, each_round, each_middle, each_both, sizes_found, contains_each, few_rounds, enough_answers, sums_within, as_files, behind_last, IsAnAsk}
 use Rattle.vault.proofs.AskStep.{IsNext, IsPut, next_round, audit_kept, audit_judged, zero_all}
 use Rattle.vault.proofs.Fetched.{after}
-use Rattle.vault.proofs.JobPlaces.{place_is, put_back}
+use Rattle.vault.proofs.JobPlaces.{place_is, put_back, one_further, from_zero}
 use Rattle.vault.proofs.Ways.{happens_by, setup_same, actions_same, handed_on, stands_on, entry_kept, same_beyond, at_place, working}
 
 -- ---- the length of a file among those of a job
@@ -70,20 +71,12 @@ abbrev at_id : List PinnedValue → ℕ → Option ℕ
 at_id [] k = None
 at_id (f ∷ fs) k = cond (f.id == k) (Some 0) (option_map suc (at_id fs k))
 
-one_further : (i : ℕ) (o : Option ℕ) → option_map (λ p. p + (i + 1)) o ≡ option_map (λ p. p + i) (option_map suc o)
-one_further i None = refl
-one_further i (Some q) = (let e : q + (i + 1) ≡ suc q + i = omega arith in ap Some e)
-
 from_is : (fs : List PinnedValue) (k i : ℕ) → position_from (λ (f : PinnedValue). f.id == k) i fs ≡ option_map (λ p. p + i) (at_id fs k)
 from_is [] k i = refl
 from_is (f ∷ fs) k i = elim (f.id == k) as (λ b. cond b (Some i) (position_from (λ (x : PinnedValue). x.id == k) (i + 1) fs) ≡ option_map (λ p. p + i) (cond b (Some 0) (option_map suc (at_id fs k)))) [
   | true ↦ ap Some (sym (zero-add i))
   | false ↦ from_is fs k (i + 1) ∙ one_further i (at_id fs k)
 ]
-
-from_zero : (o : Option ℕ) → option_map (λ p. p + 0) o ≡ o
-from_zero None = refl
-from_zero (Some q) = ap Some (add-zero q)
 
 -- the length of the file of a number, by recursion
 abbrev size_at : List PinnedValue → ℕ → Option ℕ
@@ -295,7 +288,7 @@ module _ (v : Vault) (w : State) (holds : Option Cells) (faults moment number k 
       length_is = told_size;
       few = (sound_job.pinned nx.x.file (of_file (Contains coming.job.pinned) (contains_each coming.job.pinned)).file).size;
       number = in_core.0.subject;
-      number_is = subst (λ (j : Option CoreJob). IsSubject j in_core.0.subject) (sym in_core.1) refl;
+      number_is = subst (λ (j : Option CoreJob). IsAuditNumber j in_core.0.subject) (sym in_core.1) refl;
       rows =
           (let rows : stripes (object_put v o) (length nx.x.file.bytes) ≡ stripes_of (setup_in w) (length nx.x.file.bytes) =
           (λ i. (length nx.x.file.bytes + (16 * (l_is i * (profile_is i).keep) - 1)) / (16 * (l_is i * (profile_is i).keep))) in
@@ -335,7 +328,7 @@ module _ (v : Vault) (w : State) (holds : Option Cells) (faults moment number k 
       q_length = same_value _ q.file.length (length nx.x.file.bytes) put.length_is told_size
 
       q_number : q.number ≡ coming.job.subject
-      q_number = subst (λ (j : Option CoreJob). IsSubject j q.number) in_core.1 put.number_is ∙ in_core.2.subject
+      q_number = subst (λ (j : Option CoreJob). IsAuditNumber j q.number) in_core.1 put.number_is ∙ in_core.2.subject
 
       q_n : q.file.shape.n ≡ (setup_in w).n
       q_n = ap (λ (x : ShapeValue). x.n) put.shape_is ∙ n_is

@@ -66,7 +66,7 @@ module _ (s : Setup) (some : 1 ≤ s.n) where
 
 -- ---- how many asks
 
-count-ask : (j o r : ℕ) (rest : List Action) → asks_left (Ask j o r ∷ rest) ≡ 1 + asks_left rest
+pub count-ask : (j o r : ℕ) (rest : List Action) → asks_left (Ask j o r ∷ rest) ≡ 1 + asks_left rest
 count-ask j o r rest = sum_by-append (λ a. cond (is_ask a) 1 0) (Ask j o r ∷ []) rest
 
 count-both : (a b : List Action) → asks_left (a ++ b) ≡ asks_left a + asks_left b

@@ -1,10 +1,9 @@
 -- An ask is a step of the machine.
-use Rattle.std.proofs.Common.{◌≡◌, ℕ, zero, suc, ◌+◌, ◌<◌, ◌≤◌, ◌==◌, true, cond, List, [], ◌∷◌, ◌++◌, length, Option, None, refl, sym, ap, subst, ◌∙◌, arith, append_assoc, length-append, replicate}
+use Rattle.std.proofs.Common.{◌≡◌, ℕ, zero, suc, ◌+◌, ◌<◌, ◌≤◌, ◌==◌, true, List, [], ◌∷◌, ◌++◌, length, Option, None, refl, sym, ap, subst, ◌∙◌, arith, append_assoc, length-append, replicate}
 use Rattle.std.specs.Prelude.{vec_len, vec_capacity, IfSome}
 use Rattle.std.specs.List.{list_all}
 use Rattle.std.proofs.lemmas.Bool.{eqb-true, and_parts}
 use Rattle.std.proofs.lemmas.List.{append-nil}
-use Rattle.std.proofs.lemmas.List.Sums.{sum_by-cons}
 use Rattle.hail_columns.specs.Objects.{Object}
 use Rattle.hail_columns.specs.Challenges.{Challenge}
 use Rattle.hail_columns.specs.Verdicts.{Judges}
@@ -23,7 +22,6 @@ use Rattle.vault.specs.declared.question.Question.{Question}
 use Rattle.vault.specs.declared.tasks.AuditTask.{AuditTask}
 use Rattle.vault.specs.Asking.{challenge_put, last_answers, sums_on, ask_put, HasHeard, HasJudged}
 use Rattle.vault.specs.Heard.{answered_entries}
-use Rattle.vault.specs.Orders.{is_ask, asks_left}
 use Rattle.vault.specs.Rounds.{Round, rounds_in, rounds_after, asked_after, AsksOn, JudgesAll}
 use Rattle.vault.specs.Tasks.{HasAnswered, IsAsked, IsAudit, no_sums}
 use Rattle.hail_devices.specs.Cells.{Cells}
@@ -35,6 +33,7 @@ use Rattle.vault.specs.Stands.{Stands, Comes}
 use Rattle.vault.proofs.Allowed.{IsAllowed, next_allowed}
 use Rattle.vault.proofs.Ways.{is_handed}
 use Rattle.vault.proofs.Asks.{entries_more, none_answered, answered_more, last_given, enough_answers, rounds_rise, apart, judges_still, judges_more}
+use Rattle.vault.proofs.AskOrders.{count-ask}
 
 -- zeros, and nothing else
 pub all_zero : (xs : List ℕ) → list_all (λ count. count == 0) xs ≡ true → xs ≡ replicate (length xs) 0
@@ -52,9 +51,6 @@ pub record IsPut (s : Setup) (job : Job) (x : Round) (q : Question) : Type 0 whe
   pub id_is : q.file.id ≡ x.file.id
   pub round_is : q.round ≡ x.number
   pub n_is : q.file.shape.n ≡ s.n
-
-asks_are : (k o r : ℕ) (tail : List Action) → asks_left (Ask k o r ∷ tail) ≡ 1 + asks_left tail
-asks_are k o r tail = sum_by-cons (λ a. cond (is_ask a) 1 0) (Ask k o r) tail
 
 pub nothing_yet : (xs : List Round) (symbols : List (Option ℕ)) (given : List Given) → IsAsked xs 0 symbols given
 nothing_yet [] symbols given = tt
@@ -111,8 +107,8 @@ module _ (s : Setup) (job : Job) (rising : Rattle.vault.proofs.Asks.Rising 0 0 (
       in_work = heard_now;
       counts = (ap (λ c. c.n) hears.counts ∙ is.counts.0, subst IsPadded (sym hears.counts) is.counts.1);
       sums = still;
-      room_asks = omega (arith, is.room_asks, asks_are k x.file.id x.number tail, hears.heard.room_asks, asks_count, t.heard.asks.ok.0, m.heard.asks.ok.0);
-      room_symbols = omega (arith, is.room_symbols, asks_are k x.file.id x.number tail, hears.heard.room_symbols, symbols_count, t.heard.symbols.ok.0, m.heard.symbols.ok.0);
+      room_asks = omega (arith, is.room_asks, count-ask k x.file.id x.number tail, hears.heard.room_asks, asks_count, t.heard.asks.ok.0, m.heard.asks.ok.0);
+      room_symbols = omega (arith, is.room_symbols, count-ask k x.file.id x.number tail, hears.heard.room_symbols, symbols_count, t.heard.symbols.ok.0, m.heard.symbols.ok.0);
     }
 
     judged_now : k + 1 ≡ s.n → HasJudged s.master q m u → JudgesRound s (advanced_with job (Answered k x.file.id x.number symbol)) x.file x.number (sums_on m) (sums_on u)
@@ -142,8 +138,8 @@ module _ (s : Setup) (job : Job) (rising : Rattle.vault.proofs.Asks.Rising 0 0 (
           in_work = nothing_yet xs u.heard.symbols.items (Answered k x.file.id x.number symbol ∷ job.given);
           counts = (judged.n_is ∙ ap (λ c. c.n) hears.counts ∙ is.counts.0, judged.padded (subst IsPadded (sym hears.counts) is.counts.1));
           sums = judges_more s (advanced_with job (Answered k x.file.id x.number symbol)) over x (no_sums s) (sums_on m) (sums_on u) still (judged_now last judged);
-          room_asks = omega (arith, is.room_asks, asks_are k x.file.id x.number tail, hears.heard.room_asks, asks_count, t.heard.asks.ok.0, m.heard.asks.ok.0, ap (λ a. vec_len a.asks) h, ap (λ a. vec_capacity a.asks) h);
-          room_symbols = omega (arith, is.room_symbols, asks_are k x.file.id x.number tail, hears.heard.room_symbols, symbols_count, t.heard.symbols.ok.0, m.heard.symbols.ok.0, ap (λ a. vec_len a.symbols) h, ap (λ a. vec_capacity a.symbols) h);
+          room_asks = omega (arith, is.room_asks, count-ask k x.file.id x.number tail, hears.heard.room_asks, asks_count, t.heard.asks.ok.0, m.heard.asks.ok.0, ap (λ a. vec_len a.asks) h, ap (λ a. vec_capacity a.asks) h);
+          room_symbols = omega (arith, is.room_symbols, count-ask k x.file.id x.number tail, hears.heard.room_symbols, symbols_count, t.heard.symbols.ok.0, m.heard.symbols.ok.0, ap (λ a. vec_len a.symbols) h, ap (λ a. vec_capacity a.symbols) h);
         }
 
 -- what is left of an audit before an ask begins with the round that is asked in

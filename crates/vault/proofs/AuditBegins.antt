@@ -1,5 +1,5 @@
 -- What an audit begins with.
-use Rattle.std.proofs.Common.{◌≡◌, ℕ, ◌*◌, ◌≤◌, List, [], ◌∷◌, length, take, drop, replicate, min, Option, refl, sym, ap, ◌∙◌, subst, arith}
+use Rattle.std.proofs.Common.{◌≡◌, ℕ, ◌*◌, ◌≤◌, List, [], ◌∷◌, length, take, drop, replicate, Option, refl, sym, ap, ◌∙◌, subst, arith}
 use Rattle.std.specs.Prelude.{IfSome}
 use Rattle.std.proofs.lemmas.List.{take-replicate, drop-replicate}
 use Rattle.hail_records.specs.Records.{Setup, most_files}
@@ -69,6 +69,3 @@ module _ (v : Vault) (d : Devices) (w : State) (moment : ℕ) (stands : Stands v
         room_asks = omega (arith, few, same, room_asks);
         room_symbols = omega (arith, few, same, room_symbols);
       }
-
-pub least : (a b : ℕ) → a ≤ b → min a b ≡ a
-least a b le = omega (arith, le)

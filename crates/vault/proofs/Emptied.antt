@@ -10,8 +10,9 @@ use Rattle.hail_devices.specs.Images.{IsImage, EachImage}
 use Rattle.hail_devices.specs.Told.{Goes}
 use Rattle.hail_records.specs.Journal.{text}
 use Rattle.journal_core.proofs.CellLemmas.{written-behind, settled-loose}
-use Rattle.vault.specs.Openings.{IsResynced}
+use Rattle.hail_openings.specs.Journals.{IsResynced}
 use Rattle.vault.specs.Preparing.{IsBlank, AreShort, emptied}
+use Rattle.hail_devices.proofs.PickLaws.{IsImage-reads}
 
 -- ---- images
 
@@ -20,11 +21,6 @@ length-image [] [] is = refl
 length-image [] (b ∷ image) is = absurd is
 length-image (c ∷ cells) [] is = absurd is
 length-image (c ∷ cells) (b ∷ image) is = ap suc (length-image cells image is.1)
-
--- what is read is an image
-pub reads-image : (cells : Cells) → IsImage cells (reads cells)
-reads-image [] = tt
-reads-image (c ∷ cells) = ((λ e. refl), reads-image cells)
 
 -- where no byte is loose there is one image
 pub image-firm : (bytes image : List ℕ) → IsImage (firm bytes) image → image ≡ bytes
@@ -38,7 +34,7 @@ pub resynced-image : (old new : Cells) → IsResynced old new → (image : List 
 resynced-image old new (inl same) image is = subst (λ (c : Cells). IsImage c image) same is
 resynced-image old new (inr synced_is) image is =
     let same = image-firm (reads old) image (subst (λ (c : Cells). IsImage c image) synced_is is) in
-    subst (λ (l : List ℕ). IsImage old l) (sym same) (reads-image old)
+    subst (λ (l : List ℕ). IsImage old l) (sym same) (IsImage-reads old)
 
 -- ---- writes to the front
 

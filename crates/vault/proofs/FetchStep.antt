@@ -76,5 +76,5 @@ module _ (v : Vault) (w : State) (holds : Option Cells) (faults moment number k 
         refl refl
         (runs_on w job k o s coming.comes r r' fetch found block runs same_number fetch_is takes)
         at jobs
-        (subst (λ (l : List Provider). Rattle.vault.specs.Devices.AreHanded l new) (sym ps_is) (handed_on ps w new k q stands.devices.providers provider_there refl (λ j. refl)))
+        (subst (λ (l : List Provider). Rattle.hail_openings.specs.Opened.AreHanded l new) (sym ps_is) (handed_on ps w new k q stands.devices.providers provider_there refl (λ j. refl)))
         keeps flight fed

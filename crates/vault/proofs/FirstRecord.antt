@@ -21,7 +21,7 @@ use Rattle.journal_core.proofs.CellLemmas.{written-behind, reads-firm, reads-loo
 use Rattle.journal_core.proofs.Meanings.{read_is_closed}
 use Rattle.journal_core.proofs.MoveLemmas.{IfSome-mapped, IfSome-same, body_written, gate_written, body_failed, gate_failed, synced as moves_synced}
 use Rattle.journal_core.proofs.ImageLemmas.{between_after, between_given_up}
-use Rattle.vault.specs.Openings.{BeginsWithSetup, BeginsOtherwise, IsSetUpOn}
+use Rattle.hail_openings.specs.Journals.{BeginsWithSetup, BeginsOtherwise, IsSetUpOn}
 use Rattle.vault.specs.Preparing.{IsBlank, IsReadied, with_setup, first_answer, IsTextFault}
 
 -- ---- the first record of a journal

@@ -11,7 +11,7 @@ use Rattle.vault_table.specs.Values.{Kept, IsFoldOf}
 use Rattle.vault_table.specs.Causes.{IsCause}
 use Rattle.vault_table.specs.declared.entry.Refused.{Refused}
 use Rattle.vault_table.specs.declared.entry.Refused.TheVariants as fault
-use Rattle.vault.specs.Openings.{IsBadStart}
+use Rattle.hail_openings.specs.Journals.{IsBadStart}
 use Rattle.vault.specs.Faults.{refusal_answer}
 use Rattle.vault.specs.Folding.{IsReadUpTo, IsFolded, IsFoldFault}
 

@@ -1,10 +1,8 @@
 -- An init as an event of the machine.
-use Rattle.std.proofs.Common.{◌≡◌, ◌⊎◌, inl, inr, ℕ, suc, ◌+◌, ◌-◌, ◌<◌, ◌≤◌, ◌&&◌, Bool, true, false, List, [], ◌∷◌, ◌++◌, length, take, drop, Option, Some, None, Result, Ok, Err, refl, sym, ap, ◌∙◌, subst, arith, append_assoc, length-append, length-take}
+use Rattle.std.proofs.Common.{◌≡◌, ◌⊎◌, inl, inr, ℕ, ◌+◌, ◌-◌, ◌<◌, ◌≤◌, ◌&&◌, Bool, true, false, List, [], ◌∷◌, ◌++◌, length, drop, Option, Some, None, Result, Ok, Err, refl, sym, ap, ◌∙◌, subst, arith, append_assoc, length-take}
 use Rattle.std.specs.Prelude.{IfSome, IsTrue, is_some, IsErrAnd}
 use Rattle.std.specs.Option.{option_map}
-use Rattle.std.specs.List.{list_all}
 use Rattle.std.proofs.lemmas.Bool.{false≢true, cases_lt}
-use Rattle.std.proofs.Math.Seq.{take-append-add}
 use Rattle.stream_model.specs.declared.fault.WriteFault.{WriteFault}
 use Rattle.stream_model.specs.declared.fault.WriteFault.TheVariants as write_fault
 use Rattle.hail_devices.specs.Cells.{Cells, reads}
@@ -17,7 +15,6 @@ use Rattle.hail_records.specs.Records.{Setup, Record, SetUp, PutStart, PutDone, 
 use Rattle.hail_records.specs.Journal.{before_gate, text, text_size, StandsFor, StandsOrIsEmpty}
 use Rattle.hail_records.specs.Table.{setup_of}
 use Rattle.hail_records.specs.Acceptance.{NoSetup, AreAccepted}
-use Rattle.hail_records.proofs.Sizes.{length-text}
 use Rattle.hail_machine.specs.Events as events
 use Rattle.hail_machine.specs.Events.{Outcome, Init}
 use Rattle.hail_machine.specs.Refusals as refusal
@@ -31,12 +28,14 @@ use Rattle.sound_states.specs.Sound.{IsSound}
 use Rattle.vault.specs.declared.fault.InitFault.{InitFault}
 use Rattle.vault.specs.declared.fault.InitFault.TheVariants as init_fault
 use Rattle.vault.specs.Devices.{Devices, devices, AreDevices}
-use Rattle.vault.specs.Openings.{journal_read, IsInitFault, IsNoWrite, IsSetUpOn, BeginsWithSetup, BeginsOtherwise, IsBadInit}
+use Rattle.hail_openings.specs.Journals.{journal_read, IsSetUpOn, BeginsWithSetup, BeginsOtherwise, IsBadInit}
+use Rattle.vault.specs.Causes.{IsInitFault, IsNoWrite}
 use Rattle.vault.specs.Inits.{MayInit, MakesInit}
 use Rattle.vault.specs.Faults.{init_answer}
 use Rattle.vault.specs.Preparing.{IsBlank, IsReadied, IsHalfReady}
-use Rattle.vault.proofs.Opened.{stands-front, least_size}
-use Rattle.vault.proofs.Emptied.{reads-image, image-firm}
+use Rattle.vault.proofs.Emptied.{image-firm}
+use Rattle.vault.proofs.Texts.{stands-front, stands-take, short-none}
+use Rattle.hail_devices.proofs.PickLaws.{IsImage-reads}
 
 -- ---- what bytes stand for
 
@@ -47,31 +46,6 @@ err-is (Err e) x is = ap (λ y. Err y) is
 each-still : (told : Option Cells) (P Q : List ℕ → Type 0) → ((image : List ℕ) → P image → Q image) → EachImage told P → EachImage told Q
 each-still None P Q step all = tt
 each-still (Some cells) P Q step all = λ image of. step image (all image of)
-
-size-before : (rs : List Record) → IsTrue (list_all is_in_grammar rs) → length (before_gate rs) + 1 ≡ text_size rs
-size-before rs all = omega (arith, length-text rs all, length-append (before_gate rs) (0 ∷ []))
-
--- a text that fits stands at the front
-stands-take : (n : ℕ) (bytes : List ℕ) (rs : List Record) → StandsFor bytes rs → text_size rs ≤ n → StandsFor (take n bytes) rs
-stands-take n bytes rs is fits =
-    let front = before_gate rs in
-    let size : length front + 1 ≡ text_size rs = size-before rs is.in_grammar in
-    let m : ℕ = n - (length front + 1) in
-    let n_is : n ≡ length front + suc m = omega (arith, size, fits) in
-    record {
-      in_grammar = is.in_grammar;
-      gate = is.gate;
-      rest = take m is.rest;
-      closed = is.closed;
-      bytes_are = ap (take n) is.bytes_are ∙ ap (λ (k : ℕ). take k (front ++ is.gate ∷ is.rest)) n_is ∙ take-append-add front (is.gate ∷ is.rest) (suc m);
-    }
-
--- at most nine bytes stand for no record
-short-none : (bytes : List ℕ) (rs : List Record) → StandsFor bytes rs → length bytes ≤ 9 → rs ≡ []
-short-none bytes [] is short = refl
-short-none bytes (r ∷ rs) is short =
-    let front = before_gate (r ∷ rs) in
-    absurd (omega (arith, ap length is.bytes_are, length-append front (is.gate ∷ is.rest), size-before (r ∷ rs) is.in_grammar, least_size rs, short))
 
 begins-up : (rs : List Record) → BeginsWithSetup rs → is_some (setup_of rs) ≡ true
 begins-up [] h = absurd h
@@ -148,7 +122,7 @@ module _ (s : Setup) (w : State) (moment : ℕ) (providers : List Provider) wher
     sound = may.sound
 
     read : StandsOrIsEmpty (reads old) w.records ⊎ StandsWithDoubt w (reads old)
-    read = are.images (reads old) (reads-image old)
+    read = are.images (reads old) (IsImage-reads old)
 
     -- a disk that has no record stands for none
     free-read : length (reads old) ≤ 9 ⊎ StandsFor (journal_read old) [] → StandsOrIsEmpty (reads old) w.records ⊎ StandsWithDoubt w (reads old) → w.records ≡ []

@@ -20,7 +20,7 @@ abbrev pub at_number : List Running → ℕ → Option ℕ
 at_number [] k = None
 at_number (r ∷ rs) k = cond (r.number == k) (Some 0) (option_map suc (at_number rs k))
 
-one_further : (i : ℕ) (o : Option ℕ) → option_map (λ p. p + (i + 1)) o ≡ option_map (λ p. p + i) (option_map suc o)
+pub one_further : (i : ℕ) (o : Option ℕ) → option_map (λ p. p + (i + 1)) o ≡ option_map (λ p. p + i) (option_map suc o)
 one_further i None = refl
 one_further i (Some q) = (let e : q + (i + 1) ≡ suc q + i = omega arith in ap Some e)
 
@@ -31,7 +31,7 @@ from_is (r ∷ rs) k i = elim (r.number == k) as (λ b. cond b (Some i) (positio
   | false ↦ from_is rs k (i + 1) ∙ one_further i (at_number rs k)
 ]
 
-from_zero : (o : Option ℕ) → option_map (λ p. p + 0) o ≡ o
+pub from_zero : (o : Option ℕ) → option_map (λ p. p + 0) o ≡ o
 from_zero None = refl
 from_zero (Some q) = ap Some (add-zero q)
 

@@ -36,7 +36,7 @@ use Rattle.vault.specs.declared.turn.Turn.{Turn}
 use Rattle.vault.specs.declared.turn.Turn.TheVariants as turn
 use Rattle.vault.specs.declared.vault.Vault.{Vault}
 use Rattle.vault.specs.Devices.{devices, records_in_flight}
-use Rattle.vault.specs.Flights.{HasFailed, MakesMove, GoesOn, Ends, GivesUp}
+use Rattle.vault.specs.Flights.{HasFailed, MakesMove, GoesOn, EndsAppend, GivesUp}
 use Rattle.vault.specs.Running.{KeepsAll, IsFed, IsStopped}
 use Rattle.vault.specs.Stands.{Stands, Comes, IsFlight, IsSamePast, MakesStep, MakesTurn}
 use Rattle.vault.proofs.MoveStep.{moves_on, moves_end, beyond_of, all_images, doubted_images, closed_after}
@@ -296,7 +296,7 @@ module _ (v : Vault) (w : State) (holds holds' : Option Cells) (faults faults' m
       let m = mine v w holds faults number ps stands SyncGate comes last_later f is in
       let k = made_so_far v w holds faults number ps stands SyncGate comes last_later f is in
       let job = next.job in
-      let done : Ends w.records a.0.entry holds' = made.1 w.records a.0.entry m.1 in
+      let done : EndsAppend w.records a.0.entry holds' = made.1 w.records a.0.entry m.1 in
       let new : State = record (done_append w job a.0) { disk_faults = faults' } in
       moves_on v v' w new holds holds' faults faults' moment number ps SyncGate job.subject (taken_out w job job.kind) stands next tt (λ many. refl)
       (subst (λ (o : Option Append). Moves w job SyncGate o More new) (sym a.1) (a.2, (faults', counts faults w.disk_faults faults' stands.devices.faults cause.never_falls, refl)))

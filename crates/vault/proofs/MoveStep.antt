@@ -1,17 +1,16 @@
 -- A move of an append is a step of the machine.
 use Rattle.std.proofs.Common.{◌≡◌, ℕ, zero, suc, ◌+◌, ◌≤◌, true, false, List, [], ◌∷◌, ◌++◌, length, Option, Some, None, refl, sym, ap, subst, ◌∙◌, inl, inr, arith, length-append}
-use Rattle.std.specs.Prelude.{◌≢◌, IsTrue, IfSome, slice_get, slice_set, nat_lt}
-use Rattle.std.specs.List.{list_all}
+use Rattle.std.specs.Prelude.{◌≢◌, IfSome, slice_get, slice_set, nat_lt}
 use Rattle.std.proofs.lemmas.Bool.{cases_Bool, ltb-false}
 use Rattle.hail_devices.specs.Cells.{Cells}
 use Rattle.hail_devices.specs.Faults.{HasCause, Rose}
 use Rattle.hail_devices.specs.Providers.{Provider}
 use Rattle.hail_devices.specs.Told.{Goes}
-use Rattle.hail_records.specs.Records.{Record, Setup, is_in_grammar}
+use Rattle.hail_records.specs.Records.{Record, Setup}
 use Rattle.hail_records.specs.Spellings.{spelling}
 use Rattle.hail_records.specs.Journal.{before_gate, text_size}
 use Rattle.hail_records.specs.Table.{setup_of}
-use Rattle.hail_records.proofs.Sizes.{length-spelling, length-text}
+use Rattle.hail_records.proofs.Sizes.{length-spelling}
 use Rattle.hail_machine.specs.Actions.{Action, WriteBody}
 use Rattle.hail_machine.specs.Answers as answers
 use Rattle.hail_machine.specs.Appends.{Writes, subject_drawn, barred, begun_append}
@@ -42,7 +41,8 @@ use Rattle.vault.specs.declared.turn.Answer.TheVariants as answer
 use Rattle.vault.specs.declared.turn.Turn.{Turn}
 use Rattle.vault.specs.declared.turn.Turn.TheVariants as turn
 use Rattle.vault.specs.declared.vault.Vault.{Vault}
-use Rattle.vault.specs.Devices.{devices, AreHanded, IsSameBeyond, records_in_flight}
+use Rattle.hail_openings.specs.Opened.{AreHanded}
+use Rattle.vault.specs.Devices.{devices, IsSameBeyond, records_in_flight}
 use Rattle.vault.specs.Flights.{HasFailed, MakesMove, GoesOn, GivesUp}
 use Rattle.vault.specs.Outcomes.{answer_of}
 use Rattle.vault.specs.Running.{place_in, KeepsAll, IsFed, IsStopped}
@@ -52,6 +52,7 @@ use Rattle.vault.proofs.JobPlaces.{place_is, put_back}
 use Rattle.vault.proofs.Moving.{IsMove, moved_on, move_runs}
 use Rattle.vault.proofs.Stops.{IsAside, is_left, not_gone}
 use Rattle.vault.proofs.Ways.{happens_by, shaped_on, setup_same, images_on, handed_same, working}
+use Rattle.vault.proofs.Texts.{size-before, least_size}
 
 -- ---- the state after
 
@@ -148,13 +149,10 @@ moves_end v v1 v2 w new holds holds' faults faults' moment number ps action repl
 
 -- ---- texts
 
-pub before_size : (rs : List Record) → IsTrue (list_all is_in_grammar rs) → length (before_gate rs) + 1 ≡ text_size rs
-before_size rs good = (let a = length-text rs good in let b = length-append (before_gate rs) (0 ∷ []) in omega (arith, a, b))
-
 -- the text with the record, by what an append writes
 past : (rs : List Record) (r : Record) (a : AppendValue) (holds : Option Cells) → Appends rs r a holds → gate_of a + 1 + length (body_of a) ≡ text_size (r ∷ rs)
 past rs r a holds appends =
-    let size = before_size rs appends.records in
+    let size = size-before rs appends.records in
     let body : length (body_of a) ≡ length (spelling r ++ 0 ∷ []) = ap length appends.body in
     let gate = appends.gate in
     let long = length-append (spelling r) (0 ∷ []) in
@@ -235,7 +233,7 @@ module _ (v : Vault) (w : State) (holds holds' : Option Cells) (faults faults' m
   begun = record {
     records = stands.core.sound.in_grammar;
     entry = good.spelled;
-    gate = (let size = before_size w.records stands.core.sound.in_grammar in let end = stands.core.end in let g = gate_is in let a = at in omega (arith, size, end, g, a));
+    gate = (let size = size-before w.records stands.core.sound.in_grammar in let end = stands.core.end in let g = gate_is in let a = at in omega (arith, size, end, g, a));
     body = body_is;
     disk = subst (λ (n : ℕ). IfSome holds (IsAfterMoves n (before_gate w.records) (body_of f.append))) (sym moves_is) closed;
   }
@@ -313,10 +311,6 @@ module _ (v : Vault) (w : State) (holds holds' : Option Cells) (faults faults' m
       })
       alone (λ on. goes_still (text_size (records_in_flight new.records new.append)) holds holds' made.1) (λ e. cc)
 
-long_text : (rs : List Record) → 9 ≤ text_size rs
-long_text [] = omega arith
-long_text (r ∷ rs) = (let a = long_text rs in omega (arith, a))
-
 -- a core ends behind the closed gate
 pub has_end : (c : CoreView) (w : State) → CoreIs c w → 9 ≤ c.end
-has_end c w core = (let a = long_text w.records in let b = core.end in omega (arith, a, b))
+has_end c w core = (let a = least_size w.records in let b = core.end in omega (arith, a, b))

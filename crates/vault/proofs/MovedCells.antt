@@ -24,8 +24,8 @@ use Rattle.vault.specs.Devices.{devices}
 use Rattle.vault.specs.Running.{IsStopped}
 use Rattle.vault.specs.Seen.{entry_of, closed_gate_of}
 use Rattle.vault.specs.Stands.{Stands, Comes}
-use Rattle.vault.proofs.MoveStep.{before_size}
 use Rattle.vault.proofs.LaterMoves.{next, held, mine, made_so_far, entry_is}
+use Rattle.vault.proofs.Texts.{size-before}
 
 -- an append at the closed gate with this record, so many moves of which are made
 pub record IsAppendOf (v : Vault) (n : ℕ) (entry : Record) (a : Append) : Type 0 where
@@ -59,7 +59,7 @@ append_of v w holds faults number ps stands action comes later f is entry given 
     let m = mine v w holds faults number ps stands action comes later f is in
     let own : a.0.job ≡ number = a.2.0 ∙ number_of w.jobs number next.job next.runs in
     let same : a.0.entry ≡ entry = (let e : Some a.0.entry ≡ Some entry = sym (entry_is v w holds faults number ps stands action comes later own) ∙ given in cc) in
-    let size = before_size w.records stands.core.sound.in_grammar in
+    let size = size-before w.records stands.core.sound.in_grammar in
     let end = stands.core.end in
     let gate = m.1.gate in
     record {

@@ -1,5 +1,5 @@
 -- A vault that was just opened, and why none was.
-use Rattle.std.proofs.Common.{◌≡◌, ◌≢◌, inl, inr, ℕ, ◌<◌, ◌≤◌, ◌&&◌, List, [], ◌∷◌, ◌++◌, length, take, drop, Option, Some, None, refl, sym, ap, ◌∙◌, subst, arith, append_assoc, take-append-drop, length-take}
+use Rattle.std.proofs.Common.{◌≡◌, ◌≢◌, inl, inr, ℕ, ◌<◌, ◌≤◌, ◌&&◌, List, [], ◌∷◌, ◌++◌, length, Option, Some, None, refl, sym, ap, ◌∙◌, subst, arith, length-take}
 use Rattle.std.specs.Prelude.{IfSome, IsTrue}
 use Rattle.std.specs.Option.{option_map}
 use Rattle.hail_devices.specs.Cells.{Cells, reads}
@@ -24,26 +24,13 @@ use Rattle.vault.specs.declared.fault.StartFault.{StartFault}
 use Rattle.vault.specs.declared.fault.StartFault.TheVariants as start_fault
 use Rattle.vault.specs.declared.vault.Vault.{Vault}
 use Rattle.vault.specs.Devices.{devices}
-use Rattle.vault.specs.Openings.{journal_read, IsStartFault, IsRead}
+use Rattle.hail_openings.specs.Journals.{journal_read, IsRead}
+use Rattle.vault.specs.Causes.{IsStartFault}
 use Rattle.vault.specs.Stands.{Stands, Carries}
-use Rattle.vault.specs.Starts.{IsJustOpened}
+use Rattle.hail_openings.specs.Opened.{IsJustOpened}
 use Rattle.vault.specs.Folding.{IsFolded, IsFoldFault}
-use Rattle.vault.specs.Fresh.{IsFresh, IsFreshFault}
-
--- bytes whose front stands for records stand for them
-pub stands-front : (n : ℕ) (bytes : List ℕ) (rs : List Record) → StandsFor (take n bytes) rs → StandsFor bytes rs
-stands-front n bytes rs is = record {
-  in_grammar = is.in_grammar;
-  gate = is.gate;
-  rest = is.rest ++ drop n bytes;
-  closed = is.closed;
-  bytes_are = sym (take-append-drop n bytes) ∙ ap (λ (l : List ℕ). l ++ drop n bytes) is.bytes_are ∙ append_assoc (before_gate rs) (is.gate ∷ is.rest) (drop n bytes);
-}
-
--- a text has nine bytes at least
-pub least_size : (rs : List Record) → 9 ≤ text_size rs
-least_size [] = omega arith
-least_size (r ∷ rs) = (let l = least_size rs in omega (arith, l))
+use Rattle.vault.specs.Fresh.{IsFreshVault, IsFreshFault}
+use Rattle.vault.proofs.Texts.{stands-front}
 
 -- these bytes were looked at, of a disk that tells what it holds
 abbrev pub IsLookedAt : Option Cells → List ℕ → Type 0
@@ -85,7 +72,7 @@ module _ (bytes : List ℕ) (rs : List Record) (t : Kept) (end : ℕ) (is : IsFo
       let good : IsTrue (is_setup s && is_master s.master) = setup-spelled rs s is.stands.in_grammar (sym is.folds.setup ∙ e) in
       grind (arith, good)
 
-  module _ (v : Vault) (first : ℕ) (fresh : IsFresh v t end first) where
+  module _ (v : Vault) (first : ℕ) (fresh : IsFreshVault v t end first) where
     -- ---- what was read
 
     some : rs ≢ []
@@ -131,15 +118,15 @@ module _ (bytes : List ℕ) (rs : List Record) (t : Kept) (end : ℕ) (is : IsFo
 
       core : CoreIs v.core w
       core = subst (λ (c : CoreView). CoreIs c w) (sym fresh.core) (record {
-        sound = rest-sound 8 w j.at_rest;
-        is_open = j.is_open;
+        sound = rest-sound 8 w j.at_rest.rest;
+        is_open = j.at_rest.opened;
         table = subst (λ (l : List Record). IsFoldOf l t) (sym j.records) is.folds;
         setup = sym in_effect;
         end = is.end_is ∙ ap text_size (sym j.records);
-        jobs = rw j.at_rest.idle.0 tt;
-        next_job = sym j.next_job;
-        append = rw j.at_rest.idle.1 refl;
-        barred = sym j.at_rest.idle.2;
+        jobs = rw j.at_rest.rest.idle.0 tt;
+        next_job = sym j.at_rest.next;
+        append = rw j.at_rest.rest.idle.1 refl;
+        barred = sym j.at_rest.rest.idle.2;
       })
 
       pub stands : (told now : Option Cells) → now ≡ option_map synced told → IsLookedAt told bytes → Stands v (devices now faults providers) w
@@ -150,6 +137,6 @@ module _ (bytes : List ℕ) (rs : List Record) (t : Kept) (end : ℕ) (is : IsFo
             core = core;
             setup = in_effect ∙ ap setup_or_none fresh.setup;
             shaped = fresh.shaped;
-            jobs = rw (fresh.jobs, j.at_rest.idle.0) tt;
-            flight = (λ unbarred. rw (fresh.flight, j.at_rest.idle.1, j.records) shut);
+            jobs = rw (fresh.jobs, j.at_rest.rest.idle.0) tt;
+            flight = (λ unbarred. rw (fresh.flight, j.at_rest.rest.idle.1, j.records) shut);
           }

@@ -12,11 +12,13 @@ use Rattle.hail_records.specs.Journal.{StandsFor}
 use Rattle.journal_core.specs.Moves.{MayStandFor}
 use Rattle.vault.specs.declared.fault.InitFault.{InitFault}
 use Rattle.vault.specs.declared.fault.InitFault.TheVariants as init_fault
-use Rattle.vault.specs.Openings.{journal_read, IsInitFault, IsResynced, MayBeLeft}
+use Rattle.hail_openings.specs.Journals.{journal_read, IsResynced, MayBeLeft}
+use Rattle.vault.specs.Causes.{IsInitFault}
 use Rattle.vault.specs.Preparing.{IsBlank, IsReadied, IsHalfReady, emptied, IsTextFault}
 use Rattle.vault.proofs.Readings.{reads-synced}
-use Rattle.vault.proofs.Opened.{IsLookedAt, stands-front}
+use Rattle.vault.proofs.Opened.{IsLookedAt}
 use Rattle.vault.proofs.Emptied.{emptied-is, resynced-image, text-blank}
+use Rattle.vault.proofs.Texts.{stands-front}
 
 abbrev IsShort : Cells → Type 0
 IsShort cells = length (reads cells) ≤ 9

@@ -7,7 +7,7 @@ use Rattle.hail_devices.specs.Cells.{Cells, reads}
 use Rattle.hail_devices.specs.Disks.{synced}
 use Rattle.hail_records.specs.Records.{largest_journal}
 use Rattle.journal_core.proofs.CellLemmas.{reads-firm}
-use Rattle.vault.specs.Openings.{journal_read}
+use Rattle.hail_openings.specs.Journals.{journal_read}
 
 -- a sync leaves what is read
 pub reads-synced : (cells : Cells) → reads (synced cells) ≡ reads cells

@@ -20,7 +20,8 @@ use Rattle.hail_machine.proofs.JobLists.{cond_true, cond_false, number_of}
 use Rattle.vault_core.specs.Carried.{CoreIs, ComesNext, IsFlight as IsCoreFlight}
 use Rattle.vault_core.specs.Coming.{entry_in}
 use Rattle.vault_core.specs.View.{CoreView}
-use Rattle.vault.specs.Devices.{Devices, devices, AreHanded, IsSameBeyond, records_in_flight}
+use Rattle.hail_openings.specs.Opened.{AreHanded}
+use Rattle.vault.specs.Devices.{Devices, devices, IsSameBeyond, records_in_flight}
 use Rattle.vault.specs.declared.vault.Vault.{Vault}
 use Rattle.vault.specs.declared.flight.Flight.{Flight}
 use Rattle.record_codec.specs.declared.setup.Setup.{Setup as SetupValue}

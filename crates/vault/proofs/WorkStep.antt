@@ -31,7 +31,7 @@ use Rattle.vault.specs.declared.turn.Turn.TheVariants as turn
 use Rattle.vault.specs.declared.vault.Vault.{Vault}
 use Rattle.vault.specs.Devices.{Devices}
 use Rattle.vault.specs.Heard.{fetched_entries, blocks_in}
-use Rattle.vault.specs.Opening.{work_blocks, OpensTo, Loses, TakesWork, KeepsHeard, WorksAs, HasLast, CanWork}
+use Rattle.vault.specs.Opening.{work_blocks, OpensRows, LosesWork, TakesWork, KeepsHeard, WorksAs, HasLast, CanWork}
 use Rattle.vault.specs.Orders.{Opened, fetches_left, works_left, is_fetch, is_work}
 use Rattle.vault.specs.Running.{place_in, heard_of, KeepsAll, IsFed, IsStopped}
 use Rattle.vault.specs.Stands.{Stands, Comes, MakesStep, MakesTurn}
@@ -133,10 +133,10 @@ module _ (w : State) (job : Job) (o s : ℕ) (next : next_action w job ≡ Some 
   rows_of t = []
 
   -- they are what the machine's work gives
-  pub gives : (r : Running) (u : Task) → IsRunning (setup_in w) r job → OpensTo r.task u o s → GivesSymbols (object_in w o) s (blocks_given job.given (setup_in w).n o s) (rows_of u)
+  pub gives : (r : Running) (u : Task) → IsRunning (setup_in w) r job → OpensRows r.task u o s → GivesSymbols (object_in w o) s (blocks_given job.given (setup_in w).n o s) (rows_of u)
   gives r u running opens = by_task r.task u (listed r running) opens
     where
-      by_task : (t u : Task) → IsTask (setup_in w) job (Work o s ∷ tail) t → OpensTo t u o s → GivesSymbols (object_in w o) s (blocks_given job.given (setup_in w).n o s) (rows_of u)
+      by_task : (t u : Task) → IsTask (setup_in w) job (Work o s ∷ tail) t → OpensRows t u o s → GivesSymbols (object_in w o) s (blocks_given job.given (setup_in w).n o s) (rows_of u)
       by_task (task.Get t) (task.Get u) is opens =
           subst (λ (x : Object). GivesSymbols x s (blocks_given job.given (setup_in w).n o s) u.bench.rows.items) (turned_is (setup_in w) t.bench o is.bench)
           (subst (λ (l : List SeenBlock). GivesSymbols (Rattle.vault.specs.Storing.turned t.bench o) s l u.bench.rows.items) (get_blocks t is) opens)
@@ -156,10 +156,10 @@ module _ (w : State) (job : Job) (o s : ℕ) (next : next_action w job ≡ Some 
       by_task (task.Audit t) u is opens = absurd opens
 
   -- a row that is lost is the one that the machine's work loses
-  pub loses : (r : Running) (row : ℕ) → IsRunning (setup_in w) r job → Loses r.task o s row → LosesRow (object_in w o) s (blocks_given job.given (setup_in w).n o s) row
+  pub loses : (r : Running) (row : ℕ) → IsRunning (setup_in w) r job → LosesWork r.task o s row → LosesRow (object_in w o) s (blocks_given job.given (setup_in w).n o s) row
   loses r row running lost = by_task r.task (listed r running) lost
     where
-      by_task : (t : Task) → IsTask (setup_in w) job (Work o s ∷ tail) t → Loses t o s row → LosesRow (object_in w o) s (blocks_given job.given (setup_in w).n o s) row
+      by_task : (t : Task) → IsTask (setup_in w) job (Work o s ∷ tail) t → LosesWork t o s row → LosesRow (object_in w o) s (blocks_given job.given (setup_in w).n o s) row
       by_task (task.Get t) is lost =
           subst (λ (x : Object). LosesRow x s (blocks_given job.given (setup_in w).n o s) row) (turned_is (setup_in w) t.bench o is.bench)
           (subst (λ (l : List SeenBlock). LosesRow (Rattle.vault.specs.Storing.turned t.bench o) s l row) (get_blocks t is) lost)
@@ -239,7 +239,7 @@ module _ (w : State) (job : Job) (o s : ℕ) (next : next_action w job ≡ Some 
         }
 
   -- the job goes on with its stripe opened
-  pub runs_on : (r r' : Running) → IsRunning (setup_in w) r job → r'.number ≡ r.number → OpensTo r.task r'.task o s → TakesWork r.task r'.task o → IsRunning (setup_in w) r' (advanced_with job (Worked o s (rows_of r'.task)))
+  pub runs_on : (r r' : Running) → IsRunning (setup_in w) r job → r'.number ≡ r.number → OpensRows r.task r'.task o s → TakesWork r.task r'.task o → IsRunning (setup_in w) r' (advanced_with job (Worked o s (rows_of r'.task)))
   runs_on r r' running number opens takes = record {
     number = number ∙ running.number;
     task = subst (λ (l : List Action). IsTask (setup_in w) (advanced_with job (Worked o s (rows_of r'.task))) l r'.task) (sym (ap (drop (job.place + 1)) (actions_same (setup_in w) job (job.place + 1) (Worked o s (rows_of r'.task) ∷ job.given))))
@@ -294,7 +294,7 @@ module _ (v : Vault) (w : State) (d : Devices) (moment number o s : ℕ) (stands
       pub work_step : (v' : Vault) (result : Result Unit RowLost) (x : Unit) → result ≡ Ok x → WorksAs r.task r'.task o s result → v'.jobs.items ≡ slice_set v.jobs.items place r' → KeepsAll v v' → v'.flight ≡ v.flight → IsFed v.core number reply.Done v'.core
           → MakesStep w moment number turn.More v' d d
       work_step v' result x is works jobs keeps_all flight fed =
-          let done : OpensTo r.task r'.task o s × TakesWork r.task r'.task o = subst (λ (y : Result Unit RowLost). WorksAs r.task r'.task o s y) is works in
+          let done : OpensRows r.task r'.task o s × TakesWork r.task r'.task o = subst (λ (y : Result Unit RowLost). WorksAs r.task r'.task o s y) is works in
           let rows = rows_of w coming.job o s coming.comes r'.task in
           let new : State = going_on w (advanced_with coming.job (Worked o s rows)) in
           goes_on v v' w new d.holds d.faults moment number place d.providers d.providers (Work o s) r' (advanced_with coming.job (Worked o s rows)) stands coming
@@ -311,10 +311,10 @@ module _ (v : Vault) (w : State) (d : Devices) (moment number o s : ℕ) (stands
           → v1.core ≡ v.core → v1.jobs.items ≡ slice_set v.jobs.items place r' → KeepsAll v v1 → v1.flight ≡ v.flight
           → IsStopped v1 number (reply.Lost row) (answer.Lost s row) turn v2 → MakesTurn w moment number turn v2 d d
       lost_step v1 v2 turn row result lost is row_is works core jobs keeps_all flight stopped =
-          let loss : Loses r.task o s lost.row × KeepsHeard r.task r'.task = subst (λ (y : Result Unit RowLost). WorksAs r.task r'.task o s y) is works in
+          let loss : LosesWork r.task o s lost.row × KeepsHeard r.task r'.task = subst (λ (y : Result Unit RowLost). WorksAs r.task r'.task o s y) is works in
           let new : State = ended w coming.job in
           ends_by v v1 v2 w new d.holds d.faults moment number place d.providers d.providers (Work o s) r r' (reply.Lost row) (answer.Lost s row) turn stands coming
-          (refl, loses w coming.job o s coming.comes r row runs (subst (λ (m : ℕ). Loses r.task o s m) (sym row_is) loss.0), refl)
+          (refl, loses w coming.job o s coming.comes r row runs (subst (λ (m : ℕ). LosesWork r.task o s m) (sym row_is) loss.0), refl)
           (record { records = refl; doubt = refl; append = refl; faults = refl; barred = refl })
           (ap (without_job w.jobs) (number_of w.jobs number coming.job coming.runs))
           at there

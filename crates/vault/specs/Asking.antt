@@ -55,9 +55,9 @@ abbrev pub length_in : CoreView → ℕ → ℕ → Option ℕ
 length_in c job object = length_found (job_in c.jobs job) object
 
 -- the number of a job as an audit, if it runs
-abbrev pub IsSubject : Option CoreJob → ℕ → Type 0
-IsSubject None number = ⊥
-IsSubject (Some j) number = number ≡ j.subject
+abbrev pub IsAuditNumber : Option CoreJob → ℕ → Type 0
+IsAuditNumber None number = ⊥
+IsAuditNumber (Some j) number = number ≡ j.subject
 
 -- the file, the audit's number, the round and the picks of an ask
 pub record IsQuestion (v : Vault) (job object round : ℕ) (q : Question) : Type 0 where
@@ -65,7 +65,7 @@ pub record IsQuestion (v : Vault) (job object round : ℕ) (q : Question) : Type
   pub shape_is : q.file.shape ≡ v.shape
   pub profile_is : q.file.profile ≡ v.profile
   pub length_is : length_in v.core job object ≡ Some q.file.length
-  pub number_is : IsSubject (job_in v.core.jobs job) q.number
+  pub number_is : IsAuditNumber (job_in v.core.jobs job) q.number
   pub round_is : q.round ≡ round
   pub picks_is : q.picks ≡ v.setup.picks
 
@@ -168,7 +168,7 @@ pub record MayPut (v : Vault) (job object : ℕ) : Type 0 where
   pub length_is : length_in v.core job object ≡ Some size
   pub few : size ≤ 2 ^ 22
   pub number : ℕ
-  pub number_is : IsSubject (job_in v.core.jobs job) number
+  pub number_is : IsAuditNumber (job_in v.core.jobs job) number
   pub rows : 1 ≤ stripes (object_put v object) size * v.profile.size
   pub some_picks : 1 ≤ v.setup.picks
   pub few_picks : v.setup.picks ≤ 64

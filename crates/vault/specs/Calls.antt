@@ -2,7 +2,7 @@
 --
 --   calls_disk coming        == what comes next is a move of an append, the only action that calls the disk
 --   called_provider coming   == the provider that the next action calls: of a store, a fetch, an ask, a removal
---   moves_made coming        == how many moves of its append are made before the next action
+--   moves_before_next coming        == how many moves of its append are made before the next action
 --   MovesCells n gate body turn old new == the cells after a step that makes the move after n, by what came of it
 use Rattle.std.specs.Prelude.{◌≡◌, ℕ, Bool, false, List, Option, None, Some}
 use Rattle.std.specs.Option.{option_map}
@@ -36,9 +36,9 @@ called_provider (Acts action) = provider_of action
 called_provider coming = None
 
 -- how many moves of its append are made before the next action
-abbrev pub moves_made : Coming → ℕ
-moves_made (Acts action) = moves_before action
-moves_made coming = 0
+abbrev pub moves_before_next : Coming → ℕ
+moves_before_next (Acts action) = moves_before action
+moves_before_next coming = 0
 
 -- the cells where the job ended: torn at a fault of the disk, and as before where memory ran out
 abbrev pub EndsCells : ℕ → ℕ → List ℕ → Answer → Option Cells → Option Cells → Type 0

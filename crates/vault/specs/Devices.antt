@@ -2,10 +2,9 @@
 --
 --   as_seen held stores others fetches p == what is seen of a provider, by the members of its trait
 --   Devices            == what a disk holds, where it tells it, its count of faults, and what is seen of the providers handed in
---   AreHanded ps w     == the providers handed in are those of a state
 --   AreDevices d w     == the devices are those of a state: images, count of faults, providers
 --   IsSameBeyond w d e == what the disk reads past the text with the record in flight is as before
-use Rattle.std.specs.Prelude.{◌≡◌, ℕ, ◌<◌, List, ◌∷◌, length, slice_get, Option, Some, None}
+use Rattle.std.specs.Prelude.{◌≡◌, ℕ, List, ◌∷◌, Option, Some, None}
 use Rattle.hail_devices.specs.Cells.{Cells}
 use Rattle.hail_devices.specs.Told.{Goes}
 use Rattle.hail_devices.specs.Providers.{Held, Provider}
@@ -13,6 +12,7 @@ use Rattle.hail_records.specs.Records.{Record}
 use Rattle.hail_records.specs.Journal.{text_size}
 use Rattle.hail_machine.specs.States.{State, Append}
 use Rattle.hail_machine.specs.Stands.{StandsForState}
+use Rattle.hail_openings.specs.Opened.{AreHanded}
 use Rattle.journal_core.specs.Moves.{SameFrom}
 
 -- what is seen of a provider
@@ -28,11 +28,6 @@ pub record Devices : Type 0 where
 -- the same, by what is told of each
 abbrev pub devices : Option Cells → ℕ → List Provider → Devices
 devices holds faults providers = record { holds = holds; faults = faults; providers = providers }
-
--- the providers handed in are those of a state
-pub record AreHanded (providers : List Provider) (w : State) : Type 0 where
-  pub count : w.handed ≡ length providers
-  pub each : (j : ℕ) → j < length providers → slice_get providers j ≡ Some (w.providers j)
 
 -- the devices of a state
 pub record AreDevices (d : Devices) (w : State) : Type 0 where

@@ -1,7 +1,7 @@
 -- What a move of an append does.
 --
 --   HasFailed moved               == the disk failed
---   GoesOn, Ends, GivesUp         == the disk after a move behind which others are left, after the last one, after one that failed
+--   GoesOn, EndsAppend, GivesUp         == the disk after a move behind which others are left, after the last one, after one that failed
 --   MakesMove a old moved new     == by what came of it
 --   ChangesCells a old moved new  == the cells after a move, by what came of it
 use Rattle.std.specs.Prelude.{◌≡◌, ◌+◌, ◌<◌, List, ◌∷◌, Option, IfSome}
@@ -28,7 +28,7 @@ pub record GoesOn (a b : Append) (rs : List Record) (r : Record) (told : Option 
   pub between : MayStandFor rs r told
 
 -- after the last move
-pub record Ends (rs : List Record) (r : Record) (told : Option Cells) : Type 0 where
+pub record EndsAppend (rs : List Record) (r : Record) (told : Option Cells) : Type 0 where
   pub closed : IfSome told (IsClosed (before_gate (r ∷ rs)))
   pub after : AllStandFor (r ∷ rs) told
 
@@ -42,7 +42,7 @@ abbrev pub MakesMove : Append → Option Cells → Moved → Option Cells → Ty
 MakesMove a old (moved.On f) new =
     (moves_of f.append ≡ moves_of a + 1) × (gate_of f.append ≡ gate_of a) × (body_of f.append ≡ body_of a)
     × ((rs : List Record) (r : Record) → Appends rs r a old → GoesOn a f.append rs r new)
-MakesMove a old moved.Done new = (moves_of a ≡ 3) × ((rs : List Record) (r : Record) → Appends rs r a old → Ends rs r new)
+MakesMove a old moved.Done new = (moves_of a ≡ 3) × ((rs : List Record) (r : Record) → Appends rs r a old → EndsAppend rs r new)
 MakesMove a old moved.Failed new = (rs : List Record) (r : Record) → Appends rs r a old → GivesUp a rs r new
 MakesMove a old moved.Memory new = IsWrite (moves_of a) × (new ≡ old)
 

@@ -12,7 +12,7 @@ use Rattle.hail_records.specs.Acceptance.{AreAccepted}
 use Rattle.vault_table.specs.Values.{Kept, IsFoldOf}
 use Rattle.vault.specs.declared.fault.StartFault.{StartFault}
 use Rattle.vault.specs.declared.fault.StartFault.TheVariants as start_fault
-use Rattle.vault.specs.Openings.{IsBadStart}
+use Rattle.hail_openings.specs.Journals.{IsBadStart}
 
 -- the bytes up to a gate are the text of records that fold to the table
 pub record IsReadUpTo (bytes : List ℕ) (rs : List Record) (t : Kept) (at : ℕ) : Type 0 where

@@ -10,7 +10,7 @@ use Rattle.vault.specs.Seen.{setup_of, master_of}
 use Rattle.vault.specs.Stands.{IsShaped}
 
 -- a vault with no job, over the table of a text of so many bytes
-pub record IsFresh (v : Vault) (t : Kept) (end first : ℕ) : Type 0 where
+pub record IsFreshVault (v : Vault) (t : Kept) (end first : ℕ) : Type 0 where
   pub core : v.core ≡ record { table = t; setup = setup_or_none t.setup; end = end; jobs = []; next_job = first; append = None; barred = false }
   pub setup : t.setup ≡ Some (with_master (setup_of v) (master_of v))
   pub shaped : IsShaped v

@@ -3,7 +3,7 @@
 --   fetched_entries job fetches blocks == an entry for each fetch, with what it gave
 --   answered_entries job asks symbols  == an entry for each ask
 --   entries_in parts                   == all that a job heard, in order
---   entry_of heard                     == one of them
+--   entry_heard heard                     == one of them
 use Rattle.std.specs.Prelude.{ℕ, List, [], ◌∷◌, Option}
 use Rattle.std.specs.Option.{option_map}
 use Rattle.column_codec.specs.PresentBlocks.{present_blocks}
@@ -40,7 +40,7 @@ entries_in (part.Fetched f) = fetched_entries f.job f.fetches.items (blocks_in f
 entries_in (part.Answered a) = answered_entries a.job a.asks.items a.symbols.items
 
 -- one thing that a job heard
-abbrev pub entry_of : Heard → Entry
-entry_of (heard.Fetched job provider object stripe block) =
+abbrev pub entry_heard : Heard → Entry
+entry_heard (heard.Fetched job provider object stripe block) =
     record { job = job; given = Fetched provider object stripe (option_map (λ b. b.now) block) }
-entry_of (heard.Answered job provider object round symbol) = record { job = job; given = Answered provider object round symbol }
+entry_heard (heard.Answered job provider object round symbol) = record { job = job; given = Answered provider object round symbol }

@@ -14,8 +14,7 @@ pub mod Flights
 pub mod Running
 pub mod Stands
 pub mod Calls
-pub mod Openings
-pub mod Starts
+pub mod Causes
 pub mod Inits
 pub mod Faults
 pub mod Folding

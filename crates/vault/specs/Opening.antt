@@ -5,7 +5,7 @@
 --   HasLast bench b         == there are a block for each provider of an object, of its size
 --   HasEmptied b b'         == the blocks are gone, and their room is left
 --   work_blocks task        == the blocks that a job opens
---   OpensTo, Loses          == they open to the rows that are at hand then; a row of them is not accepted
+--   OpensRows, LosesWork          == they open to the rows that are at hand then; a row of them is not accepted
 --   TakesWork old new object == a job has opened a stripe: a get has its bytes, and a repair has room for the next blocks
 --   WorksAs old new object stripe result == what the work on a stripe came to
 --   CanWork task            == a job has the blocks of a stripe, and room for its bytes
@@ -52,16 +52,16 @@ work_blocks (task.Repair t) = last_blocks t.bench.keys.file.shape.n t.blocks
 work_blocks t = []
 
 -- the blocks at hand open to the rows that are at hand then
-abbrev pub OpensTo : Task → Task → ℕ → ℕ → Type 0
-OpensTo (task.Get t) (task.Get u) object stripe = GivesSymbols (turned t.bench object) stripe (work_blocks (task.Get t)) u.bench.rows.items
-OpensTo (task.Repair t) (task.Repair u) object stripe = GivesSymbols (turned t.bench object) stripe (work_blocks (task.Repair t)) u.bench.rows.items
-OpensTo t u object stripe = ⊥
+abbrev pub OpensRows : Task → Task → ℕ → ℕ → Type 0
+OpensRows (task.Get t) (task.Get u) object stripe = GivesSymbols (turned t.bench object) stripe (work_blocks (task.Get t)) u.bench.rows.items
+OpensRows (task.Repair t) (task.Repair u) object stripe = GivesSymbols (turned t.bench object) stripe (work_blocks (task.Repair t)) u.bench.rows.items
+OpensRows t u object stripe = ⊥
 
 -- a row of the blocks at hand is not accepted
-abbrev pub Loses : Task → ℕ → ℕ → ℕ → Type 0
-Loses (task.Get t) object stripe row = LosesRow (turned t.bench object) stripe (work_blocks (task.Get t)) row
-Loses (task.Repair t) object stripe row = LosesRow (turned t.bench object) stripe (work_blocks (task.Repair t)) row
-Loses t object stripe row = ⊥
+abbrev pub LosesWork : Task → ℕ → ℕ → ℕ → Type 0
+LosesWork (task.Get t) object stripe row = LosesRow (turned t.bench object) stripe (work_blocks (task.Get t)) row
+LosesWork (task.Repair t) object stripe row = LosesRow (turned t.bench object) stripe (work_blocks (task.Repair t)) row
+LosesWork t object stripe row = ⊥
 
 -- a job has opened a stripe
 abbrev pub TakesWork : Task → Task → ℕ → Type 0
@@ -79,8 +79,8 @@ KeepsHeard t u = ⊥
 
 -- the work on a stripe came to this
 abbrev pub WorksAs : Task → Task → ℕ → ℕ → Result Unit RowLost → Type 0
-WorksAs old new object stripe (Ok done) = OpensTo old new object stripe × TakesWork old new object
-WorksAs old new object stripe (Err lost) = Loses old object stripe lost.row × KeepsHeard old new
+WorksAs old new object stripe (Ok done) = OpensRows old new object stripe × TakesWork old new object
+WorksAs old new object stripe (Err lost) = LosesWork old object stripe lost.row × KeepsHeard old new
 
 -- a job has the blocks of a stripe, and room for its bytes
 abbrev pub CanWork : Task → Type 0

@@ -5,7 +5,7 @@
 --   outcome_of turn       == of a step
 --   init_outcome result   == of an init
 --   IfEnded turn P        == P holds of the job's end, where the step was its last
---   IsIdle turn           == a step that made no action
+--   IsNoAction turn           == a step that made no action
 --   HasPaddedCounts answer == the counts of an audit are padded
 use Rattle.std.specs.Prelude.{ℕ, Result, Ok, Err}
 use Rattle.hail_machine.specs.Refusals.{Refusal}
@@ -55,12 +55,12 @@ IfEnded (turn.Done ended) P = P ended
 IfEnded t P = Unit {0}
 
 -- a step that made no action
-abbrev pub IsIdle : Turn → Type 0
-IsIdle (turn.Waiting holder) = Unit {0}
-IsIdle turn.NoSuchJob = Unit {0}
-IsIdle turn.MustReopen = Unit {0}
-IsIdle turn.More = ⊥
-IsIdle (turn.Done ended) = ⊥
+abbrev pub IsNoAction : Turn → Type 0
+IsNoAction (turn.Waiting holder) = Unit {0}
+IsNoAction turn.NoSuchJob = Unit {0}
+IsNoAction turn.MustReopen = Unit {0}
+IsNoAction turn.More = ⊥
+IsNoAction (turn.Done ended) = ⊥
 
 -- the counts of an audit are padded
 abbrev pub HasPaddedCounts : Answer → Type 0

@@ -18,7 +18,7 @@ use Rattle.record_codec.specs.declared.records.Record.{Record as RecordValue}
 use Rattle.record_codec.specs.declared.records.Record.TheVariants as kind
 use Rattle.vault.specs.declared.fault.InitFault.{InitFault}
 use Rattle.vault.specs.declared.fault.InitFault.TheVariants as init_fault
-use Rattle.vault.specs.Openings.{IsFree, BeginsWithSetup, IsBadInit}
+use Rattle.hail_openings.specs.Journals.{IsFree, BeginsWithSetup, IsBadInit}
 
 -- a disk reads a journal with no record, and no byte is loose
 pub record IsBlank (cells : Cells) : Type 0 where

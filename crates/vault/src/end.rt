@@ -4,7 +4,7 @@ ghost use Rattle.hail_machine.specs.States.{State};
 ghost use Rattle.vault_core.specs.Coming.{TakesReply};
 ghost use Rattle.vault.specs.Devices.{Devices};
 ghost use Rattle.vault.specs.Ending.{answer_at_end};
-ghost use Rattle.vault.specs.Outcomes.{IfEnded, IsIdle, HasPaddedCounts};
+ghost use Rattle.vault.specs.Outcomes.{IfEnded, IsNoAction, HasPaddedCounts};
 ghost use Rattle.vault.specs.Running.{place_in, heard_of, IsStopped};
 ghost use Rattle.vault.specs.Seen.{left_of};
 ghost use Rattle.vault.specs.Stands.{Stands, Comes, MakesTurn};
@@ -111,7 +111,7 @@ impl Vault {
         ensures machine { (w : State) (moment : ℕ) (d : Devices) → Stands self.old d w → MakesTurn w moment job result self.new d d }
         ensures left { result ≡ Some turn.More → left_of self.new job < left_of self.old job }
         ensures padded { IfSome result (λ turn. IfEnded turn (λ ended. HasPaddedCounts ended.answer)) }
-        ensures acted { IfSome result (λ turn. IsIdle turn → ⊥) }
+        ensures acted { IfSome result (λ turn. IsNoAction turn → ⊥) }
     {
         let place = place_of(&self.jobs, job)?;
         let number = self.core.subject(job)?;
@@ -125,7 +125,7 @@ impl Vault {
     pub(crate) fn stop(&mut self, job: u32, reply: Reply, answer: Answer) -> Option<Turn>
         requires { TakesReply self.old.core job reply }
         ensures stopped { IsStopped self.old job reply answer result self.new }
-        ensures acted { IfSome result (λ turn. IsIdle turn → ⊥) }
+        ensures acted { IfSome result (λ turn. IsNoAction turn → ⊥) }
     {
         let place = place_of(&self.jobs, job)?;
         self.core.feed(job, reply);

@@ -1,6 +1,6 @@
 ghost use Rattle.std.specs.Prelude.{◌≡◌, ◌≤◌, ◌^◌, IfOk, IfErr, IsTrue, Some};
 ghost use Rattle.hail_records.specs.Records.{Setup as SetupData, is_setup};
-ghost use Rattle.vault.specs.Fresh.{IsFresh, IsFreshFault};
+ghost use Rattle.vault.specs.Fresh.{IsFreshVault, IsFreshFault};
 
 use crate::codec::Codec;
 use crate::fault::StartFault;
@@ -22,7 +22,7 @@ pub(crate) fn open_fresh(
     requires set_up { (s : SetupData) → table.setup ≡ Some s → IsTrue (is_setup s) }
     requires least { 9 ≤ end }
     requires most { end ≤ 2 ^ 24 }
-    ensures ok { IfOk result (λ v. IsFresh v table end first) }
+    ensures ok { IfOk result (λ v. IsFreshVault v table end first) }
     ensures refused { IfErr result (IsFreshFault table) }
 {
     let Some((setup, master)) = table.setup() else {

@@ -1,6 +1,6 @@
 ghost use Rattle.std.specs.Prelude.{◌≡◌, ◌*◌, take, drop, length, slice_get};
 ghost use Rattle.std.specs.Option.{option_map, option_copied};
-ghost use Rattle.vault.specs.Heard.{blocks_in, fetched_entries, answered_entries, entry_of};
+ghost use Rattle.vault.specs.Heard.{blocks_in, fetched_entries, answered_entries, entry_heard};
 
 use crate::blocks::Blocks;
 use crate::heard::{Answers, Fetches, Heard, HeardList, Parts};
@@ -46,7 +46,7 @@ impl Fetches {
 
     /// What the fetch at a place gave.
     fn at(&self, place: usize) -> Option<Heard<'_>>
-        ensures { option_map entry_of result ≡ slice_get (fetched_entries self.now.job self.now.fetches.items (blocks_in self.now.blocks)) place }
+        ensures { option_map entry_heard result ≡ slice_get (fetched_entries self.now.job self.now.fetches.items (blocks_in self.now.blocks)) place }
     {
         let fetch = item_at(&self.fetches, place)?;
         let block = self.blocks.at(place)?;
@@ -70,7 +70,7 @@ impl Answers {
 
     /// What the ask at a place gave.
     fn at(&self, place: usize) -> Option<Heard<'_>>
-        ensures { option_map entry_of result ≡ slice_get (answered_entries self.now.job self.now.asks.items self.now.symbols.items) place }
+        ensures { option_map entry_heard result ≡ slice_get (answered_entries self.now.job self.now.asks.items self.now.symbols.items) place }
     {
         let ask = item_at(&self.asks, place)?;
         let symbol = item_at(&self.symbols, place)?;
@@ -98,7 +98,7 @@ impl HeardList {
 
     /// What was heard at a place, the first at 0; None from `len` on. It takes no memory.
     pub fn at(&self, place: usize) -> Option<Heard<'_>>
-        ensures { option_map entry_of result ≡ slice_get self.now place }
+        ensures { option_map entry_heard result ≡ slice_get self.now place }
     {
         match &self.parts {
             Parts::Nothing => None,

@@ -7,7 +7,7 @@ ghost use Rattle.hail_machine.specs.States.{State};
 ghost use Rattle.vault.specs.Devices.{devices};
 ghost use Rattle.vault.specs.Stands.{Stands, Comes, MakesTurn};
 ghost use Rattle.vault.specs.declared.turn.Turn.TheVariants as turn;
-ghost use Rattle.vault.specs.Outcomes.{IfEnded, IsIdle, HasPaddedCounts};
+ghost use Rattle.vault.specs.Outcomes.{IfEnded, IsNoAction, HasPaddedCounts};
 ghost use Rattle.vault.specs.Calls.{MovesCells};
 ghost use Rattle.vault.specs.Seen.{left_of, entry_of, closed_gate_of};
 
@@ -29,7 +29,7 @@ impl Vault {
         ensures tells { is_some (D.holds disk.new) ≡ is_some (D.holds disk.old) }
         ensures left { result ≡ Some turn.More → left_of self.new job < left_of self.old job }
         ensures padded { IfSome result (λ turn. IfEnded turn (λ ended. HasPaddedCounts ended.answer)) }
-        ensures acted { IfSome result (λ turn. IsIdle turn → ⊥) }
+        ensures acted { IfSome result (λ turn. IsNoAction turn → ⊥) }
     {
         let entry = self.core.entry(job)?;
         let gate = self.core.end().checked_sub(1)?;
@@ -56,7 +56,7 @@ impl Vault {
         ensures tells { is_some (D.holds disk.new) ≡ is_some (D.holds disk.old) }
         ensures left { result ≡ Some turn.More → left_of self.new job < left_of self.old job }
         ensures padded { IfSome result (λ turn. IfEnded turn (λ ended. HasPaddedCounts ended.answer)) }
-        ensures acted { IfSome result (λ turn. IsIdle turn → ⊥) }
+        ensures acted { IfSome result (λ turn. IsNoAction turn → ⊥) }
     {
         match self.flight.take()?.turn(disk) {
             Moved::On(flight) => {
@@ -80,7 +80,7 @@ impl Vault {
         ensures tells { is_some (D.holds disk.new) ≡ is_some (D.holds disk.old) }
         ensures left { result ≡ Some turn.More → left_of self.new job < left_of self.old job }
         ensures padded { IfSome result (λ turn. IfEnded turn (λ ended. HasPaddedCounts ended.answer)) }
-        ensures acted { IfSome result (λ turn. IsIdle turn → ⊥) }
+        ensures acted { IfSome result (λ turn. IsNoAction turn → ⊥) }
     {
         match self.flight.take()?.turn(disk) {
             Moved::On(flight) => {
@@ -105,7 +105,7 @@ impl Vault {
         ensures tells { is_some (D.holds disk.new) ≡ is_some (D.holds disk.old) }
         ensures left { result ≡ Some turn.More → left_of self.new job < left_of self.old job }
         ensures padded { IfSome result (λ turn. IfEnded turn (λ ended. HasPaddedCounts ended.answer)) }
-        ensures acted { IfSome result (λ turn. IsIdle turn → ⊥) }
+        ensures acted { IfSome result (λ turn. IsNoAction turn → ⊥) }
     {
         match self.flight.take()?.turn(disk) {
             Moved::Done => {

@@ -11,7 +11,8 @@ ghost use Rattle.hail_records.specs.Journal.{StandsFor};
 ghost use Rattle.record_codec.specs.Entries.{entry_of, with_master, IsInGrammar};
 ghost use Rattle.journal_core.specs.Moves.{MayStandFor};
 ghost use Rattle.vault.specs.declared.fault.InitFault.TheVariants as init_fault;
-ghost use Rattle.vault.specs.Openings.{journal_read, IsInitFault, IsNoWrite};
+ghost use Rattle.hail_openings.specs.Journals.{journal_read};
+ghost use Rattle.vault.specs.Causes.{IsInitFault, IsNoWrite};
 ghost use Rattle.vault.specs.Preparing.{IsBlank, emptied, IsReadied, IsHalfReady, with_setup, first_answer, IsTextFault};
 
 use crate::fault::InitFault;

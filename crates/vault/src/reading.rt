@@ -5,7 +5,7 @@ ghost use Rattle.hail_devices.specs.Cells.{reads};
 ghost use Rattle.hail_devices.specs.Disks.{synced};
 ghost use Rattle.hail_devices.specs.Faults.{HasCause};
 ghost use Rattle.hail_devices.specs.Told.{Goes};
-ghost use Rattle.vault.specs.Openings.{journal_read, IsResynced};
+ghost use Rattle.hail_openings.specs.Journals.{journal_read, IsResynced};
 
 use disk_model::Disk;
 use std::alloc::Global;

@@ -8,7 +8,8 @@ ghost use Rattle.record_codec.specs.Entries.{with_master};
 ghost use Rattle.hail_machine.specs.States.{State};
 ghost use Rattle.vault.specs.declared.fault.InitFault.TheVariants as init_fault;
 ghost use Rattle.vault.specs.Devices.{devices, AreDevices};
-ghost use Rattle.vault.specs.Openings.{journal_read, IsInitFault, IsNoWrite, IsResynced, MayBeLeft, IsSetUpOn};
+ghost use Rattle.hail_openings.specs.Journals.{journal_read, IsResynced, MayBeLeft, IsSetUpOn};
+ghost use Rattle.vault.specs.Causes.{IsInitFault, IsNoWrite};
 ghost use Rattle.vault.specs.Inits.{MakesInit, MayInit};
 
 use crate::fault::InitFault;

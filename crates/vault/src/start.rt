@@ -8,10 +8,11 @@ ghost use Rattle.hail_records.specs.Records.{Record};
 ghost use Rattle.hail_machine.specs.States.{State};
 ghost use Rattle.vault.specs.declared.fault.StartFault.TheVariants as start_fault;
 ghost use Rattle.vault.specs.Devices.{devices};
-ghost use Rattle.vault.specs.Openings.{journal_read, IsStartFault, LiesInJournal, IsRead, IsResynced};
+ghost use Rattle.hail_openings.specs.Journals.{journal_read, IsRead, IsResynced};
+ghost use Rattle.vault.specs.Causes.{IsStartFault, LiesInJournal};
 ghost use Rattle.vault.specs.Seen.{next_job_of};
 ghost use Rattle.vault.specs.Stands.{Stands, Carries};
-ghost use Rattle.vault.specs.Starts.{IsJustOpened};
+ghost use Rattle.hail_openings.specs.Opened.{IsJustOpened};
 
 use crate::fault::StartFault;
 use crate::folding::fold_journal;

@@ -2,9 +2,9 @@ ghost use Rattle.std.specs.Prelude.{◌≡◌, ◌≢◌, ◌<◌, ◌≤◌, �
 ghost use Rattle.hail_machine.specs.States.{State};
 ghost use Rattle.hail_records.specs.Records.{Record as Entry};
 ghost use Rattle.hail_records.specs.Spellings.{spelling};
-ghost use Rattle.vault.specs.Calls.{calls_disk, called_provider, moves_made, MovesCells};
+ghost use Rattle.vault.specs.Calls.{calls_disk, called_provider, moves_before_next, MovesCells};
 ghost use Rattle.vault.specs.Devices.{Devices, as_seen, devices};
-ghost use Rattle.vault.specs.Outcomes.{IfEnded, IsIdle, HasPaddedCounts};
+ghost use Rattle.vault.specs.Outcomes.{IfEnded, IsNoAction, HasPaddedCounts};
 ghost use Rattle.vault.specs.declared.turn.Turn.TheVariants as turn;
 ghost use Rattle.vault.specs.Seen.{provider_count, coming_of, entry_of, closed_gate_of, left_of, IsUnchanged};
 ghost use Rattle.vault.specs.Stands.{Stands, Comes, MakesStep, MakesTurn};
@@ -37,12 +37,12 @@ impl Vault {
         ensures still { calls_disk (coming_of self.old job) ≡ false → disk.new ≡ disk.old }
         ensures moves { (w : State) (entry : Entry) → Stands self.old (devices (D.holds disk.old) (D.faults disk.old) (map (as_seen P.held P.store_faults P.other_faults P.fetches) providers.old)) w
             → entry_of self.old job ≡ Some entry → calls_disk (coming_of self.old job) ≡ true
-            → MovesCells (moves_made (coming_of self.old job)) (closed_gate_of self.old) (spelling entry ++ 0 ∷ []) result (D.holds disk.old) (D.holds disk.new) }
+            → MovesCells (moves_before_next (coming_of self.old job)) (closed_gate_of self.old) (spelling entry ++ 0 ∷ []) result (D.holds disk.old) (D.holds disk.new) }
         ensures away { called_provider (coming_of self.old job) ≡ None → providers.new ≡ providers.old }
         ensures count { length providers.new ≡ length providers.old }
         ensures others { (j k : ℕ) → called_provider (coming_of self.old job) ≡ Some j → k ≢ j
             → slice_get providers.new k ≡ slice_get providers.old k }
-        ensures waits { IsIdle result → result ≢ turn.NoSuchJob → IsUnchanged self.old self.new × (disk.new ≡ disk.old) × (providers.new ≡ providers.old) }
+        ensures waits { IsNoAction result → result ≢ turn.NoSuchJob → IsUnchanged self.old self.new × (disk.new ≡ disk.old) × (providers.new ≡ providers.old) }
         ensures no_job { coming_of self.old job ≡ IsNoJob → IsUnchanged self.old self.new × (disk.new ≡ disk.old) × (providers.new ≡ providers.old) }
         ensures gone { (w : State) → Stands self.old (devices (D.holds disk.old) (D.faults disk.old) (map (as_seen P.held P.store_faults P.other_faults P.fetches) providers.old)) w
             → result ≡ turn.NoSuchJob → coming_of self.old job ≡ IsNoJob }
@@ -78,12 +78,12 @@ impl Vault {
         ensures still { calls_disk (Acts (seen_action action)) ≡ false → disk.new ≡ disk.old }
         ensures moves { (w : State) (entry : Entry) → Stands self.old (devices (D.holds disk.old) (D.faults disk.old) (map (as_seen P.held P.store_faults P.other_faults P.fetches) providers.old)) w
             → entry_of self.old job ≡ Some entry → calls_disk (Acts (seen_action action)) ≡ true
-            → IfSome result (λ turn. MovesCells (moves_made (Acts (seen_action action))) (closed_gate_of self.old) (spelling entry ++ 0 ∷ []) turn (D.holds disk.old) (D.holds disk.new)) }
+            → IfSome result (λ turn. MovesCells (moves_before_next (Acts (seen_action action))) (closed_gate_of self.old) (spelling entry ++ 0 ∷ []) turn (D.holds disk.old) (D.holds disk.new)) }
         ensures away { called_provider (Acts (seen_action action)) ≡ None → providers.new ≡ providers.old }
         ensures count { length providers.new ≡ length providers.old }
         ensures others { (j k : ℕ) → called_provider (Acts (seen_action action)) ≡ Some j → k ≢ j
             → slice_get providers.new k ≡ slice_get providers.old k }
-        ensures acted { IfSome result (λ turn. IsIdle turn → ⊥) }
+        ensures acted { IfSome result (λ turn. IsNoAction turn → ⊥) }
     {
         match action {
             Action::WriteBody => self.write_body(job, disk),

@@ -7,7 +7,7 @@ ghost use Rattle.vault.specs.Opening.{WorksAs, TakesWork, CanWork};
 ghost use Rattle.vault.specs.Running.{heard_of};
 ghost use Rattle.vault.specs.Stands.{Stands, Comes, MakesTurn};
 ghost use Rattle.vault.specs.declared.turn.Turn.TheVariants as turn;
-ghost use Rattle.vault.specs.Outcomes.{IfEnded, IsIdle, HasPaddedCounts};
+ghost use Rattle.vault.specs.Outcomes.{IfEnded, IsNoAction, HasPaddedCounts};
 ghost use Rattle.vault.specs.Seen.{left_of};
 
 use crate::bench::Bench;
@@ -137,7 +137,7 @@ impl Vault {
         ensures machine { (w : State) (moment : ℕ) (d : Devices) → Stands self.old d w → MakesTurn w moment job result self.new d d }
         ensures left { result ≡ Some turn.More → left_of self.new job < left_of self.old job }
         ensures padded { IfSome result (λ turn. IfEnded turn (λ ended. HasPaddedCounts ended.answer)) }
-        ensures acted { IfSome result (λ turn. IsIdle turn → ⊥) }
+        ensures acted { IfSome result (λ turn. IsNoAction turn → ⊥) }
     {
         let place = place_of(&self.jobs, job)?;
         let task = &mut self.jobs[place].task;

@@ -2,7 +2,7 @@ use Rattle.std.proofs.Common.{◌<◌, ◌≤◌, ap, arith}
 use Rattle.hail_commands.specs.Opens.{setup_at}
 use Rattle.record_codec.specs.declared.setup.Setup.{Setup}
 use Rattle.command_jobs.specs.Opened.{IsUnopened, unopened_of}
-use Rattle.command_jobs.proofs.Readings.{read-seen, fault-seen, reads-resynced, told-by}
+use Rattle.command_jobs.proofs.Readings.{fault-seen, reads-resynced, told-by}
 use Rattle.command_jobs.proofs.Fresh.{fresh-vault}
 use Rattle.command_jobs.proofs.open.open_vault.Goals as goal
 
@@ -20,7 +20,7 @@ returns-then-handed-from-clause-refused g c =
     o.1 o.2 c.in_ok-vault.ensures.number in
     let few : c.args.handed < (setup_at o.0).n =
     (let e = f.providers in let l = c.if-handed-from.true in let m = c.from.ensures in let n = ap (λ (s : Setup). s.n) c.setup.ensures in omega (arith, e, l, m, n)) in
-    (o.0, read-seen (g.D.Disk.holds c.args.disk.now) o.0 o.1, few)
+    (o.0, o.1, few)
 
 pub returns-then-handed-from-clause-reads : goal.returns-then-handed-from-clause-reads
 returns-then-handed-from-clause-reads g c = reads-resynced (g.D.Disk.holds c.args.disk.now) (g.D.Disk.holds c.start.new.disk) c.start.ensures.disk
@@ -32,7 +32,7 @@ returns-clause-opened g c =
     o.1 o.2 c.in_ok-vault.ensures.number in
     let enough : (setup_at o.0).n ≤ c.args.handed =
     (let e = f.providers in let l = c.if-handed-from.false in let m = c.from.ensures in let n = ap (λ (s : Setup). s.n) c.setup.ensures in omega (arith, e, l, m, n)) in
-    (o.0, record { read = read-seen (g.D.Disk.holds c.args.disk.now) o.0 o.1; enough = enough }, f)
+    (o.0, record { read = o.1; enough = enough }, f)
 
 pub returns-clause-ready : goal.returns-clause-ready
 returns-clause-ready g c = let o = returns-clause-opened g c in record { records = o.0; fresh = o.2; enough = o.1.enough }

@@ -3,7 +3,7 @@ use Rattle.std.proofs.lemmas.List.{length-map}
 use Rattle.hail_commands.specs.Opens.{setup_at}
 use Rattle.vault.specs.Devices.{as_seen}
 use Rattle.hail_records.specs.Records.{Record}
-use Rattle.command_jobs.specs.Opened.{IsFresh}
+use Rattle.command_jobs.specs.Opened.{IsFreshOver}
 use Rattle.command_jobs.specs.Kinds.{kind_of}
 use Rattle.command_jobs.specs.Ends.{IsRefusedOver}
 use Rattle.command_jobs.proofs.Readings.{told-by}
@@ -13,7 +13,7 @@ use Rattle.command_jobs.proofs.run.run_job.Goals as goal
 pub returns-in_err-number-clause-refused : goal.returns-in_err-number-clause-refused
 returns-in_err-number-clause-refused g c =
     told-by c.from_residual.result c.in_err-number.field-0.0
-    (λ why. (records : List Record) → IsFresh c.args.vault records (g.D.Disk.holds c.args.disk.now) (g.D.Disk.faults c.args.disk.now) → IsRefusedOver records (kind_of c.args.job) why)
+    (λ why. (records : List Record) → IsFreshOver c.args.vault records (g.D.Disk.holds c.args.disk.now) (g.D.Disk.faults c.args.disk.now) → IsRefusedOver records (kind_of c.args.job) why)
     c.from_residual.ensures.1
     (λ records fresh. refused-over c.opened_states.ensures.opened c.opened_states.ensures.there_is_one c.args.vault records (g.D.Disk.holds c.args.disk.now) (g.D.Disk.faults c.args.disk.now) fresh
     c.begin.new.vault (kind_of c.args.job) c.in_err-number.field-0.0 c.in_err-number.ensures)

@@ -3,7 +3,7 @@ use Rattle.std.specs.Vec.Iter.{into_iter_items}
 use Rattle.std.proofs.lemmas.List.{nil_from_length}
 use Rattle.schedule_text.specs.Events.{command_of, commands_of}
 use Rattle.trial_counts.specs.Counts.{TrialCounts}
-use Rattle.hail_replay.specs.Heard.{entries_of}
+use Rattle.hail_replay.specs.Heard.{entries_heard}
 use Rattle.hail_replay.proofs.Course.{on-err}
 use Rattle.hail_replay.proofs.Loops.{Laws, begin-count, count-course, count-on, count-wrong, count-short, count-home}
 use Rattle.hail_replay.proofs.counted.count_events.Goals as goal
@@ -24,7 +24,7 @@ pub loop-event-preserved : goal.loop-event-preserved
 loop-event-preserved g c =
     (let W = c.loop-event.invariant in
     let is = ap commands_of c.in-Some.ensures.items in (
-      count-course c.args.expected.now _ _ _ (command_of c.in-Some.event) _ _ _ _ _ _ _ _ (entries_of c.trial_event.new.heard) is c.reserve.ensures.same W.0 W.1 c.trial_event.ensures.kept,
+      count-course c.args.expected.now _ _ _ (command_of c.in-Some.event) _ _ _ _ _ _ _ _ (entries_heard c.trial_event.new.heard) is c.reserve.ensures.same W.0 W.1 c.trial_event.ensures.kept,
       count-on c.args.expected.now _ _ _ (command_of c.in-Some.event) _ _ _ _ _ _ _ _ _ is c.reserve.ensures.same W.0 W.1 _ c.in_ok-trial_event.ensures.ok,
       (let w = W.2 in let n = c.trial_event.ensures.counted in let m = ap length c.in-Some.ensures.items in omega (arith, w, n, m)),
     ))

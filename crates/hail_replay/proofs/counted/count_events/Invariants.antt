@@ -1,7 +1,7 @@
 use Rattle.std.proofs.Common.{◌≡◌, ◌+◌, ◌≤◌, length}
 use Rattle.std.specs.Vec.Iter.{into_iter_items}
 use Rattle.schedule_text.specs.Events.{commands_of}
-use Rattle.hail_replay.specs.Heard.{entries_of}
+use Rattle.hail_replay.specs.Heard.{entries_heard}
 use Rattle.hail_replay.specs.Starts.{devices_of}
 use Rattle.hail_replay.proofs.Loops.{IsOnCourse, AreCounted}
 use Rattle.hail_replay.proofs.counted.count_events.Given as goal
@@ -11,7 +11,7 @@ invariant-loop-event g l =
     IsOnCourse (commands_of l.fn.events.items) (commands_of (into_iter_items l.left)) l.client
     (devices_of g.D.Disk g.P.Provider l.initial.disk l.initial.providers) (devices_of g.D.Disk g.P.Provider l.disk l.providers)
     × AreCounted l.expected (commands_of l.fn.events.items) (commands_of (into_iter_items l.left)) l.client
-    (devices_of g.D.Disk g.P.Provider l.initial.disk l.initial.providers) (devices_of g.D.Disk g.P.Provider l.disk l.providers) l.tally (entries_of l.heard)
+    (devices_of g.D.Disk g.P.Provider l.initial.disk l.initial.providers) (devices_of g.D.Disk g.P.Provider l.disk l.providers) l.tally (entries_heard l.heard)
     × (l.tally.events + length (into_iter_items l.left) ≤ length l.fn.events.items)
 
 abbrev pub decreases-loop-event : goal.decreases-loop-event

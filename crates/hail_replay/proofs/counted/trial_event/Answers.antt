@@ -3,7 +3,7 @@ use Rattle.hail_machine.specs.Events.{Outcome}
 use Rattle.hail_machine.specs.Heard.{Entry}
 use Rattle.schedule_text.specs.Events.{command_of}
 use Rattle.trial_counts.specs.Seen.{SeesOne}
-use Rattle.hail_replay.specs.Heard.{entries_of}
+use Rattle.hail_replay.specs.Heard.{entries_heard}
 use Rattle.hail_replay.proofs.Course.{counted-on, run-on, on-ok, on-err}
 use Rattle.hail_replay.proofs.counted.trial_event.Goals as goal
 
@@ -12,10 +12,10 @@ returns-clause-ok g c = on-ok c.see-seen.result c.see-seen.ensures.run (λ sees 
     counted-on start base c.args.expected.now (command_of c.args.event) c.perform-came.result done _ _ _ _ _ _ _ _ H
     (λ run ms R. c.perform-came.ensures.performed.machine run ms told R)
     (subst (λ (o : Outcome). SeesOne c.args.expected.now o c.args.tally.now c.see-seen.new.self) c.named-came.ensures.outcome sees)
-    (c.push.ensures ∙ ap (λ (x : List Entry). entries_of c.args.heard.now ++ x) (c.heard_of.ensures ∙ c.named-came.ensures.heard)))
+    (c.push.ensures ∙ ap (λ (x : List Entry). entries_heard c.args.heard.now ++ x) (c.heard_of.ensures ∙ c.named-came.ensures.heard)))
 
 pub returns-clause-err : goal.returns-clause-err
 returns-clause-err g c = on-err c.see-seen.result (λ start base done told H.
     run-on start base (command_of c.args.event) c.perform-came.result done _ _ _ _ _ _ H
     (λ run ms R. c.perform-came.ensures.performed.machine run ms told R)
-    (c.push.ensures ∙ ap (λ (x : List Entry). entries_of c.args.heard.now ++ x) (c.heard_of.ensures ∙ c.named-came.ensures.heard)))
+    (c.push.ensures ∙ ap (λ (x : List Entry). entries_heard c.args.heard.now ++ x) (c.heard_of.ensures ∙ c.named-came.ensures.heard)))

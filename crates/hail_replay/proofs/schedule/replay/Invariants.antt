@@ -1,7 +1,7 @@
 use Rattle.std.proofs.Common.{◌≤◌, length}
 use Rattle.std.specs.Vec.Iter.{into_iter_items}
 use Rattle.schedule_text.specs.Events.{commands_of}
-use Rattle.hail_replay.specs.Heard.{entries_of}
+use Rattle.hail_replay.specs.Heard.{entries_heard}
 use Rattle.hail_replay.specs.Starts.{devices_of}
 use Rattle.hail_replay.proofs.Loops.{IsOnCourse, AreDone}
 use Rattle.hail_replay.proofs.schedule.replay.Given as goal
@@ -12,7 +12,7 @@ invariant-loop-event g l =
     (devices_of g.D.Disk g.P.Provider l.initial.disk l.initial.providers) (devices_of g.D.Disk g.P.Provider l.disk l.providers)
     × AreDone (commands_of l.fn.events.items) (commands_of (into_iter_items l.left)) l.client
     (devices_of g.D.Disk g.P.Provider l.initial.disk l.initial.providers) (devices_of g.D.Disk g.P.Provider l.disk l.providers)
-    (g.K.Sink.written l.initial.sink) (g.K.Sink.written l.sink) (g.K.Sink.faults l.initial.sink) (g.K.Sink.faults l.sink) (entries_of l.heard)
+    (g.K.Sink.written l.initial.sink) (g.K.Sink.written l.sink) (g.K.Sink.faults l.initial.sink) (g.K.Sink.faults l.sink) (entries_heard l.heard)
     × (g.K.Sink.faults l.initial.sink ≤ g.K.Sink.faults l.sink)
 
 abbrev pub decreases-loop-event : goal.decreases-loop-event

@@ -1,7 +1,7 @@
 use Rattle.std.proofs.Common.{List, ℕ, Option, subst, sym, ◌∙◌}
 use Rattle.std.proofs.lemmas.List.FromFn.{length-range_with_len}
 use Rattle.hail_codes.specs.Points.{upto}
-use Rattle.hail_commands.specs.Row.{Opens}
+use Rattle.hail_commands.specs.Row.{OpensRow}
 use Rattle.hail_top.proofs.PointSteps.{Apart-upto}
 use Rattle.hail_top.proofs.RowAnswers.{answers_held, AnswersRow-same}
 use Rattle.hail_top.proofs.row.answer_row.Goals as goal
@@ -13,7 +13,7 @@ returns-in-Ok-Some-clause-answers g c =
     let shape = c.in-Some.shape in
     let same = c.in-Some.ensures.value in
     let whole = c.requires ∙ sym same.0 in
-    let opens = subst (λ (seen : List (Option ℕ)). Opens shape.n shape.l shape.b seen c.in-Ok-Some.values.items) c.deref.ensures.value (rw c.in-Ok-Some.field-0-is at c.in-Ok-Some.ensures) in
+    let opens = subst (λ (seen : List (Option ℕ)). OpensRow shape.n shape.l shape.b seen c.in-Ok-Some.values.items) c.deref.ensures.value (rw c.in-Ok-Some.field-0-is at c.in-Ok-Some.ensures) in
     let only = c.accepted_polynomial_is_unique.ensures.values shape.n shape.l shape.b (upto shape.n) row.seen.items in
     AnswersRow-same row.n row.l row.b shape.n shape.l shape.b row.seen.items _ _ same
     (answers_held shape.n shape.l shape.b row.seen.items c.in-Ok-Some.values.items c.deref-in-Ok-Some.result.now _ _ shape.fits opens

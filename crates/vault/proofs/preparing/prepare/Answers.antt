@@ -1,7 +1,8 @@
 use Rattle.std.proofs.Common.{List, ℕ, sym, subst}
 use Rattle.std.specs.Prelude.{IfSome}
 use Rattle.journal_core.proofs.MoveLemmas.{on_err}
-use Rattle.vault.specs.Openings.{journal_read, IsInitFault}
+use Rattle.hail_openings.specs.Journals.{journal_read}
+use Rattle.vault.specs.Causes.{IsInitFault}
 use Rattle.vault.specs.declared.fault.InitFault.{InitFault}
 use Rattle.vault.proofs.Answers.{err-from, unjudged, disk-unjudged, text-unjudged}
 use Rattle.vault.proofs.Opened.{IsLookedAt}

@@ -9,7 +9,8 @@ use Rattle.vault.specs.declared.fault.InitFault.{InitFault}
 use Rattle.vault.specs.declared.fault.InitFault.TheVariants as init_fault
 use Rattle.vault.specs.Devices.{devices}
 use Rattle.vault.specs.Inits.{MakesInit}
-use Rattle.vault.specs.Openings.{journal_read, IsInitFault}
+use Rattle.hail_openings.specs.Journals.{journal_read}
+use Rattle.vault.specs.Causes.{IsInitFault}
 use Rattle.vault.specs.Faults.{init_answer}
 use Rattle.journal_core.proofs.MoveLemmas.{on_err}
 use Rattle.vault.proofs.Answers.{err-from, unjudged, disk-unjudged}

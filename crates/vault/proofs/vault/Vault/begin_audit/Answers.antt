@@ -3,8 +3,9 @@ use Rattle.hail_machine.specs.Jobs.{AuditJob}
 use Rattle.vault_table.specs.Values.{Kept}
 use Rattle.vault.specs.Benches.{IsNewAudit}
 use Rattle.vault.specs.Seen.{table_of}
-use Rattle.vault.proofs.AuditBegins.{few-files, audit-task, least}
+use Rattle.vault.proofs.AuditBegins.{few-files, audit-task}
 use Rattle.vault.proofs.vault.Vault.begin_audit.Goals as goal
+use Rattle.vault.proofs.GetBegins.{least}
 
 pub returns-in-Ok-clause-machine : goal.returns-in-Ok-clause-machine
 returns-in-Ok-clause-machine c = λ w d moment stands.

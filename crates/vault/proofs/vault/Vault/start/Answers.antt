@@ -1,10 +1,12 @@
 use Rattle.std.proofs.Common.{List, ℕ, sym, subst, arith}
 use Rattle.std.specs.Prelude.{IfSome}
-use Rattle.vault.specs.Openings.{journal_read, IsStartFault}
+use Rattle.hail_openings.specs.Journals.{journal_read}
+use Rattle.vault.specs.Causes.{IsStartFault}
 use Rattle.vault.specs.declared.fault.StartFault.{StartFault}
 use Rattle.vault.proofs.Answers.{ok-still, err-still, err-from}
-use Rattle.vault.proofs.Opened.{IsLookedAt, short_fault, fold_fault, fresh_fault, setup-limits, least_size, read, carries, stands}
+use Rattle.vault.proofs.Opened.{IsLookedAt, short_fault, fold_fault, fresh_fault, setup-limits, read, carries, stands}
 use Rattle.vault.proofs.vault.Vault.start.Goals as goal
+use Rattle.vault.proofs.Texts.{least_size}
 
 pub returns-in_default-clause-refused : goal.returns-in_default-clause-refused
 returns-in_default-clause-refused g c =

@@ -1,14 +1,16 @@
--- Bytes that stand for accepted records are not bad: no record stands among them that may not follow.
-use Rattle.std.proofs.Common.{◌≡◌, ◌≢◌, ℕ, ◌⊎◌, true, List, [], ◌∷◌, ◌++◌, take, None, refl, ap, sym, subst, ◌∙◌, inl, inr, arith, append_assoc}
+-- What a start reads of a disk that tells its bytes: one list of records, or one reason why there is none.
+use Rattle.std.proofs.Common.{◌≡◌, ◌≢◌, ℕ, ◌+◌, ◌<◌, ◌⊎◌, true, List, [], ◌∷◌, ◌++◌, length, take, None, Some, refl, ap, sym, subst, ◌∙◌, inl, inr, arith, append_assoc, length-take}
 use Rattle.std.specs.List.{list_all}
 use Rattle.std.proofs.lemmas.List.{append_cancel_left, append-nil}
-use Rattle.hail_records.specs.Records.{Record, is_in_grammar}
+use Rattle.hail_devices.specs.Cells.{Cells, reads}
+use Rattle.hail_records.specs.Records.{Record, is_in_grammar, largest_journal}
 use Rattle.hail_records.specs.Spellings.{spelling}
-use Rattle.hail_records.specs.Journal.{magic, before_gate, StandsFor}
+use Rattle.hail_records.specs.Journal.{magic, before_gate, StandsFor, SpellsNone}
+use Rattle.hail_records.specs.Reading.{IsNotSetUp}
 use Rattle.hail_records.specs.Acceptance.{refused, AreAccepted}
 use Rattle.record_codec.proofs.Takes.{one_front}
-use Rattle.journal_core.proofs.Meanings.{bad_is_none}
-use Rattle.vault.specs.Openings.{IsBadStart, RefusesBehind}
+use Rattle.journal_core.proofs.Meanings.{one_meaning, bad_is_none, one_place}
+use Rattle.hail_openings.specs.Journals.{journal_read, IsRead, IsBadStart, RefusesBehind, StopsBehind}
 
 -- ---- lists of records whose texts begin the same bytes
 
@@ -104,11 +106,28 @@ accepted-in (m ∷ n) e rs a = accepted-in n e rs a.1
 shut-none : (gate : ℕ) (rest : List ℕ) → gate ≢ 1 → NoneStands (gate ∷ rest)
 shut-none gate rest shut r z fits e = shut (let head : gate ≡ 1 = cc in head)
 
+end-none : NoneStands []
+end-none r z fits e = (let k : ⊥ = cc in k)
+
+gap-none : (rest : List ℕ) → SpellsNone rest → NoneStands (1 ∷ rest)
+gap-none rest none r z fits e = none r (spelling r) z (record { in_grammar = fits; bytes_are = refl }) (let tails : rest ≡ spelling r ++ z = cc in tails)
+
 -- a record that is refused does not stand among accepted ones behind which none stands
 refused-none : (bytes : List ℕ) (rs : List Record) (x : List ℕ) (older : List Record) (at : ℕ) → Good rs → AreAccepted rs → NoneStands x → bytes ≡ before_gate rs ++ x → RefusesBehind bytes older at → ⊥
 refused-none bytes rs x older at all accepted none is F =
     (let more = all-of rs (F.entry ∷ older) x F.rest all F.in_grammar none (sym is ∙ F.bytes_are) in
     F.refused_is (accepted-in more.0 F.entry older (subst AreAccepted more.1 accepted)))
+
+refused-later : (bytes : List ℕ) (rs older : List Record) (at other : ℕ) → AreAccepted rs → (F : RefusesBehind bytes rs at) → (G : RefusesBehind bytes older other) →
+    (newer : List Record) → F.entry ∷ rs ≡ newer ++ G.entry ∷ older → at ≡ other
+refused-later bytes rs older at other accepted F G [] e = (let same : rs ≡ older = cc in F.place ∙ (ap (λ (l : List Record). length (before_gate l) + 1) same ∙ sym G.place))
+refused-later bytes rs older at other accepted F G (m ∷ n) e = absurd (let same : rs ≡ n ++ G.entry ∷ older = cc in G.refused_is (accepted-in n G.entry older (subst AreAccepted same accepted)))
+
+refused-once : (bytes : List ℕ) (rs older : List Record) (at other : ℕ) → AreAccepted rs → AreAccepted older → RefusesBehind bytes rs at → RefusesBehind bytes older other → at ≡ other
+refused-once bytes rs older at other accepted before F G = elim (compare (F.entry ∷ rs) (G.entry ∷ older) F.rest G.rest F.in_grammar G.in_grammar (sym F.bytes_are ∙ G.bytes_are)) [
+  | inl more ↦ refused-later bytes rs older at other accepted F G more.0 more.1
+  | inr more ↦ sym (refused-later bytes older rs other at before G F more.0 more.1)
+]
 
 -- a journal begins with its magic
 text-begins : (rs : List Record) (x : List ℕ) → (z : List ℕ) × (before_gate rs ++ x ≡ magic ++ z)
@@ -118,6 +137,35 @@ text-begins (r ∷ rs) x = (let t = text-begins rs ((1 ∷ spelling r) ++ x) in 
 begins : (bytes : List ℕ) (rs : List Record) (x : List ℕ) → bytes ≡ before_gate rs ++ x → take 8 bytes ≡ magic
 begins bytes rs x e = (let t = text-begins rs x in ap (take 8) (e ∙ t.1))
 
+stops-begins : (bytes : List ℕ) (rs : List Record) (at : ℕ) → StopsBehind bytes rs at → take 8 bytes ≡ magic
+stops-begins bytes rs at (inl (E, e)) = begins bytes E.records [] (E.bytes_are ∙ sym (append-nil (before_gate E.records)))
+stops-begins bytes rs at (inr (inl (B, e))) = begins bytes B.records (1 ∷ B.rest) B.bytes_are
+stops-begins bytes rs at (inr (inr F)) = begins bytes (F.entry ∷ rs) F.rest F.bytes_are
+
+-- ---- where a start stops
+
+-- bytes stop for one reason at one place
+stops-once : (bytes : List ℕ) (rs older : List Record) (at other : ℕ) → AreAccepted rs → AreAccepted older → StopsBehind bytes rs at → StopsBehind bytes older other → at ≡ other
+stops-once bytes rs older at other accepted before (inl (E, e)) (inl (D, d)) = one_place bytes at other (inr (inl E)) (inr (inl D))
+stops-once bytes rs older at other accepted before (inl (E, e)) (inr (inl (B, b))) = one_place bytes at other (inr (inl E)) (inr (inr B))
+stops-once bytes rs older at other accepted before (inr (inl (B, b))) (inl (E, e)) = one_place bytes at other (inr (inr B)) (inr (inl E))
+stops-once bytes rs older at other accepted before (inr (inl (B, b))) (inr (inl (C, c))) = one_place bytes at other (inr (inr B)) (inr (inr C))
+stops-once bytes rs older at other accepted before (inr (inr F)) (inr (inr G)) = refused-once bytes rs older at other accepted before F G
+stops-once bytes rs older at other accepted before (inr (inr F)) (inl (E, e)) =
+    absurd (refused-none bytes E.records [] rs at E.in_grammar (subst AreAccepted (sym e) before) end-none (E.bytes_are ∙ sym (append-nil (before_gate E.records))) F)
+stops-once bytes rs older at other accepted before (inr (inr F)) (inr (inl (B, b))) =
+    absurd (refused-none bytes B.records (1 ∷ B.rest) rs at B.in_grammar (subst AreAccepted (sym b) before) (gap-none B.rest B.none) B.bytes_are F)
+stops-once bytes rs older at other accepted before (inl (E, e)) (inr (inr F)) =
+    absurd (refused-none bytes E.records [] older other E.in_grammar (subst AreAccepted (sym e) accepted) end-none (E.bytes_are ∙ sym (append-nil (before_gate E.records))) F)
+stops-once bytes rs older at other accepted before (inr (inl (B, b))) (inr (inr F)) =
+    absurd (refused-none bytes B.records (1 ∷ B.rest) older other B.in_grammar (subst AreAccepted (sym b) accepted) (gap-none B.rest B.none) B.bytes_are F)
+
+pub bad-once : (bytes : List ℕ) (at other : ℕ) → IsBadStart bytes at → IsBadStart bytes other → at ≡ other
+bad-once bytes at other (inl a) (inl b) = a.1 ∙ sym b.1
+bad-once bytes at other (inl a) (inr (rs, accepted, stops)) = absurd (a.0 (stops-begins bytes rs other stops))
+bad-once bytes at other (inr (rs, accepted, stops)) (inl b) = absurd (b.0 (stops-begins bytes rs at stops))
+bad-once bytes at other (inr (rs, accepted, stops)) (inr (older, before, also)) = stops-once bytes rs older at other accepted before stops also
+
 -- bytes that stand for accepted records are not bad
 pub bad-none : (bytes : List ℕ) (at : ℕ) (rs : List Record) → AreAccepted rs → StandsFor bytes rs → IsBadStart bytes at → ⊥
 bad-none bytes at rs accepted S (inl a) = a.0 (begins bytes rs (S.gate ∷ S.rest) S.bytes_are)
@@ -125,3 +173,20 @@ bad-none bytes at rs accepted S (inr (older, before, inl (E, e))) = bad_is_none 
 bad-none bytes at rs accepted S (inr (older, before, inr (inl (B, b)))) = bad_is_none bytes at rs (inr (inr B)) S
 bad-none bytes at rs accepted S (inr (older, before, inr (inr F))) =
     refused-none bytes rs (S.gate ∷ S.rest) older at S.in_grammar accepted (shut-none S.gate S.rest S.closed) S.bytes_are F
+
+-- ---- what a disk reads that tells
+
+pub read-once : (cells : Cells) (a b : List Record) → IsRead (Some cells) a → IsRead (Some cells) b → a ≡ b
+read-once cells a b A B = one_meaning (journal_read cells) a b A.reads_are.1 B.reads_are.1
+
+pub read-set_up : (cells : Cells) (rs : List Record) → IsRead (Some cells) rs → IsNotSetUp (journal_read cells) → ⊥
+read-set_up cells rs R (inl short) = (let long = R.reads_are.0 in let size = length-take largest_journal (reads cells) in omega (arith, long, size, short))
+read-set_up cells rs R (inr none) = R.some (one_meaning (journal_read cells) rs [] R.reads_are.1 none)
+
+pub read-good : (cells : Cells) (at : ℕ) (rs : List Record) → IsRead (Some cells) rs → IsBadStart (journal_read cells) at → ⊥
+read-good cells at rs R bad = bad-none (journal_read cells) at rs R.accepted R.reads_are.1 bad
+
+-- a disk on which nothing is set up is not bad
+pub fresh-good : (bytes : List ℕ) (at : ℕ) → 9 < length bytes → IsNotSetUp bytes → IsBadStart bytes at → ⊥
+fresh-good bytes at long (inl short) bad = omega (arith, long, short)
+fresh-good bytes at long (inr none) bad = bad-none bytes at [] tt none bad

@@ -5,12 +5,15 @@
 --   IsBadStart bytes at       == the first place at which bytes are no journal, or a record may not follow those before it
 --   IsRead told rs            == the disk, where it tells, reads these records; of one that does not, a start has accepted them
 --   IsBadInit bytes at        == bytes are no journal, or the first record is no setup
+--   IsSetUpAlready bytes      == the journal's first record is a setup
 --   IsFree cells              == they read no records
 --   IsSetUpOn setup old new   == a store is set up on a disk that read no records
 --   MayBeLeft setup old image == an image that a failed init may leave
+--   IsResynced old new        == a disk that was synced, or was left as it was
 use Rattle.std.specs.Prelude.{◌≡◌, ◌≢◌, ◌⊎◌, ℕ, ◌+◌, ◌<◌, ◌≤◌, IsTrue, List, [], ◌∷◌, ◌++◌, length, take, drop, Option, None, IfSome}
 use Rattle.std.specs.List.{list_all}
 use Rattle.hail_devices.specs.Cells.{Cells, reads, firm}
+use Rattle.hail_devices.specs.Disks.{synced}
 use Rattle.hail_devices.specs.Images.{IsImage}
 use Rattle.hail_records.specs.Records.{Record, Setup, SetUp, is_in_grammar, largest_journal}
 use Rattle.hail_records.specs.Journal.{magic, before_gate, text, text_size, StandsFor, EndsAtGate, BreaksAfterGate, IsBadAt}
@@ -80,3 +83,7 @@ pub record IsSetUpOn (s : Setup) (old new : Cells) : Type 0 where
 -- an image that a failed init may leave: one of the disk as it was, and where that read no records also one that reads none, or this setup
 abbrev pub MayBeLeft : Setup → Cells → List ℕ → Type 0
 MayBeLeft s old image = IsImage old image ⊎ (IsFree old × ((length image ≤ 9) ⊎ (StandsFor image [] ⊎ StandsFor image (SetUp s ∷ []))))
+
+-- a disk that was synced, or was left as it was
+abbrev pub IsResynced : Cells → Cells → Type 0
+IsResynced old new = (new ≡ old) ⊎ (new ≡ synced old)
