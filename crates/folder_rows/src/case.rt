@@ -1,5 +1,5 @@
 use crate::command::{Row, first_wrong, goes};
-use crate::medium::Stays;
+use crate::medium::{Part, Stays};
 use crate::stand_in::StandIn;
 use std::alloc::Global;
 use std::fs;
@@ -7,22 +7,30 @@ use std::fs;
 /// All that was not synced stays.
 const ALL: Stays = Stays {
     names: true,
-    bytes: true,
+    bytes: Part::All,
 };
 
-/// Unsynced names and bytes stay or go, each kind as a whole.
-const CUTS: [Stays; 4] = [
+/// Unsynced names stay or go, and unsynced bytes stay, or half of them, or go.
+pub const CUTS: [Stays; 6] = [
     Stays {
         names: false,
-        bytes: false,
+        bytes: Part::Nothing,
     },
     Stays {
         names: false,
-        bytes: true,
+        bytes: Part::Half,
+    },
+    Stays {
+        names: false,
+        bytes: Part::All,
     },
     Stays {
         names: true,
-        bytes: false,
+        bytes: Part::Nothing,
+    },
+    Stays {
+        names: true,
+        bytes: Part::Half,
     },
     ALL,
 ];

@@ -11,3 +11,5 @@ mod cuts;
 mod medium;
 #[cfg(test)]
 mod stand_in;
+#[cfg(test)]
+mod stores;

@@ -22,11 +22,19 @@ struct Name {
     firm: Option<usize>,
 }
 
-/// What stays of unsynced changes when the power is cut: of the names in folders, and of the bytes of files.
+/// How much of a file's unsynced bytes stays.
+#[derive(Clone, Copy, Debug, PartialEq)]
+pub enum Part {
+    Nothing,
+    Half,
+    All,
+}
+
+/// What stays of unsynced changes when the power is cut: whether the names in folders do, and how much of the bytes of files.
 #[derive(Clone, Copy, Debug, PartialEq)]
 pub struct Stays {
     pub names: bool,
-    pub bytes: bool,
+    pub bytes: Part,
 }
 
 /// A file system in memory that keeps what was written apart from what was synced. A name is on the medium once its folder is synced,
@@ -74,6 +82,18 @@ fn overwritten(alloc: Global, old: &[u8], at: usize, bytes: &[u8]) -> io::Result
     Ok(new)
 }
 
+/// How many bytes both begin with.
+fn same_at_front(a: &[u8], b: &[u8]) -> usize {
+    a.iter().zip(b.iter()).take_while(|pair| pair.0 == pair.1).count()
+}
+
+/// The bytes of a file that was cut half-way through what it has that is new.
+fn torn(alloc: Global, firm: &[u8], written: &[u8]) -> io::Result<Vec<u8>> {
+    let same = same_at_front(firm, written).min(written.len());
+    let cut = same + (written.len() - same) / 2;
+    overwritten(alloc, firm, 0, &written[..cut])
+}
+
 impl Node {
     fn new(alloc: Global, is_folder: bool) -> Node {
         Node {
@@ -83,13 +103,21 @@ impl Node {
         }
     }
 
+    /// The bytes of the node as they are found behind a cut.
+    fn left(&self, alloc: Global, part: Part) -> io::Result<Vec<u8>> {
+        match part {
+            Part::Nothing => Ok(Vec::from_slice(alloc, &self.firm)?),
+            Part::Half => torn(alloc, &self.firm, &self.written),
+            Part::All => Ok(Vec::from_slice(alloc, &self.written)?),
+        }
+    }
+
     /// The node as it is found behind a cut.
     fn after_cut(&self, alloc: Global, stays: Stays) -> io::Result<Node> {
-        let left = if stays.bytes { &self.written } else { &self.firm };
         Ok(Node {
             is_folder: self.is_folder,
-            written: Vec::from_slice(alloc, left)?,
-            firm: Vec::from_slice(alloc, left)?,
+            written: self.left(alloc, stays.bytes)?,
+            firm: self.left(alloc, stays.bytes)?,
         })
     }
 }
@@ -201,6 +229,10 @@ impl Medium {
         self.powered()?;
         match self.find(path) {
             Some(_) if how.asks_create_new() => Err(ErrorKind::AlreadyExists.into()),
+            Some(node) if how.asks_truncate() => {
+                self.set_len(node, 0)?;
+                Ok(node)
+            }
             Some(node) => Ok(node),
             None if how.asks_create() || how.asks_create_new() => self.make(path, false),
             None => Err(missing()),

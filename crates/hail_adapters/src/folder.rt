@@ -1,5 +1,6 @@
 // A folder of blocks, each a file.
-ghost use Rattle.std.specs.Prelude.{◌≡◌, ◌≤◌, ◌<◌, false, length, IfOk, OnErr};
+ghost use Rattle.std.specs.Prelude.{◌≡◌, ◌≤◌, ◌<◌, ◌++◌, false, length, string_bytes, IfOk, OnErr};
+ghost use Rattle.hail_adapters.specs.BlockNames.{new_block};
 
 use crate::block_bytes::{BLOCK_BYTES, SYMBOL_BYTES, put_symbols, symbol_of, take_symbols};
 use crate::block_name::{NAME_BYTES, put_path};
@@ -39,7 +40,10 @@ impl<R: Files + Clone + Drop> Folder<R> {
         alloc: Global,
         path: &str,
         unsynced: Option<Mark>,
-    ) -> Result<Folder<R>, Memory> {
+    ) -> Result<Folder<R>, Memory>
+        ensures own { IfOk result (λ folder. string_bytes folder.path ≡ path.now) }
+        ensures new { IfOk result (λ folder. string_bytes folder.new_path ≡ path.now ++ new_block) }
+    {
         let mut block_path = String::from_str(alloc, path)?;
         block_path.reserve(NAME_BYTES)?;
         Ok(Folder {
