@@ -10,15 +10,11 @@ const ALL: Stays = Stays {
     bytes: Part::All,
 };
 
-/// Unsynced names stay or go, and unsynced bytes stay, or half of them, or go.
-pub const CUTS: [Stays; 6] = [
+/// Unsynced names stay or go, and unsynced bytes stay, or half of them where the names stay, or go.
+pub const CUTS: [Stays; 5] = [
     Stays {
         names: false,
         bytes: Part::Nothing,
-    },
-    Stays {
-        names: false,
-        bytes: Part::Half,
     },
     Stays {
         names: false,
@@ -161,13 +157,7 @@ impl<'a> Case<'a> {
     }
 
     /// Whether what a cut left shows the effect, or nothing of it, which it may where the effect was not acknowledged.
-    fn is_right(
-        &self,
-        alloc: Global,
-        uncut: &Uncut,
-        cut: &CutOff,
-        stays: Stays,
-    ) -> Option<bool> {
+    fn is_right(&self, alloc: Global, uncut: &Uncut, cut: &CutOff, stays: Stays) -> Option<bool> {
         let left = cut.files.after_cut(alloc, stays).ok()?;
         if uncut.shows(&left, alloc, self.with) {
             return Some(true);

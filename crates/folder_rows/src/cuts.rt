@@ -101,7 +101,10 @@ fn a_drop_takes_its_file_alone(rt: HostRuntime) -> Result<(), Fail> {
         lost: None,
         row: done("drop b", b"", b"dropped b\n"),
         without: Shown {
-            rows: &[done("list", b"", b"a 3\nb 5\n"), done("get b", b"", b"other")],
+            rows: &[
+                done("list", b"", b"a 3\nb 5\n"),
+                done("get b", b"", b"other"),
+            ],
             objects: &[1],
         },
         with: Shown {

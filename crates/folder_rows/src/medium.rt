@@ -1,3 +1,5 @@
+ghost use Rattle.std.specs.Prelude.{◌≤◌, length, IfOk};
+
 use std::alloc::Global;
 use std::fs::{Metadata, OpenOptions};
 use std::io::{self, ErrorKind};
@@ -84,7 +86,10 @@ fn overwritten(alloc: Global, old: &[u8], at: usize, bytes: &[u8]) -> io::Result
 
 /// How many bytes both begin with.
 fn same_at_front(a: &[u8], b: &[u8]) -> usize {
-    a.iter().zip(b.iter()).take_while(|pair| pair.0 == pair.1).count()
+    a.iter()
+        .zip(b.iter())
+        .take_while(|pair| pair.0 == pair.1)
+        .count()
 }
 
 /// The bytes of a file that was cut half-way through what it has that is new.
@@ -271,7 +276,9 @@ impl Medium {
     }
 
     /// Reads from an offset on, as much as fits or is there.
-    pub fn read(&self, node: usize, at: usize, out: &mut [u8]) -> io::Result<usize> {
+    pub fn read(&self, node: usize, at: usize, out: &mut [u8]) -> io::Result<usize>
+        ensures { IfOk result (λ n. n ≤ length out.old) }
+    {
         self.powered()?;
         let node = self.nodes.get(node).ok_or(missing())?;
         let rest = node.written.get(at..).unwrap_or(&[]);

@@ -1,7 +1,8 @@
 use crate::case::{CUTS, Cut};
 use crate::medium::Stays;
 use crate::stand_in::StandIn;
-use hail_adapters::FolderProvider;
+use disk_model::Disk;
+use hail_adapters::{FileDisk, FolderProvider};
 use hail_field::Symbol;
 use provider_model::Provider;
 use std::alloc::Global;
@@ -50,7 +51,42 @@ fn first_wrong_stays(alloc: Global, calls: u64) -> Option<Stays> {
 #[test]
 fn a_store_over_a_block_leaves_one_of_the_two(rt: HostRuntime) -> Result<(), Fail> {
     for calls in 0..7u64 {
-        assert_eq!(rt; first_wrong_stays(rt.alloc(), calls), None, "behind {calls} calls");
+        assert_eq!(rt;
+            first_wrong_stays(rt.alloc(), calls),
+            None,
+            "behind {calls} calls"
+        );
     }
+    Ok(())
+}
+
+/// Writes, and syncs.
+fn writes_and_syncs<D: Disk>(disk: &mut D) -> (bool, bool) {
+    let written = disk.write_at(0, b"abc").is_ok();
+    (written, disk.sync().is_ok())
+}
+
+/// Whether the length is told.
+fn tells<D: Disk>(disk: &mut D) -> bool {
+    disk.len().is_ok()
+}
+
+/// What a disk does before, in and behind a sync that fails: the system may call the next one done, with bytes that never reached the
+/// medium.
+fn before_in_and_behind(alloc: Global) -> Option<([(bool, bool); 3], bool)> {
+    let files = StandIn::new(alloc).ok()?;
+    let mut disk = FileDisk::new(&files, alloc, "home/journal").ok()?;
+    let before = writes_and_syncs(&mut disk);
+    files.cut_after(1).ok()?;
+    let within = writes_and_syncs(&mut disk);
+    files.cut_after(u64::MAX).ok()?;
+    let behind = writes_and_syncs(&mut disk);
+    Some(([before, within, behind], tells(&mut disk)))
+}
+
+#[test]
+fn a_disk_whose_sync_failed_does_nothing_more(rt: HostRuntime) -> Result<(), Fail> {
+    let wanted = ([(true, true), (true, false), (false, false)], false);
+    assert_eq!(rt; before_in_and_behind(rt.alloc()), Some(wanted));
     Ok(())
 }
