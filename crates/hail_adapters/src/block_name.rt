@@ -1,5 +1,5 @@
 ghost use Rattle.std.specs.Prelude.{◌≡◌, ◌∷◌, ◌++◌, string_bytes, OnOk};
-ghost use Rattle.hail_adapters.specs.BlockNames.{block_name};
+ghost use Rattle.hail_adapters.specs.BlockNames.{block_name, provider_folder};
 
 use std::alloc::AllocError;
 
@@ -21,4 +21,13 @@ pub fn put_path(out: &mut String, folder: &str, object: u64, stripe: u32) -> Res
     out.push_str(folder)?;
     out.push('/')?;
     push_name(out, object, stripe)
+}
+
+/// Puts the path of a provider's folder in place of what `out` holds.
+pub fn put_folder(out: &mut String, home: &str, provider: u8) -> Result<(), AllocError>
+    ensures { OnOk result (string_bytes out.new ≡ home.now ++ provider_folder provider) }
+{
+    out.clear();
+    out.push_str(home)?;
+    write!(out, "/provider-{provider}")
 }

@@ -13,7 +13,8 @@ use std::io;
 use std::marker::Model;
 use stream_model::{Failed, WriteFault};
 
-/// A file as a disk, seen in contracts as its count of faults. It tells nothing of what it holds.
+/// A file as a disk, seen in contracts as its count of faults. It tells nothing of what it holds. Behind a sync that failed each
+/// call fails.
 #[derive(Drop)]
 pub struct FileDisk<R: Files + Clone + Drop> {
     file: KeptFile<R>,
@@ -58,7 +59,10 @@ impl<R: Files + Clone + Drop> FileDisk<R> {
         ensures { self.new ≡ self.old }
     {
         if let Some(folders) = &mut self.folders {
-            folders.sync()?;
+            if let Err(error) = folders.sync() {
+                self.file.give_up();
+                return Err(error);
+            }
         }
         self.file.write_at(at, bytes)
     }

@@ -1,7 +1,8 @@
 // A folder of blocks, each a file.
-ghost use Rattle.std.specs.Prelude.{◌≡◌, ◌≤◌, ◌<◌, false, length, IfOk, OnErr};
+ghost use Rattle.std.specs.Prelude.{◌≡◌, ◌≤◌, ◌<◌, ◌++◌, false, length, string_bytes, IfOk, OnErr};
+ghost use Rattle.hail_adapters.specs.BlockNames.{new_block};
 
-use crate::block_bytes::{BLOCK_BYTES, SYMBOL_BYTES, put_symbols, symbol_of, take_symbols};
+use crate::block_bytes::{BLOCK_BYTES, SYMBOL_BYTES, put_symbols, take_symbols};
 use crate::block_name::{NAME_BYTES, put_path};
 use crate::found::{found, is_missing};
 use crate::plain::{folder_of, open_plain, sync_folder, to_make, to_read, to_write};
@@ -31,6 +32,23 @@ pub struct Folder<R: Files + Clone + Drop> {
     unsynced: Option<Mark>,
 }
 
+/// The block that was read last, if any: its stripe, and its symbols, which stand at the front.
+#[derive(Drop)]
+struct LastBlock {
+    stripe: Option<u32>,
+    symbols: [Symbol; 128],
+}
+
+impl LastBlock {
+    /// No block was read.
+    fn new() -> LastBlock {
+        LastBlock {
+            stripe: None,
+            symbols: [Symbol::ZERO; 128],
+        }
+    }
+}
+
 impl<R: Files + Clone + Drop> Folder<R> {
     /// Opens nothing, and makes room for the path of a block, so that no later call has to. A store marks the folder as
     /// unsynced; where there is no mark it syncs the folder itself.
@@ -39,7 +57,10 @@ impl<R: Files + Clone + Drop> Folder<R> {
         alloc: Global,
         path: &str,
         unsynced: Option<Mark>,
-    ) -> Result<Folder<R>, Memory> {
+    ) -> Result<Folder<R>, Memory>
+        ensures own { IfOk result (λ folder. string_bytes folder.path ≡ path.now) }
+        ensures new { IfOk result (λ folder. string_bytes folder.new_path ≡ path.now ++ new_block) }
+    {
         let mut block_path = String::from_str(alloc, path)?;
         block_path.reserve(NAME_BYTES)?;
         Ok(Folder {
@@ -132,35 +153,35 @@ impl<R: Files + Clone + Drop> Folder<R> {
         Ok(true)
     }
 
-    /// Reads the symbol in a row; none where there is no block of the challenge's size.
+    /// Reads the symbol in a row; none where there is no block of the challenge's size. A block that was read last is not read again.
     fn symbol_in(
         &mut self,
         object: u64,
         challenge: &Challenge,
         row: u64,
+        last: &mut LastBlock,
     ) -> io::Result<Option<Symbol>>
         requires { row < challenge.now.rows }
     {
         let size = u64::from(challenge.size);
         let stripe = (row / size) as u32;
-        let Some(mut file) = self.open(object, stripe)? else {
-            return Ok(None);
-        };
-        if file.metadata()?.len() != 16 * size {
-            return Ok(None);
+        if last.stripe != Some(stripe) {
+            last.stripe = None;
+            if !self.fetch(object, stripe, &mut last.symbols[..size as usize])? {
+                return Ok(None);
+            }
+            last.stripe = Some(stripe);
         }
-        file.seek(SeekFrom::Start(16 * (row % size)))?;
-        let mut bytes = [0; SYMBOL_BYTES];
-        let n = fill(&mut file, &mut bytes)?;
-        Ok((n == SYMBOL_BYTES).then_some(symbol_of(&bytes)))
+        Ok(Some(last.symbols[(row % size) as usize]))
     }
 
     /// Answers a challenge by what stands in the picked rows; none where one of them has no symbol.
     pub fn answer(&mut self, object: u64, challenge: &Challenge) -> io::Result<Option<Symbol>> {
         let mut rows = [(0, Symbol::ZERO); 64];
+        let mut last = LastBlock::new();
         for k in 0..challenge.picks {
             let row = challenge.row(k);
-            let Some(symbol) = self.symbol_in(object, challenge, row)? else {
+            let Some(symbol) = self.symbol_in(object, challenge, row, &mut last)? else {
                 return Ok(None);
             };
             rows[k as usize] = (row, symbol);

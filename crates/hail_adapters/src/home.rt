@@ -2,6 +2,7 @@
 ghost use Rattle.std.specs.Prelude.{◌≡◌, replicate, IfOk};
 ghost use Rattle.hail_adapters.specs.FolderCounts.{no_counts};
 
+use crate::block_name::put_folder;
 use crate::file_disk::FileDisk;
 use crate::folder_provider::FolderProvider;
 use crate::provider_folders::{ProviderFolders, Unsynced};
@@ -34,7 +35,8 @@ fn folder_provider<R: Files + Clone + Drop>(
 ) -> Result<FolderProvider<R>, Memory>
     ensures { IfOk result (λ provider. provider ≡ no_counts) }
 {
-    let path = format!(in alloc; "{home}/provider-{k}")?;
+    let mut path = String::new(alloc);
+    put_folder(&mut path, home, k)?;
     FolderProvider::marking(rt, alloc, &path, unsynced.mark(k.into())?)
 }
 

@@ -1,6 +1,7 @@
 // Files that are opened only where they are plain: a link is not followed, and a pipe would be waited for.
-ghost use Rattle.std.specs.Prelude.{◌≡◌, ◌≢◌, ℕ, List, [], Some};
+ghost use Rattle.std.specs.Prelude.{◌≡◌, ◌≢◌, ℕ, List, [], Some, true, IsTrue};
 ghost use Rattle.std.specs.Path.{path_parent};
+ghost use Rattle.std.specs.Fs.{new_options, with_read, with_write, asks_create, asks_create_new};
 
 use crate::found::found;
 use std::fs::{self, Files, OpenFile, OpenOptions};
@@ -38,32 +39,40 @@ pub fn is_there<R: Files>(rt: &R, path: &str) -> io::Result<bool> {
 }
 
 /// How a file is opened to be read.
-pub fn to_read() -> OpenOptions {
+pub fn to_read() -> OpenOptions
+    ensures { result ≡ with_read new_options true }
+{
     let mut how = OpenOptions::new();
     how.read(true);
     how
 }
 
 /// How a file that is there is opened to be written.
-pub fn to_write() -> OpenOptions {
+pub fn to_write() -> OpenOptions
+    ensures { result ≡ with_write new_options true }
+{
     let mut how = OpenOptions::new();
     how.write(true);
     how
 }
 
 /// How a file is opened to be written, or made for its owner alone.
-pub fn to_write_or_make() -> OpenOptions {
+pub fn to_write_or_make() -> OpenOptions
+    ensures { IsTrue (asks_create result) }
+{
     let mut how = to_write();
-    how.create(true);
     how.mode(OWN_FILE);
+    how.create(true);
     how
 }
 
 /// How a file that is not there yet is made for its owner alone.
-pub fn to_make() -> OpenOptions {
+pub fn to_make() -> OpenOptions
+    ensures { IsTrue (asks_create_new result) }
+{
     let mut how = to_write();
-    how.create_new(true);
     how.mode(OWN_FILE);
+    how.create_new(true);
     how
 }
 

@@ -1,4 +1,5 @@
 // The folders of a home's providers, whose names of blocks reach the medium before the journal's next write.
+use crate::block_name::put_folder;
 use crate::found::found;
 use crate::plain::sync_folder;
 use hail_field::Memory;
@@ -101,31 +102,31 @@ impl<R: Files + Clone + Drop> ProviderFolders<R> {
     }
 
     /// Syncs a folder; one that is gone has lost its blocks, and nothing is left to sync.
-    fn sync_one(&mut self, provider: usize) -> io::Result<()> {
-        self.path.clear();
-        write!(self.path, "{}/provider-{provider}/", self.home)?;
+    fn sync_one(&mut self, provider: u8) -> io::Result<()> {
+        put_folder(&mut self.path, &self.home, provider)?;
+        self.path.push('/')?;
         found(sync_folder(&self.rt, &self.path))?;
         Ok(())
     }
 
     /// Whether a provider's folder is marked.
-    fn is_marked(&self, provider: usize) -> bool {
-        match self.unsynced.marks.get(provider) {
+    fn is_marked(&self, provider: u8) -> bool {
+        match self.unsynced.marks.get(usize::from(provider)) {
             Some(mark) => mark.is_set.get(),
             None => false,
         }
     }
 
     /// Takes back the mark of a provider's folder.
-    fn unmark(&self, provider: usize) {
-        if let Some(mark) = self.unsynced.marks.get(provider) {
+    fn unmark(&self, provider: u8) {
+        if let Some(mark) = self.unsynced.marks.get(usize::from(provider)) {
             mark.is_set.set(false);
         }
     }
 
     /// Brings to the medium the names of all blocks that were stored.
     pub fn sync(&mut self) -> io::Result<()> {
-        for provider in 0..16 {
+        for provider in 0..16u8 {
             if self.is_marked(provider) {
                 self.sync_one(provider)?;
                 self.unmark(provider);

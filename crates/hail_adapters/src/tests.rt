@@ -1,6 +1,5 @@
 use super::*;
 use crate::transfer::{fill, write_some};
-use challenge::Challenge;
 use disk_model::Disk;
 use hail_field::Symbol;
 use provider_model::{Provider, Tamper};
@@ -10,7 +9,6 @@ use std::io::{ErrorKind, Print, Read};
 use std::os::unix::fs::{PermissionsExt, symlink};
 use std::test::Fail;
 use std::{fs, io};
-use stream_model::{Sink, Source, write_all};
 
 /// The most bytes of a journal.
 const LARGEST: u64 = 1 << 24;
@@ -58,10 +56,6 @@ fn block<P: Provider, const N: usize>(
 
 fn removes<P: Provider>(provider: &mut P, object: u64) -> bool {
     provider.remove(object).is_ok()
-}
-
-fn asked<P: Provider>(provider: &mut P, challenge: &Challenge) -> Option<Option<Symbol>> {
-    provider.ask(1, challenge).ok()
 }
 
 fn alters<P: Tamper>(provider: &mut P, object: u64, stripe: u32, place: u32) -> bool {
@@ -183,7 +177,8 @@ fn only_blocks_of_the_object_are_removed(rt: HostRuntime) -> Result<(), Fail> {
     Ok(())
 }
 
-// A link is not followed, and a store puts a block in its place, and in that of what a cut store left.
+// A link is not followed, and a store puts a block in its place, and in that of what a cut store left. A folder that is a file
+// holds nothing.
 #[test]
 fn only_plain_files_are_blocks(rt: HostRuntime) -> Result<(), Fail> {
     let mut provider = FolderProvider::new(&rt, rt.alloc(), "linked")?;
@@ -203,95 +198,13 @@ fn only_plain_files_are_blocks(rt: HostRuntime) -> Result<(), Fail> {
     assert_eq!(rt; stores(&mut provider, 3, 0, &[Symbol(3)]), false);
     let mut disk = FileDisk::new(&rt, rt.alloc(), "linked/3-0")?;
     assert_eq!(rt; (len(&mut disk), writes(&mut disk, 0, b"a")), (None, false));
+
+    let mut within = FolderProvider::new(&rt, rt.alloc(), "linked/1-0")?;
+    let stored = stores(&mut within, 1, 0, &[Symbol(1)]);
+    let held = (block::<_, 1>(&mut within, 1, 0), removes(&mut within, 1));
+    assert_eq!(rt; (stored, held), (false, (None, true)));
     fs::remove_dir_all(&rt, "linked")?;
     Ok(())
-}
-
-// The seed of the first round of the first audit to object 1 under the master key of the bytes 0 to 31.
-const SEED: [u8; 32] = [
-    177, 74, 118, 122, 222, 48, 6, 117, 101, 126, 116, 193, 72, 36, 68, 4, 49, 129, 168, 69, 205,
-    174, 1, 200, 246, 125, 22, 196, 8, 2, 145, 83,
-];
-
-// A ChaCha20 written in Python from RFC 8439 gives this challenge the rows 19, 70, 6 and 24, and the weight below. With
-// 1 in row 19 and 0 in the others the answer is the weight.
-#[test]
-fn challenges_are_answered(rt: HostRuntime) -> Result<(), Fail> {
-    let challenge = Challenge {
-        seed: SEED,
-        rows: 96,
-        size: 6,
-        picks: 4,
-    };
-    let weight = Symbol(65_912_960_681_525_404_807_291_868_634_059_098_642);
-    let mut own = [Symbol(0); 6];
-    let mut provider = FolderProvider::new(&rt, rt.alloc(), "asked")?;
-    assert_eq!(rt; asked(&mut provider, &challenge), Some(None));
-    let stored = [1, 4, 11].map(|stripe| stores(&mut provider, 1, stripe, &own));
-    own[1] = Symbol(1);
-    assert_eq!(rt;
-        (stored, stores(&mut provider, 1, 3, &own)),
-        ([true; 3], true)
-    );
-    assert_eq!(rt; asked(&mut provider, &challenge), Some(Some(weight)));
-    assert_eq!(rt; stores(&mut provider, 1, 4, &own[..5]), true);
-    assert_eq!(rt; asked(&mut provider, &challenge), Some(None));
-    assert_eq!(rt; removes(&mut provider, 1), true);
-    fs::remove_dir(&rt, "asked")?;
-    Ok(())
-}
-
-#[test]
-fn a_folder_that_is_a_file_holds_nothing(rt: HostRuntime) -> Result<(), Fail> {
-    fs::write(&rt, "plain", "")?;
-    let mut provider = FolderProvider::new(&rt, rt.alloc(), "plain")?;
-    let stored = stores(&mut provider, 1, 0, &[Symbol(1)]);
-    let lost = loses(&mut provider, 1, 0);
-    assert_eq!(rt;
-        (stored, lost, removes(&mut provider, 1)),
-        (false, false, true)
-    );
-    assert_eq!(rt; block::<_, 1>(&mut provider, 1, 0), None);
-    fs::remove_file(&rt, "plain")?;
-    Ok(())
-}
-
-#[test]
-fn a_home_has_a_journal_and_sixteen_providers(rt: HostRuntime) -> Result<(), Fail> {
-    let unsynced = Unsynced::new(rt.alloc())?;
-    let mut providers = folder_providers(&rt, rt.alloc(), "home", &unsynced)?;
-    let mut disk = journal_disk(&rt, rt.alloc(), "home", &unsynced)?;
-    assert_eq!(rt; providers.len(), 16);
-    let last = &mut providers[15];
-    let no_home = [stores(last, 1, 0, &[Symbol(1)]), writes(&mut disk, 0, b"a")];
-    assert_eq!(rt; no_home, [false; 2]);
-    fs::create_dir(&rt, "home")?;
-    let own = [stores(last, 1, 0, &[Symbol(1)]), writes(&mut disk, 0, b"a")];
-    assert_eq!(rt; own, [true; 2]);
-    assert_eq!(rt; is_file(&rt, "home/journal"), true);
-    assert_eq!(rt; is_file(&rt, "home/provider-15/1-0"), true);
-    fs::remove_dir_all(&rt, "home")?;
-    Ok(())
-}
-
-#[test]
-fn standard_streams_give_and_take(rt: HostRuntime) -> Result<(), Fail> {
-    let mut source = StdSource::new(&rt)?;
-    let mut sink = StdSink::new(&rt)?;
-    let line = b"standard output has this line\n";
-    assert_eq!(rt;
-        (reads_nothing(&mut source), takes(&mut sink, line)),
-        (true, true)
-    );
-    Ok(())
-}
-
-fn reads_nothing<S: Source>(source: &mut S) -> bool {
-    source.read(&mut []) == Ok(0)
-}
-
-fn takes<K: Sink>(sink: &mut K, bytes: &[u8]) -> bool {
-    write_all(sink, bytes).is_ok()
 }
 
 // Is cut off at its first call, gives one byte at the next two, and fails at the fourth.

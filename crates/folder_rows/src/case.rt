@@ -1,0 +1,205 @@
+use crate::command::{Row, first_wrong, goes};
+use crate::medium::{Part, Stays};
+use crate::stand_in::StandIn;
+use std::alloc::Global;
+use std::fs;
+
+/// All that was not synced stays.
+const ALL: Stays = Stays {
+    names: true,
+    bytes: Part::All,
+};
+
+/// Unsynced names stay or go, and unsynced bytes stay, or half of them where the names stay, or go.
+pub const CUTS: [Stays; 5] = [
+    Stays {
+        names: false,
+        bytes: Part::Nothing,
+    },
+    Stays {
+        names: false,
+        bytes: Part::All,
+    },
+    Stays {
+        names: true,
+        bytes: Part::Nothing,
+    },
+    Stays {
+        names: true,
+        bytes: Part::Half,
+    },
+    ALL,
+];
+
+/// What commands show of a home, and the objects whose blocks are then whole on each of its four providers.
+#[derive(Clone, Copy)]
+pub struct Shown<'a> {
+    pub rows: &'a [Row],
+    pub objects: &'a [u64],
+}
+
+/// A command in which the power is cut.
+#[derive(Clone, Copy)]
+pub struct Case<'a> {
+    /// The commands before it, behind which all that they wrote is on the medium.
+    pub before: &'a [Row],
+    /// The block that is then lost, if any, and the command that finds it.
+    pub lost: Option<(&'static str, Row)>,
+    /// How the command ends where the power is not cut.
+    pub row: Row,
+    /// What is shown without its effect.
+    pub without: Shown<'a>,
+    /// What is shown with it.
+    pub with: Shown<'a>,
+}
+
+/// A cut at which things go otherwise: behind how many calls that change something, and what stayed.
+#[derive(Clone, Copy, Debug, PartialEq)]
+pub struct Cut {
+    pub calls: u64,
+    pub stays: Stays,
+}
+
+/// What is told where a command that is not cut goes otherwise than its row says.
+const NEVER: Cut = Cut {
+    calls: u64::MAX,
+    stays: ALL,
+};
+
+/// The home before a command and behind it, where the power was not cut.
+#[derive(Drop)]
+struct Uncut {
+    before: StandIn,
+    after: StandIn,
+    /// How many calls of the command changed something.
+    calls: u64,
+}
+
+/// A home whose power was cut in a command, and whether the command ended as its row says.
+#[derive(Drop)]
+struct CutOff {
+    files: StandIn,
+    acknowledged: bool,
+}
+
+/// Whether both have a file with some bytes at this path, and the same.
+fn have_same_file(a: &StandIn, b: &StandIn, alloc: Global, path: &str) -> bool {
+    match (a.bytes_at(alloc, path), b.bytes_at(alloc, path)) {
+        (Ok(left), Ok(right)) => !left.is_empty() && left.as_slice() == right.as_slice(),
+        _ => false,
+    }
+}
+
+impl Uncut {
+    /// Whether what a cut left has the block of an object at a provider as it is here.
+    fn has_block(&self, left: &StandIn, alloc: Global, provider: u8, object: u64) -> Option<bool> {
+        let path = format!(in alloc; "home/provider-{provider}/{object}-0").ok()?;
+        Some(
+            have_same_file(left, &self.before, alloc, &path)
+                || have_same_file(left, &self.after, alloc, &path),
+        )
+    }
+
+    /// Whether what a cut left has the blocks of an object.
+    fn has_object(&self, left: &StandIn, alloc: Global, object: u64) -> bool {
+        for provider in 0..4u8 {
+            if self.has_block(left, alloc, provider, object) != Some(true) {
+                return false;
+            }
+        }
+        true
+    }
+
+    /// Whether what a cut left shows this.
+    fn shows(&self, left: &StandIn, alloc: Global, shown: Shown<'_>) -> bool {
+        if first_wrong(left, alloc, shown.rows).is_some() {
+            return false;
+        }
+        for object in shown.objects {
+            if !self.has_object(left, alloc, *object) {
+                return false;
+            }
+        }
+        true
+    }
+}
+
+impl<'a> Case<'a> {
+    /// The home before the command.
+    fn start(&self, alloc: Global) -> Option<StandIn> {
+        let files = StandIn::new(alloc).ok()?;
+        if first_wrong(&files, alloc, self.before).is_some() {
+            return None;
+        }
+        if let Some((path, found)) = &self.lost {
+            fs::remove_file(&files, *path).ok()?;
+            if !goes(&files, alloc, found) {
+                return None;
+            }
+        }
+        Some(files)
+    }
+
+    /// The home whose power was not cut.
+    fn uncut(&self, alloc: Global) -> Option<Uncut> {
+        let before = self.start(alloc)?;
+        let after = before.after_cut(alloc, ALL).ok()?;
+        let most = after.calls_left().ok()?;
+        if !goes(&after, alloc, &self.row) {
+            return None;
+        }
+        let calls = most.saturating_sub(after.calls_left().ok()?);
+        Some(Uncut {
+            before,
+            after,
+            calls,
+        })
+    }
+
+    /// Whether what a cut left shows the effect, or nothing of it, which it may where the effect was not acknowledged.
+    fn is_right(&self, alloc: Global, uncut: &Uncut, cut: &CutOff, stays: Stays) -> Option<bool> {
+        let left = cut.files.after_cut(alloc, stays).ok()?;
+        if uncut.shows(&left, alloc, self.with) {
+            return Some(true);
+        }
+        let again = cut.files.after_cut(alloc, stays).ok()?;
+        Some(!cut.acknowledged && uncut.shows(&again, alloc, self.without))
+    }
+
+    /// The command, whose power is cut behind so many calls that change something.
+    fn cut_off(&self, alloc: Global, uncut: &Uncut, calls: u64) -> Option<CutOff> {
+        let files = uncut.before.after_cut(alloc, ALL).ok()?;
+        files.cut_after(calls).ok()?;
+        let acknowledged = goes(&files, alloc, &self.row);
+        Some(CutOff {
+            files,
+            acknowledged,
+        })
+    }
+
+    /// The first way, if any, in which things go otherwise where the power is cut behind so many calls.
+    fn first_wrong_stays(&self, alloc: Global, uncut: &Uncut, calls: u64) -> Option<Stays> {
+        let Some(cut) = self.cut_off(alloc, uncut, calls) else {
+            return Some(ALL);
+        };
+        for stays in CUTS {
+            if self.is_right(alloc, uncut, &cut, stays) != Some(true) {
+                return Some(stays);
+            }
+        }
+        None
+    }
+
+    /// The first cut at which things go otherwise, from before the first call that changes something on to behind the last.
+    pub fn first_wrong_cut(&self, alloc: Global) -> Option<Cut> {
+        let Some(uncut) = self.uncut(alloc) else {
+            return Some(NEVER);
+        };
+        for calls in 0..uncut.calls.saturating_add(2) {
+            if let Some(stays) = self.first_wrong_stays(alloc, &uncut, calls) {
+                return Some(Cut { calls, stays });
+            }
+        }
+        None
+    }
+}

@@ -1,0 +1,141 @@
+use crate::case::{Case, Shown};
+use crate::command::{Row, done, refused};
+use std::test::Fail;
+
+/// The bytes of the master key are 0 to 31.
+const KEY: &[u8] = b"000102030405060708090a0b0c0d0e0f101112131415161718191a1b1c1d1e1f\n";
+
+/// Four providers are set up, of which one has a file's own bytes, in blocks of six symbols.
+const INIT: Row = Row {
+    line: "init 4 1 1 0 1 1 0",
+    input: KEY,
+    status: 0,
+    text: b"ready\n",
+};
+
+/// The first file is stored, as the object 1.
+const PUT: Row = Row {
+    line: "put a",
+    input: b"abc",
+    status: 0,
+    text: b"stored a 3\n",
+};
+
+/// What a home shows that holds the first file alone.
+const FIRST: [Row; 2] = [
+    Row {
+        line: "list",
+        input: b"",
+        status: 0,
+        text: b"a 3\n",
+    },
+    Row {
+        line: "get a",
+        input: b"",
+        status: 0,
+        text: b"abc",
+    },
+];
+
+#[test]
+fn a_set_up_is_whole_or_not_there(rt: HostRuntime) -> Result<(), Fail> {
+    let case = Case {
+        before: &[],
+        lost: None,
+        row: INIT,
+        without: Shown {
+            rows: &[refused("list", 9), INIT],
+            objects: &[],
+        },
+        with: Shown {
+            rows: &[done("list", b"", b"")],
+            objects: &[],
+        },
+    };
+    assert_eq!(rt; case.first_wrong_cut(rt.alloc()), None);
+    Ok(())
+}
+
+#[test]
+fn a_put_is_whole_or_not_there(rt: HostRuntime) -> Result<(), Fail> {
+    let case = Case {
+        before: &[INIT],
+        lost: None,
+        row: PUT,
+        without: Shown {
+            rows: &[done("list", b"", b"")],
+            objects: &[],
+        },
+        with: Shown {
+            rows: &FIRST,
+            objects: &[1],
+        },
+    };
+    assert_eq!(rt; case.first_wrong_cut(rt.alloc()), None);
+    Ok(())
+}
+
+#[test]
+fn a_put_over_a_name_leaves_one_of_two_files(rt: HostRuntime) -> Result<(), Fail> {
+    let case = Case {
+        before: &[INIT, PUT],
+        lost: None,
+        row: done("put a", b"other", b"stored a 5\n"),
+        without: Shown {
+            rows: &FIRST,
+            objects: &[1],
+        },
+        with: Shown {
+            rows: &[done("list", b"", b"a 5\n"), done("get a", b"", b"other")],
+            objects: &[2],
+        },
+    };
+    assert_eq!(rt; case.first_wrong_cut(rt.alloc()), None);
+    Ok(())
+}
+
+#[test]
+fn a_drop_takes_its_file_alone(rt: HostRuntime) -> Result<(), Fail> {
+    let case = Case {
+        before: &[INIT, PUT, done("put b", b"other", b"stored b 5\n")],
+        lost: None,
+        row: done("drop b", b"", b"dropped b\n"),
+        without: Shown {
+            rows: &[
+                done("list", b"", b"a 3\nb 5\n"),
+                done("get b", b"", b"other"),
+            ],
+            objects: &[1],
+        },
+        with: Shown {
+            rows: &FIRST,
+            objects: &[1],
+        },
+    };
+    assert_eq!(rt; case.first_wrong_cut(rt.alloc()), None);
+    Ok(())
+}
+
+#[test]
+fn a_repair_is_done_or_still_due(rt: HostRuntime) -> Result<(), Fail> {
+    let audit = done(
+        "audit",
+        b"",
+        b"audit 1 undecided 0\nprovider 0 count 0 ok\nprovider 1 count 0 ok\nprovider 2 count 1 flagged\nprovider 3 count 0 ok\n",
+    );
+    let case = Case {
+        before: &[INIT, PUT],
+        lost: Some(("home/provider-2/1-0", audit)),
+        row: done("repair", b"", b"repaired 1\n"),
+        without: Shown {
+            rows: &[FIRST[0], FIRST[1], done("repair", b"", b"repaired 1\n")],
+            objects: &[1],
+        },
+        with: Shown {
+            rows: &[FIRST[0], FIRST[1], refused("repair", 7)],
+            objects: &[1],
+        },
+    };
+    assert_eq!(rt; case.first_wrong_cut(rt.alloc()), None);
+    Ok(())
+}

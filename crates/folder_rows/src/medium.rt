@@ -1,0 +1,354 @@
+ghost use Rattle.std.specs.Prelude.{◌≤◌, length, IfOk};
+
+use std::alloc::Global;
+use std::fs::{Metadata, OpenOptions};
+use std::io::{self, ErrorKind};
+
+/// The number of the home's folder, which is always there.
+const HOME: usize = 0;
+
+/// A file or a folder: its bytes as they were written, and as the medium has them.
+#[derive(Drop)]
+struct Node {
+    is_folder: bool,
+    written: Vec<u8>,
+    firm: Vec<u8>,
+}
+
+/// A name in a folder: which node it names as the calls were made, and as the medium has it.
+#[derive(Drop)]
+struct Name {
+    path: String,
+    folder: usize,
+    now: Option<usize>,
+    firm: Option<usize>,
+}
+
+/// How much of a file's unsynced bytes stays.
+#[derive(Clone, Copy, Debug, PartialEq)]
+pub enum Part {
+    Nothing,
+    Half,
+    All,
+}
+
+/// What stays of unsynced changes when the power is cut: whether the names in folders do, and how much of the bytes of files.
+#[derive(Clone, Copy, Debug, PartialEq)]
+pub struct Stays {
+    pub names: bool,
+    pub bytes: Part,
+}
+
+/// A file system in memory that keeps what was written apart from what was synced. A name is on the medium once its folder is synced,
+/// a file's bytes once the file is. Its power is cut behind so many calls that change something: each call after them fails.
+#[derive(Drop)]
+pub struct Medium {
+    alloc: Global,
+    nodes: Vec<Node>,
+    names: Vec<Name>,
+    calls_left: u64,
+}
+
+/// What a call answers whose power is cut.
+fn no_power() -> io::Error {
+    ErrorKind::Other.into()
+}
+
+/// What a call answers that finds nothing.
+fn missing() -> io::Error {
+    ErrorKind::NotFound.into()
+}
+
+/// A path without the slash at its end.
+fn trimmed(path: &str) -> &str {
+    path.strip_suffix('/').unwrap_or(path)
+}
+
+/// The folder that a path leads through to its last name.
+fn folder_of(path: &str) -> &str {
+    match path.rsplit_once('/') {
+        Some((folder, _)) => folder,
+        None => "",
+    }
+}
+
+/// These bytes with others written over them from an offset on, where zero bytes fill a gap.
+fn overwritten(alloc: Global, old: &[u8], at: usize, bytes: &[u8]) -> io::Result<Vec<u8>> {
+    let kept = at.min(old.len());
+    let mut new = Vec::from_slice(alloc, &old[..kept])?;
+    new.resize(at, 0)?;
+    new.extend_from_slice(bytes)?;
+    if let Some(rest) = old.get(new.len()..) {
+        new.extend_from_slice(rest)?;
+    }
+    Ok(new)
+}
+
+/// How many bytes both begin with.
+fn same_at_front(a: &[u8], b: &[u8]) -> usize {
+    a.iter()
+        .zip(b.iter())
+        .take_while(|pair| pair.0 == pair.1)
+        .count()
+}
+
+/// The bytes of a file that was cut half-way through what it has that is new.
+fn torn(alloc: Global, firm: &[u8], written: &[u8]) -> io::Result<Vec<u8>> {
+    let same = same_at_front(firm, written).min(written.len());
+    let cut = same + (written.len() - same) / 2;
+    overwritten(alloc, firm, 0, &written[..cut])
+}
+
+impl Node {
+    fn new(alloc: Global, is_folder: bool) -> Node {
+        Node {
+            is_folder,
+            written: Vec::new(alloc),
+            firm: Vec::new(alloc),
+        }
+    }
+
+    /// The bytes of the node as they are found behind a cut.
+    fn left(&self, alloc: Global, part: Part) -> io::Result<Vec<u8>> {
+        match part {
+            Part::Nothing => Ok(Vec::from_slice(alloc, &self.firm)?),
+            Part::Half => torn(alloc, &self.firm, &self.written),
+            Part::All => Ok(Vec::from_slice(alloc, &self.written)?),
+        }
+    }
+
+    /// The node as it is found behind a cut.
+    fn after_cut(&self, alloc: Global, stays: Stays) -> io::Result<Node> {
+        Ok(Node {
+            is_folder: self.is_folder,
+            written: self.left(alloc, stays.bytes)?,
+            firm: self.left(alloc, stays.bytes)?,
+        })
+    }
+}
+
+impl Name {
+    /// What the name names behind a cut.
+    fn after_cut(&self, stays: Stays) -> Option<usize> {
+        if stays.names { self.now } else { self.firm }
+    }
+}
+
+impl Medium {
+    /// A medium on which a folder `home` is. Its power is not cut.
+    pub fn new(alloc: Global) -> io::Result<Medium> {
+        let mut nodes = Vec::new(alloc);
+        nodes.push(Node::new(alloc, true))?;
+        let mut names = Vec::new(alloc);
+        names.push(Name {
+            path: String::from_str(alloc, "home")?,
+            folder: HOME,
+            now: Some(HOME),
+            firm: Some(HOME),
+        })?;
+        Ok(Medium {
+            alloc,
+            nodes,
+            names,
+            calls_left: u64::MAX,
+        })
+    }
+
+    /// From now on the power is cut behind so many calls that change something.
+    pub fn cut_after(&mut self, calls: u64) {
+        self.calls_left = calls;
+    }
+
+    /// How many calls may still change something.
+    pub fn calls_left(&self) -> u64 {
+        self.calls_left
+    }
+
+    /// Refuses a call behind the cut.
+    fn powered(&self) -> io::Result<()> {
+        if self.calls_left == 0 {
+            return Err(no_power());
+        }
+        Ok(())
+    }
+
+    /// Counts a call that changes something.
+    fn turn(&mut self) -> io::Result<()> {
+        self.calls_left = self.calls_left.checked_sub(1).ok_or(no_power())?;
+        Ok(())
+    }
+
+    /// The node that a path names.
+    pub fn find(&self, path: &str) -> Option<usize> {
+        let path = trimmed(path);
+        for name in self.names.iter() {
+            if name.path.as_str() == path {
+                return name.now;
+            }
+        }
+        None
+    }
+
+    /// The bytes of a file as they were written.
+    pub fn bytes_at(&self, path: &str) -> Option<&[u8]> {
+        let node = self.nodes.get(self.find(path)?)?;
+        if node.is_folder {
+            return None;
+        }
+        Some(&node.written)
+    }
+
+    /// Lets a path name a node, or nothing.
+    fn point(&mut self, path: &str, node: Option<usize>) -> io::Result<()> {
+        let folder = self.find(folder_of(path)).ok_or(missing())?;
+        for name in self.names.iter_mut() {
+            if name.path.as_str() == path {
+                name.now = node;
+                return Ok(());
+            }
+        }
+        self.names.push(Name {
+            path: String::from_str(self.alloc, path)?,
+            folder,
+            now: node,
+            firm: None,
+        })?;
+        Ok(())
+    }
+
+    /// Makes an empty file or a folder, and gives its node.
+    pub fn make(&mut self, path: &str, is_folder: bool) -> io::Result<usize> {
+        if self.find(path).is_some() {
+            return Err(ErrorKind::AlreadyExists.into());
+        }
+        self.find(folder_of(path)).ok_or(missing())?;
+        self.turn()?;
+        let node = self.nodes.len();
+        self.nodes.push(Node::new(self.alloc, is_folder))?;
+        self.point(path, Some(node))?;
+        Ok(node)
+    }
+
+    /// Opens what is at a path, or makes it where this is asked for, and gives its node.
+    pub fn open(&mut self, how: &OpenOptions, path: &str) -> io::Result<usize> {
+        self.powered()?;
+        match self.find(path) {
+            Some(_) if how.asks_create_new() => Err(ErrorKind::AlreadyExists.into()),
+            Some(node) if how.asks_truncate() => {
+                self.set_len(node, 0)?;
+                Ok(node)
+            }
+            Some(node) => Ok(node),
+            None if how.asks_create() || how.asks_create_new() => self.make(path, false),
+            None => Err(missing()),
+        }
+    }
+
+    /// What is told of a node.
+    pub fn metadata(&self, node: usize) -> io::Result<Metadata> {
+        self.powered()?;
+        match self.nodes.get(node) {
+            Some(node) if node.is_folder => Ok(Metadata::of_dir()),
+            Some(node) => Ok(Metadata::of_file(node.written.len() as u64)),
+            None => Err(missing()),
+        }
+    }
+
+    /// What is told of the node at a path.
+    pub fn metadata_at(&self, path: &str) -> io::Result<Metadata> {
+        self.metadata(self.find(path).ok_or(missing())?)
+    }
+
+    /// Gives the node at a path another path, which it takes from whatever has it.
+    pub fn rename(&mut self, from: &str, to: &str) -> io::Result<()> {
+        let node = self.find(from).ok_or(missing())?;
+        self.turn()?;
+        self.point(to, Some(node))?;
+        self.point(from, None)
+    }
+
+    /// Takes a name away. Where there is none nothing changes.
+    pub fn remove(&mut self, path: &str) -> io::Result<()> {
+        self.powered()?;
+        self.find(path).ok_or(missing())?;
+        self.turn()?;
+        self.point(path, None)
+    }
+
+    /// Reads from an offset on, as much as fits or is there.
+    pub fn read(&self, node: usize, at: usize, out: &mut [u8]) -> io::Result<usize>
+        ensures { IfOk result (λ n. n ≤ length out.old) }
+    {
+        self.powered()?;
+        let node = self.nodes.get(node).ok_or(missing())?;
+        let rest = node.written.get(at..).unwrap_or(&[]);
+        let n = rest.len().min(out.len());
+        out[..n].copy_from_slice(&rest[..n]);
+        Ok(n)
+    }
+
+    /// Writes from an offset on.
+    pub fn write(&mut self, node: usize, at: usize, bytes: &[u8]) -> io::Result<()> {
+        self.turn()?;
+        let node = self.nodes.get_mut(node).ok_or(missing())?;
+        node.written = overwritten(self.alloc, &node.written, at, bytes)?;
+        Ok(())
+    }
+
+    /// Gives a file this length, where zero bytes fill a gap.
+    pub fn set_len(&mut self, node: usize, len: usize) -> io::Result<()> {
+        self.turn()?;
+        let node = self.nodes.get_mut(node).ok_or(missing())?;
+        node.written.resize(len, 0)?;
+        Ok(())
+    }
+
+    /// Brings to the medium the bytes of a file, or the names in a folder.
+    pub fn sync(&mut self, node: usize) -> io::Result<()> {
+        self.turn()?;
+        for name in self.names.iter_mut() {
+            if name.folder == node {
+                name.firm = name.now;
+            }
+        }
+        let node = self.nodes.get_mut(node).ok_or(missing())?;
+        node.firm = Vec::from_slice(self.alloc, &node.written)?;
+        Ok(())
+    }
+
+    /// Whether a node is found behind a cut.
+    fn is_left(&self, node: usize, stays: Stays) -> bool {
+        for name in self.names.iter() {
+            if name.after_cut(stays) == Some(node) {
+                return true;
+            }
+        }
+        false
+    }
+
+    /// The medium as it is found behind a cut, with power again.
+    pub fn after_cut(&self, stays: Stays) -> io::Result<Medium> {
+        let mut left = Medium {
+            alloc: self.alloc,
+            nodes: Vec::new(self.alloc),
+            names: Vec::new(self.alloc),
+            calls_left: u64::MAX,
+        };
+        for node in self.nodes.iter() {
+            left.nodes.push(node.after_cut(self.alloc, stays)?)?;
+        }
+        for name in self.names.iter() {
+            if let Some(node) = name.after_cut(stays)
+                && self.is_left(name.folder, stays)
+            {
+                left.names.push(Name {
+                    path: String::from_str(self.alloc, name.path.as_str())?,
+                    folder: name.folder,
+                    now: Some(node),
+                    firm: Some(node),
+                })?;
+            }
+        }
+        Ok(left)
+    }
+}

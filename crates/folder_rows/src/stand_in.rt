@@ -1,0 +1,188 @@
+use crate::medium::{Medium, Stays};
+use std::alloc::{Allocator, Global};
+use std::cell::{RefCell, RefMut};
+use std::fs::{Files, Metadata, OpenFile, OpenOptions};
+use std::io::{self, ErrorKind, Read, Seek, SeekFrom, Write};
+use std::rc::Rc;
+
+/// A stand-in for the operating system's files, over a medium in memory.
+#[derive(Clone, Drop)]
+pub struct StandIn {
+    medium: Rc<RefCell<Medium>>,
+}
+
+/// A file or a folder that was opened.
+#[derive(Drop)]
+pub struct Opened {
+    medium: Rc<RefCell<Medium>>,
+    node: usize,
+    at: usize,
+}
+
+/// The names in a folder, which no device reads.
+#[derive(Drop)]
+pub struct NoNames;
+
+/// What a call answers that no device makes.
+fn not_done() -> io::Error {
+    ErrorKind::Unsupported.into()
+}
+
+/// The medium, for one call.
+fn lend(medium: &Rc<RefCell<Medium>>) -> io::Result<RefMut<'_, Medium>> {
+    match medium.try_borrow_mut() {
+        Ok(medium) => Ok(medium),
+        Err(_) => Err(not_done()),
+    }
+}
+
+impl StandIn {
+    /// A stand-in over a medium.
+    fn over(alloc: Global, medium: Medium) -> io::Result<StandIn> {
+        Ok(StandIn {
+            medium: Rc::new(alloc, RefCell::new(medium))?,
+        })
+    }
+
+    /// A stand-in with an empty folder `home`.
+    pub fn new(alloc: Global) -> io::Result<StandIn> {
+        StandIn::over(alloc, Medium::new(alloc)?)
+    }
+
+    /// From now on the power is cut behind so many calls that change something.
+    pub fn cut_after(&self, calls: u64) -> io::Result<()> {
+        lend(&self.medium)?.cut_after(calls);
+        Ok(())
+    }
+
+    /// How many calls may still change something.
+    pub fn calls_left(&self) -> io::Result<u64> {
+        Ok(lend(&self.medium)?.calls_left())
+    }
+
+    /// What is found behind a cut, with power again.
+    pub fn after_cut(&self, alloc: Global, stays: Stays) -> io::Result<StandIn> {
+        let left = lend(&self.medium)?.after_cut(stays)?;
+        StandIn::over(alloc, left)
+    }
+
+    /// The bytes of the file at a path.
+    pub fn bytes_at(&self, alloc: Global, path: &str) -> io::Result<Vec<u8>> {
+        match lend(&self.medium)?.bytes_at(path) {
+            Some(bytes) => Ok(Vec::from_slice(alloc, bytes)?),
+            None => Err(ErrorKind::NotFound.into()),
+        }
+    }
+}
+
+impl Files for StandIn {
+    type File = Opened;
+
+    type Dir = NoNames;
+
+    fn open_file(&self, how: &OpenOptions, path: &str) -> io::Result<Opened> {
+        let node = lend(&self.medium)?.open(how, path)?;
+        Ok(Opened {
+            medium: self.medium.clone()?,
+            node,
+            at: 0,
+        })
+    }
+
+    fn open_dir(&self, _path: &str) -> io::Result<NoNames> {
+        Err(not_done())
+    }
+
+    fn metadata(&self, path: &str) -> io::Result<Metadata> {
+        lend(&self.medium)?.metadata_at(path)
+    }
+
+    fn symlink_metadata(&self, path: &str) -> io::Result<Metadata> {
+        lend(&self.medium)?.metadata_at(path)
+    }
+
+    fn copy(&self, _from: &str, _to: &str) -> io::Result<u64> {
+        Err(not_done())
+    }
+
+    fn rename(&self, from: &str, to: &str) -> io::Result<()> {
+        lend(&self.medium)?.rename(from, to)
+    }
+
+    fn remove_file(&self, path: &str) -> io::Result<()> {
+        lend(&self.medium)?.remove(path)
+    }
+
+    fn create_dir(&self, path: &str) -> io::Result<()> {
+        lend(&self.medium)?.make(path, true)?;
+        Ok(())
+    }
+
+    fn create_dir_with_mode(&self, path: &str, _mode: u32) -> io::Result<()> {
+        self.create_dir(path)
+    }
+
+    fn remove_dir(&self, _path: &str) -> io::Result<()> {
+        Err(not_done())
+    }
+
+    fn remove_dir_all<B: Allocator>(&self, _alloc: B, _path: &str) -> io::Result<()> {
+        Err(not_done())
+    }
+}
+
+impl Read for NoNames {
+    fn read(&mut self, _buf: &mut [u8]) -> io::Result<usize> {
+        Err(not_done())
+    }
+}
+
+impl Read for Opened {
+    fn read(&mut self, buf: &mut [u8]) -> io::Result<usize> {
+        let n = lend(&self.medium)?.read(self.node, self.at, buf)?;
+        self.at = self.at.saturating_add(n);
+        Ok(n)
+    }
+}
+
+impl Write for Opened {
+    fn write(&mut self, buf: &[u8]) -> io::Result<usize> {
+        lend(&self.medium)?.write(self.node, self.at, buf)?;
+        self.at = self.at.saturating_add(buf.len());
+        Ok(buf.len())
+    }
+
+    fn flush(&mut self) -> io::Result<()> {
+        Ok(())
+    }
+}
+
+impl Seek for Opened {
+    fn seek(&mut self, to: SeekFrom) -> io::Result<u64> {
+        match to {
+            SeekFrom::Start(at) => {
+                self.at = at as usize;
+                Ok(at)
+            }
+            _ => Err(not_done()),
+        }
+    }
+}
+
+impl OpenFile for Opened {
+    fn metadata(&self) -> io::Result<Metadata> {
+        lend(&self.medium)?.metadata(self.node)
+    }
+
+    fn set_len(&self, size: u64) -> io::Result<()> {
+        lend(&self.medium)?.set_len(self.node, size as usize)
+    }
+
+    fn sync_all(&self) -> io::Result<()> {
+        lend(&self.medium)?.sync(self.node)
+    }
+
+    fn sync_data(&self) -> io::Result<()> {
+        self.sync_all()
+    }
+}

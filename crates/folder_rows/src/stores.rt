@@ -1,0 +1,92 @@
+use crate::case::{CUTS, Cut};
+use crate::medium::Stays;
+use crate::stand_in::StandIn;
+use disk_model::Disk;
+use hail_adapters::{FileDisk, FolderProvider};
+use hail_field::Symbol;
+use provider_model::Provider;
+use std::alloc::Global;
+use std::test::Fail;
+
+/// Stores the second block of the third object.
+fn stores<P: Provider>(provider: &mut P, block: &[Symbol; 2]) -> bool {
+    provider.store(3, 1, block).is_ok()
+}
+
+/// The second block of the third object, or none.
+fn block<P: Provider>(provider: &mut P) -> Option<[Symbol; 2]> {
+    let mut out = [Symbol(0); 2];
+    match provider.fetch(3, 1, &mut out) {
+        Ok(true) => Some(out),
+        _ => None,
+    }
+}
+
+/// Whether a store over a block, cut behind so many calls that change something, leaves one of the two, and the new one where it was
+/// acknowledged.
+fn goes_right(alloc: Global, cut: Cut) -> Option<bool> {
+    let (old, new) = ([Symbol(1), Symbol(2)], [Symbol(3), Symbol(4)]);
+    let files = StandIn::new(alloc).ok()?;
+    let mut provider = FolderProvider::new(&files, alloc, "home/blocks").ok()?;
+    let first = stores(&mut provider, &old);
+    files.cut_after(cut.calls).ok()?;
+    let second = stores(&mut provider, &new);
+    let left = files.after_cut(alloc, cut.stays).ok()?;
+    let mut again = FolderProvider::new(&left, alloc, "home/blocks").ok()?;
+    let found = block(&mut again)?;
+    Some(first && (found == new || (found == old && !second)))
+}
+
+/// The first way, if any, in which things go otherwise where the power is cut behind so many calls.
+fn first_wrong_stays(alloc: Global, calls: u64) -> Option<Stays> {
+    for stays in CUTS {
+        if goes_right(alloc, Cut { calls, stays }) != Some(true) {
+            return Some(stays);
+        }
+    }
+    None
+}
+
+// A store over a block makes a file, writes and syncs it, gives it the block's name, and syncs the folder.
+#[test]
+fn a_store_over_a_block_leaves_one_of_the_two(rt: HostRuntime) -> Result<(), Fail> {
+    for calls in 0..7u64 {
+        assert_eq!(rt;
+            first_wrong_stays(rt.alloc(), calls),
+            None,
+            "behind {calls} calls"
+        );
+    }
+    Ok(())
+}
+
+/// Writes, and syncs.
+fn writes_and_syncs<D: Disk>(disk: &mut D) -> (bool, bool) {
+    let written = disk.write_at(0, b"abc").is_ok();
+    (written, disk.sync().is_ok())
+}
+
+/// Whether the length is told.
+fn tells<D: Disk>(disk: &mut D) -> bool {
+    disk.len().is_ok()
+}
+
+/// What a disk does before, in and behind a sync that fails: the system may call the next one done, with bytes that never reached the
+/// medium.
+fn before_in_and_behind(alloc: Global) -> Option<([(bool, bool); 3], bool)> {
+    let files = StandIn::new(alloc).ok()?;
+    let mut disk = FileDisk::new(&files, alloc, "home/journal").ok()?;
+    let before = writes_and_syncs(&mut disk);
+    files.cut_after(1).ok()?;
+    let within = writes_and_syncs(&mut disk);
+    files.cut_after(u64::MAX).ok()?;
+    let behind = writes_and_syncs(&mut disk);
+    Some(([before, within, behind], tells(&mut disk)))
+}
+
+#[test]
+fn a_disk_whose_sync_failed_does_nothing_more(rt: HostRuntime) -> Result<(), Fail> {
+    let wanted = ([(true, true), (true, false), (false, false)], false);
+    assert_eq!(rt; before_in_and_behind(rt.alloc()), Some(wanted));
+    Ok(())
+}
