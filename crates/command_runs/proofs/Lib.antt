@@ -1,0 +1,9 @@
+pub mod Shape
+pub mod Stores
+pub mod StoredPut
+pub mod FailedPut
+pub mod CutPut
+pub mod NoRoomPut
+pub mod DoneDrop
+pub mod LostGet
+pub mod LostRepair

@@ -1,0 +1,21 @@
+use Rattle.command_runs.proofs.StoredPut.{answers as stored_put}
+use Rattle.command_runs.proofs.FailedPut.{answers as put_failed}
+use Rattle.command_runs.proofs.CutPut.{answers as put_cut}
+use Rattle.command_runs.proofs.NoRoomPut.{answers as put_no_room}
+use Rattle.command_runs.proofs.DoneDrop.{answers as dropped}
+use Rattle.command_runs.proofs.runs.commands_end.Goals as goal
+
+pub returns-clause-put : goal.returns-clause-put
+returns-clause-put c = stored_put
+
+pub returns-clause-failed_put : goal.returns-clause-failed_put
+returns-clause-failed_put c = put_failed
+
+pub returns-clause-cut_put : goal.returns-clause-cut_put
+returns-clause-cut_put c = put_cut
+
+pub returns-clause-no_room : goal.returns-clause-no_room
+returns-clause-no_room c = put_no_room
+
+pub returns-clause-drop : goal.returns-clause-drop
+returns-clause-drop c = dropped

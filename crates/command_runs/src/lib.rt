@@ -1,0 +1,4 @@
+//! Commands over devices, given outright: how they end, and laws that have them as instances.
+#![tactic(auto)]
+
+pub mod runs;
