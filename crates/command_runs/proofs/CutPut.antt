@@ -22,7 +22,7 @@ use Rattle.command_laws.specs.Pieces.{moment}
 use Rattle.command_laws.proofs.Telling.{left-alone, jobs-leave}
 use Rattle.command_laws.proofs.BeginRefusals.{refusal-of}
 use Rattle.command_laws.proofs.Chains.{put-begins}
-use Rattle.command_runs.specs.Devices.{devices, with_source, named, byte, four_records, started_records, byte_records, counts, given_block, none_hold, all_hold, ends}
+use Rattle.command_runs.specs.Devices.{named, byte, four_records, started_records, counts, given_block, ends, to_put, put_cut}
 use Rattle.command_runs.proofs.Shape.{formed, form-is}
 use Rattle.command_runs.proofs.Stores.{put-old as old-sure, cut-new as new-sure}
 
@@ -145,14 +145,14 @@ module _ (w : State) (n : ℕ) (count : w.handed ≡ 4) where
   unfolding steps
   steps-are = (refl, refl, happens11 0, (refl, refl, happens10 0, (refl, refl, happens9 0, (refl, refl, happens8 0, (refl, refl, happens7 0, (refl, refl, happens6 0, (refl, refl, happens5 0, (refl, refl, happens4 0, (refl, refl, happens3 0, (refl, refl, happens2 0, (refl, refl, happens1 0, tt)))))))))))
 
-  each : (j : ℕ) → j < 4 → slice_get (record (devices byte_records all_hold) { disk_faults = 1 }).providers j ≡ Some (s12.providers j)
+  each : (j : ℕ) → j < 4 → slice_get (put_cut).providers j ≡ Some (s12.providers j)
   each zero l = refl
   each (suc zero) l = refl
   each (suc (suc zero)) l = refl
   each (suc (suc (suc zero))) l = refl
   each (suc (suc (suc (suc j)))) l = absurd (omega (arith, l))
 
-  ran-formed : RanAlone four_records (PutJob named byte) (DiskFault) (with_source (devices four_records none_hold) byte) (record (devices byte_records all_hold) { disk_faults = 1 }) ([]) 0 v n
+  ran-formed : RanAlone four_records (PutJob named byte) (DiskFault) (to_put) (put_cut) ([]) 0 v n
   unfolding steps spelling
   ran-formed = record {
     last = s12;
@@ -168,16 +168,16 @@ module _ (w : State) (n : ℕ) (count : w.handed ≡ 4) where
     past_text = record { next = Some (PutDone 1 1); is_next = record { done = PutStart 1 named ∷ []; rest = []; parts = refl; after_is = refl }; same = refl };
   }
 
-pub alone : RunsAlone four_records (PutJob named byte) (DiskFault) (with_source (devices four_records none_hold) byte) (record (devices byte_records all_hold) { disk_faults = 1 }) ([])
+pub alone : RunsAlone four_records (PutJob named byte) (DiskFault) (to_put) (put_cut) ([])
 alone = record {
   faults = 0;
   before = omega arith;
-  ran = λ w n V. subst (λ u. RanAlone four_records (PutJob named byte) (DiskFault) (with_source (devices four_records none_hold) byte) (record (devices byte_records all_hold) { disk_faults = 1 }) ([]) 0 u n) (form-is four_records w.bytes (empty_provider) (empty_provider) (empty_provider) (empty_provider) w refl V) (ran-formed w n V.handed.count);
+  ran = λ w n V. subst (λ u. RanAlone four_records (PutJob named byte) (DiskFault) (to_put) (put_cut) ([]) 0 u n) (form-is four_records w.bytes (empty_provider) (empty_provider) (empty_provider) (empty_provider) w refl V) (ran-formed w n V.handed.count);
 }
 
-pub answers : Answers (PutUnder named) (with_source (devices four_records none_hold) byte) (record (devices byte_records all_hold) { disk_faults = 1 }) (ends 12)
+pub answers : Answers (PutUnder named) (to_put) (put_cut) (ends 12)
 answers = AnswersPut.begun four_records byte old-sure.known.opened (record { are_bytes = refl; front = refl; few = omega arith; end = λ l. refl })
     (AnswersJob.ended (DiskFault) begins-none alone
-      (left-alone four_records (PutJob named byte) (DiskFault) (with_source (devices four_records none_hold) byte) (record (devices byte_records all_hold) { disk_faults = 1 }) ([])
+      (left-alone four_records (PutJob named byte) (DiskFault) (to_put) (put_cut) ([])
       (λ w last n O r. jobs-leave (PutJob named byte) w last n (DiskFault) ([]) (refl, refl) O r) old-sure.known.opened refl alone)
       (record { status_is = refl; place = refl; sink = refl }))

@@ -13,7 +13,6 @@ use Rattle.hail_machine.specs.Machine.{Happens}
 use Rattle.hail_machine.specs.Runs.{Moment}
 use Rattle.hail_machine.specs.States.{State, setup_in, with_provider}
 use Rattle.hail_commands.specs.Forms.{DropOf}
-use Rattle.hail_commands.specs.Lines.{dropped_line}
 use Rattle.hail_commands.specs.Refusals.{refusal_of}
 use Rattle.hail_commands.specs.JobRuns.{AreSteps}
 use Rattle.hail_commands.specs.Jobs.{RanAlone, RunsAlone, AnswersJob}
@@ -21,7 +20,7 @@ use Rattle.hail_commands.specs.Commands.{AnswersAlone, Answers}
 use Rattle.command_laws.specs.Pieces.{moment}
 use Rattle.command_laws.proofs.Telling.{left-alone, jobs-leave}
 use Rattle.command_laws.proofs.BeginRefusals.{refusal-of}
-use Rattle.command_runs.specs.Devices.{devices, with_sink, named, byte_records, dropped_records, counts, holds, robbed, all_hold, ends}
+use Rattle.command_runs.specs.Devices.{named, byte_records, dropped_records, counts, holds, robbed, ends, kept, dropped}
 use Rattle.command_runs.proofs.Shape.{formed, form-is, one_byte, one_byte-is}
 use Rattle.command_runs.proofs.Stores.{stored-sure as old-sure, dropped-new as new-sure}
 
@@ -123,14 +122,14 @@ module _ (w : State) (n : ℕ) (count : w.handed ≡ 4) where
   unfolding steps
   steps-are = (refl, refl, happens8 0, (refl, refl, happens7 0, (refl, refl, happens6 0, (refl, refl, happens5 0, (refl, refl, happens4 0, (refl, refl, happens3 0, (refl, refl, happens2 0, (refl, refl, happens1 0, tt))))))))
 
-  each : (j : ℕ) → j < 4 → slice_get (with_sink (devices dropped_records (robbed (holds 0) ∷ robbed (holds 1) ∷ robbed (holds 2) ∷ robbed (holds 3) ∷ [])) (dropped_line named)).providers j ≡ Some (s9.providers j)
+  each : (j : ℕ) → j < 4 → slice_get (dropped).providers j ≡ Some (s9.providers j)
   each zero l = refl
   each (suc zero) l = refl
   each (suc (suc zero)) l = refl
   each (suc (suc (suc zero))) l = refl
   each (suc (suc (suc (suc j)))) l = absurd (omega (arith, l))
 
-  ran-formed : RanAlone byte_records (DropJob named) (Dropped) (devices byte_records all_hold) (with_sink (devices dropped_records (robbed (holds 0) ∷ robbed (holds 1) ∷ robbed (holds 2) ∷ robbed (holds 3) ∷ [])) (dropped_line named)) ([]) 0 v n
+  ran-formed : RanAlone byte_records (DropJob named) (Dropped) (kept) (dropped) ([]) 0 v n
   unfolding steps spelling
   ran-formed = record {
     last = s9;
@@ -146,17 +145,17 @@ module _ (w : State) (n : ℕ) (count : w.handed ≡ 4) where
     past_text = refl;
   }
 
-pub alone : RunsAlone byte_records (DropJob named) (Dropped) (devices byte_records all_hold) (with_sink (devices dropped_records (robbed (holds 0) ∷ robbed (holds 1) ∷ robbed (holds 2) ∷ robbed (holds 3) ∷ [])) (dropped_line named)) ([])
+pub alone : RunsAlone byte_records (DropJob named) (Dropped) (kept) (dropped) ([])
 alone = record {
   faults = 0;
   before = omega arith;
-  ran = λ w n V. subst (λ u. RanAlone byte_records (DropJob named) (Dropped) (devices byte_records all_hold) (with_sink (devices dropped_records (robbed (holds 0) ∷ robbed (holds 1) ∷ robbed (holds 2) ∷ robbed (holds 3) ∷ [])) (dropped_line named)) ([]) 0 u n) (form-is byte_records (one_byte w.bytes) (holds 0) (holds 1) (holds 2) (holds 3) w (one_byte-is w.bytes (V.bytes named (record { name = named; id = 1; size = 1 }) refl).1) V) (ran-formed w n V.handed.count);
+  ran = λ w n V. subst (λ u. RanAlone byte_records (DropJob named) (Dropped) (kept) (dropped) ([]) 0 u n) (form-is byte_records (one_byte w.bytes) (holds 0) (holds 1) (holds 2) (holds 3) w (one_byte-is w.bytes (V.bytes named (record { name = named; id = 1; size = 1 }) refl).1) V) (ran-formed w n V.handed.count);
 }
 
-pub answers : Answers (DropOf named) (devices byte_records all_hold) (with_sink (devices dropped_records (robbed (holds 0) ∷ robbed (holds 1) ∷ robbed (holds 2) ∷ robbed (holds 3) ∷ [])) (dropped_line named)) (ends 0)
+pub answers : Answers (DropOf named) (kept) (dropped) (ends 0)
 answers = (
   AnswersAlone.begun byte_records old-sure.known.opened (AnswersJob.ended (Dropped) begins-none alone
-      (left-alone byte_records (DropJob named) (Dropped) (devices byte_records all_hold) (with_sink (devices dropped_records (robbed (holds 0) ∷ robbed (holds 1) ∷ robbed (holds 2) ∷ robbed (holds 3) ∷ [])) (dropped_line named)) ([])
+      (left-alone byte_records (DropJob named) (Dropped) (kept) (dropped) ([])
       (λ w last n O r. jobs-leave (DropJob named) w last n (Dropped) ([]) refl O r) old-sure.known.opened refl alone)
       (record { written = inl (refl, refl); place = refl })),
   (refl, refl),

@@ -22,7 +22,7 @@ use Rattle.command_laws.specs.Pieces.{moment}
 use Rattle.command_laws.proofs.Telling.{left-alone, jobs-leave}
 use Rattle.command_laws.proofs.BeginRefusals.{refusal-of}
 use Rattle.command_laws.proofs.Chains.{put-begins}
-use Rattle.command_runs.specs.Devices.{devices, with_source, named, byte, four_records, started_records, counts, failed_store, none_hold, ends}
+use Rattle.command_runs.specs.Devices.{named, byte, four_records, started_records, counts, failed_store, ends, to_put, put_failed}
 use Rattle.command_runs.proofs.Shape.{formed, form-is}
 use Rattle.command_runs.proofs.Stores.{put-old as old-sure, failed-new as new-sure}
 
@@ -87,14 +87,14 @@ module _ (w : State) (n : ℕ) (count : w.handed ≡ 4) where
   unfolding steps
   steps-are = (refl, refl, happens4 0, (refl, refl, happens3 0, (refl, refl, happens2 0, (refl, refl, happens1 0, tt))))
 
-  each : (j : ℕ) → j < 4 → slice_get (devices started_records (failed_store empty_provider ∷ empty_provider ∷ empty_provider ∷ empty_provider ∷ [])).providers j ≡ Some (s5.providers j)
+  each : (j : ℕ) → j < 4 → slice_get (put_failed).providers j ≡ Some (s5.providers j)
   each zero l = refl
   each (suc zero) l = refl
   each (suc (suc zero)) l = refl
   each (suc (suc (suc zero))) l = refl
   each (suc (suc (suc (suc j)))) l = absurd (omega (arith, l))
 
-  ran-formed : RanAlone four_records (PutJob named byte) (ProviderFault 0) (with_source (devices four_records none_hold) byte) (devices started_records (failed_store empty_provider ∷ empty_provider ∷ empty_provider ∷ empty_provider ∷ [])) ([]) 0 v n
+  ran-formed : RanAlone four_records (PutJob named byte) (ProviderFault 0) (to_put) (put_failed) ([]) 0 v n
   unfolding steps spelling
   ran-formed = record {
     last = s5;
@@ -110,16 +110,16 @@ module _ (w : State) (n : ℕ) (count : w.handed ≡ 4) where
     past_text = refl;
   }
 
-pub alone : RunsAlone four_records (PutJob named byte) (ProviderFault 0) (with_source (devices four_records none_hold) byte) (devices started_records (failed_store empty_provider ∷ empty_provider ∷ empty_provider ∷ empty_provider ∷ [])) ([])
+pub alone : RunsAlone four_records (PutJob named byte) (ProviderFault 0) (to_put) (put_failed) ([])
 alone = record {
   faults = 0;
   before = omega arith;
-  ran = λ w n V. subst (λ u. RanAlone four_records (PutJob named byte) (ProviderFault 0) (with_source (devices four_records none_hold) byte) (devices started_records (failed_store empty_provider ∷ empty_provider ∷ empty_provider ∷ empty_provider ∷ [])) ([]) 0 u n) (form-is four_records w.bytes (empty_provider) (empty_provider) (empty_provider) (empty_provider) w refl V) (ran-formed w n V.handed.count);
+  ran = λ w n V. subst (λ u. RanAlone four_records (PutJob named byte) (ProviderFault 0) (to_put) (put_failed) ([]) 0 u n) (form-is four_records w.bytes (empty_provider) (empty_provider) (empty_provider) (empty_provider) w refl V) (ran-formed w n V.handed.count);
 }
 
-pub answers : Answers (PutUnder named) (with_source (devices four_records none_hold) byte) (devices started_records (failed_store empty_provider ∷ empty_provider ∷ empty_provider ∷ empty_provider ∷ [])) (ends 13)
+pub answers : Answers (PutUnder named) (to_put) (put_failed) (ends 13)
 answers = AnswersPut.begun four_records byte old-sure.known.opened (record { are_bytes = refl; front = refl; few = omega arith; end = λ l. refl })
     (AnswersJob.ended (ProviderFault 0) begins-none alone
-      (left-alone four_records (PutJob named byte) (ProviderFault 0) (with_source (devices four_records none_hold) byte) (devices started_records (failed_store empty_provider ∷ empty_provider ∷ empty_provider ∷ empty_provider ∷ [])) ([])
+      (left-alone four_records (PutJob named byte) (ProviderFault 0) (to_put) (put_failed) ([])
       (λ w last n O r. jobs-leave (PutJob named byte) w last n (ProviderFault 0) ([]) (refl, refl) O r) old-sure.known.opened refl alone)
       (record { status_is = refl; place = refl; sink = refl }))

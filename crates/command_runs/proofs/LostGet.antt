@@ -20,7 +20,7 @@ use Rattle.hail_commands.specs.Commands.{AnswersAlone, Answers}
 use Rattle.command_laws.specs.Pieces.{moment}
 use Rattle.command_laws.proofs.Telling.{left-alone, jobs-leave}
 use Rattle.command_laws.proofs.BeginRefusals.{refusal-of}
-use Rattle.command_runs.specs.Devices.{devices, named, byte_records, counts, fetched, none_hold, ends, ends_hearing}
+use Rattle.command_runs.specs.Devices.{named, byte_records, counts, fetched, ends, ends_hearing, all_lost, found_lost, no_blocks}
 use Rattle.command_runs.proofs.Shape.{formed, form-is, one_byte, one_byte-is}
 use Rattle.column_laws.proofs.Worked.{none-lose}
 use Rattle.command_runs.proofs.Stores.{robbed-old as old-sure, lost-new as new-sure}
@@ -95,14 +95,14 @@ module _ (w : State) (n : ℕ) (count : w.handed ≡ 4) where
   unfolding steps
   steps-are = (refl, refl, happens4 0, (refl, refl, happens3 0, (refl, refl, happens2 0, (refl, refl, happens1 0, tt))))
 
-  each : (j : ℕ) → j < 4 → slice_get (devices byte_records (fetched empty_provider ∷ fetched empty_provider ∷ fetched empty_provider ∷ fetched empty_provider ∷ [])).providers j ≡ Some (s5.providers j)
+  each : (j : ℕ) → j < 4 → slice_get (found_lost).providers j ≡ Some (s5.providers j)
   each zero l = refl
   each (suc zero) l = refl
   each (suc (suc zero)) l = refl
   each (suc (suc (suc zero))) l = refl
   each (suc (suc (suc (suc j)))) l = absurd (omega (arith, l))
 
-  ran-formed : RanAlone byte_records (GetJob named) (Lost 0 0) (devices byte_records none_hold) (devices byte_records (fetched empty_provider ∷ fetched empty_provider ∷ fetched empty_provider ∷ fetched empty_provider ∷ [])) (record { job = 1; given = Fetched 0 1 0 (None) } ∷ record { job = 1; given = Fetched 1 1 0 (None) } ∷ record { job = 1; given = Fetched 2 1 0 (None) } ∷ record { job = 1; given = Fetched 3 1 0 (None) } ∷ []) 0 v n
+  ran-formed : RanAlone byte_records (GetJob named) (Lost 0 0) (all_lost) (found_lost) (no_blocks) 0 v n
   unfolding steps spelling
   ran-formed = record {
     last = s5;
@@ -118,18 +118,18 @@ module _ (w : State) (n : ℕ) (count : w.handed ≡ 4) where
     past_text = refl;
   }
 
-pub alone : RunsAlone byte_records (GetJob named) (Lost 0 0) (devices byte_records none_hold) (devices byte_records (fetched empty_provider ∷ fetched empty_provider ∷ fetched empty_provider ∷ fetched empty_provider ∷ [])) (record { job = 1; given = Fetched 0 1 0 (None) } ∷ record { job = 1; given = Fetched 1 1 0 (None) } ∷ record { job = 1; given = Fetched 2 1 0 (None) } ∷ record { job = 1; given = Fetched 3 1 0 (None) } ∷ [])
+pub alone : RunsAlone byte_records (GetJob named) (Lost 0 0) (all_lost) (found_lost) (no_blocks)
 alone = record {
   faults = 0;
   before = omega arith;
-  ran = λ w n V. subst (λ u. RanAlone byte_records (GetJob named) (Lost 0 0) (devices byte_records none_hold) (devices byte_records (fetched empty_provider ∷ fetched empty_provider ∷ fetched empty_provider ∷ fetched empty_provider ∷ [])) (record { job = 1; given = Fetched 0 1 0 (None) } ∷ record { job = 1; given = Fetched 1 1 0 (None) } ∷ record { job = 1; given = Fetched 2 1 0 (None) } ∷ record { job = 1; given = Fetched 3 1 0 (None) } ∷ []) 0 u n) (form-is byte_records (one_byte w.bytes) (empty_provider) (empty_provider) (empty_provider) (empty_provider) w (one_byte-is w.bytes (V.bytes named (record { name = named; id = 1; size = 1 }) refl).1) V) (ran-formed w n V.handed.count);
+  ran = λ w n V. subst (λ u. RanAlone byte_records (GetJob named) (Lost 0 0) (all_lost) (found_lost) (no_blocks) 0 u n) (form-is byte_records (one_byte w.bytes) (empty_provider) (empty_provider) (empty_provider) (empty_provider) w (one_byte-is w.bytes (V.bytes named (record { name = named; id = 1; size = 1 }) refl).1) V) (ran-formed w n V.handed.count);
 }
 
-pub answers : Answers (GetOf named) (devices byte_records none_hold) (devices byte_records (fetched empty_provider ∷ fetched empty_provider ∷ fetched empty_provider ∷ fetched empty_provider ∷ [])) (ends_hearing 4 (record { job = 1; given = Fetched 0 1 0 (None) } ∷ record { job = 1; given = Fetched 1 1 0 (None) } ∷ record { job = 1; given = Fetched 2 1 0 (None) } ∷ record { job = 1; given = Fetched 3 1 0 (None) } ∷ []))
+pub answers : Answers (GetOf named) (all_lost) (found_lost) (ends_hearing 4 no_blocks)
 answers = (
   AnswersAlone.begun byte_records old-sure.known.opened (AnswersJob.ended (Lost 0 0) begins-none alone
-      (left-alone byte_records (GetJob named) (Lost 0 0) (devices byte_records none_hold) (devices byte_records (fetched empty_provider ∷ fetched empty_provider ∷ fetched empty_provider ∷ fetched empty_provider ∷ [])) (record { job = 1; given = Fetched 0 1 0 (None) } ∷ record { job = 1; given = Fetched 1 1 0 (None) } ∷ record { job = 1; given = Fetched 2 1 0 (None) } ∷ record { job = 1; given = Fetched 3 1 0 (None) } ∷ [])
-      (λ w last n O r. jobs-leave (GetJob named) w last n (Lost 0 0) (record { job = 1; given = Fetched 0 1 0 (None) } ∷ record { job = 1; given = Fetched 1 1 0 (None) } ∷ record { job = 1; given = Fetched 2 1 0 (None) } ∷ record { job = 1; given = Fetched 3 1 0 (None) } ∷ []) refl O r) old-sure.known.opened refl alone)
+      (left-alone byte_records (GetJob named) (Lost 0 0) (all_lost) (found_lost) (no_blocks)
+      (λ w last n O r. jobs-leave (GetJob named) w last n (Lost 0 0) (no_blocks) refl O r) old-sure.known.opened refl alone)
       (record { status_is = refl; place = refl; sink = refl })),
   (refl, refl),
 )

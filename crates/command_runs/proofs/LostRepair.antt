@@ -20,7 +20,7 @@ use Rattle.hail_commands.specs.Commands.{AnswersAlone, Answers}
 use Rattle.command_laws.specs.Pieces.{moment}
 use Rattle.command_laws.proofs.Telling.{left-alone, jobs-leave}
 use Rattle.command_laws.proofs.BeginRefusals.{refusal-of}
-use Rattle.command_runs.specs.Devices.{devices, named, audited_records, counts, fetched, none_hold, ends}
+use Rattle.command_runs.specs.Devices.{named, audited_records, counts, fetched, ends, due_lost, repair_lost}
 use Rattle.command_runs.proofs.Shape.{formed, form-is, one_byte, one_byte-is}
 use Rattle.column_laws.proofs.Worked.{none-lose}
 use Rattle.command_runs.proofs.Stores.{robbed_due-old as old-sure, lost_due-new as new-sure}
@@ -95,14 +95,14 @@ module _ (w : State) (n : ℕ) (count : w.handed ≡ 4) where
   unfolding steps
   steps-are = (refl, refl, happens4 0, (refl, refl, happens3 0, (refl, refl, happens2 0, (refl, refl, happens1 0, tt))))
 
-  each : (j : ℕ) → j < 4 → slice_get (devices audited_records (fetched empty_provider ∷ fetched empty_provider ∷ fetched empty_provider ∷ fetched empty_provider ∷ [])).providers j ≡ Some (s5.providers j)
+  each : (j : ℕ) → j < 4 → slice_get (repair_lost).providers j ≡ Some (s5.providers j)
   each zero l = refl
   each (suc zero) l = refl
   each (suc (suc zero)) l = refl
   each (suc (suc (suc zero))) l = refl
   each (suc (suc (suc (suc j)))) l = absurd (omega (arith, l))
 
-  ran-formed : RanAlone audited_records (RepairJob) (Lost 0 0) (devices audited_records none_hold) (devices audited_records (fetched empty_provider ∷ fetched empty_provider ∷ fetched empty_provider ∷ fetched empty_provider ∷ [])) ([]) 0 v n
+  ran-formed : RanAlone audited_records (RepairJob) (Lost 0 0) (due_lost) (repair_lost) ([]) 0 v n
   unfolding steps spelling
   ran-formed = record {
     last = s5;
@@ -118,17 +118,17 @@ module _ (w : State) (n : ℕ) (count : w.handed ≡ 4) where
     past_text = refl;
   }
 
-pub alone : RunsAlone audited_records (RepairJob) (Lost 0 0) (devices audited_records none_hold) (devices audited_records (fetched empty_provider ∷ fetched empty_provider ∷ fetched empty_provider ∷ fetched empty_provider ∷ [])) ([])
+pub alone : RunsAlone audited_records (RepairJob) (Lost 0 0) (due_lost) (repair_lost) ([])
 alone = record {
   faults = 0;
   before = omega arith;
-  ran = λ w n V. subst (λ u. RanAlone audited_records (RepairJob) (Lost 0 0) (devices audited_records none_hold) (devices audited_records (fetched empty_provider ∷ fetched empty_provider ∷ fetched empty_provider ∷ fetched empty_provider ∷ [])) ([]) 0 u n) (form-is audited_records (one_byte w.bytes) (empty_provider) (empty_provider) (empty_provider) (empty_provider) w (one_byte-is w.bytes (V.bytes named (record { name = named; id = 1; size = 1 }) refl).1) V) (ran-formed w n V.handed.count);
+  ran = λ w n V. subst (λ u. RanAlone audited_records (RepairJob) (Lost 0 0) (due_lost) (repair_lost) ([]) 0 u n) (form-is audited_records (one_byte w.bytes) (empty_provider) (empty_provider) (empty_provider) (empty_provider) w (one_byte-is w.bytes (V.bytes named (record { name = named; id = 1; size = 1 }) refl).1) V) (ran-formed w n V.handed.count);
 }
 
-pub answers : Answers (RepairDue) (devices audited_records none_hold) (devices audited_records (fetched empty_provider ∷ fetched empty_provider ∷ fetched empty_provider ∷ fetched empty_provider ∷ [])) (ends 4)
+pub answers : Answers (RepairDue) (due_lost) (repair_lost) (ends 4)
 answers = (
   AnswersAlone.begun audited_records old-sure.known.opened (AnswersJob.ended (Lost 0 0) begins-none alone
-      (left-alone audited_records (RepairJob) (Lost 0 0) (devices audited_records none_hold) (devices audited_records (fetched empty_provider ∷ fetched empty_provider ∷ fetched empty_provider ∷ fetched empty_provider ∷ [])) ([])
+      (left-alone audited_records (RepairJob) (Lost 0 0) (due_lost) (repair_lost) ([])
       (λ w last n O r. jobs-leave (RepairJob) w last n (Lost 0 0) ([]) tt O r) old-sure.known.opened refl alone)
       (record { status_is = refl; place = refl; sink = refl })),
   (refl, refl),

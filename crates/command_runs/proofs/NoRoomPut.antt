@@ -20,7 +20,7 @@ use Rattle.command_laws.specs.Pieces.{moment}
 use Rattle.command_laws.proofs.Telling.{left-alone, jobs-leave}
 use Rattle.command_laws.proofs.BeginRefusals.{refusal-of}
 use Rattle.command_laws.proofs.Chains.{put-begins}
-use Rattle.command_runs.specs.Devices.{devices, with_source, named, byte, four_records, none_hold, ends}
+use Rattle.command_runs.specs.Devices.{named, byte, four_records, ends, to_put, put_unmade}
 use Rattle.command_runs.proofs.Shape.{formed, form-is}
 use Rattle.command_runs.proofs.Stores.{put-old as old-sure, no_room-new as new-sure}
 
@@ -54,14 +54,14 @@ module _ (w : State) (n : ℕ) (count : w.handed ≡ 4) where
   unfolding steps
   steps-are = tt
 
-  each : (j : ℕ) → j < 4 → slice_get (devices four_records none_hold).providers j ≡ Some (s1.providers j)
+  each : (j : ℕ) → j < 4 → slice_get (put_unmade).providers j ≡ Some (s1.providers j)
   each zero l = refl
   each (suc zero) l = refl
   each (suc (suc zero)) l = refl
   each (suc (suc (suc zero))) l = refl
   each (suc (suc (suc (suc j)))) l = absurd (omega (arith, l))
 
-  ran-formed : RanAlone four_records (PutJob named byte) (Memory) (with_source (devices four_records none_hold) byte) (devices four_records none_hold) ([]) 0 v n
+  ran-formed : RanAlone four_records (PutJob named byte) (Memory) (to_put) (put_unmade) ([]) 0 v n
   unfolding steps spelling
   ran-formed = record {
     last = s1;
@@ -77,16 +77,16 @@ module _ (w : State) (n : ℕ) (count : w.handed ≡ 4) where
     past_text = record { next = None; is_next = tt; same = refl };
   }
 
-pub alone : RunsAlone four_records (PutJob named byte) (Memory) (with_source (devices four_records none_hold) byte) (devices four_records none_hold) ([])
+pub alone : RunsAlone four_records (PutJob named byte) (Memory) (to_put) (put_unmade) ([])
 alone = record {
   faults = 0;
   before = omega arith;
-  ran = λ w n V. subst (λ u. RanAlone four_records (PutJob named byte) (Memory) (with_source (devices four_records none_hold) byte) (devices four_records none_hold) ([]) 0 u n) (form-is four_records w.bytes (empty_provider) (empty_provider) (empty_provider) (empty_provider) w refl V) (ran-formed w n V.handed.count);
+  ran = λ w n V. subst (λ u. RanAlone four_records (PutJob named byte) (Memory) (to_put) (put_unmade) ([]) 0 u n) (form-is four_records w.bytes (empty_provider) (empty_provider) (empty_provider) (empty_provider) w refl V) (ran-formed w n V.handed.count);
 }
 
-pub answers : Answers (PutUnder named) (with_source (devices four_records none_hold) byte) (devices four_records none_hold) (ends 70)
+pub answers : Answers (PutUnder named) (to_put) (put_unmade) (ends 70)
 answers = AnswersPut.begun four_records byte old-sure.known.opened (record { are_bytes = refl; front = refl; few = omega arith; end = λ l. refl })
     (AnswersJob.ended (Memory) begins-none alone
-      (left-alone four_records (PutJob named byte) (Memory) (with_source (devices four_records none_hold) byte) (devices four_records none_hold) ([])
+      (left-alone four_records (PutJob named byte) (Memory) (to_put) (put_unmade) ([])
       (λ w last n O r. jobs-leave (PutJob named byte) w last n (Memory) ([]) (refl, refl) O r) old-sure.known.opened refl alone)
       (record { status_is = refl; place = refl; sink = refl }))

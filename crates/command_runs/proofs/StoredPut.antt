@@ -14,7 +14,6 @@ use Rattle.hail_machine.specs.Machine.{Happens}
 use Rattle.hail_machine.specs.Runs.{Moment}
 use Rattle.hail_machine.specs.States.{State, setup_in, with_provider}
 use Rattle.hail_commands.specs.Forms.{PutUnder}
-use Rattle.hail_commands.specs.Lines.{stored_line}
 use Rattle.hail_commands.specs.Refusals.{refusal_of}
 use Rattle.hail_commands.specs.JobRuns.{AreSteps}
 use Rattle.hail_commands.specs.Jobs.{RanAlone, RunsAlone, AnswersJob}
@@ -23,7 +22,7 @@ use Rattle.command_laws.specs.Pieces.{moment}
 use Rattle.command_laws.proofs.Telling.{left-alone, jobs-leave}
 use Rattle.command_laws.proofs.BeginRefusals.{refusal-of}
 use Rattle.command_laws.proofs.Chains.{put-begins}
-use Rattle.command_runs.specs.Devices.{devices, with_source, with_sink, named, byte, four_records, started_records, byte_records, counts, given_block, none_hold, all_hold, ends}
+use Rattle.command_runs.specs.Devices.{named, byte, four_records, started_records, byte_records, counts, given_block, ends, to_put, stored}
 use Rattle.command_runs.proofs.Shape.{formed, form-is}
 use Rattle.command_runs.proofs.Stores.{put-old as old-sure, put-new as new-sure}
 
@@ -153,14 +152,14 @@ module _ (w : State) (n : ℕ) (count : w.handed ≡ 4) where
   unfolding steps
   steps-are = (refl, refl, happens12 0, (refl, refl, happens11 0, (refl, refl, happens10 0, (refl, refl, happens9 0, (refl, refl, happens8 0, (refl, refl, happens7 0, (refl, refl, happens6 0, (refl, refl, happens5 0, (refl, refl, happens4 0, (refl, refl, happens3 0, (refl, refl, happens2 0, (refl, refl, happens1 0, tt))))))))))))
 
-  each : (j : ℕ) → j < 4 → slice_get (with_sink (devices byte_records all_hold) (stored_line named 1)).providers j ≡ Some (s13.providers j)
+  each : (j : ℕ) → j < 4 → slice_get (stored).providers j ≡ Some (s13.providers j)
   each zero l = refl
   each (suc zero) l = refl
   each (suc (suc zero)) l = refl
   each (suc (suc (suc zero))) l = refl
   each (suc (suc (suc (suc j)))) l = absurd (omega (arith, l))
 
-  ran-formed : RanAlone four_records (PutJob named byte) (Put) (with_source (devices four_records none_hold) byte) (with_sink (devices byte_records all_hold) (stored_line named 1)) ([]) 0 v n
+  ran-formed : RanAlone four_records (PutJob named byte) (Put) (to_put) (stored) ([]) 0 v n
   unfolding steps spelling
   ran-formed = record {
     last = s13;
@@ -176,16 +175,16 @@ module _ (w : State) (n : ℕ) (count : w.handed ≡ 4) where
     past_text = refl;
   }
 
-pub alone : RunsAlone four_records (PutJob named byte) (Put) (with_source (devices four_records none_hold) byte) (with_sink (devices byte_records all_hold) (stored_line named 1)) ([])
+pub alone : RunsAlone four_records (PutJob named byte) (Put) (to_put) (stored) ([])
 alone = record {
   faults = 0;
   before = omega arith;
-  ran = λ w n V. subst (λ u. RanAlone four_records (PutJob named byte) (Put) (with_source (devices four_records none_hold) byte) (with_sink (devices byte_records all_hold) (stored_line named 1)) ([]) 0 u n) (form-is four_records w.bytes (empty_provider) (empty_provider) (empty_provider) (empty_provider) w refl V) (ran-formed w n V.handed.count);
+  ran = λ w n V. subst (λ u. RanAlone four_records (PutJob named byte) (Put) (to_put) (stored) ([]) 0 u n) (form-is four_records w.bytes (empty_provider) (empty_provider) (empty_provider) (empty_provider) w refl V) (ran-formed w n V.handed.count);
 }
 
-pub answers : Answers (PutUnder named) (with_source (devices four_records none_hold) byte) (with_sink (devices byte_records all_hold) (stored_line named 1)) (ends 0)
+pub answers : Answers (PutUnder named) (to_put) (stored) (ends 0)
 answers = AnswersPut.begun four_records byte old-sure.known.opened (record { are_bytes = refl; front = refl; few = omega arith; end = λ l. refl })
     (AnswersJob.ended (Put) begins-none alone
-      (left-alone four_records (PutJob named byte) (Put) (with_source (devices four_records none_hold) byte) (with_sink (devices byte_records all_hold) (stored_line named 1)) ([])
+      (left-alone four_records (PutJob named byte) (Put) (to_put) (stored) ([])
       (λ w last n O r. jobs-leave (PutJob named byte) w last n (Put) ([]) (refl, refl) O r) old-sure.known.opened refl alone)
       (record { written = inl (refl, refl); place = refl }))

@@ -7,18 +7,26 @@
 --   holds j                   == a provider that holds its own block of the file, and nothing else
 --   with_source, with_sink    == what is seen, with these bytes in the source or in the sink
 --   done                      == an end of status 0 that heard nothing
-use Rattle.std.specs.Prelude.{ℕ, List, [], ◌∷◌, Some}
+use Rattle.std.specs.Prelude.{ℕ, List, [], ◌∷◌, replicate, Option, Some, None}
 use Rattle.std.specs.Option.{option_map}
 use Rattle.hail_columns.specs.Columns.{columns}
+use Rattle.hail_columns.specs.Challenges.{challenge_of, right_answer}
 use Rattle.hail_devices.specs.Cells.{firm}
 use Rattle.hail_devices.specs.Faults.{one_more}
 use Rattle.hail_devices.specs.Providers.{Provider, with_block, without_object}
 use Rattle.hail_records.specs.Records.{Record, SetUp, PutStart, PutDone, Drop, AuditStart, AuditDone, RepairDone}
 use Rattle.hail_records.specs.Journal.{text}
 use Rattle.hail_machine.specs.Setups.{object_of}
+use Rattle.hail_machine.specs.Jobs.{Given, Fetched, Answered}
 use Rattle.hail_machine.specs.Heard.{Entry}
 use Rattle.hail_machine.specs.Examples.{four, empty_provider}
+use Rattle.hail_commands.specs.Forms.{Numbers}
+use Rattle.hail_commands.specs.Lines.{stored_line, dropped_line, audit_lines, repaired_line}
 use Rattle.hail_commands.specs.Seen.{Seen, Ending}
+
+-- an entry of the one job
+abbrev pub heard : Given → Entry
+heard gift = record { job = 1; given = gift }
 
 -- devices whose disk reads these records
 abbrev pub devices : List Record → List Provider → Seen
@@ -118,3 +126,136 @@ ends status = record { status = status; at = 0; heard = [] }
 -- and one that heard these entries
 abbrev pub ends_hearing : ℕ → List Entry → Ending
 ends_hearing status heard = record { status = status; at = 0; heard = heard }
+
+-- and one that speaks of a place
+abbrev pub ends_at : ℕ → ℕ → Ending
+ends_at status place = record { status = status; at = place; heard = [] }
+
+-- ---- a put of the file: before it, done, with a store that failed, cut off by the disk, and not made
+
+abbrev pub to_put : Seen
+to_put = with_source (devices four_records none_hold) byte
+
+abbrev pub stored : Seen
+stored = with_sink (devices byte_records all_hold) (stored_line named 1)
+
+abbrev pub put_failed : Seen
+put_failed = devices started_records (failed_store empty_provider ∷ empty_provider ∷ empty_provider ∷ empty_provider ∷ [])
+
+-- the disk wrote the last record, and told that it failed
+abbrev pub put_cut : Seen
+put_cut = record (devices byte_records all_hold) { disk_faults = 1 }
+
+abbrev pub put_unmade : Seen
+put_unmade = devices four_records none_hold
+
+-- ---- a drop of it
+
+abbrev pub kept : Seen
+kept = devices byte_records all_hold
+
+abbrev pub dropped : Seen
+dropped = with_sink (devices dropped_records (robbed (holds 0) ∷ robbed (holds 1) ∷ robbed (holds 2) ∷ robbed (holds 3) ∷ [])) (dropped_line named)
+
+-- ---- a get and a repair where all blocks are lost
+
+abbrev pub all_lost : Seen
+all_lost = devices byte_records none_hold
+
+abbrev pub none_fetched : List Provider
+none_fetched = fetched empty_provider ∷ fetched empty_provider ∷ fetched empty_provider ∷ fetched empty_provider ∷ []
+
+abbrev pub found_lost : Seen
+found_lost = devices byte_records none_fetched
+
+abbrev pub due_lost : Seen
+due_lost = devices audited_records none_hold
+
+abbrev pub repair_lost : Seen
+repair_lost = devices audited_records none_fetched
+
+-- the fetches gave nothing
+abbrev pub no_blocks : List Entry
+no_blocks = heard (Fetched 0 1 0 None) ∷ heard (Fetched 1 1 0 None) ∷ heard (Fetched 2 1 0 None) ∷ heard (Fetched 3 1 0 None) ∷ []
+
+-- ---- one block is lost: an audit finds it, a repair writes it anew or fails to, and a get gives the file
+
+abbrev pub damaged : Seen
+damaged = devices byte_records three_hold
+
+abbrev pub audited : Seen
+audited = with_sink (devices audited_records three_hold) (audit_lines 0 1 0 counts)
+
+abbrev pub due : Seen
+due = devices audited_records three_hold
+
+abbrev pub mended_hold : List Provider
+mended_hold = fetched (holds 0) ∷ fetched (holds 1) ∷ given_block 2 (fetched empty_provider) ∷ fetched (holds 3) ∷ []
+
+abbrev pub repaired : Seen
+repaired = with_sink (devices repaired_records mended_hold) (repaired_line 1)
+
+abbrev pub repair_failed : Seen
+repair_failed = devices audited_records (fetched (holds 0) ∷ fetched (holds 1) ∷ failed_store (fetched empty_provider) ∷ fetched (holds 3) ∷ [])
+
+abbrev pub mended : Seen
+mended = devices repaired_records mended_hold
+
+abbrev pub got : Seen
+got = with_sink (devices repaired_records
+    (fetched (fetched (holds 0)) ∷ fetched (fetched (holds 1)) ∷ fetched (given_block 2 (fetched empty_provider)) ∷ fetched (fetched (holds 3)) ∷ [])) byte
+
+-- the right answer of a provider to the one challenge
+abbrev pub answer : ℕ → Option ℕ
+answer j = right_answer (object_of four 1) byte j (challenge_of (object_of four 1) 1 1 1 0)
+
+abbrev pub answers_heard : List Entry
+answers_heard = heard (Answered 0 1 0 (answer 0)) ∷ heard (Answered 1 1 0 (answer 1)) ∷ heard (Answered 2 1 0 None) ∷ heard (Answered 3 1 0 (answer 3)) ∷ []
+
+abbrev pub blocks_heard : List Entry
+blocks_heard = heard (Fetched 0 1 0 (Some (own_block 0))) ∷ heard (Fetched 1 1 0 (Some (own_block 1))) ∷ heard (Fetched 2 1 0 (Some (own_block 2)))
+    ∷ heard (Fetched 3 1 0 (Some (own_block 3))) ∷ []
+
+-- ---- refusals and faults
+
+-- the disk's count of faults rose
+abbrev pub disk_failed : Seen → Seen
+disk_failed s = record s { disk_faults = 1 }
+
+-- no provider is handed in
+abbrev pub deserted : Seen
+deserted = devices byte_records []
+
+-- the disk reads twelve zeros
+abbrev pub scrambled : Seen
+scrambled = record kept { disk = Some (firm (replicate 12 0)) }
+
+-- devices that tell nothing: so they are before a command, and after it
+abbrev pub silent : Provider
+silent = record { held = None; store_faults = 0; other_faults = 0; fetches = 0 }
+
+abbrev pub hidden : Seen
+hidden = record {
+  disk = None;
+  disk_faults = 0;
+  providers = silent ∷ silent ∷ silent ∷ silent ∷ [];
+  source = None;
+  source_faults = 0;
+  sink = None;
+  sink_faults = 0;
+}
+
+-- numbers of a setup, and some that are none
+abbrev pub good_numbers : Numbers
+good_numbers = record { n = 4; l = 1; b = 1; profile = 0; rounds = 1; picks = 1; tolerance = 0 }
+
+abbrev pub bad_numbers : Numbers
+bad_numbers = record { n = 4; l = 4; b = 1; profile = 0; rounds = 1; picks = 1; tolerance = 0 }
+
+-- a source with the key of zeros
+abbrev pub key_text : List ℕ
+key_text = replicate 64 48
+
+-- another name
+abbrev pub other_name : List ℕ
+other_name = 98 ∷ []

@@ -1,20 +1,16 @@
-//! Commands over devices, given outright.
-ghost use Rattle.std.specs.Prelude.{[], ◌∷◌};
+//! Commands over devices that run a job, given outright.
 ghost use Rattle.hail_commands.specs.Forms.{PutUnder, GetOf, DropOf, RepairDue};
-ghost use Rattle.hail_commands.specs.Lines.{stored_line, dropped_line};
 ghost use Rattle.hail_commands.specs.Commands.{Answers};
-ghost use Rattle.hail_machine.specs.Examples.{empty_provider};
-ghost use Rattle.command_runs.specs.Devices.{devices, with_source, with_sink, named, byte, four_records, started_records, byte_records, dropped_records, holds, robbed, failed_store, none_hold, all_hold, ends};
+ghost use Rattle.command_runs.specs.Devices.{named, ends, ends_hearing, to_put, stored, put_failed, put_cut, put_unmade, kept, dropped, all_lost, found_lost, due_lost, repair_lost, no_blocks};
 
-/// A put of one byte; one whose first store fails; one that a fault of the disk cuts off at its last move, with its record in doubt; one that
-/// finds no memory; and a drop.
+/// A put of one byte; one whose first store fails; one that a fault of the disk cuts off at its last move, with its record in doubt; and one
+/// that finds no memory. A drop. A get and a repair over blocks that are all lost.
 pub fn commands_end()
-    ensures put { Answers (PutUnder named) (with_source (devices four_records none_hold) byte) (with_sink (devices byte_records all_hold) (stored_line named 1)) (ends 0) }
-    ensures failed_put { Answers (PutUnder named) (with_source (devices four_records none_hold) byte)
-        (devices started_records (failed_store empty_provider ∷ empty_provider ∷ empty_provider ∷ empty_provider ∷ [])) (ends 13) }
-    ensures cut_put { Answers (PutUnder named) (with_source (devices four_records none_hold) byte)
-        (record (devices byte_records all_hold) { disk_faults = 1 }) (ends 12) }
-    ensures no_room { Answers (PutUnder named) (with_source (devices four_records none_hold) byte) (devices four_records none_hold) (ends 70) }
-    ensures drop { Answers (DropOf named) (devices byte_records all_hold)
-        (with_sink (devices dropped_records (robbed (holds 0) ∷ robbed (holds 1) ∷ robbed (holds 2) ∷ robbed (holds 3) ∷ [])) (dropped_line named)) (ends 0) }
+    ensures put { Answers (PutUnder named) to_put stored (ends 0) }
+    ensures failed_put { Answers (PutUnder named) to_put put_failed (ends 13) }
+    ensures cut_put { Answers (PutUnder named) to_put put_cut (ends 12) }
+    ensures unmade_put { Answers (PutUnder named) to_put put_unmade (ends 70) }
+    ensures drop { Answers (DropOf named) kept dropped (ends 0) }
+    ensures lost_get { Answers (GetOf named) all_lost found_lost (ends_hearing 4 no_blocks) }
+    ensures lost_repair { Answers RepairDue due_lost repair_lost (ends 4) }
 {}

@@ -1,8 +1,10 @@
 use Rattle.command_runs.proofs.StoredPut.{answers as stored_put}
 use Rattle.command_runs.proofs.FailedPut.{answers as put_failed}
 use Rattle.command_runs.proofs.CutPut.{answers as put_cut}
-use Rattle.command_runs.proofs.NoRoomPut.{answers as put_no_room}
+use Rattle.command_runs.proofs.NoRoomPut.{answers as put_unmade}
 use Rattle.command_runs.proofs.DoneDrop.{answers as dropped}
+use Rattle.command_runs.proofs.LostGet.{answers as get_lost}
+use Rattle.command_runs.proofs.LostRepair.{answers as repair_lost}
 use Rattle.command_runs.proofs.runs.commands_end.Goals as goal
 
 pub returns-clause-put : goal.returns-clause-put
@@ -14,8 +16,14 @@ returns-clause-failed_put c = put_failed
 pub returns-clause-cut_put : goal.returns-clause-cut_put
 returns-clause-cut_put c = put_cut
 
-pub returns-clause-no_room : goal.returns-clause-no_room
-returns-clause-no_room c = put_no_room
+pub returns-clause-unmade_put : goal.returns-clause-unmade_put
+returns-clause-unmade_put c = put_unmade
 
 pub returns-clause-drop : goal.returns-clause-drop
 returns-clause-drop c = dropped
+
+pub returns-clause-lost_get : goal.returns-clause-lost_get
+returns-clause-lost_get c = get_lost
+
+pub returns-clause-lost_repair : goal.returns-clause-lost_repair
+returns-clause-lost_repair c = repair_lost
