@@ -7,3 +7,9 @@ pub mod NoRoomPut
 pub mod DoneDrop
 pub mod LostGet
 pub mod LostRepair
+pub mod Refusals
+pub mod DoneAudit
+pub mod DoneRepair
+pub mod FailedRepair
+pub mod DoneGet
+pub mod Applied

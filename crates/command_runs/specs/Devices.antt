@@ -157,6 +157,10 @@ kept = devices byte_records all_hold
 abbrev pub dropped : Seen
 dropped = with_sink (devices dropped_records (robbed (holds 0) ∷ robbed (holds 1) ∷ robbed (holds 2) ∷ robbed (holds 3) ∷ [])) (dropped_line named)
 
+-- what the next command finds
+abbrev pub after_drop : Seen
+after_drop = devices dropped_records (robbed (holds 0) ∷ robbed (holds 1) ∷ robbed (holds 2) ∷ robbed (holds 3) ∷ [])
+
 -- ---- a get and a repair where all blocks are lost
 
 abbrev pub all_lost : Seen

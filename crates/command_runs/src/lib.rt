@@ -1,4 +1,6 @@
 //! Commands over devices, given outright: how they end, and laws that have them as instances.
 #![tactic(auto)]
 
+pub mod applied;
+pub mod refused;
 pub mod runs;

@@ -1,0 +1,82 @@
+-- What the laws ask for beside the commands.
+use Rattle.std.proofs.Common.{◌≡◌, ℕ, zero, suc, ◌<◌, ◌≤◌, ◌==◌, ◌&&◌, Bool, true, false, List, [], ◌∷◌, Some, None, refl, arith}
+use Rattle.std.specs.Prelude.{is_some, not, if◌then◌else◌}
+use Rattle.hail_columns.specs.Columns.{columns, is_wrong}
+use Rattle.hail_columns.specs.Verdicts.{is_flagged}
+use Rattle.hail_machine.specs.Setups.{object_of}
+use Rattle.hail_machine.specs.Examples.{four}
+use Rattle.hail_commands.specs.Seen.{provider_at}
+use Rattle.step_laws.proofs.GivesRight.{own_not_wrong}
+use Rattle.command_laws.specs.After.{HasFile, IsUntouched, IsSteady, is_wrong_at}
+use Rattle.command_laws.proofs.Samples.{never-rises}
+use Rattle.command_runs.specs.Devices.{named, byte, counts, byte_records, audited_records, to_put, stored, damaged, due, repaired, mended, got, none_hold, three_hold, mended_hold}
+
+-- the provider whose block is lost, and another one
+abbrev pub second : ℕ → Bool
+second j = j == 2
+
+abbrev pub first : ℕ → Bool
+first j = j == 0
+
+-- each provider tells
+pub none-tell : (j : ℕ) → j < 4 → is_some (provider_at none_hold j).held ≡ true
+none-tell zero l = refl
+none-tell (suc zero) l = refl
+none-tell (suc (suc zero)) l = refl
+none-tell (suc (suc (suc zero))) l = refl
+none-tell (suc (suc (suc (suc j)))) l = absurd (omega (arith, l))
+
+pub three-tell : (j : ℕ) → j < 4 → is_some (provider_at three_hold j).held ≡ true
+three-tell zero l = refl
+three-tell (suc zero) l = refl
+three-tell (suc (suc zero)) l = refl
+three-tell (suc (suc (suc zero))) l = refl
+three-tell (suc (suc (suc (suc j)))) l = absurd (omega (arith, l))
+
+-- the own block is right
+right_held : (j : ℕ) → is_wrong (object_of four 1) byte j (λ stripe. if (1 == 1) && (stripe == 0) then Some (columns (object_of four 1) byte j 0) else None) ≡ false
+unfolding is_wrong
+right_held j = rw (own_not_wrong (object_of four 1) byte j 0) refl
+
+right-at : (j : ℕ) → j < 4 → second j ≡ false → is_wrong_at audited_records due 1 byte j ≡ false
+right-at zero l s = right_held 0
+right-at (suc zero) l s = right_held 1
+right-at (suc (suc zero)) l s = (let e : true ≡ false = s in absurd (cc e))
+right-at (suc (suc (suc zero))) l s = right_held 3
+right-at (suc (suc (suc (suc j)))) l s = absurd (omega (arith, l))
+
+pub due-file : HasFile due audited_records named byte second
+due-file = record { file = record { name = named; id = 1; size = 1 }; in_effect = refl; are_bytes = refl; size = refl; right = right-at }
+
+-- between the put and the audit that block is lost; nothing else changes, and no count rises
+pub robbed-untouched : IsUntouched 4 second stored damaged
+robbed-untouched zero l s = refl
+robbed-untouched (suc zero) l s = refl
+robbed-untouched (suc (suc zero)) l s = (let e : true ≡ false = s in absurd (cc e))
+robbed-untouched (suc (suc (suc zero))) l s = refl
+robbed-untouched (suc (suc (suc (suc j)))) l s = absurd (omega (arith, l))
+
+pub repair-steady : (spoilt : ℕ → Bool) → IsSteady 4 spoilt due repaired
+repair-steady spoilt zero l s rose = never-rises 0 (omega arith) rose
+repair-steady spoilt (suc zero) l s rose = never-rises 0 (omega arith) rose
+repair-steady spoilt (suc (suc zero)) l s rose = never-rises 0 (omega arith) rose
+repair-steady spoilt (suc (suc (suc zero))) l s rose = never-rises 0 (omega arith) rose
+repair-steady spoilt (suc (suc (suc (suc j)))) l s rose = absurd (omega (arith, l))
+
+pub get-steady : (spoilt : ℕ → Bool) → IsSteady 4 spoilt mended got
+get-steady spoilt zero l s rose = never-rises 0 (omega arith) rose
+get-steady spoilt (suc zero) l s rose = never-rises 0 (omega arith) rose
+get-steady spoilt (suc (suc zero)) l s rose = never-rises 0 (omega arith) rose
+get-steady spoilt (suc (suc (suc zero))) l s rose = never-rises 0 (omega arith) rose
+get-steady spoilt (suc (suc (suc (suc j)))) l s rose = absurd (omega (arith, l))
+
+-- the audit flags the one that is spoilt
+pub flagged-second : (j : ℕ) → (second j && not (is_flagged 0 counts j)) ≡ false
+flagged-second zero = refl
+flagged-second (suc zero) = refl
+flagged-second (suc (suc zero)) = refl
+flagged-second (suc (suc (suc j))) = refl
+
+pub spared : (b c : Bool) → b ≡ false → (b && c) ≡ false
+spared true c h = absurd (cc h)
+spared false c h = refl
