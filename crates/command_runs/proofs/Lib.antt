@@ -12,4 +12,4 @@ pub mod DoneAudit
 pub mod DoneRepair
 pub mod FailedRepair
 pub mod DoneGet
-pub mod Applied
+pub mod Meets

@@ -122,25 +122,25 @@ removal_fails = record {
 -- ---- the first file stays
 
 abbrev is_left : List ℕ → List Record → Option Doubt → Bool
-is_left name rs None = true
-is_left name rs (Some d) = not (takes_out rs name d.entry)
+is_left called rs None = true
+is_left called rs (Some d) = not (takes_out rs called d.entry)
 
 abbrev is_never_out : List ℕ → List Moment → Bool
-is_never_out name [] = true
-is_never_out name (m ∷ ms) = is_left name m.state.records m.state.doubt && is_never_out name ms
+is_never_out called [] = true
+is_never_out called (m ∷ ms) = is_left called m.state.records m.state.doubt && is_never_out called ms
 
 from_not : (b : Bool) → not b ≡ true → b ≡ false
 from_not true h = absurd (false≢true h)
 from_not false h = refl
 
-left_by_test : (name : List ℕ) (rs : List Record) (doubt : Option Doubt) → is_left name rs doubt ≡ true → (d : Doubt) → doubt ≡ Some d → takes_out rs name d.entry ≡ false
-left_by_test name rs None h d e = (let f : None ≡ Some d = e in cc)
-left_by_test name rs (Some c) h d e = (let f : c ≡ d = cc in subst (λ (x : Doubt). takes_out rs name x.entry ≡ false) f (from_not (takes_out rs name c.entry) h))
+left_by_test : (called : List ℕ) (rs : List Record) (doubt : Option Doubt) → is_left called rs doubt ≡ true → (d : Doubt) → doubt ≡ Some d → takes_out rs called d.entry ≡ false
+left_by_test called rs None h d e = (let f : None ≡ Some d = e in cc)
+left_by_test called rs (Some c) h d e = (let f : c ≡ d = cc in subst (λ (x : Doubt). takes_out rs called x.entry ≡ false) f (from_not (takes_out rs called c.entry) h))
 
-never_by_test : (name : List ℕ) (ms : List Moment) → is_never_out name ms ≡ true → NeverTakenOut name ms
-never_by_test name [] h = tt
-never_by_test name (m ∷ ms) h = (let p = and_parts (is_left name m.state.records m.state.doubt) (is_never_out name ms) h in
-    (left_by_test name m.state.records m.state.doubt p.0, never_by_test name ms p.1))
+never_by_test : (called : List ℕ) (ms : List Moment) → is_never_out called ms ≡ true → NeverTakenOut called ms
+never_by_test called [] h = tt
+never_by_test called (m ∷ ms) h = (let p = and_parts (is_left called m.state.records m.state.doubt) (is_never_out called ms) h in
+    (left_by_test called m.state.records m.state.doubt p.0, never_by_test called ms p.1))
 
 -- ---- no later call of the program begins
 
@@ -174,13 +174,15 @@ faults = record {
   reopening_fails = record { moment = event_at 38; happened = record { is = refl }; failure = tt };
   ask_fails = ask_fails;
   removal_fails = removal_fails;
-  get_missed = record { job = job_at (at 20 moments) 2; runs = refl; missed = (3, omega arith, refl) };
+  get_missed = record { job = job_at (at 20 moments) 2; runs = refl; number_is = refl; kind_is = refl; pinned = (0, omega arith, refl); provider_in = omega arith; stripe_in = omega arith; missed = (3, omega arith, refl) };
   get_rose = λ low. omega arith;
   get_lost = record { moment = event_at 20; is = refl; event = refl; outcome = refl };
   must_reopen = record { moment = event_at 36; happened = record { is = refl }; event = refl; outcome = refl; file = the_file; in_effect = refl };
   no_memory = record { moment = event_at 40; happened = record { is = refl }; event = refl; outcome = refl; file = the_file; in_effect = refl };
   cut_in_doubt = record { doubt = doubt_at (at 37 moments); in_doubt = refl; entry_is = refl; job = maker_of (doubt_at (at 37 moments)); maker = refl };
   cut_ended = refl;
+  stop = event_at 37;
+  stopped = record { is = refl };
   cut_settled = refl;
   cut_in_effect = refl;
   later = after_first;

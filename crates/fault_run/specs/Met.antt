@@ -2,18 +2,20 @@
 --
 --   Happened ms k m           == event k of these moments is this moment
 --   Fails ms k count          == event k is a failed call that this count counts
---   HasMissed w number j      == a job runs that a fetch from provider j gave nothing
---   Raises ms k count         == the count rose by one at least in event k
+--   HasMissed w number j      == a get of the file runs that a fetch from provider j gave nothing
+--   RefusesGet ms k why       == event k is a begin of a get of the file, and is refused so
+--   HasReported ms k later    == before event k a step ended a job, and no later call of the program began since, in these moments
 --   HasFaults ms              == what fails, is refused, cut off and settled in the run, and when
-use Rattle.std.specs.Prelude.{◌≡◌, ◌⊎◌, ℕ, suc, true, List, [], ◌∷◌, ◌++◌, length, Option, Some, None}
+use Rattle.std.specs.Prelude.{◌≡◌, ℕ, suc, ◌<◌, List, [], ◌∷◌, ◌++◌, length, Option, Some, None}
 use Rattle.std.specs.List.{Contains}
+use Rattle.hail_columns.specs.Objects.{stripes}
 use Rattle.hail_records.specs.Records.{PutDone}
 use Rattle.hail_records.specs.Table.{File}
 use Rattle.hail_machine.specs.Jobs.{GetJob, Fetched, Job, job_of}
 use Rattle.hail_machine.specs.Refusals as refusal
 use Rattle.hail_machine.specs.Answers.{Got, Lost}
 use Rattle.hail_machine.specs.Events.{Begin, Refused}
-use Rattle.hail_machine.specs.States.{State, file_in}
+use Rattle.hail_machine.specs.States.{State, setup_in, object_in, file_in}
 use Rattle.hail_machine.specs.Runs.{Moment, now, first_moments, came}
 use Rattle.hail_machine.specs.Failures.{Count, OfDisk, OfStores, OfOthers, count_in, IsFailure}
 use Rattle.hail_machine.specs.Heard.{EndsJob, NoneContinues, heard_in}
@@ -34,10 +36,15 @@ pub record Fails (ms : List Moment) (k : ℕ) (count : Count) : Type 0 where
   pub happened : Happened ms k moment
   pub failure : IsFailure count (at k ms) moment
 
--- a running job was given nothing by a fetch
+-- a running get of the file was given nothing by a fetch
 pub record HasMissed (w : State) (number j : ℕ) : Type 0 where
   pub job : Job
   pub runs : job_of w.jobs number ≡ Some job
+  pub number_is : job.number ≡ number
+  pub kind_is : job.kind ≡ GetJob name
+  pub pinned : Contains job.pinned (record { id = 1; bytes = byte })
+  pub provider_in : j < (setup_in w).n
+  pub stripe_in : 0 < stripes (object_in w 1) (length (w.bytes 1))
   pub missed : Contains job.given (Fetched j 1 0 None)
 
 -- the begin of a get of the stored file is refused
@@ -77,7 +84,9 @@ pub record HasFaults (ms : List Moment) : Type 0 where
   -- the put that was cut off: its job has ended, its record is in doubt, and a stop brings it into effect
   pub cut_in_doubt : InDoubt (at 37 ms) (PutDone 3 0)
   pub cut_ended : (at 37 ms).jobs ≡ []
-  pub cut_settled : came (at 37 ms) (at 38 ms) ≡ Some (PutDone 3 0)
+  pub stop : Moment
+  pub stopped : Happened ms 37 stop
+  pub cut_settled : came (at 37 ms) stop.state ≡ Some (PutDone 3 0)
   pub cut_in_effect : file_in (at 38 ms) other ≡ Some (record { name = other; id = 3; size = 0 })
   -- the first file came in, and is not taken out until its drop is in doubt: past the fault, the stop and the reopening
   pub later : List Moment

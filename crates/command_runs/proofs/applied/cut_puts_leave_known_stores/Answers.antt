@@ -4,7 +4,7 @@ use Rattle.hail_commands.specs.Forms.{PutUnder}
 use Rattle.command_runs.proofs.CutPut.{answers as cut}
 use Rattle.command_runs.proofs.FailedPut.{answers as failed_put}
 use Rattle.command_runs.proofs.Stores.{put-old, cut-new}
-use Rattle.command_runs.proofs.Applied.{none-tell}
+use Rattle.command_runs.proofs.Meets.{none-tell}
 use Rattle.command_runs.proofs.applied.cut_puts_leave_known_stores.Goals as goal
 
 pub returns-clause-known : goal.returns-clause-known

@@ -10,7 +10,7 @@ use Rattle.command_runs.proofs.DoneDrop.{answers as drop}
 use Rattle.command_runs.proofs.Stores.{put-old, stored-sure, due-sure}
 use Rattle.command_runs.proofs.Refusals.{gone}
 use Rattle.command_laws.proofs.Samples.{never-rises}
-use Rattle.command_runs.proofs.Applied.{first, second, none-tell, three-tell, due-file, robbed-untouched, repair-steady, get-steady, flagged-second, spared}
+use Rattle.command_runs.proofs.Meets.{first, second, none-tell, three-tell, due-file, robbed-untouched, repair-steady, get-steady, flagged-second, spared}
 use Rattle.command_runs.proofs.applied.damage_is_mended.Goals as goal
 
 pub returns-clause-repaired : goal.returns-clause-repaired

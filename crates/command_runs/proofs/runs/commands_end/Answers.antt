@@ -5,6 +5,10 @@ use Rattle.command_runs.proofs.NoRoomPut.{answers as put_unmade}
 use Rattle.command_runs.proofs.DoneDrop.{answers as dropped}
 use Rattle.command_runs.proofs.LostGet.{answers as get_lost}
 use Rattle.command_runs.proofs.LostRepair.{answers as repair_lost}
+use Rattle.command_runs.proofs.DoneAudit.{answers as audited}
+use Rattle.command_runs.proofs.DoneRepair.{answers as repaired}
+use Rattle.command_runs.proofs.FailedRepair.{answers as repair_failed}
+use Rattle.command_runs.proofs.DoneGet.{answers as got}
 use Rattle.command_runs.proofs.runs.commands_end.Goals as goal
 
 pub returns-clause-put : goal.returns-clause-put
@@ -27,3 +31,15 @@ returns-clause-lost_get c = get_lost
 
 pub returns-clause-lost_repair : goal.returns-clause-lost_repair
 returns-clause-lost_repair c = repair_lost
+
+pub returns-clause-audit : goal.returns-clause-audit
+returns-clause-audit c = audited
+
+pub returns-clause-repair : goal.returns-clause-repair
+returns-clause-repair c = repaired
+
+pub returns-clause-failed_repair : goal.returns-clause-failed_repair
+returns-clause-failed_repair c = repair_failed
+
+pub returns-clause-get : goal.returns-clause-get
+returns-clause-get c = got

@@ -1,6 +1,7 @@
 -- What the laws ask for beside the commands.
 use Rattle.std.proofs.Common.{◌≡◌, ℕ, zero, suc, ◌<◌, ◌≤◌, ◌==◌, ◌&&◌, Bool, true, false, List, [], ◌∷◌, Some, None, refl, arith}
 use Rattle.std.specs.Prelude.{is_some, not, if◌then◌else◌}
+use Rattle.std.proofs.lemmas.Bool.{ne_eqb}
 use Rattle.hail_columns.specs.Columns.{columns, is_wrong}
 use Rattle.hail_columns.specs.Verdicts.{is_flagged}
 use Rattle.hail_machine.specs.Setups.{object_of}
@@ -70,13 +71,15 @@ get-steady spoilt (suc (suc zero)) l s rose = never-rises 0 (omega arith) rose
 get-steady spoilt (suc (suc (suc zero))) l s rose = never-rises 0 (omega arith) rose
 get-steady spoilt (suc (suc (suc (suc j)))) l s rose = absurd (omega (arith, l))
 
+-- false and anything
+pub spared : (b c : Bool) → b ≡ false → (b && c) ≡ false
+spared true c h = absurd (cc h)
+spared false c h = refl
+
 -- the audit flags the one that is spoilt
 pub flagged-second : (j : ℕ) → (second j && not (is_flagged 0 counts j)) ≡ false
 flagged-second zero = refl
 flagged-second (suc zero) = refl
 flagged-second (suc (suc zero)) = refl
-flagged-second (suc (suc (suc j))) = refl
-
-pub spared : (b c : Bool) → b ≡ false → (b && c) ≡ false
-spared true c h = absurd (cc h)
-spared false c h = refl
+flagged-second (suc (suc (suc j))) =
+    spared (second (suc (suc (suc j)))) (not (is_flagged 0 counts (suc (suc (suc j))))) (ne_eqb (suc (suc (suc j))) 2 (λ e. omega (arith, e)))
