@@ -13,3 +13,5 @@ pub mod DoneRepair
 pub mod FailedRepair
 pub mod DoneGet
 pub mod Meets
+pub mod OtherPut
+pub mod Somewhere

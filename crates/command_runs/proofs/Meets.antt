@@ -9,8 +9,10 @@ use Rattle.hail_machine.specs.Examples.{four}
 use Rattle.hail_commands.specs.Seen.{provider_at}
 use Rattle.step_laws.proofs.GivesRight.{own_not_wrong}
 use Rattle.command_laws.specs.After.{HasFile, IsUntouched, IsSteady, is_wrong_at}
+use Rattle.command_laws.specs.Failing.{bad_seen}
+use Rattle.command_laws.proofs.FilesStay.{bad-few}
 use Rattle.command_laws.proofs.Samples.{never-rises}
-use Rattle.command_runs.specs.Devices.{named, byte, counts, byte_records, audited_records, to_put, stored, damaged, due, repaired, mended, got, none_hold, three_hold, mended_hold}
+use Rattle.command_runs.specs.Devices.{named, byte, counts, byte_records, audited_records, repaired_records, to_put_other, stored, damaged, due, repaired, mended, got, none_hold, three_hold}
 
 -- the provider whose block is lost, and another one
 abbrev pub second : ℕ → Bool
@@ -83,3 +85,43 @@ flagged-second (suc zero) = refl
 flagged-second (suc (suc zero)) = refl
 flagged-second (suc (suc (suc j))) =
     spared (second (suc (suc (suc j)))) (not (is_flagged 0 counts (suc (suc (suc j))))) (ne_eqb (suc (suc (suc j))) 2 (λ e. omega (arith, e)))
+
+-- ---- the file is right
+
+right-kept : (j : ℕ) → j < 4 → is_wrong_at byte_records to_put_other 1 byte j ≡ false
+right-kept zero l = right_held 0
+right-kept (suc zero) l = right_held 1
+right-kept (suc (suc zero)) l = right_held 2
+right-kept (suc (suc (suc zero))) l = right_held 3
+right-kept (suc (suc (suc (suc j)))) l = absurd (omega (arith, l))
+
+pub kept-file : HasFile to_put_other byte_records named byte (λ j. false)
+kept-file = record { file = record { name = named; id = 1; size = 1 }; in_effect = refl; are_bytes = refl; size = refl; right = λ j l s. right-kept j l }
+
+right-mended : (j : ℕ) → j < 4 → is_wrong_at repaired_records mended 1 byte j ≡ false
+right-mended zero l = right_held 0
+right-mended (suc zero) l = right_held 1
+right-mended (suc (suc zero)) l = right_held 2
+right-mended (suc (suc (suc zero))) l = right_held 3
+right-mended (suc (suc (suc (suc j)))) l = absurd (omega (arith, l))
+
+pub mended-file : HasFile mended repaired_records named byte (λ j. false)
+mended-file = record { file = record { name = named; id = 1; size = 1 }; in_effect = refl; are_bytes = refl; size = refl; right = λ j l s. right-mended j l }
+
+right-damaged : (j : ℕ) → j < 4 → second j ≡ false → is_wrong_at byte_records damaged 1 byte j ≡ false
+right-damaged zero l s = right_held 0
+right-damaged (suc zero) l s = right_held 1
+right-damaged (suc (suc zero)) l s = (let e : true ≡ false = s in absurd (cc e))
+right-damaged (suc (suc (suc zero))) l s = right_held 3
+right-damaged (suc (suc (suc (suc j)))) l s = absurd (omega (arith, l))
+
+pub damaged-file : HasFile damaged byte_records named byte second
+damaged-file = record { file = record { name = named; id = 1; size = 1 }; in_effect = refl; are_bytes = refl; size = refl; right = right-damaged }
+
+-- at most one provider is wrong for it, or failed
+pub few-bad : bad_seen audited_records due repaired 1 byte ≤ 1
+unfolding due-file
+few-bad = within _ (bad-few named byte audited_records second due repaired due-file (λ j below clean rose. repair-steady second j below clean rose))
+  where
+    within : (n : ℕ) → n ≤ 1 → n ≤ 1
+    within n l = l

@@ -1,7 +1,7 @@
 -- Each store before and after the commands is known.
 use Rattle.std.proofs.Common.{refl, arith}
 use Rattle.command_laws.specs.After.{IsSure}
-use Rattle.command_runs.specs.Devices.{four_records, started_records, byte_records, dropped_records, audited_records, repaired_records, to_put, stored, put_failed, put_cut, put_unmade, kept, dropped, all_lost, found_lost, due_lost, repair_lost, damaged, audited, due, repaired, repair_failed, mended, got}
+use Rattle.command_runs.specs.Devices.{four_records, started_records, byte_records, dropped_records, audited_records, repaired_records, both_records, to_put_other, stored_other, to_put, stored, put_failed, put_cut, put_unmade, kept, dropped, all_lost, found_lost, due_lost, repair_lost, damaged, audited, due, repaired, repair_failed, mended, got}
 use Rattle.command_runs.proofs.Shape.{AreFit, sure}
 
 pub four-fit : AreFit four_records
@@ -76,3 +76,12 @@ mended-sure = sure mended repaired_records repaired-fit refl (omega arith)
 
 pub got-new : IsSure got repaired_records
 got-new = sure got repaired_records repaired-fit refl (omega arith)
+
+pub both-fit : AreFit both_records
+both-fit = record { some = λ e. cc; all = refl; accepted = (refl, (refl, (refl, (refl, (refl, tt))))); room = omega arith }
+
+pub to_put_other-sure : IsSure to_put_other byte_records
+to_put_other-sure = sure to_put_other byte_records byte-fit refl (omega arith)
+
+pub stored_other-sure : IsSure stored_other both_records
+stored_other-sure = sure stored_other both_records both-fit refl (omega arith)

@@ -260,6 +260,27 @@ bad_numbers = record { n = 4; l = 4; b = 1; profile = 0; rounds = 1; picks = 1; 
 abbrev pub key_text : List ℕ
 key_text = replicate 64 48
 
--- another name
+-- ---- a put of another file beside the first
+
+-- its name is "b"
 abbrev pub other_name : List ℕ
 other_name = 98 ∷ []
+
+abbrev pub begun_records : List Record
+begun_records = PutStart 2 other_name ∷ byte_records
+
+abbrev pub both_records : List Record
+both_records = PutDone 2 1 ∷ begun_records
+
+-- a provider with its block of the other file too
+abbrev pub given_other : ℕ → Provider → Provider
+given_other j p = record p { held = option_map (with_block 2 0 (columns (object_of four 2) byte j 0)) p.held }
+
+abbrev pub both_hold : List Provider
+both_hold = given_other 0 (holds 0) ∷ given_other 1 (holds 1) ∷ given_other 2 (holds 2) ∷ given_other 3 (holds 3) ∷ []
+
+abbrev pub to_put_other : Seen
+to_put_other = with_source kept byte
+
+abbrev pub stored_other : Seen
+stored_other = with_sink (devices both_records both_hold) (stored_line other_name 1)

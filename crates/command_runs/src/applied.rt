@@ -1,8 +1,9 @@
 //! What the laws on commands say of the commands given outright: each premise is met, and the law is called.
-ghost use Rattle.std.specs.Prelude.{◌≡◌, ◌⊎◌, ◌==◌, ◌<◌, ℕ, Bool, false, List, [], ◌∷◌, length, replicate, Some, None};
+ghost use Rattle.std.specs.Prelude.{◌≡◌, ◌⊎◌, ◌==◌, ◌&&◌, ◌<◌, ℕ, false, not, List, [], ◌∷◌, length, replicate, Some, None};
 ghost use Rattle.hail_field.specs.Shape.{IsShape};
 ghost use Rattle.hail_codes.specs.Points.{upto};
 ghost use Rattle.hail_codes.specs.DispersalCode.{AcceptsNone};
+ghost use Rattle.hail_columns.specs.Verdicts.{is_flagged};
 ghost use Rattle.hail_devices.specs.Cells.{firm};
 ghost use Rattle.hail_records.specs.Records.{Record, is_setup};
 ghost use Rattle.hail_machine.specs.Jobs.{AuditJob, RepairJob};
@@ -12,12 +13,13 @@ ghost use Rattle.hail_commands.specs.Keys.{IsKeyForm};
 ghost use Rattle.hail_commands.specs.Openings.{journal_read, IsBadStart, IsBadInit, IsSetUpAlready};
 ghost use Rattle.hail_commands.specs.Inits.{setup_with};
 ghost use Rattle.hail_commands.specs.Refusals.{refusal_of};
-ghost use Rattle.command_laws.specs.Ends.{IsKnown, IsPut, IsDropped, IsAudited, IsRepaired, FaultsHaveCauses, EndsInOrder, EndsWell, after_put};
+ghost use Rattle.hail_commands.specs.Audits.{HearsRounds, CountsHeard};
+ghost use Rattle.command_laws.specs.Ends.{IsKnown, IsPut, IsDropped, IsAudited, IsRepaired, FaultsHaveCauses, EndsInOrder, EndsWell, HoldsFile, ran_to, after_put, after_audit, after_repair};
 ghost use Rattle.command_laws.specs.Kept.{FailsToPut, FailsToRepair, LosesFile, LosesRepair, LeavesImages, after_start};
 ghost use Rattle.command_laws.specs.After.{IsSure, IsThen, HasFile};
-ghost use Rattle.command_runs.specs.Devices.{with_source, named, byte, other_name, key_text, four_records, byte_records, audited_records, good_numbers, bad_numbers, to_put, stored, put_failed, put_cut, kept, dropped, all_lost, found_lost, due_lost, repair_lost, no_blocks, damaged, audited, answers_heard, due, repaired, repair_failed, mended, got, blocks_heard, after_drop, disk_failed, scrambled, hidden, ends, ends_at, ends_hearing};
+ghost use Rattle.command_runs.specs.Devices.{with_source, named, byte, other_name, key_text, four_records, byte_records, audited_records, good_numbers, bad_numbers, to_put, stored, put_failed, put_cut, kept, dropped, all_lost, found_lost, due_lost, repair_lost, no_blocks, damaged, audited, answers_heard, due, repaired, repair_failed, mended, got, blocks_heard, after_drop, disk_failed, scrambled, hidden, counts, both_records, stored_other, ends, ends_at, ends_hearing};
 
-use command_laws::after::{done_commands_leave_known_stores, files_stay, put_files_are_got, stores_stay_known};
+use command_laws::after::{audits_in_effect_count_what_they_heard, done_commands_leave_known_stores, files_stay, gets_tell_what_stands, put_files_are_got, stores_stay_known};
 use command_laws::ends::{audits_count_what_they_hear, drops_take_the_file_away, faults_have_causes, gets_give_the_file, puts_store_the_source, refusals_are_exact, repairs_write_anew, unopened_stores_are_told};
 use command_laws::inits::{init_refusals_are_exact, lists_give_the_files};
 use command_laws::kept::{failed_stores_leave, images_stand, lost_rows_are_told};
@@ -95,4 +97,27 @@ pub fn damage_is_mended()
     ensures dropped { ((ends 3).status ≡ 3) ⊎ ((ends 3).status ≡ 70) }
 {
     put_files_are_got();
+}
+
+/// Files stay right: after the put, an audit, a put of another file and the repair; and what the audit counts it has heard.
+pub fn files_stay_right()
+    ensures put { HasFile stored (after_put four_records named 1) named byte (λ j. false) }
+    ensures audit { HasFile audited audited_records named byte (λ j. j == 2) }
+    ensures other { HasFile stored_other both_records named byte (λ j. false) }
+    ensures repair { HasFile repaired (after_repair audited_records (record { number = 1; counts = counts })) named byte
+        (λ j. (j == 2) && not (is_flagged 0 counts j)) }
+    ensures heard { HearsRounds (ran_to (after_audit byte_records 0 counts) byte_records damaged audited answers_heard) 1
+        × CountsHeard (ran_to (after_audit byte_records 0 counts) byte_records damaged audited answers_heard) 1 0 counts }
+{
+    files_stay();
+    audits_in_effect_count_what_they_heard();
+}
+
+/// The repair wrote the very block, since no more than one provider was wrong; and the get over what it left is complete.
+pub fn few_bad_providers_do_no_harm()
+    ensures rewritten { HoldsFile audited_records repaired byte (record { name = named; id = 1; size = 1 }) 2 }
+    ensures complete { EndsWell byte mended got (ends_hearing 0 blocks_heard) }
+{
+    repairs_write_anew();
+    gets_tell_what_stands();
 }

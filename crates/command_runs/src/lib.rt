@@ -2,5 +2,6 @@
 #![tactic(auto)]
 
 pub mod applied;
+pub mod lone;
 pub mod refused;
 pub mod runs;

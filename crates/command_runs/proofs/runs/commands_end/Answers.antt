@@ -2,6 +2,7 @@ use Rattle.command_runs.proofs.StoredPut.{answers as stored_put}
 use Rattle.command_runs.proofs.FailedPut.{answers as put_failed}
 use Rattle.command_runs.proofs.CutPut.{answers as put_cut}
 use Rattle.command_runs.proofs.NoRoomPut.{answers as put_unmade}
+use Rattle.command_runs.proofs.OtherPut.{answers as other_put}
 use Rattle.command_runs.proofs.DoneDrop.{answers as dropped}
 use Rattle.command_runs.proofs.LostGet.{answers as get_lost}
 use Rattle.command_runs.proofs.LostRepair.{answers as repair_lost}
@@ -43,3 +44,6 @@ returns-clause-failed_repair c = repair_failed
 
 pub returns-clause-get : goal.returns-clause-get
 returns-clause-get c = got
+
+pub returns-clause-other_put : goal.returns-clause-other_put
+returns-clause-other_put c = other_put
