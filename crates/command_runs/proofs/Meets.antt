@@ -1,5 +1,5 @@
 -- What the laws ask for beside the commands.
-use Rattle.std.proofs.Common.{◌≡◌, ℕ, zero, suc, ◌<◌, ◌≤◌, ◌==◌, ◌&&◌, Bool, true, false, List, [], ◌∷◌, Some, None, refl, arith}
+use Rattle.std.proofs.Common.{◌≡◌, ◌≢◌, ℕ, zero, suc, ◌<◌, ◌≤◌, ◌==◌, ◌&&◌, Bool, true, false, List, [], ◌∷◌, Some, None, refl, ap, arith}
 use Rattle.std.specs.Prelude.{is_some, not, if◌then◌else◌}
 use Rattle.std.proofs.lemmas.Bool.{ne_eqb}
 use Rattle.hail_columns.specs.Columns.{columns, is_wrong}
@@ -12,7 +12,8 @@ use Rattle.command_laws.specs.After.{HasFile, IsUntouched, IsSteady, is_wrong_at
 use Rattle.command_laws.specs.Failing.{bad_seen}
 use Rattle.command_laws.proofs.FilesStay.{bad-few}
 use Rattle.command_laws.proofs.Samples.{never-rises}
-use Rattle.command_runs.specs.Devices.{named, byte, counts, byte_records, audited_records, repaired_records, to_put_other, stored, damaged, due, repaired, mended, got, none_hold, three_hold}
+use Rattle.command_runs.proofs.Shape.{first_of}
+use Rattle.command_runs.specs.Devices.{named, other_name, byte, counts, byte_records, audited_records, repaired_records, to_put_other, stored, damaged, due, repaired, mended, got, none_hold, three_hold}
 
 -- the provider whose block is lost, and another one
 abbrev pub second : ℕ → Bool
@@ -125,3 +126,7 @@ few-bad = within _ (bad-few named byte audited_records second due repaired due-f
   where
     within : (n : ℕ) → n ≤ 1 → n ≤ 1
     within n l = l
+
+-- the names differ
+pub other-name : other_name ≢ named
+other-name e = (let f : 98 ≡ 97 = ap first_of e in omega (arith, f))

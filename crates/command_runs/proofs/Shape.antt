@@ -41,7 +41,7 @@ over-is ps p q r s a b c d = λ i k. (same_at (with_provider (with_provider (wit
 
 -- ---- the byte of the file
 
-abbrev first_of : List ℕ → ℕ
+abbrev pub first_of : List ℕ → ℕ
 first_of [] = 0
 first_of (x ∷ xs) = x
 

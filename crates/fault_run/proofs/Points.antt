@@ -21,7 +21,7 @@ use Rattle.hail_machine.specs.Failures.{Count, OfDisk, OfStores, OfOthers}
 use Rattle.hail_machine.specs.Heard.{NoneContinues}
 use Rattle.hail_machine.specs.Survival.{takes_out, NoneTakesOut, NeverTakenOut}
 use Rattle.hail_machine.specs.Examples.{set_up}
-use Rattle.hail_machine.proofs.RunParts.{job_at}
+use Rattle.hail_machine.proofs.RunParts.{job_at, append_at}
 use Rattle.damage_run.specs.Schedule.{name, byte}
 use Rattle.damage_run.specs.Points.{at}
 use Rattle.damage_run.proofs.Values.{thing, block, block_sized, right, same_first, asked, decider, agrees_at}
@@ -191,6 +191,25 @@ faults = record {
   first_came = record { done = refl; started = refl; named = refl };
   never_out = never_by_test name after_first refl;
   first_got = record { moment = event_at 47; is = refl; event = refl; outcome = refl };
+  has_stored = inl (record {
+    job = job_at (at 6 moments) 1;
+    name = name;
+    bytes = byte;
+    provider = 0;
+    stripe = 0;
+    makes = record { event = refl; is_open = refl; unbarred = refl; runs = refl; next = refl; unheld = refl };
+    puts = refl;
+    begun_is = refl;
+  });
+  has_asked = inl (record {
+    job = job_at (at 53 moments) 6;
+    provider = 0;
+    makes = record { event = refl; is_open = refl; unbarred = refl; runs = refl; next = refl; unheld = refl };
+    audits = refl;
+    begun_is = refl;
+    number_is = refl;
+  });
+  end_in_flight = record { append = append_at (at 58 moments); in_flight = refl; entry_is = refl; job = job_at (at 58 moments) 6; runs = refl };
   after_get = after_second;
   reported = record {
     moment = event_at 47;

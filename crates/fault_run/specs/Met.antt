@@ -4,26 +4,28 @@
 --   Fails ms k count          == event k is a failed call that this count counts
 --   HasMissed w number j      == a get of the file runs that a fetch from provider j gave nothing
 --   RefusesGet ms k why       == event k is a begin of a get of the file, and is refused so
+--   IsInFlight w entry        == a running job is appending this record
 --   HasReported ms k later    == before event k a step ended a job, and no later call of the program began since, in these moments
 --   HasFaults ms              == what fails, is refused, cut off and settled in the run, and when
 use Rattle.std.specs.Prelude.{◌≡◌, ℕ, suc, ◌<◌, List, [], ◌∷◌, ◌++◌, length, Option, Some, None}
 use Rattle.std.specs.List.{Contains}
 use Rattle.hail_columns.specs.Objects.{stripes}
-use Rattle.hail_records.specs.Records.{PutDone}
+use Rattle.hail_records.specs.Records.{Record, PutDone, AuditDone}
 use Rattle.hail_records.specs.Table.{File}
 use Rattle.hail_machine.specs.Jobs.{GetJob, Fetched, Job, job_of}
 use Rattle.hail_machine.specs.Refusals as refusal
 use Rattle.hail_machine.specs.Answers.{Got, Lost}
 use Rattle.hail_machine.specs.Events.{Begin, Refused}
-use Rattle.hail_machine.specs.States.{State, setup_in, object_in, file_in}
+use Rattle.hail_machine.specs.States.{State, Append, setup_in, object_in, file_in}
 use Rattle.hail_machine.specs.Runs.{Moment, now, first_moments, came}
 use Rattle.hail_machine.specs.Failures.{Count, OfDisk, OfStores, OfOthers, count_in, IsFailure}
 use Rattle.hail_machine.specs.Heard.{EndsJob, NoneContinues, heard_in}
 use Rattle.hail_machine.specs.Survival.{ComesIn, NeverTakenOut}
+use Rattle.hail_machine.specs.Deeds.{HasStored, HasAsked}
 use Rattle.hail_machine.specs.Examples.{set_up}
 use Rattle.mark_laws.specs.Damage.{RoseSince}
 use Rattle.damage_run.specs.Schedule.{name, byte}
-use Rattle.damage_run.specs.Points.{at, InDoubt, EndsBy}
+use Rattle.damage_run.specs.Points.{at, counts, InDoubt, EndsBy}
 use Rattle.fault_run.specs.Faults.{other}
 
 -- an event of these moments
@@ -55,6 +57,14 @@ pub record RefusesGet (ms : List Moment) (k : ℕ) (why : refusal.Refusal) : Typ
   pub outcome : moment.outcome ≡ Refused why
   pub file : File
   pub in_effect : file_in (at k ms) name ≡ Some file
+
+-- a record is being appended by a job that runs
+pub record IsInFlight (w : State) (entry : Record) : Type 0 where
+  pub append : Append
+  pub in_flight : w.append ≡ Some append
+  pub entry_is : append.entry ≡ entry
+  pub job : Job
+  pub runs : job_of w.jobs append.job ≡ Some job
 
 -- a job has ended, and no later call of the program began since
 pub record HasReported (ms : List Moment) (k : ℕ) (later : List Moment) : Type 0 where
@@ -95,6 +105,10 @@ pub record HasFaults (ms : List Moment) : Type 0 where
   pub first_came : ComesIn (at 13 ms) came_moment.state name (record { name = name; id = 1; size = 1 })
   pub never_out : NeverTakenOut name later
   pub first_got : EndsBy ms 47 5 (Got byte)
+  -- the first put has stored, the audit has asked, and its end is in flight
+  pub has_stored : HasStored set_up (first_moments 7 ms) 1 1
+  pub has_asked : HasAsked set_up (first_moments 54 ms) 48 1 1 0
+  pub end_in_flight : IsInFlight (at 58 ms) (AuditDone 1 0 counts)
   -- the report of the second get, while a later job runs; and none after a later call of the program
   pub after_get : List Moment
   pub reported : HasReported ms 60 after_get

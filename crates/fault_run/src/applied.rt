@@ -1,10 +1,11 @@
 //! What laws about faults say of the run given outright: each premise is met, and the law is called.
-ghost use Rattle.std.specs.Prelude.{◌≡◌, ◌⊎◌, ◌∷◌, ℕ, suc, List, None};
-ghost use Rattle.hail_records.specs.Records.{PutDone};
+ghost use Rattle.std.specs.Prelude.{◌≡◌, ◌⊎◌, ◌<◌, ℕ, List, Some};
+ghost use Rattle.hail_records.specs.Table.{next_id, next_audit};
+ghost use Rattle.hail_machine.specs.Deeds.{HasStored, HasAsked};
 ghost use Rattle.hail_machine.specs.Answers.{Lost};
 ghost use Rattle.hail_machine.specs.Halves.{FirstHalf, SecondHalf};
 ghost use Rattle.hail_machine.specs.Heard.{heard_in, heard_by, given_to};
-ghost use Rattle.hail_machine.specs.States.{State, Doubt};
+ghost use Rattle.hail_machine.specs.States.{State};
 ghost use Rattle.hail_machine.specs.Survival.{IsKept};
 ghost use Rattle.hail_machine.specs.Runs.{Moment, first_moments};
 ghost use Rattle.hail_machine.specs.Jobs.{Job};
@@ -13,20 +14,20 @@ ghost use Rattle.hail_machine.specs.Refusals as refusal;
 ghost use Rattle.hail_machine.specs.Halves.{IsGetRefusal};
 ghost use Rattle.hail_machine.specs.Examples.{set_up};
 ghost use Rattle.headline.specs.Headline.{Headline};
-ghost use Rattle.step_laws.specs.Whole.{PutIsWhole};
+ghost use Rattle.step_laws.specs.Whole.{PutIsWhole, AuditIsWhole};
 ghost use Rattle.mark_laws.specs.Damage.{IsReplaced, RoseSince};
 ghost use Rattle.mark_laws.specs.MarkedRuns.{IsMarkedRun};
 ghost use Rattle.mark_laws.specs.Sharp.{IsLostByFaults};
 ghost use Rattle.damage_run.specs.Schedule.{name};
-ghost use Rattle.damage_run.specs.Points.{at};
+ghost use Rattle.damage_run.specs.Points.{at, counts};
 ghost use Rattle.fault_run.specs.Faults.{IsFaulty};
 ghost use Rattle.fault_run.specs.Met.{HasFaults};
 
 use calm_laws::laws::{failed_calls_are_counted, stored_names_begin};
-use hail_machine::laws::{acknowledged_files_survive, reports_have_what_jobs_heard};
+use hail_machine::laws::{acknowledged_files_survive, challenges_are_made_once, reports_have_what_jobs_heard, stores_name_their_own_object, used_numbers_are_below};
 use headline::laws::every_run_keeps_the_headline;
 use mark_laws::laws::{any_mark_will_do, damage_of_pinned_files_is_new, gets_give_or_are_lost, the_start_is_a_mark};
-use step_laws::laws::done_puts_are_whole;
+use step_laws::laws::{done_audits_are_whole, done_puts_are_whole};
 
 /// Each failed call raised its count.
 pub fn failed_calls_raise_counts()
@@ -83,4 +84,19 @@ pub fn headline_of_it()
     every_run_keeps_the_headline();
     the_start_is_a_mark();
     any_mark_will_do();
+}
+
+/// The numbers that the first put has stored under and the audit has asked under are below the next ones, and no other put and no other
+/// audit used them; the audit whose end is in flight is whole.
+pub fn numbers_are_drawn_once()
+    ensures object { (ms : List Moment) → IsFaulty ms → HasFaults ms → 1 < next_id (at 7 ms).records }
+    ensures audit { (ms : List Moment) → IsFaulty ms → HasFaults ms → 1 < next_audit (at 54 ms).records }
+    ensures one_put { (ms : List Moment) (other : ℕ) → IsFaulty ms → HasFaults ms → HasStored set_up (first_moments 7 ms) other 1 → 1 ≡ other }
+    ensures one_audit { (ms : List Moment) (other : ℕ) → IsFaulty ms → HasFaults ms → HasAsked set_up (first_moments 54 ms) other 1 1 0 → 48 ≡ other }
+    ensures whole { (ms : List Moment) → IsFaulty ms → (h : HasFaults ms) → AuditIsWhole set_up (first_moments 58 ms) h.end_in_flight.job 1 0 counts }
+{
+    used_numbers_are_below();
+    stores_name_their_own_object();
+    challenges_are_made_once();
+    done_audits_are_whole();
 }

@@ -9,7 +9,7 @@ use Rattle.command_runs.proofs.DoneAudit.{answers as audit}
 use Rattle.command_runs.proofs.DoneRepair.{answers as repair}
 use Rattle.command_runs.proofs.OtherPut.{answers as other_put}
 use Rattle.command_runs.proofs.Stores.{put-old, damaged-sure, audited-new, due-sure, to_put_other-sure}
-use Rattle.command_runs.proofs.Meets.{second, none-tell, three-tell, due-file, damaged-file, kept-file, repair-steady}
+use Rattle.command_runs.proofs.Meets.{second, none-tell, three-tell, due-file, damaged-file, kept-file, repair-steady, other-name}
 use Rattle.command_runs.proofs.applied.files_stay_right.Goals as goal
 
 pub returns-clause-put : goal.returns-clause-put
@@ -21,7 +21,7 @@ returns-clause-audit c = c.files_stay.ensures.reads AuditAll named byte byte_rec
 
 pub returns-clause-other : goal.returns-clause-other
 returns-clause-other c = c.files_stay.ensures.others (PutUnder other_name) named byte byte_records both_records (λ j. false) to_put_other stored_other (ends 0) other_put
-    (λ e. (let f : 98 ∷ [] ≡ 97 ∷ [] = e in absurd (cc f))) to_put_other-sure.known kept-file
+    other-name to_put_other-sure.known kept-file
     (inr (record {
       kind = PutJob other_name byte;
       of_command = (byte, record { are_bytes = refl; front = refl; few = omega arith; end = λ l. refl }, refl);
