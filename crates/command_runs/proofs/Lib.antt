@@ -15,3 +15,5 @@ pub mod DoneGet
 pub mod Meets
 pub mod OtherPut
 pub mod Somewhere
+pub mod HiddenPut
+pub mod HiddenGet

@@ -1,9 +1,10 @@
 -- What the laws ask for beside the commands.
-use Rattle.std.proofs.Common.{◌≡◌, ◌≢◌, ℕ, zero, suc, ◌<◌, ◌≤◌, ◌==◌, ◌&&◌, Bool, true, false, List, [], ◌∷◌, Some, None, refl, ap, arith}
+use Rattle.std.proofs.Common.{◌≡◌, ◌≢◌, ℕ, zero, suc, ◌<◌, ◌≤◌, ◌==◌, ◌&&◌, Bool, true, false, Some, None, refl, ap, arith}
 use Rattle.std.specs.Prelude.{is_some, not, if◌then◌else◌}
 use Rattle.std.proofs.lemmas.Bool.{ne_eqb}
 use Rattle.hail_columns.specs.Columns.{columns, is_wrong}
 use Rattle.hail_columns.specs.Verdicts.{is_flagged}
+use Rattle.hail_devices.specs.Faults.{Rose}
 use Rattle.hail_machine.specs.Setups.{object_of}
 use Rattle.hail_machine.specs.Examples.{four}
 use Rattle.hail_commands.specs.Seen.{provider_at}
@@ -13,7 +14,7 @@ use Rattle.command_laws.specs.Failing.{bad_seen}
 use Rattle.command_laws.proofs.FilesStay.{bad-few}
 use Rattle.command_laws.proofs.Samples.{never-rises}
 use Rattle.command_runs.proofs.Shape.{first_of}
-use Rattle.command_runs.specs.Devices.{named, other_name, byte, counts, byte_records, audited_records, repaired_records, to_put_other, stored, damaged, due, repaired, mended, got, none_hold, three_hold}
+use Rattle.command_runs.specs.Devices.{named, other_name, byte, counts, byte_records, audited_records, repaired_records, to_put_other, stored, damaged, due, repaired, mended, got, hidden, none_hold, three_hold}
 
 -- the provider whose block is lost, and another one
 abbrev pub second : ℕ → Bool
@@ -36,6 +37,14 @@ three-tell (suc zero) l = refl
 three-tell (suc (suc zero)) l = refl
 three-tell (suc (suc (suc zero))) l = refl
 three-tell (suc (suc (suc (suc j)))) l = absurd (omega (arith, l))
+
+-- of devices that tell nothing no count rises
+pub none-rises : (j : ℕ) → Rose (provider_at hidden.providers j).store_faults (provider_at hidden.providers j).store_faults → ⊥
+none-rises zero rose = never-rises 0 (omega arith) rose
+none-rises (suc zero) rose = never-rises 0 (omega arith) rose
+none-rises (suc (suc zero)) rose = never-rises 0 (omega arith) rose
+none-rises (suc (suc (suc zero))) rose = never-rises 0 (omega arith) rose
+none-rises (suc (suc (suc (suc j)))) rose = never-rises 0 (omega arith) rose
 
 -- the own block is right
 right_held : (j : ℕ) → is_wrong (object_of four 1) byte j (λ stripe. if (1 == 1) && (stripe == 0) then Some (columns (object_of four 1) byte j 0) else None) ≡ false

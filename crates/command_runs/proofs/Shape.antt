@@ -1,5 +1,5 @@
 -- States whose vault was just opened over four providers, spelled out; and stores that are known.
-use Rattle.std.proofs.Common.{◌≡◌, ◌≢◌, ℕ, zero, suc, ◌<◌, ◌≤◌, ◌==◌, true, false, List, [], ◌∷◌, length, Some, None, refl, ap, sym, subst, ◌∙◌, inl, inr, arith}
+use Rattle.std.proofs.Common.{◌≡◌, ◌≢◌, ℕ, ◌≤◌, ◌==◌, true, false, List, [], ◌∷◌, length, Some, None, refl, ap, sym, subst, ◌∙◌, inl, inr, arith}
 use Rattle.std.specs.Prelude.{IsTrue, if◌then◌else◌}
 use Rattle.std.specs.List.{list_all}
 use Rattle.std.proofs.lemmas.Bool.{cases_Bool, eqb-true}
@@ -13,7 +13,7 @@ use Rattle.hail_machine.proofs.JobLists.{cond_true, cond_false}
 use Rattle.hail_devices.specs.Images.{EachImage}
 use Rattle.hail_commands.specs.Seen.{Seen}
 use Rattle.hail_commands.specs.Opens.{setup_at}
-use Rattle.hail_commands.specs.JobRuns.{AreHanded, IsOpenedOver}
+use Rattle.hail_commands.specs.JobRuns.{IsOpenedOver}
 use Rattle.command_laws.specs.After.{IsSure}
 use Rattle.command_laws.proofs.Images.{image-firm}
 use Rattle.command_laws.proofs.Afterwards.{reads-firm}
@@ -83,8 +83,8 @@ pub form-is : (rs : List Record) (bytes : ℕ → List ℕ) (p q r s : Provider)
     IsOpenedOver w rs 0 (p ∷ q ∷ r ∷ s ∷ []) → formed rs bytes p q r s w ≡ w
 form-is rs bytes p q r s w same V =
     (let P : over w.providers p q r s ≡ w.providers = over-is w.providers p q r s
-        (from_some p (w.providers 0) (V.handed.each 0 (omega arith))) (from_some q (w.providers 1) (V.handed.each 1 (omega arith)))
-        (from_some r (w.providers 2) (V.handed.each 2 (omega arith))) (from_some s (w.providers 3) (V.handed.each 3 (omega arith))) in
+    (from_some p (w.providers 0) (V.handed.each 0 (omega arith))) (from_some q (w.providers 1) (V.handed.each 1 (omega arith)))
+    (from_some r (w.providers 2) (V.handed.each 2 (omega arith))) (from_some s (w.providers 3) (V.handed.each 3 (omega arith))) in
     (λ i. record w {
       records = sym V.records i;
       bytes = same i;

@@ -1,7 +1,8 @@
 -- Each store before and after the commands is known.
 use Rattle.std.proofs.Common.{refl, arith}
+use Rattle.hail_commands.specs.Opens.{IsOpened}
 use Rattle.command_laws.specs.After.{IsSure}
-use Rattle.command_runs.specs.Devices.{four_records, started_records, byte_records, dropped_records, audited_records, repaired_records, both_records, to_put_other, stored_other, to_put, stored, put_failed, put_cut, put_unmade, kept, dropped, all_lost, found_lost, due_lost, repair_lost, damaged, audited, due, repaired, repair_failed, mended, got}
+use Rattle.command_runs.specs.Devices.{four_records, started_records, byte_records, dropped_records, audited_records, repaired_records, both_records, to_put_other, stored_other, hidden, to_put, stored, put_failed, put_cut, put_unmade, kept, dropped, all_lost, found_lost, due_lost, repair_lost, damaged, audited, due, repaired, repair_failed, mended, got}
 use Rattle.command_runs.proofs.Shape.{AreFit, sure}
 
 pub four-fit : AreFit four_records
@@ -21,7 +22,6 @@ audited-fit = record { some = λ e. cc; all = refl; accepted = (refl, (refl, (re
 
 pub repaired-fit : AreFit repaired_records
 repaired-fit = record { some = λ e. cc; all = refl; accepted = (refl, (refl, (refl, (refl, (refl, (refl, tt)))))); room = omega arith }
-
 
 pub put-old : IsSure to_put four_records
 put-old = sure to_put four_records four-fit refl (omega arith)
@@ -85,3 +85,10 @@ to_put_other-sure = sure to_put_other byte_records byte-fit refl (omega arith)
 
 pub stored_other-sure : IsSure stored_other both_records
 stored_other-sure = sure stored_other both_records both-fit refl (omega arith)
+
+-- devices that tell nothing
+pub hidden-opened : IsOpened hidden byte_records
+hidden-opened = record { read = record { some = byte-fit.some; in_grammar = byte-fit.all; accepted = byte-fit.accepted; room = byte-fit.room; reads_are = tt }; enough = omega arith }
+
+pub hidden-fresh : IsOpened hidden four_records
+hidden-fresh = record { read = record { some = four-fit.some; in_grammar = four-fit.all; accepted = four-fit.accepted; room = four-fit.room; reads_are = tt }; enough = omega arith }

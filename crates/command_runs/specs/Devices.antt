@@ -249,6 +249,9 @@ hidden = record {
   sink_faults = 0;
 }
 
+abbrev pub hidden_fetched : Seen
+hidden_fetched = record hidden { providers = fetched silent ∷ fetched silent ∷ fetched silent ∷ fetched silent ∷ [] }
+
 -- numbers of a setup, and some that are none
 abbrev pub good_numbers : Numbers
 good_numbers = record { n = 4; l = 1; b = 1; profile = 0; rounds = 1; picks = 1; tolerance = 0 }

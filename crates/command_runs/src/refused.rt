@@ -6,7 +6,7 @@ ghost use Rattle.hail_commands.specs.Commands.{Answers};
 ghost use Rattle.command_runs.specs.Devices.{with_source, with_sink, named, other_name, key_text, good_numbers, bad_numbers, to_put, put_unmade, kept, due, after_drop, disk_failed, deserted, scrambled, hidden, ends};
 
 /// Faults of the disk, the sink and the source, and want of memory; a disk that reads no journal, and too few providers; begins that are
-/// refused; a row that is lost; and a list and a get over devices that tell nothing.
+/// refused; a row that is lost; and a list, a get and a repair over devices that tell nothing.
 pub fn commands_end_early()
     ensures disk_fault { Answers ListAll kept (disk_failed kept) (ends 12) }
     ensures sink_fault { Answers ListAll kept (record kept { sink_faults = 1 }) (ends 15) }
@@ -20,6 +20,7 @@ pub fn commands_end_early()
     ensures gone { Answers (GetOf named) after_drop after_drop (ends 3) }
     ensures lost_row { Answers (RowOf 4 1 1 (None ∷ None ∷ Some 7 ∷ Some 9 ∷ [])) kept (with_sink kept no_row_line) (ends 4) }
     ensures hidden_list { Answers ListAll hidden hidden (ends 0) }
+    ensures hidden_repair { Answers RepairDue hidden hidden (ends 7) }
     ensures hidden_get { Answers (GetOf other_name) hidden hidden (ends 3) }
 {}
 

@@ -1,5 +1,5 @@
 -- A get that is lost in a calm run is so by faults.
-use Rattle.std.proofs.Common.{◌≡◌, ℕ, suc, List, ◌∷◌, Some, ap, sym, subst, ◌∙◌, inl, inr}
+use Rattle.std.proofs.Common.{◌≡◌, ℕ, List, ◌∷◌, Some, ap, sym, subst, ◌∙◌, inl, inr}
 use Rattle.hail_machine.specs.Answers.{Answer, Lost}
 use Rattle.hail_machine.specs.Events.{Step, Ended}
 use Rattle.hail_machine.specs.Jobs.{GetJob, Job, job_of}
@@ -40,8 +40,7 @@ lost_by marks law ms f h =
     let e = h.get_lost in
     let run = subst (IsMarkedRun 8 (λ moments. 0) set_up) e.is (marked_to marks ms 21 f) in
     let g = law 8 (λ moments. 0) set_up e.moment (first_moments 20 ms) q.job name (Lost 0 0) run (e.event ∙ ap Step (sym q.number_is)) e.outcome
-        (subst (λ n. job_of (at 20 ms).jobs n ≡ Some q.job) (sym q.number_is) q.runs) q.kind_is in
-    (
+    (subst (λ n. job_of (at 20 ms).jobs n ≡ Some q.job) (sym q.number_is) q.runs) q.kind_is in (
       now set_up (first_moments q.job.begun (first_moments 20 ms)),
       subst (λ w. IsLostByFaults (now set_up (first_moments q.job.begun (first_moments 20 ms))) w (Lost 0 0)) (sym (ap (now set_up) e.is))
           (by_faults (now set_up (first_moments q.job.begun (first_moments 20 ms))) e.moment.state 0 0 g),

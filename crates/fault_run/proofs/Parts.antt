@@ -4,7 +4,7 @@ use Rattle.std.specs.Prelude.{length, nat_le, if◌then◌else◌}
 use Rattle.hail_machine.specs.States.{State}
 use Rattle.hail_machine.specs.Runs.{Moment, IsRun, now, first_moments}
 use Rattle.hail_machine.specs.Calm.{Mark, IsCalm, relies}
-use Rattle.hail_machine.specs.Failures.{Count, count_in, IsFailure, HasFailures, RoseBy}
+use Rattle.hail_machine.specs.Failures.{Count, count_in, HasFailures, RoseBy}
 use Rattle.hail_machine.specs.Examples.{set_up}
 use Rattle.run_laws.proofs.FirstHalf.{first_run}
 use Rattle.damage_run.specs.Points.{at}

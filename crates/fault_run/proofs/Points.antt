@@ -1,5 +1,5 @@
 -- The places in the run, computed.
-use Rattle.std.proofs.Common.{◌≡◌, ◌≢◌, ℕ, suc, Bool, true, false, ◌&&◌, List, [], ◌∷◌, ◌++◌, Option, Some, None, refl, ap, sym, subst, ◌∙◌, inl, inr, arith}
+use Rattle.std.proofs.Common.{◌≡◌, ℕ, suc, Bool, true, false, ◌&&◌, List, [], ◌∷◌, Option, Some, None, refl, ap, sym, subst, ◌∙◌, inl, arith}
 use Rattle.std.specs.Prelude.{not, take}
 use Rattle.std.specs.Option.{option_map}
 use Rattle.std.proofs.lemmas.Bool.{and_parts, false≢true}
@@ -8,19 +8,16 @@ use Rattle.hail_codes.specs.Polynomials.{value, is_seen}
 use Rattle.hail_columns.specs.Objects.{point}
 use Rattle.hail_columns.specs.Challenges.{bare_answer}
 use Rattle.hail_devices.specs.Providers.{Held}
-use Rattle.hail_records.specs.Records.{Record, PutDone}
-use Rattle.hail_records.specs.Table.{File}
-use Rattle.hail_machine.specs.Jobs.{GetJob, Given, Fetched, Answered, Job}
+use Rattle.hail_records.specs.Records.{Record}
+use Rattle.hail_machine.specs.Jobs.{Given, Fetched, Answered, Job}
 use Rattle.hail_machine.specs.Actions.{Fetch, Ask, Remove, actions_of}
 use Rattle.hail_machine.specs.Answers.{Got}
-use Rattle.hail_machine.specs.Refusals as refusal
-use Rattle.hail_machine.specs.Events.{Event, Reopen, Continue, Opened}
-use Rattle.hail_machine.specs.States.{State, Doubt, setup_in}
+use Rattle.hail_machine.specs.Events.{Event, Continue}
+use Rattle.hail_machine.specs.States.{Doubt, setup_in}
 use Rattle.hail_machine.specs.Runs.{Moment, first_moments}
-use Rattle.hail_machine.specs.Failures.{Count, OfDisk, OfStores, OfOthers}
+use Rattle.hail_machine.specs.Failures.{OfOthers}
 use Rattle.hail_machine.specs.Heard.{NoneContinues}
-use Rattle.hail_machine.specs.Survival.{takes_out, NoneTakesOut, NeverTakenOut}
-use Rattle.hail_machine.specs.Examples.{set_up}
+use Rattle.hail_machine.specs.Survival.{takes_out, NeverTakenOut}
 use Rattle.hail_machine.proofs.RunParts.{job_at, append_at}
 use Rattle.damage_run.specs.Schedule.{name, byte}
 use Rattle.damage_run.specs.Points.{at}

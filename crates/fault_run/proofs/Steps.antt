@@ -1,11 +1,11 @@
 -- The states and steps of the run, from the end of its put on.
-use Rattle.std.proofs.Common.{ℕ, ◌==◌, true, false, List, [], ◌∷◌, Option, Some, None, refl, sym, inl, inr, arith}
+use Rattle.std.proofs.Common.{ℕ, ◌==◌, true, false, List, [], ◌∷◌, Option, Some, None, refl, inl, inr, arith}
 use Rattle.std.specs.Prelude.{if◌then◌else◌}
 use Rattle.std.specs.Option.{option_map}
 use Rattle.hail_records.specs.Records.{Record, SetUp, PutStart, PutDone, Drop, AuditStart, AuditDone}
 use Rattle.hail_devices.specs.Faults.{one_more}
 use Rattle.hail_devices.specs.Providers.{Provider, without_object}
-use Rattle.hail_machine.specs.Jobs.{PutJob, GetJob, DropJob, AuditJob, Job, Given, Fetched, Answered, Worked}
+use Rattle.hail_machine.specs.Jobs.{PutJob, GetJob, DropJob, AuditJob, Job, Fetched, Answered, Worked}
 use Rattle.hail_machine.specs.Actions.{actions_of}
 use Rattle.hail_machine.specs.Answers.{Got, Dropped, Audited, Lost, ProviderFault, DiskFault}
 use Rattle.hail_machine.specs.Refusals as refusal

@@ -7,7 +7,7 @@
 --   IsInFlight w entry        == a running job is appending this record
 --   HasReported ms k later    == before event k a step ended a job, and no later call of the program began since, in these moments
 --   HasFaults ms              == what fails, is refused, cut off and settled in the run, and when
-use Rattle.std.specs.Prelude.{◌≡◌, ℕ, suc, ◌<◌, List, [], ◌∷◌, ◌++◌, length, Option, Some, None}
+use Rattle.std.specs.Prelude.{◌≡◌, ℕ, suc, ◌<◌, List, [], ◌∷◌, ◌++◌, length, Some, None}
 use Rattle.std.specs.List.{Contains}
 use Rattle.hail_columns.specs.Objects.{stripes}
 use Rattle.hail_records.specs.Records.{Record, PutDone, AuditDone}
@@ -17,8 +17,8 @@ use Rattle.hail_machine.specs.Refusals as refusal
 use Rattle.hail_machine.specs.Answers.{Got, Lost}
 use Rattle.hail_machine.specs.Events.{Begin, Refused}
 use Rattle.hail_machine.specs.States.{State, Append, setup_in, object_in, file_in}
-use Rattle.hail_machine.specs.Runs.{Moment, now, first_moments, came}
-use Rattle.hail_machine.specs.Failures.{Count, OfDisk, OfStores, OfOthers, count_in, IsFailure}
+use Rattle.hail_machine.specs.Runs.{Moment, first_moments, came}
+use Rattle.hail_machine.specs.Failures.{Count, OfDisk, OfStores, OfOthers, IsFailure}
 use Rattle.hail_machine.specs.Heard.{EndsJob, NoneContinues, heard_in}
 use Rattle.hail_machine.specs.Survival.{ComesIn, NeverTakenOut}
 use Rattle.hail_machine.specs.Deeds.{HasStored, HasAsked}

@@ -1,4 +1,4 @@
-use Rattle.command_runs.proofs.Refusals.{disk-fault, sink-fault, source-fault, no-memory, bad-journal, too-few, repair-due, nothing-due, bad-name, gone, lost-row, hidden-list, hidden-get}
+use Rattle.command_runs.proofs.Refusals.{disk-fault, sink-fault, source-fault, no-memory, bad-journal, too-few, repair-due, nothing-due, bad-name, gone, lost-row, hidden-list, hidden-repair, hidden-get}
 use Rattle.command_runs.proofs.refused.commands_end_early.Goals as goal
 
 pub returns-clause-disk_fault : goal.returns-clause-disk_fault
@@ -36,6 +36,9 @@ returns-clause-lost_row c = lost-row
 
 pub returns-clause-hidden_list : goal.returns-clause-hidden_list
 returns-clause-hidden_list c = hidden-list
+
+pub returns-clause-hidden_repair : goal.returns-clause-hidden_repair
+returns-clause-hidden_repair c = hidden-repair
 
 pub returns-clause-hidden_get : goal.returns-clause-hidden_get
 returns-clause-hidden_get c = hidden-get

@@ -3,6 +3,8 @@ use Rattle.command_runs.proofs.FailedPut.{answers as put_failed}
 use Rattle.command_runs.proofs.CutPut.{answers as put_cut}
 use Rattle.command_runs.proofs.NoRoomPut.{answers as put_unmade}
 use Rattle.command_runs.proofs.OtherPut.{answers as other_put}
+use Rattle.command_runs.proofs.HiddenPut.{answers as hidden_put}
+use Rattle.command_runs.proofs.HiddenGet.{answers as hidden_get}
 use Rattle.command_runs.proofs.DoneDrop.{answers as dropped}
 use Rattle.command_runs.proofs.LostGet.{answers as get_lost}
 use Rattle.command_runs.proofs.LostRepair.{answers as repair_lost}
@@ -47,3 +49,9 @@ returns-clause-get c = got
 
 pub returns-clause-other_put : goal.returns-clause-other_put
 returns-clause-other_put c = other_put
+
+pub returns-clause-hidden_put : goal.returns-clause-hidden_put
+returns-clause-hidden_put c = hidden_put
+
+pub returns-clause-hidden_get : goal.returns-clause-hidden_get
+returns-clause-hidden_get c = hidden_get

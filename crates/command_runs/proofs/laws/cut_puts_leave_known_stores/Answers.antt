@@ -1,11 +1,11 @@
-use Rattle.std.proofs.Common.{◌∷◌, refl, inl, false}
-use Rattle.command_runs.specs.Devices.{named, byte, four_records, byte_records, to_put, put_failed, put_cut, ends}
+use Rattle.std.proofs.Common.{refl, inl, false}
+use Rattle.command_runs.specs.Devices.{named, byte, four_records, to_put, put_failed, put_cut, ends}
 use Rattle.hail_commands.specs.Forms.{PutUnder}
 use Rattle.command_runs.proofs.CutPut.{answers as cut}
 use Rattle.command_runs.proofs.FailedPut.{answers as failed_put}
 use Rattle.command_runs.proofs.Stores.{put-old, cut-new}
 use Rattle.command_runs.proofs.Meets.{none-tell}
-use Rattle.command_runs.proofs.applied.cut_puts_leave_known_stores.Goals as goal
+use Rattle.command_runs.proofs.laws.cut_puts_leave_known_stores.Goals as goal
 
 pub returns-clause-known : goal.returns-clause-known
 returns-clause-known c = c.stores_stay_known.ensures.always (PutUnder named) four_records to_put put_cut put_cut (ends 12) cut refl put-old (record { disk = inl refl; handed = refl })

@@ -1,5 +1,5 @@
 use Rattle.hail_machine.specs.Examples.{set_up}
-use Rattle.fault_run.proofs.applied.headline_of_it.Goals as goal
+use Rattle.fault_run.proofs.laws.headline_of_it.Goals as goal
 
 pub returns-clause-headline : goal.returns-clause-headline
 returns-clause-headline c = λ ms f. c.every_run_keeps_the_headline.ensures 8 set_up ms f.clean f.run

@@ -8,7 +8,7 @@ use Rattle.command_runs.proofs.FailedPut.{answers as failed_put}
 use Rattle.command_runs.proofs.FailedRepair.{answers as failed_repair}
 use Rattle.command_runs.proofs.LostGet.{answers as lost_get}
 use Rattle.command_runs.proofs.LostRepair.{answers as lost_repair}
-use Rattle.command_runs.proofs.applied.jobs_leave_what_is_said.Goals as goal
+use Rattle.command_runs.proofs.laws.jobs_leave_what_is_said.Goals as goal
 
 pub returns-clause-put : goal.returns-clause-put
 returns-clause-put c = c.puts_store_the_source.ensures.done named to_put stored (ends 0) put (inl refl)

@@ -1,11 +1,11 @@
-use Rattle.std.proofs.Common.{◌++◌, ◌∷◌, sym, subst}
+use Rattle.std.proofs.Common.{sym, subst}
 use Rattle.hail_machine.specs.Runs.{IsRun, now, first_moments}
 use Rattle.hail_machine.specs.Survival.{IsKept}
 use Rattle.hail_machine.specs.Examples.{set_up}
 use Rattle.run_laws.proofs.FirstHalf.{first_run}
 use Rattle.damage_run.specs.Schedule.{name}
 use Rattle.fault_run.proofs.Parts.{run_to}
-use Rattle.fault_run.proofs.applied.puts_survive_faults.Goals as goal
+use Rattle.fault_run.proofs.laws.puts_survive_faults.Goals as goal
 
 pub returns-clause-in_doubt : goal.returns-clause-in_doubt
 returns-clause-in_doubt c = λ ms f h. (let d = h.cut_in_doubt in let law = c.done_puts_are_whole.ensures.in_doubt 8 set_up (first_moments 37 ms) d.doubt 3 0 f.clean (first_run 8 set_up 37 ms f.run) d.in_doubt d.entry_is in

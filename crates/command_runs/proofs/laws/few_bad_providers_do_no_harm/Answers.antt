@@ -5,7 +5,7 @@ use Rattle.command_runs.proofs.DoneGet.{answers as get}
 use Rattle.command_laws.proofs.Samples.{never-rises}
 use Rattle.command_runs.proofs.Stores.{due-sure, mended-sure}
 use Rattle.command_runs.proofs.Meets.{few-bad, mended-file, get-steady}
-use Rattle.command_runs.proofs.applied.few_bad_providers_do_no_harm.Goals as goal
+use Rattle.command_runs.proofs.laws.few_bad_providers_do_no_harm.Goals as goal
 
 pub returns-clause-rewritten : goal.returns-clause-rewritten
 returns-clause-rewritten c = c.repairs_write_anew.ensures.right named byte audited_records (record { name = named; id = 1; size = 1 }) (record { number = 1; counts = counts }) 2 due repaired (ends 0)

@@ -6,11 +6,14 @@ use Rattle.hail_machine.specs.Jobs.{AuditJob, RepairJob}
 use Rattle.hail_machine.specs.Refusals as refusal
 use Rattle.hail_commands.specs.Forms.{PutUnder, ListAll}
 use Rattle.command_laws.proofs.Samples.{never-rises}
-use Rattle.command_runs.specs.Devices.{named, other_name, byte_records, audited_records, to_put, put_failed, kept, due, disk_failed, scrambled, hidden, with_sink, ends}
+use Rattle.command_runs.specs.Devices.{named, other_name, byte_records, audited_records, to_put, put_failed, kept, due, disk_failed, scrambled, hidden, hidden_fetched, no_blocks, with_sink, ends, ends_hearing}
 use Rattle.command_runs.proofs.FailedPut.{answers as failed_put}
 use Rattle.command_runs.proofs.Stores.{stored-sure, due-sure}
-use Rattle.command_runs.proofs.Refusals.{disk-fault, source-fault, sink-fault, bad-journal, repair-due, nothing-due, lost-row, hidden-get, hidden-list}
-use Rattle.command_runs.proofs.applied.statuses_have_their_causes.Goals as goal
+use Rattle.command_runs.proofs.Refusals.{disk-fault, source-fault, sink-fault, bad-journal, repair-due, nothing-due, lost-row, hidden-get, hidden-list, hidden-repair}
+use Rattle.command_runs.proofs.HiddenPut.{answers as hidden_put}
+use Rattle.command_runs.proofs.HiddenGet.{answers as hidden_get}
+use Rattle.command_runs.proofs.Meets.{none-rises}
+use Rattle.command_runs.proofs.laws.statuses_have_their_causes.Goals as goal
 
 pub returns-clause-disk : goal.returns-clause-disk
 returns-clause-disk c = c.faults_have_causes.ensures.store ListAll kept (disk_failed kept) (ends 12) disk-fault refl
@@ -41,3 +44,12 @@ returns-clause-hidden_get c = c.gets_give_the_file.ensures.ends other_name hidde
 
 pub returns-clause-hidden_list : goal.returns-clause-hidden_list
 returns-clause-hidden_list c = c.lists_give_the_files.ensures.ends hidden hidden (ends 0) hidden-list (never-rises 0 (omega arith))
+
+pub returns-clause-hidden_put : goal.returns-clause-hidden_put
+returns-clause-hidden_put c = c.puts_store_the_source.ensures.ends named hidden hidden (ends 0) hidden_put (never-rises 0 (omega arith)) none-rises (never-rises 0 (omega arith)) (never-rises 0 (omega arith))
+
+pub returns-clause-hidden_lost : goal.returns-clause-hidden_lost
+returns-clause-hidden_lost c = c.gets_give_the_file.ensures.ends named hidden hidden_fetched (ends_hearing 4 no_blocks) hidden_get (never-rises 0 (omega arith)) (never-rises 0 (omega arith))
+
+pub returns-clause-hidden_repair : goal.returns-clause-hidden_repair
+returns-clause-hidden_repair c = c.repairs_write_anew.ensures.ends hidden hidden (ends 7) hidden-repair (never-rises 0 (omega arith)) none-rises (never-rises 0 (omega arith))

@@ -1,7 +1,7 @@
 use Rattle.std.proofs.Common.{refl, inl, arith}
 use Rattle.hail_columns.specs.Verdicts.{is_flagged}
 use Rattle.std.specs.Prelude.{not}
-use Rattle.command_runs.specs.Devices.{named, byte, counts, four_records, byte_records, audited_records, dropped_records, to_put, stored, damaged, audited, due, repaired, mended, got, kept, dropped, after_drop, answers_heard, blocks_heard, ends, ends_hearing}
+use Rattle.command_runs.specs.Devices.{named, byte, counts, four_records, byte_records, audited_records, to_put, stored, damaged, audited, due, repaired, mended, got, kept, dropped, after_drop, answers_heard, blocks_heard, ends, ends_hearing}
 use Rattle.command_runs.proofs.StoredPut.{answers as put}
 use Rattle.command_runs.proofs.DoneAudit.{answers as audit}
 use Rattle.command_runs.proofs.DoneRepair.{answers as repair}
@@ -11,7 +11,7 @@ use Rattle.command_runs.proofs.Stores.{put-old, stored-sure, due-sure}
 use Rattle.command_runs.proofs.Refusals.{gone}
 use Rattle.command_laws.proofs.Samples.{never-rises}
 use Rattle.command_runs.proofs.Meets.{first, second, none-tell, three-tell, due-file, robbed-untouched, repair-steady, get-steady, flagged-second, spared}
-use Rattle.command_runs.proofs.applied.damage_is_mended.Goals as goal
+use Rattle.command_runs.proofs.laws.damage_is_mended.Goals as goal
 
 pub returns-clause-repaired : goal.returns-clause-repaired
 returns-clause-repaired c = c.put_files_are_got.ensures.repaired named byte audited_records second first (record { number = 1; counts = counts }) due repaired mended got (ends 0) (ends_hearing 0 blocks_heard)

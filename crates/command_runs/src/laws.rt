@@ -8,7 +8,7 @@ ghost use Rattle.hail_devices.specs.Cells.{firm};
 ghost use Rattle.hail_records.specs.Records.{Record, is_setup};
 ghost use Rattle.hail_machine.specs.Jobs.{AuditJob, RepairJob};
 ghost use Rattle.hail_machine.specs.Refusals.{RepairDue as DueRefusal, NothingDue};
-ghost use Rattle.hail_commands.specs.Forms.{PutUnder, GetOf, ListAll};
+ghost use Rattle.hail_commands.specs.Forms.{PutUnder, GetOf, ListAll, RepairDue as RepairCommand};
 ghost use Rattle.hail_commands.specs.Keys.{IsKeyForm};
 ghost use Rattle.hail_commands.specs.Openings.{journal_read, IsBadStart, IsBadInit, IsSetUpAlready};
 ghost use Rattle.hail_commands.specs.Inits.{setup_with};
@@ -17,10 +17,16 @@ ghost use Rattle.hail_commands.specs.Audits.{HearsRounds, CountsHeard};
 ghost use Rattle.command_laws.specs.Ends.{IsKnown, IsPut, IsDropped, IsAudited, IsRepaired, FaultsHaveCauses, EndsInOrder, EndsWell, HoldsFile, ran_to, after_put, after_audit, after_repair};
 ghost use Rattle.command_laws.specs.Kept.{FailsToPut, FailsToRepair, LosesFile, LosesRepair, LeavesImages, after_start};
 ghost use Rattle.command_laws.specs.After.{IsSure, IsThen, HasFile};
-ghost use Rattle.command_runs.specs.Devices.{with_source, named, byte, other_name, key_text, four_records, byte_records, audited_records, good_numbers, bad_numbers, to_put, stored, put_failed, put_cut, kept, dropped, all_lost, found_lost, due_lost, repair_lost, no_blocks, damaged, audited, answers_heard, due, repaired, repair_failed, mended, got, blocks_heard, after_drop, disk_failed, scrambled, hidden, counts, both_records, stored_other, ends, ends_at, ends_hearing};
+ghost use Rattle.command_runs.specs.Devices.{with_source, named, byte, other_name, key_text, four_records, byte_records, audited_records, good_numbers, bad_numbers, to_put, stored, put_failed, put_cut, kept, dropped, all_lost, found_lost, due_lost, repair_lost, no_blocks, damaged, audited, answers_heard, due, repaired, repair_failed, mended, got, blocks_heard, after_drop, disk_failed, scrambled, hidden, hidden_fetched, counts, both_records, stored_other, ends, ends_at, ends_hearing};
 
-use command_laws::after::{audits_in_effect_count_what_they_heard, done_commands_leave_known_stores, files_stay, gets_tell_what_stands, put_files_are_got, stores_stay_known};
-use command_laws::ends::{audits_count_what_they_hear, drops_take_the_file_away, faults_have_causes, gets_give_the_file, puts_store_the_source, refusals_are_exact, repairs_write_anew, unopened_stores_are_told};
+use command_laws::after::{
+    audits_in_effect_count_what_they_heard, done_commands_leave_known_stores, files_stay,
+    gets_tell_what_stands, put_files_are_got, stores_stay_known,
+};
+use command_laws::ends::{
+    audits_count_what_they_hear, drops_take_the_file_away, faults_have_causes, gets_give_the_file,
+    puts_store_the_source, refusals_are_exact, repairs_write_anew, unopened_stores_are_told,
+};
 use command_laws::inits::{init_refusals_are_exact, lists_give_the_files};
 use command_laws::kept::{failed_stores_leave, images_stand, lost_rows_are_told};
 use command_laws::statuses::rows_have_causes;
@@ -56,6 +62,10 @@ pub fn statuses_have_their_causes()
     ensures nothing_due { refusal_of byte_records RepairJob ≡ Some NothingDue }
     ensures row { IsShape 4 1 1 × AcceptsNone (upto 4) (None ∷ None ∷ Some 7 ∷ Some 9 ∷ []) 1 1 }
     ensures hidden_get { EndsInOrder (GetOf other_name) hidden hidden (ends 3) ⊎ LosesFile other_name hidden hidden (ends 3) }
+    ensures hidden_put { EndsInOrder (PutUnder named) hidden hidden (ends 0) }
+    ensures hidden_lost { EndsInOrder (GetOf named) hidden hidden_fetched (ends_hearing 4 no_blocks)
+        ⊎ LosesFile named hidden hidden_fetched (ends_hearing 4 no_blocks) }
+    ensures hidden_repair { EndsInOrder RepairCommand hidden hidden (ends 7) ⊎ LosesRepair hidden hidden (ends 7) }
     ensures hidden_list { EndsInOrder ListAll hidden hidden (ends 0) }
 {
     faults_have_causes();
@@ -63,6 +73,8 @@ pub fn statuses_have_their_causes()
     refusals_are_exact();
     rows_have_causes();
     gets_give_the_file();
+    puts_store_the_source();
+    repairs_write_anew();
     lists_give_the_files();
 }
 

@@ -24,9 +24,14 @@ ghost use Rattle.fault_run.specs.Faults.{IsFaulty};
 ghost use Rattle.fault_run.specs.Met.{HasFaults};
 
 use calm_laws::laws::{failed_calls_are_counted, stored_names_begin};
-use hail_machine::laws::{acknowledged_files_survive, challenges_are_made_once, reports_have_what_jobs_heard, stores_name_their_own_object, used_numbers_are_below};
+use hail_machine::laws::{
+    acknowledged_files_survive, challenges_are_made_once, reports_have_what_jobs_heard,
+    stores_name_their_own_object, used_numbers_are_below,
+};
 use headline::laws::every_run_keeps_the_headline;
-use mark_laws::laws::{any_mark_will_do, damage_of_pinned_files_is_new, gets_give_or_are_lost, the_start_is_a_mark};
+use mark_laws::laws::{
+    any_mark_will_do, damage_of_pinned_files_is_new, gets_give_or_are_lost, the_start_is_a_mark,
+};
 use step_laws::laws::{done_audits_are_whole, done_puts_are_whole};
 
 /// Each failed call raised its count.

@@ -1,4 +1,4 @@
-use Rattle.std.proofs.Common.{◌≡◌, [], ◌∷◌, refl, inl, inr, false, arith}
+use Rattle.std.proofs.Common.{refl, inl, inr, false, arith}
 use Rattle.hail_machine.specs.Jobs.{PutJob, AuditJob}
 use Rattle.hail_commands.specs.Forms.{PutUnder, AuditAll}
 use Rattle.hail_commands.specs.Puts.{put_records}
@@ -10,7 +10,7 @@ use Rattle.command_runs.proofs.DoneRepair.{answers as repair}
 use Rattle.command_runs.proofs.OtherPut.{answers as other_put}
 use Rattle.command_runs.proofs.Stores.{put-old, damaged-sure, audited-new, due-sure, to_put_other-sure}
 use Rattle.command_runs.proofs.Meets.{second, none-tell, three-tell, due-file, damaged-file, kept-file, repair-steady, other-name}
-use Rattle.command_runs.proofs.applied.files_stay_right.Goals as goal
+use Rattle.command_runs.proofs.laws.files_stay_right.Goals as goal
 
 pub returns-clause-put : goal.returns-clause-put
 returns-clause-put c = c.files_stay.ensures.put named byte four_records (λ j. false) to_put stored (ends 0) put (inl refl) put-old.known refl (λ j l s. none-tell j l)

@@ -3,7 +3,7 @@ use Rattle.std.specs.Prelude.{replicate}
 use Rattle.hail_devices.specs.Cells.{firm}
 use Rattle.command_runs.specs.Devices.{with_source, key_text, good_numbers, bad_numbers, kept, scrambled, ends}
 use Rattle.command_runs.proofs.Refusals.{init-bad-setup, init-bad-key, init-bad-journal}
-use Rattle.command_runs.proofs.applied.inits_have_their_causes.Goals as goal
+use Rattle.command_runs.proofs.laws.inits_have_their_causes.Goals as goal
 
 pub returns-clause-bad_setup : goal.returns-clause-bad_setup
 returns-clause-bad_setup c = c.init_refusals_are_exact.ensures.bad_setup_only bad_numbers kept kept (ends 20) init-bad-setup refl

@@ -1,20 +1,11 @@
-use Rattle.std.proofs.Common.{◌≡◌, ℕ, ◌∷◌, None, refl, ap, sym, subst, ◌∙◌, inl, inr}
-use Rattle.hail_machine.specs.Answers.{Got, Lost}
-use Rattle.hail_machine.specs.Events.{Step}
-use Rattle.hail_machine.specs.Jobs.{job_of}
+use Rattle.std.proofs.Common.{None, refl, inl, inr}
 use Rattle.hail_machine.specs.Refusals as refusal
-use Rattle.hail_machine.specs.Jobs.{Job}
-use Rattle.std.proofs.Common.{Some}
-use Rattle.hail_machine.specs.Runs.{now, first_moments}
+use Rattle.hail_machine.specs.Runs.{first_moments}
 use Rattle.hail_machine.specs.Examples.{set_up}
-use Rattle.run_laws.proofs.FirstHalf.{first_run}
-use Rattle.mark_laws.specs.MarkedRuns.{IsMarkedRun}
-use Rattle.mark_laws.specs.Sharp.{IsLostByFaults}
 use Rattle.damage_run.specs.Schedule.{name, byte}
-use Rattle.damage_run.specs.Points.{at}
-use Rattle.fault_run.proofs.Parts.{run_to, first_calm}
+use Rattle.fault_run.proofs.Parts.{run_to}
 use Rattle.fault_run.proofs.LostGets.{lost_by, marked_to}
-use Rattle.fault_run.proofs.applied.gets_are_refused_or_lost_by_faults.Goals as goal
+use Rattle.fault_run.proofs.laws.gets_are_refused_or_lost_by_faults.Goals as goal
 
 pub returns-clause-must_reopen : goal.returns-clause-must_reopen
 returns-clause-must_reopen c = λ ms f h. c.stored_names_begin.ensures 8 set_up h.must_reopen.moment (first_moments 36 ms) name h.must_reopen.file refusal.MustReopen f.clean

@@ -1,6 +1,6 @@
 use Rattle.hail_machine.specs.Failures.{OfDisk, OfStores, OfOthers}
 use Rattle.fault_run.proofs.Parts.{counted}
-use Rattle.fault_run.proofs.applied.failed_calls_raise_counts.Goals as goal
+use Rattle.fault_run.proofs.laws.failed_calls_raise_counts.Goals as goal
 
 pub returns-clause-fetch : goal.returns-clause-fetch
 returns-clause-fetch c = λ ms f h. counted c.failed_calls_are_counted.ensures ms 16 (OfOthers 0) f.run h.fetch_fails

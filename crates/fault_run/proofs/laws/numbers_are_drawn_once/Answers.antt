@@ -2,7 +2,7 @@ use Rattle.hail_machine.specs.Runs.{first_moments}
 use Rattle.hail_machine.specs.Examples.{set_up}
 use Rattle.run_laws.proofs.FirstHalf.{first_run}
 use Rattle.damage_run.specs.Points.{counts}
-use Rattle.fault_run.proofs.applied.numbers_are_drawn_once.Goals as goal
+use Rattle.fault_run.proofs.laws.numbers_are_drawn_once.Goals as goal
 
 pub returns-clause-object : goal.returns-clause-object
 returns-clause-object c = λ ms f h. c.used_numbers_are_below.ensures.objects 8 set_up (first_moments 7 ms) 1 1 f.clean (first_run 8 set_up 7 ms f.run) h.has_stored
