@@ -17,3 +17,8 @@ pub mod OtherPut
 pub mod Somewhere
 pub mod HiddenPut
 pub mod HiddenGet
+pub mod Torn
+pub mod TornPut
+pub mod CutDrop
+pub mod CutAudit
+pub mod CutRepair

@@ -14,7 +14,7 @@ use Rattle.command_laws.specs.Failing.{bad_seen}
 use Rattle.command_laws.proofs.FilesStay.{bad-few}
 use Rattle.command_laws.proofs.Samples.{never-rises}
 use Rattle.command_runs.proofs.Shape.{first_of}
-use Rattle.command_runs.specs.Devices.{named, other_name, byte, counts, byte_records, audited_records, repaired_records, to_put_other, stored, damaged, due, repaired, mended, got, hidden, none_hold, three_hold}
+use Rattle.command_runs.specs.Devices.{named, other_name, byte, counts, byte_records, audited_records, repaired_records, to_put_other, stored, damaged, due, repaired, mended, got, hidden, none_hold, three_hold, repair_cut}
 
 -- the provider whose block is lost, and another one
 abbrev pub second : ℕ → Bool
@@ -75,6 +75,13 @@ repair-steady spoilt (suc zero) l s rose = never-rises 0 (omega arith) rose
 repair-steady spoilt (suc (suc zero)) l s rose = never-rises 0 (omega arith) rose
 repair-steady spoilt (suc (suc (suc zero))) l s rose = never-rises 0 (omega arith) rose
 repair-steady spoilt (suc (suc (suc (suc j)))) l s rose = absurd (omega (arith, l))
+
+pub cut-steady : (spoilt : ℕ → Bool) → IsSteady 4 spoilt due repair_cut
+cut-steady spoilt zero l s rose = never-rises 0 (omega arith) rose
+cut-steady spoilt (suc zero) l s rose = never-rises 0 (omega arith) rose
+cut-steady spoilt (suc (suc zero)) l s rose = never-rises 0 (omega arith) rose
+cut-steady spoilt (suc (suc (suc zero))) l s rose = never-rises 0 (omega arith) rose
+cut-steady spoilt (suc (suc (suc (suc j)))) l s rose = absurd (omega (arith, l))
 
 pub get-steady : (spoilt : ℕ → Bool) → IsSteady 4 spoilt mended got
 get-steady spoilt zero l s rose = never-rises 0 (omega arith) rose

@@ -2,7 +2,7 @@
 use Rattle.std.proofs.Common.{refl, arith}
 use Rattle.hail_commands.specs.Opens.{IsOpened}
 use Rattle.command_laws.specs.After.{IsSure}
-use Rattle.command_runs.specs.Devices.{four_records, started_records, byte_records, dropped_records, audited_records, repaired_records, both_records, to_put_other, stored_other, hidden, to_put, stored, put_failed, put_cut, put_unmade, kept, dropped, all_lost, found_lost, due_lost, repair_lost, damaged, audited, due, repaired, repair_failed, mended, got}
+use Rattle.command_runs.specs.Devices.{four_records, started_records, byte_records, dropped_records, audited_records, repaired_records, both_records, to_put_other, stored_other, hidden, to_put, stored, put_failed, put_cut, put_unmade, kept, dropped, all_lost, found_lost, due_lost, repair_lost, damaged, audited, due, repaired, repair_failed, mended, got, drop_cut, audit_cut, repair_cut}
 use Rattle.command_runs.proofs.Shape.{AreFit, sure}
 
 pub four-fit : AreFit four_records
@@ -92,3 +92,12 @@ hidden-opened = record { read = record { some = byte-fit.some; in_grammar = byte
 
 pub hidden-fresh : IsOpened hidden four_records
 hidden-fresh = record { read = record { some = four-fit.some; in_grammar = four-fit.all; accepted = four-fit.accepted; room = four-fit.room; reads_are = tt }; enough = omega arith }
+
+pub drop_cut-new : IsSure drop_cut dropped_records
+drop_cut-new = sure drop_cut dropped_records dropped-fit refl (omega arith)
+
+pub audit_cut-new : IsSure audit_cut audited_records
+audit_cut-new = sure audit_cut audited_records audited-fit refl (omega arith)
+
+pub repair_cut-new : IsSure repair_cut repaired_records
+repair_cut-new = sure repair_cut repaired_records repaired-fit refl (omega arith)

@@ -7,7 +7,7 @@
 --   holds j                   == a provider that holds its own block of the file, and nothing else
 --   with_source, with_sink    == what is seen, with these bytes in the source or in the sink
 --   done                      == an end of status 0 that heard nothing
-use Rattle.std.specs.Prelude.{ℕ, List, [], ◌∷◌, replicate, Option, Some, None}
+use Rattle.std.specs.Prelude.{ℕ, true, ◌++◌, List, [], ◌∷◌, replicate, Option, Some, None}
 use Rattle.std.specs.Option.{option_map}
 use Rattle.hail_columns.specs.Columns.{columns}
 use Rattle.hail_columns.specs.Challenges.{challenge_of, right_answer}
@@ -15,7 +15,8 @@ use Rattle.hail_devices.specs.Cells.{firm}
 use Rattle.hail_devices.specs.Faults.{one_more}
 use Rattle.hail_devices.specs.Providers.{Provider, with_block, without_object}
 use Rattle.hail_records.specs.Records.{Record, SetUp, PutStart, PutDone, Drop, AuditStart, AuditDone, RepairDone}
-use Rattle.hail_records.specs.Journal.{text}
+use Rattle.hail_records.specs.Spellings.{spelling}
+use Rattle.hail_records.specs.Journal.{text, before_gate}
 use Rattle.hail_machine.specs.Setups.{object_of}
 use Rattle.hail_machine.specs.Jobs.{Given, Fetched, Answered}
 use Rattle.hail_machine.specs.Heard.{Entry}
@@ -146,6 +147,17 @@ put_failed = devices started_records (failed_store empty_provider ∷ empty_prov
 abbrev pub put_cut : Seen
 put_cut = record (devices byte_records all_hold) { disk_faults = 1 }
 
+-- or it left the gate of the last record loose: a stop then brings it into effect, or not
+abbrev pub put_torn : Seen
+put_torn = record (devices byte_records all_hold) {
+  disk = Some (firm (before_gate started_records) ++ (1, true) ∷ firm (spelling (PutDone 1 1) ++ 0 ∷ []));
+  disk_faults = 1;
+}
+
+-- what the next command finds where it did not
+abbrev pub put_gone : Seen
+put_gone = record put_torn { disk = Some (firm (before_gate started_records ++ 0 ∷ (spelling (PutDone 1 1) ++ 0 ∷ []))) }
+
 abbrev pub put_unmade : Seen
 put_unmade = devices four_records none_hold
 
@@ -156,6 +168,9 @@ kept = devices byte_records all_hold
 
 abbrev pub dropped : Seen
 dropped = with_sink (devices dropped_records (robbed (holds 0) ∷ robbed (holds 1) ∷ robbed (holds 2) ∷ robbed (holds 3) ∷ [])) (dropped_line named)
+
+abbrev pub drop_cut : Seen
+drop_cut = record (devices dropped_records all_hold) { disk_faults = 1 }
 
 -- what the next command finds
 abbrev pub after_drop : Seen
@@ -190,6 +205,9 @@ damaged = devices byte_records three_hold
 abbrev pub audited : Seen
 audited = with_sink (devices audited_records three_hold) (audit_lines 0 1 0 counts)
 
+abbrev pub audit_cut : Seen
+audit_cut = record (devices audited_records three_hold) { disk_faults = 1 }
+
 abbrev pub due : Seen
 due = devices audited_records three_hold
 
@@ -198,6 +216,9 @@ mended_hold = fetched (holds 0) ∷ fetched (holds 1) ∷ given_block 2 (fetched
 
 abbrev pub repaired : Seen
 repaired = with_sink (devices repaired_records mended_hold) (repaired_line 1)
+
+abbrev pub repair_cut : Seen
+repair_cut = record (devices repaired_records mended_hold) { disk_faults = 1 }
 
 abbrev pub repair_failed : Seen
 repair_failed = devices audited_records (fetched (holds 0) ∷ fetched (holds 1) ∷ failed_store (fetched empty_provider) ∷ fetched (holds 3) ∷ [])

@@ -8,7 +8,7 @@ ghost use Rattle.hail_devices.specs.Cells.{firm};
 ghost use Rattle.hail_records.specs.Records.{Record, is_setup};
 ghost use Rattle.hail_machine.specs.Jobs.{AuditJob, RepairJob};
 ghost use Rattle.hail_machine.specs.Refusals.{RepairDue as DueRefusal, NothingDue};
-ghost use Rattle.hail_commands.specs.Forms.{PutUnder, GetOf, ListAll, RepairDue as RepairCommand};
+ghost use Rattle.hail_commands.specs.Forms.{PutUnder, GetOf, DropOf, ListAll, RepairDue as RepairCommand};
 ghost use Rattle.hail_commands.specs.Keys.{IsKeyForm};
 ghost use Rattle.hail_commands.specs.Openings.{journal_read, IsBadStart, IsBadInit, IsSetUpAlready};
 ghost use Rattle.hail_commands.specs.Inits.{setup_with};
@@ -17,7 +17,7 @@ ghost use Rattle.hail_commands.specs.Audits.{HearsRounds, CountsHeard};
 ghost use Rattle.command_laws.specs.Ends.{IsKnown, IsPut, IsDropped, IsAudited, IsRepaired, FaultsHaveCauses, EndsInOrder, EndsWell, HoldsFile, ran_to, after_put, after_audit, after_repair};
 ghost use Rattle.command_laws.specs.Kept.{FailsToPut, FailsToRepair, LosesFile, LosesRepair, LeavesImages, after_start};
 ghost use Rattle.command_laws.specs.After.{IsSure, IsThen, HasFile};
-ghost use Rattle.command_runs.specs.Devices.{with_source, named, byte, other_name, key_text, four_records, byte_records, audited_records, good_numbers, bad_numbers, to_put, stored, put_failed, put_cut, kept, dropped, all_lost, found_lost, due_lost, repair_lost, no_blocks, damaged, audited, answers_heard, due, repaired, repair_failed, mended, got, blocks_heard, after_drop, disk_failed, scrambled, hidden, hidden_fetched, counts, both_records, stored_other, ends, ends_at, ends_hearing};
+ghost use Rattle.command_runs.specs.Devices.{with_source, named, byte, other_name, key_text, four_records, byte_records, audited_records, good_numbers, bad_numbers, to_put, stored, put_failed, put_cut, put_torn, put_gone, drop_cut, audit_cut, repair_cut, kept, dropped, all_lost, found_lost, due_lost, repair_lost, no_blocks, damaged, audited, answers_heard, due, repaired, repair_failed, mended, got, blocks_heard, after_drop, disk_failed, scrambled, hidden, hidden_fetched, counts, both_records, stored_other, ends, ends_at, ends_hearing};
 
 use command_laws::after::{
     audits_in_effect_count_what_they_heard, done_commands_leave_known_stores, files_stay,
@@ -87,16 +87,24 @@ pub fn inits_have_their_causes()
     init_refusals_are_exact();
 }
 
-/// After a put that a fault of the disk cut off the store is known, also past a stop, and where its end is found in effect the file is whole;
-/// after one whose store failed the records are those before, with its start.
-pub fn cut_puts_leave_known_stores()
-    ensures known { (after : List Record) × IsKnown put_cut after × IsThen (PutUnder named) four_records to_put put_cut after }
-    ensures in_effect { HasFile put_cut (after_put four_records named 1) named byte (λ j. false) }
-    ensures images { LeavesImages (PutUnder named) to_put put_cut }
+/// After a command that a fault of the disk cut off the store is known, also past a stop, be its last record then in effect or not. Where the end
+/// of a put is found in effect the file is whole; where that of a repair is, the flagged provider is right; where that of an audit is, it has
+/// counted what it heard. After a put whose store failed the records are those before, with its start.
+pub fn cut_commands_leave_known_stores()
+    ensures gone { (after : List Record) × IsKnown put_gone after × IsThen (PutUnder named) four_records to_put put_torn after }
+    ensures come { (after : List Record) × IsKnown put_cut after × IsThen (PutUnder named) four_records to_put put_torn after }
+    ensures dropped { (after : List Record) × IsKnown drop_cut after × IsThen (DropOf named) byte_records kept drop_cut after }
+    ensures put { HasFile put_torn (after_put four_records named 1) named byte (λ j. false) }
+    ensures repair { HasFile repair_cut (after_repair audited_records (record { number = 1; counts = counts })) named byte
+        (λ j. (j == 2) && not (is_flagged 0 counts j)) }
+    ensures audit { HearsRounds (ran_to (after_audit byte_records 0 counts) byte_records damaged audit_cut answers_heard) 1
+        × CountsHeard (ran_to (after_audit byte_records 0 counts) byte_records damaged audit_cut answers_heard) 1 0 counts }
+    ensures images { LeavesImages (PutUnder named) to_put put_torn }
     ensures failed { IsSure put_failed (after_start four_records named) }
 {
     stores_stay_known();
     files_stay();
+    audits_in_effect_count_what_they_heard();
     images_stand();
     done_commands_leave_known_stores();
 }

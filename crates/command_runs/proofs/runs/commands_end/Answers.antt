@@ -12,6 +12,10 @@ use Rattle.command_runs.proofs.DoneAudit.{answers as audited}
 use Rattle.command_runs.proofs.DoneRepair.{answers as repaired}
 use Rattle.command_runs.proofs.FailedRepair.{answers as repair_failed}
 use Rattle.command_runs.proofs.DoneGet.{answers as got}
+use Rattle.command_runs.proofs.TornPut.{answers as torn_put}
+use Rattle.command_runs.proofs.CutDrop.{answers as cut_drop}
+use Rattle.command_runs.proofs.CutAudit.{answers as cut_audit}
+use Rattle.command_runs.proofs.CutRepair.{answers as cut_repair}
 use Rattle.command_runs.proofs.runs.commands_end.Goals as goal
 
 pub returns-clause-put : goal.returns-clause-put
@@ -55,3 +59,15 @@ returns-clause-hidden_put c = hidden_put
 
 pub returns-clause-hidden_get : goal.returns-clause-hidden_get
 returns-clause-hidden_get c = hidden_get
+
+pub returns-clause-torn_put : goal.returns-clause-torn_put
+returns-clause-torn_put c = torn_put
+
+pub returns-clause-cut_drop : goal.returns-clause-cut_drop
+returns-clause-cut_drop c = cut_drop
+
+pub returns-clause-cut_audit : goal.returns-clause-cut_audit
+returns-clause-cut_audit c = cut_audit
+
+pub returns-clause-cut_repair : goal.returns-clause-cut_repair
+returns-clause-cut_repair c = cut_repair
