@@ -1,5 +1,5 @@
 -- An audit that a fault of the disk cuts off at its last move, from every state that was just opened.
-use Rattle.std.proofs.Common.{◌≡◌, ℕ, zero, suc, ◌+◌, ◌<◌, ◌==◌, ◌&&◌, true, List, [], ◌∷◌, Some, None, refl, sym, subst, ◌∙◌, inl, inr, arith}
+use Rattle.std.proofs.Common.{◌≡◌, ℕ, zero, suc, ◌+◌, ◌<◌, ◌==◌, true, List, [], ◌∷◌, Some, None, refl, sym, subst, ◌∙◌, inl, inr, arith}
 use Rattle.std.specs.Prelude.{slice_get, if◌then◌else◌}
 use Rattle.hail_devices.specs.Providers.{Provider}
 use Rattle.hail_records.specs.Records.{AuditStart, AuditDone}
@@ -21,7 +21,7 @@ use Rattle.hail_commands.specs.Commands.{AnswersAlone, Answers}
 use Rattle.command_laws.specs.Pieces.{moment}
 use Rattle.command_laws.proofs.Telling.{left-alone, jobs-leave}
 use Rattle.command_laws.proofs.BeginRefusals.{refusal-of}
-use Rattle.command_runs.specs.Devices.{named, byte_records, counts, audit_cut, holds, ends, ends_hearing, damaged, answers_heard}
+use Rattle.command_runs.specs.Devices.{named, byte_records, counts, audit_cut, holds, ends_hearing, damaged, answers_heard}
 use Rattle.command_runs.proofs.Shape.{formed, form-is, one_byte, one_byte-is}
 use Rattle.command_runs.proofs.Stores.{damaged-sure as old-sure, audit_cut-new as new-sure}
 use Rattle.damage_run.proofs.Values.{right, same_first, no_answer, sums, judged}

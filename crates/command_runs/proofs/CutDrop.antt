@@ -1,6 +1,6 @@
 -- A drop that a fault of the disk cuts off at its last move, from every state that was just opened.
-use Rattle.std.proofs.Common.{◌≡◌, ℕ, zero, suc, ◌+◌, ◌<◌, ◌==◌, ◌&&◌, true, List, [], ◌∷◌, Some, None, refl, subst, ◌∙◌, inr, arith}
-use Rattle.std.specs.Prelude.{slice_get, if◌then◌else◌}
+use Rattle.std.proofs.Common.{◌≡◌, ℕ, zero, suc, ◌+◌, ◌<◌, true, List, [], ◌∷◌, Some, None, refl, subst, ◌∙◌, inr, arith}
+use Rattle.std.specs.Prelude.{slice_get}
 use Rattle.hail_records.specs.Records.{Drop}
 use Rattle.hail_records.specs.Spellings.{spelling}
 use Rattle.hail_machine.specs.Jobs.{DropJob, Job}

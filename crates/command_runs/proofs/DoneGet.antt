@@ -1,6 +1,6 @@
 -- A get of the file after its repair, from every state that was just opened.
-use Rattle.std.proofs.Common.{◌≡◌, ℕ, zero, suc, ◌+◌, ◌<◌, ◌==◌, ◌&&◌, List, [], ◌∷◌, Some, None, refl, subst, ◌∙◌, inl, arith}
-use Rattle.std.specs.Prelude.{slice_get, if◌then◌else◌}
+use Rattle.std.proofs.Common.{◌≡◌, ℕ, zero, suc, ◌+◌, ◌<◌, List, [], ◌∷◌, Some, None, refl, subst, ◌∙◌, inl, arith}
+use Rattle.std.specs.Prelude.{slice_get}
 use Rattle.hail_devices.specs.Providers.{Provider}
 use Rattle.hail_records.specs.Spellings.{spelling}
 use Rattle.hail_machine.specs.Jobs.{GetJob, Job, Fetched, Worked}
@@ -20,7 +20,7 @@ use Rattle.hail_commands.specs.Commands.{AnswersAlone, Answers}
 use Rattle.command_laws.specs.Pieces.{moment}
 use Rattle.command_laws.proofs.Telling.{left-alone, jobs-leave}
 use Rattle.command_laws.proofs.BeginRefusals.{refusal-of}
-use Rattle.command_runs.specs.Devices.{named, byte, repaired_records, counts, own_block, given_block, holds, fetched, ends, ends_hearing, mended, got, blocks_heard}
+use Rattle.command_runs.specs.Devices.{named, byte, repaired_records, own_block, given_block, holds, fetched, ends_hearing, mended, got, blocks_heard}
 use Rattle.command_runs.proofs.Shape.{formed, form-is, one_byte, one_byte-is}
 use Rattle.command_runs.proofs.Stores.{mended-sure as old-sure, got-new as new-sure}
 use Rattle.damage_run.proofs.Values.{block_sized, symbols, all_give, byte_back}

@@ -1,6 +1,6 @@
 -- A repair that writes the lost block anew, from every state that was just opened.
-use Rattle.std.proofs.Common.{◌≡◌, ℕ, zero, suc, ◌+◌, ◌<◌, ◌==◌, ◌&&◌, List, [], ◌∷◌, Some, None, refl, subst, ◌∙◌, inl, arith}
-use Rattle.std.specs.Prelude.{slice_get, if◌then◌else◌}
+use Rattle.std.proofs.Common.{◌≡◌, ℕ, zero, suc, ◌+◌, ◌<◌, List, [], ◌∷◌, Some, None, refl, subst, ◌∙◌, inl, arith}
+use Rattle.std.specs.Prelude.{slice_get}
 use Rattle.hail_devices.specs.Providers.{Provider}
 use Rattle.hail_records.specs.Records.{RepairDone}
 use Rattle.hail_records.specs.Spellings.{spelling}
@@ -21,7 +21,7 @@ use Rattle.hail_commands.specs.Commands.{AnswersAlone, Answers}
 use Rattle.command_laws.specs.Pieces.{moment}
 use Rattle.command_laws.proofs.Telling.{left-alone, jobs-leave}
 use Rattle.command_laws.proofs.BeginRefusals.{refusal-of}
-use Rattle.command_runs.specs.Devices.{named, audited_records, repaired_records, counts, own_block, given_block, holds, fetched, ends, due, repaired}
+use Rattle.command_runs.specs.Devices.{named, audited_records, repaired_records, own_block, given_block, holds, fetched, ends, due, repaired}
 use Rattle.command_runs.proofs.Shape.{formed, form-is, one_byte, one_byte-is}
 use Rattle.command_runs.proofs.Stores.{due-sure as old-sure, repaired-new as new-sure}
 use Rattle.damage_run.proofs.Values.{block_sized, symbols, without_two_give}

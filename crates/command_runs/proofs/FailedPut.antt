@@ -1,5 +1,5 @@
 -- A put whose first store fails, from every state that was just opened.
-use Rattle.std.proofs.Common.{◌≡◌, ℕ, zero, suc, ◌+◌, ◌<◌, ◌==◌, ◌&&◌, List, [], ◌∷◌, Some, None, refl, subst, ◌∙◌, inl, arith}
+use Rattle.std.proofs.Common.{◌≡◌, ℕ, zero, suc, ◌+◌, ◌<◌, ◌==◌, List, [], ◌∷◌, Some, None, refl, subst, ◌∙◌, inl, arith}
 use Rattle.std.specs.Prelude.{slice_get, if◌then◌else◌}
 use Rattle.hail_devices.specs.Providers.{Provider}
 use Rattle.hail_records.specs.Records.{PutStart}
@@ -22,7 +22,7 @@ use Rattle.command_laws.specs.Pieces.{moment}
 use Rattle.command_laws.proofs.Telling.{left-alone, jobs-leave}
 use Rattle.command_laws.proofs.BeginRefusals.{refusal-of}
 use Rattle.command_laws.proofs.Chains.{put-begins}
-use Rattle.command_runs.specs.Devices.{named, byte, four_records, started_records, counts, failed_store, ends, to_put, put_failed}
+use Rattle.command_runs.specs.Devices.{named, byte, four_records, started_records, failed_store, ends, to_put, put_failed}
 use Rattle.command_runs.proofs.Shape.{formed, form-is}
 use Rattle.command_runs.proofs.Stores.{put-old as old-sure, failed-new as new-sure}
 
@@ -120,6 +120,6 @@ alone = record {
 pub answers : Answers (PutUnder named) (to_put) (put_failed) (ends 13)
 answers = AnswersPut.begun four_records byte old-sure.known.opened (record { are_bytes = refl; front = refl; few = omega arith; end = λ l. refl })
     (AnswersJob.ended (ProviderFault 0) begins-none alone
-      (left-alone four_records (PutJob named byte) (ProviderFault 0) (to_put) (put_failed) ([])
-      (λ w last n O r. jobs-leave (PutJob named byte) w last n (ProviderFault 0) ([]) (refl, refl) O r) old-sure.known.opened refl alone)
-      (record { status_is = refl; place = refl; sink = refl }))
+    (left-alone four_records (PutJob named byte) (ProviderFault 0) (to_put) (put_failed) ([])
+    (λ w last n O r. jobs-leave (PutJob named byte) w last n (ProviderFault 0) ([]) (refl, refl) O r) old-sure.known.opened refl alone)
+    (record { status_is = refl; place = refl; sink = refl }))

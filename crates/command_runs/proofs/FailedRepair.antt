@@ -1,6 +1,6 @@
 -- A repair whose store fails, from every state that was just opened.
-use Rattle.std.proofs.Common.{◌≡◌, ℕ, zero, suc, ◌+◌, ◌<◌, ◌==◌, ◌&&◌, List, [], ◌∷◌, Some, None, refl, subst, ◌∙◌, inl, arith}
-use Rattle.std.specs.Prelude.{slice_get, if◌then◌else◌}
+use Rattle.std.proofs.Common.{◌≡◌, ℕ, zero, suc, ◌+◌, ◌<◌, List, [], ◌∷◌, Some, None, refl, subst, ◌∙◌, inl, arith}
+use Rattle.std.specs.Prelude.{slice_get}
 use Rattle.hail_devices.specs.Providers.{Provider}
 use Rattle.hail_records.specs.Spellings.{spelling}
 use Rattle.hail_machine.specs.Jobs.{RepairJob, Job, Fetched, Worked}
@@ -20,7 +20,7 @@ use Rattle.hail_commands.specs.Commands.{AnswersAlone, Answers}
 use Rattle.command_laws.specs.Pieces.{moment}
 use Rattle.command_laws.proofs.Telling.{left-alone, jobs-leave}
 use Rattle.command_laws.proofs.BeginRefusals.{refusal-of}
-use Rattle.command_runs.specs.Devices.{named, audited_records, counts, own_block, holds, fetched, failed_store, ends, ends_at, due, repair_failed}
+use Rattle.command_runs.specs.Devices.{named, audited_records, own_block, holds, fetched, failed_store, ends_at, due, repair_failed}
 use Rattle.command_runs.proofs.Shape.{formed, form-is, one_byte, one_byte-is}
 use Rattle.command_runs.proofs.Stores.{due-sure as old-sure, failed_due-new as new-sure}
 use Rattle.damage_run.proofs.Values.{block_sized, symbols, without_two_give}

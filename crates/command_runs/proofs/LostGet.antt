@@ -1,6 +1,6 @@
 -- A get of a file whose blocks are all lost, from every state that was just opened.
-use Rattle.std.proofs.Common.{◌≡◌, ℕ, zero, suc, ◌+◌, ◌<◌, ◌==◌, ◌&&◌, List, [], ◌∷◌, Some, None, refl, subst, ◌∙◌, inl, arith}
-use Rattle.std.specs.Prelude.{slice_get, if◌then◌else◌}
+use Rattle.std.proofs.Common.{◌≡◌, ℕ, zero, suc, ◌+◌, ◌<◌, List, [], ◌∷◌, Some, None, refl, subst, ◌∙◌, inl, arith}
+use Rattle.std.specs.Prelude.{slice_get}
 use Rattle.hail_devices.specs.Providers.{Provider}
 use Rattle.hail_records.specs.Spellings.{spelling}
 use Rattle.hail_machine.specs.Jobs.{GetJob, Job, Fetched}
@@ -20,7 +20,7 @@ use Rattle.hail_commands.specs.Commands.{AnswersAlone, Answers}
 use Rattle.command_laws.specs.Pieces.{moment}
 use Rattle.command_laws.proofs.Telling.{left-alone, jobs-leave}
 use Rattle.command_laws.proofs.BeginRefusals.{refusal-of}
-use Rattle.command_runs.specs.Devices.{named, byte_records, counts, fetched, ends, ends_hearing, all_lost, found_lost, no_blocks}
+use Rattle.command_runs.specs.Devices.{named, byte_records, fetched, ends_hearing, all_lost, found_lost, no_blocks}
 use Rattle.command_runs.proofs.Shape.{formed, form-is, one_byte, one_byte-is}
 use Rattle.column_laws.proofs.Worked.{none-lose}
 use Rattle.command_runs.proofs.Stores.{robbed-old as old-sure, lost-new as new-sure}

@@ -1,6 +1,6 @@
 -- A put that finds no memory at its first move, from every state that was just opened.
-use Rattle.std.proofs.Common.{◌≡◌, ℕ, zero, suc, ◌+◌, ◌<◌, ◌==◌, ◌&&◌, List, [], ◌∷◌, Some, None, refl, subst, ◌∙◌, inl, arith}
-use Rattle.std.specs.Prelude.{slice_get, if◌then◌else◌}
+use Rattle.std.proofs.Common.{◌≡◌, ℕ, zero, suc, ◌+◌, ◌<◌, List, [], ◌∷◌, Some, None, refl, subst, ◌∙◌, inl, arith}
+use Rattle.std.specs.Prelude.{slice_get}
 use Rattle.hail_records.specs.Spellings.{spelling}
 use Rattle.hail_machine.specs.Jobs.{PutJob, Job}
 use Rattle.hail_machine.specs.Actions.{actions_of}
@@ -87,6 +87,6 @@ alone = record {
 pub answers : Answers (PutUnder named) (to_put) (put_unmade) (ends 70)
 answers = AnswersPut.begun four_records byte old-sure.known.opened (record { are_bytes = refl; front = refl; few = omega arith; end = λ l. refl })
     (AnswersJob.ended (Memory) begins-none alone
-      (left-alone four_records (PutJob named byte) (Memory) (to_put) (put_unmade) ([])
-      (λ w last n O r. jobs-leave (PutJob named byte) w last n (Memory) ([]) (refl, refl) O r) old-sure.known.opened refl alone)
-      (record { status_is = refl; place = refl; sink = refl }))
+    (left-alone four_records (PutJob named byte) (Memory) (to_put) (put_unmade) ([])
+    (λ w last n O r. jobs-leave (PutJob named byte) w last n (Memory) ([]) (refl, refl) O r) old-sure.known.opened refl alone)
+    (record { status_is = refl; place = refl; sink = refl }))

@@ -1,5 +1,5 @@
 -- A put of another file, from every state that was just opened.
-use Rattle.std.proofs.Common.{◌≡◌, ℕ, zero, suc, ◌+◌, ◌<◌, ◌==◌, ◌&&◌, List, [], ◌∷◌, Some, None, refl, subst, ◌∙◌, inl, arith}
+use Rattle.std.proofs.Common.{◌≡◌, ℕ, zero, suc, ◌+◌, ◌<◌, ◌==◌, List, [], ◌∷◌, Some, None, refl, subst, ◌∙◌, inl, arith}
 use Rattle.std.specs.Prelude.{slice_get, if◌then◌else◌}
 use Rattle.hail_devices.specs.Providers.{Provider}
 use Rattle.hail_records.specs.Records.{PutStart, PutDone}
@@ -20,7 +20,7 @@ use Rattle.hail_commands.specs.Commands.{AnswersPut, Answers}
 use Rattle.command_laws.specs.Pieces.{moment}
 use Rattle.command_laws.proofs.Telling.{left-alone, jobs-leave}
 use Rattle.command_laws.proofs.BeginRefusals.{refusal-of}
-use Rattle.command_runs.specs.Devices.{byte, byte_records, counts, given_other, other_name, both_records, begun_records, to_put_other, stored_other, holds, ends}
+use Rattle.command_runs.specs.Devices.{byte, byte_records, given_other, other_name, both_records, begun_records, to_put_other, stored_other, holds, ends}
 use Rattle.command_runs.proofs.Shape.{formed, form-is}
 use Rattle.command_runs.proofs.Stores.{to_put_other-sure as old-sure, stored_other-sure as new-sure}
 
@@ -183,6 +183,6 @@ alone = record {
 pub answers : Answers (PutUnder other_name) (to_put_other) (stored_other) (ends 0)
 answers = AnswersPut.begun byte_records byte old-sure.known.opened (record { are_bytes = refl; front = refl; few = omega arith; end = λ l. refl })
     (AnswersJob.ended (Put) begins-none alone
-      (left-alone byte_records (PutJob other_name byte) (Put) (to_put_other) (stored_other) ([])
-      (λ w last n O r. jobs-leave (PutJob other_name byte) w last n (Put) ([]) (refl, refl) O r) old-sure.known.opened refl alone)
-      (record { written = inl (refl, refl); place = refl }))
+    (left-alone byte_records (PutJob other_name byte) (Put) (to_put_other) (stored_other) ([])
+    (λ w last n O r. jobs-leave (PutJob other_name byte) w last n (Put) ([]) (refl, refl) O r) old-sure.known.opened refl alone)
+    (record { written = inl (refl, refl); place = refl }))

@@ -1,5 +1,5 @@
 -- A put of one byte, from every state that was just opened.
-use Rattle.std.proofs.Common.{◌≡◌, ℕ, zero, suc, ◌+◌, ◌<◌, ◌==◌, ◌&&◌, List, [], ◌∷◌, Some, None, refl, subst, ◌∙◌, inl, arith}
+use Rattle.std.proofs.Common.{◌≡◌, ℕ, zero, suc, ◌+◌, ◌<◌, ◌==◌, List, [], ◌∷◌, Some, None, refl, subst, ◌∙◌, inl, arith}
 use Rattle.std.specs.Prelude.{slice_get, if◌then◌else◌}
 use Rattle.hail_devices.specs.Providers.{Provider}
 use Rattle.hail_records.specs.Records.{PutStart, PutDone}
@@ -22,7 +22,7 @@ use Rattle.command_laws.specs.Pieces.{moment}
 use Rattle.command_laws.proofs.Telling.{left-alone, jobs-leave}
 use Rattle.command_laws.proofs.BeginRefusals.{refusal-of}
 use Rattle.command_laws.proofs.Chains.{put-begins}
-use Rattle.command_runs.specs.Devices.{named, byte, four_records, started_records, byte_records, counts, given_block, ends, to_put, stored}
+use Rattle.command_runs.specs.Devices.{named, byte, four_records, started_records, byte_records, given_block, ends, to_put, stored}
 use Rattle.command_runs.proofs.Shape.{formed, form-is}
 use Rattle.command_runs.proofs.Stores.{put-old as old-sure, put-new as new-sure}
 
@@ -185,6 +185,6 @@ alone = record {
 pub answers : Answers (PutUnder named) (to_put) (stored) (ends 0)
 answers = AnswersPut.begun four_records byte old-sure.known.opened (record { are_bytes = refl; front = refl; few = omega arith; end = λ l. refl })
     (AnswersJob.ended (Put) begins-none alone
-      (left-alone four_records (PutJob named byte) (Put) (to_put) (stored) ([])
-      (λ w last n O r. jobs-leave (PutJob named byte) w last n (Put) ([]) (refl, refl) O r) old-sure.known.opened refl alone)
-      (record { written = inl (refl, refl); place = refl }))
+    (left-alone four_records (PutJob named byte) (Put) (to_put) (stored) ([])
+    (λ w last n O r. jobs-leave (PutJob named byte) w last n (Put) ([]) (refl, refl) O r) old-sure.known.opened refl alone)
+    (record { written = inl (refl, refl); place = refl }))

@@ -1,7 +1,7 @@
 -- A disk whose last gate is loose: each image has any byte there, and with it the last record or not.
-use Rattle.std.proofs.Common.{◌≡◌, ◌≢◌, ◌⊎◌, ℕ, ◌==◌, true, false, List, [], ◌∷◌, ◌++◌, refl, ap, sym, subst, ◌∙◌, inl, inr, arith}
+use Rattle.std.proofs.Common.{◌≡◌, ◌⊎◌, ℕ, ◌==◌, true, List, [], ◌∷◌, ◌++◌, refl, ap, sym, subst, ◌∙◌, inl, inr, arith}
 use Rattle.std.proofs.lemmas.Bool.{cases_Bool, eqb-true, eq-eqb, false≢true}
-use Rattle.hail_devices.specs.Cells.{Cells, firm}
+use Rattle.hail_devices.specs.Cells.{firm}
 use Rattle.hail_devices.specs.Disks.{Stopped}
 use Rattle.hail_devices.specs.Images.{IsImage}
 use Rattle.hail_records.specs.Records.{PutDone}
@@ -39,19 +39,19 @@ whole = refl
 by_gate : (x : ℕ) (image : List ℕ) → image ≡ before_gate started_records ++ x ∷ behind → StandsFor image started_records ⊎ StandsFor image byte_records
 by_gate x image is = elim (cases_Bool (x == 1)) [
   | inl t ↦ inr (record {
-      in_grammar = byte-fit.all;
-      gate = 0;
-      rest = [];
-      closed = λ e. omega (arith, e);
-      bytes_are = is ∙ (ap (λ g. before_gate started_records ++ g ∷ behind) (eqb-true x 1 t) ∙ whole);
-    })
+    in_grammar = byte-fit.all;
+    gate = 0;
+    rest = [];
+    closed = λ e. omega (arith, e);
+    bytes_are = is ∙ (ap (λ g. before_gate started_records ++ g ∷ behind) (eqb-true x 1 t) ∙ whole);
+  })
   | inr f ↦ inl (record {
-      in_grammar = started-fit.all;
-      gate = x;
-      rest = behind;
-      closed = λ e. false≢true (sym f ∙ eq-eqb x 1 e);
-      bytes_are = is;
-    })
+    in_grammar = started-fit.all;
+    gate = x;
+    rest = behind;
+    closed = λ e. false≢true (sym f ∙ eq-eqb x 1 e);
+    bytes_are = is;
+  })
 ]
 
 pub torn-image : (image : List ℕ) → IsImage (firm (before_gate started_records) ++ (1, true) ∷ firm behind) image → StandsFor image started_records ⊎ StandsFor image byte_records

@@ -1,5 +1,5 @@
 -- A put that a fault of the disk cuts off at its last move, which leaves its gate loose, from every state that was just opened.
-use Rattle.std.proofs.Common.{◌≡◌, ℕ, zero, suc, ◌+◌, ◌<◌, ◌==◌, ◌&&◌, true, List, [], ◌∷◌, Some, None, refl, subst, ◌∙◌, inl, inr, arith}
+use Rattle.std.proofs.Common.{◌≡◌, ℕ, zero, suc, ◌+◌, ◌<◌, ◌==◌, true, List, [], ◌∷◌, Some, None, refl, subst, ◌∙◌, inl, inr, arith}
 use Rattle.std.specs.Prelude.{slice_get, if◌then◌else◌}
 use Rattle.hail_devices.specs.Providers.{Provider}
 use Rattle.hail_records.specs.Records.{PutStart, PutDone}
@@ -22,7 +22,7 @@ use Rattle.command_laws.specs.Pieces.{moment}
 use Rattle.command_laws.proofs.Telling.{left-alone, jobs-leave}
 use Rattle.command_laws.proofs.BeginRefusals.{refusal-of}
 use Rattle.command_laws.proofs.Chains.{put-begins}
-use Rattle.command_runs.specs.Devices.{named, byte, four_records, started_records, counts, given_block, put_torn, ends, to_put}
+use Rattle.command_runs.specs.Devices.{named, byte, four_records, started_records, given_block, put_torn, ends, to_put}
 use Rattle.command_runs.proofs.Shape.{formed, form-is}
 use Rattle.command_runs.proofs.Stores.{put-old as old-sure}
 use Rattle.command_runs.proofs.Torn.{torn-image}
@@ -179,6 +179,6 @@ alone = record {
 pub answers : Answers (PutUnder named) (to_put) (put_torn) (ends 12)
 answers = AnswersPut.begun four_records byte old-sure.known.opened (record { are_bytes = refl; front = refl; few = omega arith; end = λ l. refl })
     (AnswersJob.ended (DiskFault) begins-none alone
-      (left-alone four_records (PutJob named byte) (DiskFault) (to_put) (put_torn) ([])
-      (λ w last n O r. jobs-leave (PutJob named byte) w last n (DiskFault) ([]) (refl, refl) O r) old-sure.known.opened refl alone)
-      (record { status_is = refl; place = refl; sink = refl }))
+    (left-alone four_records (PutJob named byte) (DiskFault) (to_put) (put_torn) ([])
+    (λ w last n O r. jobs-leave (PutJob named byte) w last n (DiskFault) ([]) (refl, refl) O r) old-sure.known.opened refl alone)
+    (record { status_is = refl; place = refl; sink = refl }))

@@ -1,4 +1,4 @@
-use Rattle.std.proofs.Common.{◌∷◌, refl, inl, inr, false, arith}
+use Rattle.std.proofs.Common.{refl, inl, inr, false, arith}
 use Rattle.hail_commands.specs.Forms.{PutUnder, DropOf}
 use Rattle.command_runs.specs.Devices.{named, byte, counts, four_records, byte_records, audited_records, to_put, put_failed, put_cut, put_torn, put_gone, kept, drop_cut, damaged, audit_cut, answers_heard, due, repair_cut, ends, ends_hearing}
 use Rattle.command_runs.proofs.TornPut.{answers as torn}
