@@ -22,3 +22,4 @@ pub mod TornPut
 pub mod CutDrop
 pub mod CutAudit
 pub mod CutRepair
+pub mod DoneRow

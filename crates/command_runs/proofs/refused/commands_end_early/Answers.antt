@@ -1,4 +1,5 @@
 use Rattle.command_runs.proofs.Refusals.{disk-fault, sink-fault, source-fault, no-memory, bad-journal, too-few, repair-due, nothing-due, bad-name, gone, lost-row, hidden-list, hidden-repair, hidden-get}
+use Rattle.command_runs.proofs.DoneRow.{done-row}
 use Rattle.command_runs.proofs.refused.commands_end_early.Goals as goal
 
 pub returns-clause-disk_fault : goal.returns-clause-disk_fault
@@ -30,6 +31,9 @@ returns-clause-bad_name c = bad-name
 
 pub returns-clause-gone : goal.returns-clause-gone
 returns-clause-gone c = gone
+
+pub returns-clause-done_row : goal.returns-clause-done_row
+returns-clause-done_row c = done-row
 
 pub returns-clause-lost_row : goal.returns-clause-lost_row
 returns-clause-lost_row c = lost-row
