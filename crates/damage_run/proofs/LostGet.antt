@@ -34,7 +34,7 @@ module _ (p : List ℕ) (a b c d : ℕ) (s t : Option ℕ) where
       by false true = omega arith
       by false false = omega arith
 
-loses_row : LosesRow thing 0 (None ∷ None ∷ Some (block 2) ∷ Some (block 3) ∷ []) 0
+pub loses_row : LosesRow thing 0 (None ∷ None ∷ Some (block 2) ∷ Some (block 3) ∷ []) 0
 loses_row = record {
   opened = None ∷ None ∷ shown 2 ∷ shown 3 ∷ [];
   opens = (refl, (refl, (opens_one 2 (omega arith), (opens_one 3 (omega arith), tt))));

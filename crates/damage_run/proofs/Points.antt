@@ -29,7 +29,7 @@ maker_of d = or_else d.maker
     or_else (Some job) = job
 
 -- the last moment of some
-abbrev last_of : List Moment → Moment
+abbrev pub last_of : List Moment → Moment
 last_of [] = record { event = Reopen; outcome = Opened; state = set_up }
 last_of (m ∷ ms) = m
 

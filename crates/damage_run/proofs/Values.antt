@@ -121,7 +121,7 @@ no_answer held none = answer_by held ∙ ap by_symbol at
 abbrev pub heard : List (Option ℕ)
 heard = right 0 ∷ right 1 ∷ None ∷ right 3 ∷ []
 
-decider : List ℕ
+pub decider : List ℕ
 decider = right_row thing byte asked
 
 seen_there : (j : ℕ) (s : Option ℕ) → s ≡ Some (value decider (point thing j)) → is_seen (value decider (point thing j)) s ≡ true
@@ -138,7 +138,7 @@ module _ (p : List ℕ) (a b c d : ℕ) (r s t : Option ℕ) (at_a : is_seen (va
   unfolding is_seen_over
   one_counts = rw (at_a, at_b, at_d) refl
 
-agrees_at : (j : ℕ) → is_seen (value decider (point thing j)) (bare_answer thing asked j (right j)) ≡ true
+pub agrees_at : (j : ℕ) → is_seen (value decider (point thing j)) (bare_answer thing asked j (right j)) ≡ true
 unfolding decider
 agrees_at j = seen_there j (bare_answer thing asked j (right j)) ((IsRightRow-right_row thing byte asked (omega arith) refl).values j)
 

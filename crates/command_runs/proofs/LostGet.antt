@@ -1,0 +1,135 @@
+-- A get of a file whose blocks are all lost, from every state that was just opened.
+use Rattle.std.proofs.Common.{◌≡◌, ℕ, zero, suc, ◌+◌, ◌<◌, List, [], ◌∷◌, Some, None, refl, subst, ◌∙◌, inl, arith}
+use Rattle.std.specs.Prelude.{slice_get}
+use Rattle.hail_devices.specs.Providers.{Provider}
+use Rattle.hail_records.specs.Spellings.{spelling}
+use Rattle.hail_machine.specs.Jobs.{GetJob, Job, Fetched}
+use Rattle.hail_machine.specs.Actions.{actions_of}
+use Rattle.hail_machine.specs.Answers.{Lost}
+use Rattle.hail_machine.specs.Begins.{new_job}
+use Rattle.hail_machine.specs.Events.{Step, More, Ended}
+use Rattle.hail_machine.specs.Examples.{four, empty_provider}
+use Rattle.hail_machine.specs.Machine.{Happens}
+use Rattle.hail_machine.specs.Runs.{Moment}
+use Rattle.hail_machine.specs.States.{State, setup_in, with_provider}
+use Rattle.hail_commands.specs.Forms.{GetOf}
+use Rattle.hail_commands.specs.Refusals.{refusal_of}
+use Rattle.hail_commands.specs.JobRuns.{AreSteps}
+use Rattle.hail_commands.specs.Jobs.{RanAlone, RunsAlone, AnswersJob}
+use Rattle.hail_commands.specs.Commands.{AnswersAlone, Answers}
+use Rattle.command_laws.specs.Pieces.{moment}
+use Rattle.command_laws.proofs.Telling.{left-alone, jobs-leave}
+use Rattle.command_laws.proofs.BeginRefusals.{refusal-of}
+use Rattle.command_runs.specs.Devices.{named, byte_records, fetched, ends_hearing, all_lost, found_lost, no_blocks}
+use Rattle.command_runs.proofs.Shape.{formed, form-is, one_byte, one_byte-is}
+use Rattle.column_laws.proofs.Worked.{none-lose}
+use Rattle.command_runs.proofs.Stores.{robbed-old as old-sure, lost-new as new-sure}
+
+begins-none : refusal_of byte_records (GetJob named) ≡ None
+begins-none = refl
+
+module _ (w : State) (n : ℕ) (count : w.handed ≡ 4) where
+  abbrev v : State
+  v = formed byte_records (one_byte w.bytes) (empty_provider) (empty_provider) (empty_provider) (empty_provider) w
+
+  abbrev base : Job
+  base = new_job v n (GetJob named)
+
+  abbrev s0 : State
+  s0 = record v { jobs = base ∷ []; next_job = 2 }
+
+  abbrev ps1 : ℕ → Provider
+  ps1 = with_provider v.providers 0 (fetched (v.providers 0))
+
+  abbrev s1 : State
+  s1 = record v { jobs = (record base { place = 1; given = Fetched 0 1 0 (None) ∷ [] }) ∷ []; next_job = 2; providers = ps1 }
+
+  happens1 : (m : ℕ) → Happens 8 m s0 (Step 1) More s1
+  unfolding setup_in actions_of
+  happens1 m = (None, (fetched (v.providers 0), record { held = refl; counts = record { store_faults = refl; other_faults = omega arith; fetches = refl }; gives = inl (refl) }, refl))
+
+  abbrev ps2 : ℕ → Provider
+  ps2 = with_provider ps1 1 (fetched (ps1 1))
+
+  abbrev s2 : State
+  s2 = record v { jobs = (record base { place = 2; given = Fetched 1 1 0 (None) ∷ Fetched 0 1 0 (None) ∷ [] }) ∷ []; next_job = 2; providers = ps2 }
+
+  happens2 : (m : ℕ) → Happens 8 m s1 (Step 1) More s2
+  unfolding setup_in actions_of
+  happens2 m = (None, (fetched (ps1 1), record { held = refl; counts = record { store_faults = refl; other_faults = omega arith; fetches = refl }; gives = inl (refl) }, refl))
+
+  abbrev ps3 : ℕ → Provider
+  ps3 = with_provider ps2 2 (fetched (ps2 2))
+
+  abbrev s3 : State
+  s3 = record v { jobs = (record base { place = 3; given = Fetched 2 1 0 (None) ∷ Fetched 1 1 0 (None) ∷ Fetched 0 1 0 (None) ∷ [] }) ∷ []; next_job = 2; providers = ps3 }
+
+  happens3 : (m : ℕ) → Happens 8 m s2 (Step 1) More s3
+  unfolding setup_in actions_of
+  happens3 m = (None, (fetched (ps2 2), record { held = refl; counts = record { store_faults = refl; other_faults = omega arith; fetches = refl }; gives = inl (refl) }, refl))
+
+  abbrev ps4 : ℕ → Provider
+  ps4 = with_provider ps3 3 (fetched (ps3 3))
+
+  abbrev s4 : State
+  s4 = record v { jobs = (record base { place = 4; given = Fetched 3 1 0 (None) ∷ Fetched 2 1 0 (None) ∷ Fetched 1 1 0 (None) ∷ Fetched 0 1 0 (None) ∷ [] }) ∷ []; next_job = 2; providers = ps4 }
+
+  happens4 : (m : ℕ) → Happens 8 m s3 (Step 1) More s4
+  unfolding setup_in actions_of
+  happens4 m = (None, (fetched (ps3 3), record { held = refl; counts = record { store_faults = refl; other_faults = omega arith; fetches = refl }; gives = inl (refl) }, refl))
+
+  abbrev s5 : State
+  s5 = record v { jobs = []; next_job = 2; providers = ps4 }
+
+  happens5 : (m : ℕ) → Happens 8 m s4 (Step 1) (Ended (Lost 0 0)) s5
+  unfolding setup_in actions_of
+  happens5 m = (refl, none-lose four.master, refl)
+
+  abbrev step : State → Moment
+  step s = moment (Step 1) More s
+
+  steps : List Moment
+  steps = step s4 ∷ step s3 ∷ step s2 ∷ step s1 ∷ []
+
+  steps-are : AreSteps s0 (n + 1) 1 steps
+  unfolding steps
+  steps-are = (refl, refl, happens4 0, (refl, refl, happens3 0, (refl, refl, happens2 0, (refl, refl, happens1 0, tt))))
+
+  each : (j : ℕ) → j < 4 → slice_get (found_lost).providers j ≡ Some (s5.providers j)
+  each zero l = refl
+  each (suc zero) l = refl
+  each (suc (suc zero)) l = refl
+  each (suc (suc (suc zero))) l = refl
+  each (suc (suc (suc (suc j)))) l = absurd (omega (arith, l))
+
+  ran-formed : RanAlone byte_records (GetJob named) (Lost 0 0) (all_lost) (found_lost) (no_blocks) 0 v n
+  unfolding steps spelling
+  ran-formed = record {
+    last = s5;
+    runs = record {
+      begun = s0;
+      job = 1;
+      begins = (refl, refusal-of v (GetJob named) refl refl ∙ begins-none, refl, refl);
+      goes_on = record { steps = steps; are_steps = steps-are; ends = happens5 0; heard_is = refl };
+    };
+    images = λ image is. inl (inl (new-sure.images image is));
+    faults_are = refl;
+    handed = record { count = count; each = each };
+    past_text = refl;
+  }
+
+pub alone : RunsAlone byte_records (GetJob named) (Lost 0 0) (all_lost) (found_lost) (no_blocks)
+alone = record {
+  faults = 0;
+  before = omega arith;
+  ran = λ w n V. subst (λ u. RanAlone byte_records (GetJob named) (Lost 0 0) (all_lost) (found_lost) (no_blocks) 0 u n) (form-is byte_records (one_byte w.bytes) (empty_provider) (empty_provider) (empty_provider) (empty_provider) w (one_byte-is w.bytes (V.bytes named (record { name = named; id = 1; size = 1 }) refl).1) V) (ran-formed w n V.handed.count);
+}
+
+pub answers : Answers (GetOf named) (all_lost) (found_lost) (ends_hearing 4 no_blocks)
+answers = (
+  AnswersAlone.begun byte_records old-sure.known.opened (AnswersJob.ended (Lost 0 0) begins-none alone
+      (left-alone byte_records (GetJob named) (Lost 0 0) (all_lost) (found_lost) (no_blocks)
+      (λ w last n O r. jobs-leave (GetJob named) w last n (Lost 0 0) (no_blocks) refl O r) old-sure.known.opened refl alone)
+      (record { status_is = refl; place = refl; sink = refl })),
+  (refl, refl),
+)

@@ -1,0 +1,148 @@
+-- What the laws ask for beside the commands.
+use Rattle.std.proofs.Common.{◌≡◌, ◌≢◌, ℕ, zero, suc, ◌<◌, ◌≤◌, ◌==◌, ◌&&◌, Bool, true, false, Some, None, refl, ap, arith}
+use Rattle.std.specs.Prelude.{is_some, not, if◌then◌else◌}
+use Rattle.std.proofs.lemmas.Bool.{ne_eqb}
+use Rattle.hail_columns.specs.Columns.{columns, is_wrong}
+use Rattle.hail_columns.specs.Verdicts.{is_flagged}
+use Rattle.hail_devices.specs.Faults.{Rose}
+use Rattle.hail_machine.specs.Setups.{object_of}
+use Rattle.hail_machine.specs.Examples.{four}
+use Rattle.hail_commands.specs.Seen.{provider_at}
+use Rattle.step_laws.proofs.GivesRight.{own_not_wrong}
+use Rattle.command_laws.specs.After.{HasFile, IsUntouched, IsSteady, is_wrong_at}
+use Rattle.command_laws.specs.Failing.{bad_seen}
+use Rattle.command_laws.proofs.FilesStay.{bad-few}
+use Rattle.command_laws.proofs.Samples.{never-rises}
+use Rattle.command_runs.proofs.Shape.{first_of}
+use Rattle.command_runs.specs.Devices.{named, other_name, byte, counts, byte_records, audited_records, repaired_records, to_put_other, stored, damaged, due, repaired, mended, got, hidden, none_hold, three_hold, repair_cut}
+
+-- the provider whose block is lost, and another one
+abbrev pub second : ℕ → Bool
+second j = j == 2
+
+abbrev pub first : ℕ → Bool
+first j = j == 0
+
+-- each provider tells
+pub none-tell : (j : ℕ) → j < 4 → is_some (provider_at none_hold j).held ≡ true
+none-tell zero l = refl
+none-tell (suc zero) l = refl
+none-tell (suc (suc zero)) l = refl
+none-tell (suc (suc (suc zero))) l = refl
+none-tell (suc (suc (suc (suc j)))) l = absurd (omega (arith, l))
+
+pub three-tell : (j : ℕ) → j < 4 → is_some (provider_at three_hold j).held ≡ true
+three-tell zero l = refl
+three-tell (suc zero) l = refl
+three-tell (suc (suc zero)) l = refl
+three-tell (suc (suc (suc zero))) l = refl
+three-tell (suc (suc (suc (suc j)))) l = absurd (omega (arith, l))
+
+-- of devices that tell nothing no count rises
+pub none-rises : (j : ℕ) → Rose (provider_at hidden.providers j).store_faults (provider_at hidden.providers j).store_faults → ⊥
+none-rises zero rose = never-rises 0 (omega arith) rose
+none-rises (suc zero) rose = never-rises 0 (omega arith) rose
+none-rises (suc (suc zero)) rose = never-rises 0 (omega arith) rose
+none-rises (suc (suc (suc zero))) rose = never-rises 0 (omega arith) rose
+none-rises (suc (suc (suc (suc j)))) rose = never-rises 0 (omega arith) rose
+
+-- the own block is right
+right_held : (j : ℕ) → is_wrong (object_of four 1) byte j (λ stripe. if (1 == 1) && (stripe == 0) then Some (columns (object_of four 1) byte j 0) else None) ≡ false
+unfolding is_wrong
+right_held j = rw (own_not_wrong (object_of four 1) byte j 0) refl
+
+right-at : (j : ℕ) → j < 4 → second j ≡ false → is_wrong_at audited_records due 1 byte j ≡ false
+right-at zero l s = right_held 0
+right-at (suc zero) l s = right_held 1
+right-at (suc (suc zero)) l s = (let e : true ≡ false = s in absurd (cc e))
+right-at (suc (suc (suc zero))) l s = right_held 3
+right-at (suc (suc (suc (suc j)))) l s = absurd (omega (arith, l))
+
+pub due-file : HasFile due audited_records named byte second
+due-file = record { file = record { name = named; id = 1; size = 1 }; in_effect = refl; are_bytes = refl; size = refl; right = right-at }
+
+-- between the put and the audit that block is lost; nothing else changes, and no count rises
+pub robbed-untouched : IsUntouched 4 second stored damaged
+robbed-untouched zero l s = refl
+robbed-untouched (suc zero) l s = refl
+robbed-untouched (suc (suc zero)) l s = (let e : true ≡ false = s in absurd (cc e))
+robbed-untouched (suc (suc (suc zero))) l s = refl
+robbed-untouched (suc (suc (suc (suc j)))) l s = absurd (omega (arith, l))
+
+pub repair-steady : (spoilt : ℕ → Bool) → IsSteady 4 spoilt due repaired
+repair-steady spoilt zero l s rose = never-rises 0 (omega arith) rose
+repair-steady spoilt (suc zero) l s rose = never-rises 0 (omega arith) rose
+repair-steady spoilt (suc (suc zero)) l s rose = never-rises 0 (omega arith) rose
+repair-steady spoilt (suc (suc (suc zero))) l s rose = never-rises 0 (omega arith) rose
+repair-steady spoilt (suc (suc (suc (suc j)))) l s rose = absurd (omega (arith, l))
+
+pub cut-steady : (spoilt : ℕ → Bool) → IsSteady 4 spoilt due repair_cut
+cut-steady spoilt zero l s rose = never-rises 0 (omega arith) rose
+cut-steady spoilt (suc zero) l s rose = never-rises 0 (omega arith) rose
+cut-steady spoilt (suc (suc zero)) l s rose = never-rises 0 (omega arith) rose
+cut-steady spoilt (suc (suc (suc zero))) l s rose = never-rises 0 (omega arith) rose
+cut-steady spoilt (suc (suc (suc (suc j)))) l s rose = absurd (omega (arith, l))
+
+pub get-steady : (spoilt : ℕ → Bool) → IsSteady 4 spoilt mended got
+get-steady spoilt zero l s rose = never-rises 0 (omega arith) rose
+get-steady spoilt (suc zero) l s rose = never-rises 0 (omega arith) rose
+get-steady spoilt (suc (suc zero)) l s rose = never-rises 0 (omega arith) rose
+get-steady spoilt (suc (suc (suc zero))) l s rose = never-rises 0 (omega arith) rose
+get-steady spoilt (suc (suc (suc (suc j)))) l s rose = absurd (omega (arith, l))
+
+-- false and anything
+pub spared : (b c : Bool) → b ≡ false → (b && c) ≡ false
+spared true c h = absurd (cc h)
+spared false c h = refl
+
+-- the audit flags the one that is spoilt
+pub flagged-second : (j : ℕ) → (second j && not (is_flagged 0 counts j)) ≡ false
+flagged-second zero = refl
+flagged-second (suc zero) = refl
+flagged-second (suc (suc zero)) = refl
+flagged-second (suc (suc (suc j))) =
+    spared (second (suc (suc (suc j)))) (not (is_flagged 0 counts (suc (suc (suc j))))) (ne_eqb (suc (suc (suc j))) 2 (λ e. omega (arith, e)))
+
+-- ---- the file is right
+
+right-kept : (j : ℕ) → j < 4 → is_wrong_at byte_records to_put_other 1 byte j ≡ false
+right-kept zero l = right_held 0
+right-kept (suc zero) l = right_held 1
+right-kept (suc (suc zero)) l = right_held 2
+right-kept (suc (suc (suc zero))) l = right_held 3
+right-kept (suc (suc (suc (suc j)))) l = absurd (omega (arith, l))
+
+pub kept-file : HasFile to_put_other byte_records named byte (λ j. false)
+kept-file = record { file = record { name = named; id = 1; size = 1 }; in_effect = refl; are_bytes = refl; size = refl; right = λ j l s. right-kept j l }
+
+right-mended : (j : ℕ) → j < 4 → is_wrong_at repaired_records mended 1 byte j ≡ false
+right-mended zero l = right_held 0
+right-mended (suc zero) l = right_held 1
+right-mended (suc (suc zero)) l = right_held 2
+right-mended (suc (suc (suc zero))) l = right_held 3
+right-mended (suc (suc (suc (suc j)))) l = absurd (omega (arith, l))
+
+pub mended-file : HasFile mended repaired_records named byte (λ j. false)
+mended-file = record { file = record { name = named; id = 1; size = 1 }; in_effect = refl; are_bytes = refl; size = refl; right = λ j l s. right-mended j l }
+
+right-damaged : (j : ℕ) → j < 4 → second j ≡ false → is_wrong_at byte_records damaged 1 byte j ≡ false
+right-damaged zero l s = right_held 0
+right-damaged (suc zero) l s = right_held 1
+right-damaged (suc (suc zero)) l s = (let e : true ≡ false = s in absurd (cc e))
+right-damaged (suc (suc (suc zero))) l s = right_held 3
+right-damaged (suc (suc (suc (suc j)))) l s = absurd (omega (arith, l))
+
+pub damaged-file : HasFile damaged byte_records named byte second
+damaged-file = record { file = record { name = named; id = 1; size = 1 }; in_effect = refl; are_bytes = refl; size = refl; right = right-damaged }
+
+-- at most one provider is wrong for it, or failed
+pub few-bad : bad_seen audited_records due repaired 1 byte ≤ 1
+unfolding due-file
+few-bad = within _ (bad-few named byte audited_records second due repaired due-file (λ j below clean rose. repair-steady second j below clean rose))
+  where
+    within : (n : ℕ) → n ≤ 1 → n ≤ 1
+    within n l = l
+
+-- the names differ
+pub other-name : other_name ≢ named
+other-name e = (let f : 98 ≡ 97 = ap first_of e in omega (arith, f))

@@ -1,0 +1,92 @@
+-- A put that finds no memory at its first move, from every state that was just opened.
+use Rattle.std.proofs.Common.{◌≡◌, ℕ, zero, suc, ◌+◌, ◌<◌, List, [], ◌∷◌, Some, None, refl, subst, ◌∙◌, inl, arith}
+use Rattle.std.specs.Prelude.{slice_get}
+use Rattle.hail_records.specs.Spellings.{spelling}
+use Rattle.hail_machine.specs.Jobs.{PutJob, Job}
+use Rattle.hail_machine.specs.Actions.{actions_of}
+use Rattle.hail_machine.specs.Answers.{Memory}
+use Rattle.hail_machine.specs.Begins.{new_job}
+use Rattle.hail_machine.specs.Events.{Step, More, Ended}
+use Rattle.hail_machine.specs.Examples.{four, empty_provider}
+use Rattle.hail_machine.specs.Machine.{Happens}
+use Rattle.hail_machine.specs.Runs.{Moment}
+use Rattle.hail_machine.specs.States.{State, setup_in}
+use Rattle.hail_commands.specs.Forms.{PutUnder}
+use Rattle.hail_commands.specs.Refusals.{refusal_of}
+use Rattle.hail_commands.specs.JobRuns.{AreSteps}
+use Rattle.hail_commands.specs.Jobs.{RanAlone, RunsAlone, AnswersJob}
+use Rattle.hail_commands.specs.Commands.{AnswersPut, Answers}
+use Rattle.command_laws.specs.Pieces.{moment}
+use Rattle.command_laws.proofs.Telling.{left-alone, jobs-leave}
+use Rattle.command_laws.proofs.BeginRefusals.{refusal-of}
+use Rattle.command_laws.proofs.Chains.{put-begins}
+use Rattle.command_runs.specs.Devices.{named, byte, four_records, ends, to_put, put_unmade}
+use Rattle.command_runs.proofs.Shape.{formed, form-is}
+use Rattle.command_runs.proofs.Stores.{put-old as old-sure, no_room-new as new-sure}
+
+begins-none : refusal_of four_records (PutJob named byte) ≡ None
+begins-none = put-begins four named byte refl (omega arith)
+
+module _ (w : State) (n : ℕ) (count : w.handed ≡ 4) where
+  abbrev v : State
+  v = formed four_records w.bytes (empty_provider) (empty_provider) (empty_provider) (empty_provider) w
+
+  abbrev base : Job
+  base = new_job v n (PutJob named byte)
+
+  abbrev s0 : State
+  s0 = record v { jobs = base ∷ []; next_job = 2 }
+
+  abbrev s1 : State
+  s1 = record v { jobs = []; next_job = 2 }
+
+  happens1 : (m : ℕ) → Happens 8 m s0 (Step 1) (Ended Memory) s1
+  unfolding setup_in actions_of
+  happens1 m = (0, omega arith, refl)
+
+  abbrev step : State → Moment
+  step s = moment (Step 1) More s
+
+  steps : List Moment
+  steps = []
+
+  steps-are : AreSteps s0 (n + 1) 1 steps
+  unfolding steps
+  steps-are = tt
+
+  each : (j : ℕ) → j < 4 → slice_get (put_unmade).providers j ≡ Some (s1.providers j)
+  each zero l = refl
+  each (suc zero) l = refl
+  each (suc (suc zero)) l = refl
+  each (suc (suc (suc zero))) l = refl
+  each (suc (suc (suc (suc j)))) l = absurd (omega (arith, l))
+
+  ran-formed : RanAlone four_records (PutJob named byte) (Memory) (to_put) (put_unmade) ([]) 0 v n
+  unfolding steps spelling
+  ran-formed = record {
+    last = s1;
+    runs = record {
+      begun = s0;
+      job = 1;
+      begins = (refl, refusal-of v (PutJob named byte) refl refl ∙ begins-none, refl, refl);
+      goes_on = record { steps = steps; are_steps = steps-are; ends = happens1 0; heard_is = refl };
+    };
+    images = λ image is. inl (inl (new-sure.images image is));
+    faults_are = refl;
+    handed = record { count = count; each = each };
+    past_text = record { next = None; is_next = tt; same = refl };
+  }
+
+pub alone : RunsAlone four_records (PutJob named byte) (Memory) (to_put) (put_unmade) ([])
+alone = record {
+  faults = 0;
+  before = omega arith;
+  ran = λ w n V. subst (λ u. RanAlone four_records (PutJob named byte) (Memory) (to_put) (put_unmade) ([]) 0 u n) (form-is four_records w.bytes (empty_provider) (empty_provider) (empty_provider) (empty_provider) w refl V) (ran-formed w n V.handed.count);
+}
+
+pub answers : Answers (PutUnder named) (to_put) (put_unmade) (ends 70)
+answers = AnswersPut.begun four_records byte old-sure.known.opened (record { are_bytes = refl; front = refl; few = omega arith; end = λ l. refl })
+    (AnswersJob.ended (Memory) begins-none alone
+    (left-alone four_records (PutJob named byte) (Memory) (to_put) (put_unmade) ([])
+    (λ w last n O r. jobs-leave (PutJob named byte) w last n (Memory) ([]) (refl, refl) O r) old-sure.known.opened refl alone)
+    (record { status_is = refl; place = refl; sink = refl }))

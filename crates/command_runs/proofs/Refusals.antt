@@ -1,0 +1,183 @@
+-- Commands that end before a job of theirs begins: refused, or by a fault, or for want of memory.
+use Rattle.std.proofs.Common.{◌≡◌, ◌≢◌, ◌≤◌, ◌<◌, ℕ, suc, ◌+◌, Bool, true, false, cond, List, [], ◌∷◌, ◌++◌, length, Option, Some, None, refl, ap, sym, subst, inl, inr, arith}
+use Rattle.std.specs.Prelude.{take}
+use Rattle.std.specs.Fmt.{digits}
+use Rattle.std.proofs.lemmas.List.{get_or-replicate}
+use Rattle.std.proofs.lemmas.Bool.{cases_lt}
+use Rattle.hex.specs.Hex.{decode_pairs, is_hex_digit}
+use Rattle.poly_laws.specs.Poly.{agree as agree_over, is_seen as is_seen_over}
+use Rattle.hail_field.specs.Shape.{IsShape}
+use Rattle.hail_codes.specs.Polynomials.{value, agree, is_seen}
+use Rattle.hail_codes.specs.Points.{upto}
+use Rattle.hail_codes.specs.DispersalCode.{Accepts, AcceptsNone}
+use Rattle.hail_devices.specs.Cells.{Cells, firm}
+use Rattle.hail_devices.specs.Disks.{synced}
+use Rattle.hail_records.specs.Journal.{text, magic}
+use Rattle.hail_records.specs.Records.{Record}
+use Rattle.hail_machine.specs.Examples.{four}
+use Rattle.hail_machine.specs.Refusals as refusal
+use Rattle.hail_commands.specs.Forms.{RowOf, InitWith, PutUnder, GetOf, ListAll, AuditAll, RepairDue}
+use Rattle.hail_commands.specs.Keys.{IsKeyForm, longest_key}
+use Rattle.hail_commands.specs.Openings.{journal_read}
+use Rattle.hail_commands.specs.Opens.{IsOpened, Unstarted}
+use Rattle.hail_records.specs.Records.{is_setup}
+use Rattle.hail_commands.specs.Inits.{setup_with, AnswersInit, InitsDisk}
+use Rattle.hail_commands.specs.Jobs.{AnswersJob}
+use Rattle.hail_commands.specs.Line.{no_row_line}
+use Rattle.hail_commands.specs.Seen.{Seen, ReadsUpTo}
+use Rattle.hail_commands.specs.Commands.{AnswersAlone, AnswersPut, AnswersList, Answers}
+use Rattle.command_laws.proofs.Readings.{read-set_up}
+use Rattle.command_laws.proofs.Afterwards.{reads-firm}
+use Rattle.command_runs.specs.Devices.{with_source, with_sink, named, byte, other_name, four_records, byte_records, audited_records, key_text, good_numbers, bad_numbers, to_put, put_unmade, kept, due, dropped_records, after_drop, disk_failed, deserted, scrambled, hidden, ends}
+use Rattle.command_laws.specs.After.{IsSure}
+use Rattle.command_runs.proofs.Shape.{sure}
+use Rattle.command_runs.proofs.Stores.{put-old, stored-sure, due-sure, byte-fit, dropped-fit, hidden-opened}
+
+-- a disk with nothing loose is left as it is by a sync
+same-disk : (rs : List Record) → Some (firm (text rs)) ≡ Some (synced (firm (text rs)))
+same-disk rs = ap (λ bytes. Some (firm bytes)) (sym (reads-firm (text rs)))
+
+-- ---- faults, and want of memory
+
+pub disk-fault : Answers ListAll kept (disk_failed kept) (ends 12)
+disk-fault = (AnswersList.unstarted (Unstarted.disk_fault (λ low. omega arith) (record { status_is = refl; place = refl; heard = refl; disk = inl refl; providers = refl; sink = refl })), (refl, refl))
+
+pub no-memory : Answers ListAll kept kept (ends 70)
+no-memory = (AnswersList.unstarted (Unstarted.no_memory (record { status_is = refl; place = refl; heard = refl; disk = inl refl; providers = refl; sink = refl })), (refl, refl))
+
+pub source-fault : Answers (PutUnder named) to_put (record to_put { source_faults = 1 }) (ends 14)
+source-fault = AnswersPut.source_fault four_records put-old.known.opened (λ low. omega arith) (same-disk four_records)
+    (record { bytes = []; front = refl; few = omega arith }) (record { status_is = refl; place = refl; heard = refl; disk = inl refl; providers = refl; sink = refl })
+
+pub sink-fault : Answers ListAll kept (record kept { sink_faults = 1 }) (ends 15)
+unfolding digits
+sink-fault = (
+  AnswersList.listed byte_records stored-sure.known.opened (record {
+    written = inr (inl (λ e. omega (arith, ap length e), refl, (λ low. omega arith), (0, omega arith, refl)));
+    place = refl;
+    heard = refl;
+    disk = same-disk byte_records;
+    providers = refl;
+  }),
+  (refl, refl),
+)
+
+-- ---- stores that are not opened
+
+abbrev zeros : List ℕ
+zeros = 0 ∷ 0 ∷ 0 ∷ 0 ∷ 0 ∷ 0 ∷ 0 ∷ 0 ∷ 0 ∷ 0 ∷ 0 ∷ 0 ∷ []
+
+first_of : List ℕ → ℕ
+first_of [] = 0
+first_of (x ∷ xs) = x
+
+read_zeros : journal_read (firm zeros) ≡ zeros
+read_zeros = refl
+
+long : 9 < length (journal_read (firm zeros))
+long = subst (λ (bytes : List ℕ). 9 < length bytes) (sym read_zeros) (omega arith)
+
+no_magic : take 8 (journal_read (firm zeros)) ≢ magic
+unfolding first_of
+no_magic e = (let f : 0 ≡ 72 = ap first_of e in omega (arith, f))
+
+pub bad-journal : Answers ListAll scrambled scrambled (ends 8)
+bad-journal = (AnswersList.unstarted (Unstarted.bad_journal 0 (long, inl (no_magic, refl)) (record { status_is = refl; place = refl; heard = refl; disk = inl refl; providers = refl; sink = refl })), (refl, refl))
+
+pub too-few : Answers ListAll deserted deserted (ends 22)
+too-few = (AnswersList.unstarted (Unstarted.too_few_providers byte_records stored-sure.known.opened.read (omega arith) (same-disk byte_records) (record { status_is = refl; place = refl; heard = refl; disk = inl refl; providers = refl; sink = refl })), (refl, refl))
+
+-- ---- begins that are refused
+
+pub repair-due : Answers AuditAll due due (ends 6)
+repair-due = (AnswersAlone.begun audited_records due-sure.known.opened (AnswersJob.refused refusal.RepairDue refl (same-disk audited_records) (record { status_is = refl; place = refl; heard = refl; disk = inl refl; providers = refl; sink = refl })), (refl, refl))
+
+pub nothing-due : Answers RepairDue kept kept (ends 7)
+nothing-due = (AnswersAlone.begun byte_records stored-sure.known.opened (AnswersJob.refused refusal.NothingDue refl (same-disk byte_records) (record { status_is = refl; place = refl; heard = refl; disk = inl refl; providers = refl; sink = refl })), (refl, refl))
+
+pub bad-name : Answers (PutUnder []) to_put put_unmade (ends 17)
+bad-name = AnswersPut.begun four_records byte put-old.known.opened (record { are_bytes = refl; front = refl; few = omega arith; end = λ l. refl })
+    (AnswersJob.refused refusal.BadName refl (same-disk four_records) (record { status_is = refl; place = refl; heard = refl; disk = inl refl; providers = refl; sink = refl }))
+
+-- after its drop the file is gone
+gone-sure : IsSure after_drop dropped_records
+gone-sure = sure after_drop dropped_records dropped-fit refl (omega arith)
+
+pub gone : Answers (GetOf named) after_drop after_drop (ends 3)
+gone = (AnswersAlone.begun dropped_records gone-sure.known.opened (AnswersJob.refused refusal.NoSuchName refl (same-disk dropped_records) (record { status_is = refl; place = refl; heard = refl; disk = inl refl; providers = refl; sink = refl })), (refl, refl))
+
+-- ---- an init
+
+shape_good : is_setup (setup_with good_numbers []) ≡ true
+shape_good = refl
+
+no_front : (xs ys : List ℕ) → [] ≡ xs ++ ys → length xs ≡ 64 → ⊥
+no_front [] ys e n = omega (arith, n)
+no_front (x ∷ xs) ys e n = (let f : [] ≡ x ∷ (xs ++ ys) = e in absurd (cc f))
+
+key-form : IsKeyForm key_text four.master
+unfolding decode_pairs
+key-form = record { digits = key_text; behind = []; text_is = refl; size = refl; hexadecimal = λ k d l. ap is_hex_digit (get_or-replicate 64 k 48 d l); spelled = refl; line_end = inl refl }
+
+long_journal : 9 < length (journal_read (firm (text byte_records)))
+long_journal = elim (cases_lt 9 (length (journal_read (firm (text byte_records))))) [
+  | inl l ↦ l
+  | inr l ↦ absurd (read-set_up (firm (text byte_records)) byte_records stored-sure.known.opened.read (inl l))
+]
+
+pub init-bad-setup : Answers (InitWith bad_numbers) kept kept (ends 20)
+init-bad-setup = AnswersInit.bad_setup refl (refl, refl) (record { status_is = refl; place = refl; heard = refl; disk = inl refl; providers = refl; sink = refl })
+
+pub init-too-few : Answers (InitWith good_numbers) deserted deserted (ends 22)
+init-too-few = AnswersInit.too_few_providers shape_good (omega arith) (refl, refl) (record { status_is = refl; place = refl; heard = refl; disk = inl refl; providers = refl; sink = refl })
+
+pub init-source-fault : Answers (InitWith good_numbers) kept (record kept { source_faults = 1 }) (ends 14)
+init-source-fault = AnswersInit.source_fault shape_good (omega arith) (λ low. omega arith) (record { bytes = []; front = refl; few = omega arith }) (record { status_is = refl; place = refl; heard = refl; disk = inl refl; providers = refl; sink = refl })
+
+pub init-bad-key : Answers (InitWith good_numbers) kept kept (ends 18)
+init-bad-key = AnswersInit.bad_key [] shape_good (omega arith) (record { are_bytes = refl; front = refl; few = omega arith; end = λ l. refl })
+    (λ key form. no_front form.digits form.behind form.text_is form.size) (record { status_is = refl; place = refl; heard = refl; disk = inl refl; providers = refl; sink = refl })
+
+pub init-already : Answers (InitWith good_numbers) (with_source kept key_text) kept (ends 10)
+init-already = AnswersInit.keyed key_text four.master shape_good (omega arith) (record { are_bytes = refl; front = refl; few = omega arith; end = λ l. refl }) key-form
+    (InitsDisk.already (long_journal, (byte_records, stored-sure.known.opened.read.reads_are.1, tt)) (record { status_is = refl; place = refl; heard = refl; disk = inl refl; providers = refl; sink = refl }))
+
+pub init-bad-journal : Answers (InitWith good_numbers) (with_source scrambled key_text) scrambled (ends 8)
+init-bad-journal = AnswersInit.keyed key_text four.master shape_good (omega arith) (record { are_bytes = refl; front = refl; few = omega arith; end = λ l. refl }) key-form
+    (InitsDisk.bad_journal 0 (long, inl (inl (no_magic, refl))) (record { status_is = refl; place = refl; heard = refl; disk = inl refl; providers = refl; sink = refl }))
+
+-- ---- a row
+
+module _ (p : List ℕ) (a b c d : ℕ) (s t : Option ℕ) where
+  at_most_two : agree p (a ∷ b ∷ c ∷ d ∷ []) (None ∷ None ∷ s ∷ t ∷ []) ≤ 2
+  unfolding agree_over is_seen_over
+  at_most_two = by (is_seen (value p c) s) (is_seen (value p d) t)
+    where
+      by : (x y : Bool) → 0 + (0 + (cond x 1 0 + (cond y 1 0 + 0))) ≤ 2
+      by true true = omega arith
+      by true false = omega arith
+      by false true = omega arith
+      by false false = omega arith
+
+none_accepted : AcceptsNone (upto 4) (None ∷ None ∷ Some 7 ∷ Some 9 ∷ []) 1 1
+none_accepted p h = (let few = at_most_two p 0 1 2 3 (Some 7) (Some 9) in let many = h.agrees in omega (arith, few, many))
+
+row_shape : IsShape 4 1 1
+row_shape = (omega arith, omega arith, omega arith, omega arith, omega arith)
+
+pub lost-row : Answers (RowOf 4 1 1 (None ∷ None ∷ Some 7 ∷ Some 9 ∷ [])) kept (with_sink kept no_row_line) (ends 4)
+lost-row = (
+  record { no_shape = λ no. absurd (no row_shape); lost = λ shape none. inl (refl, refl); held = λ shape p accepted. absurd (none_accepted p accepted) },
+  record { disk = refl; disk_faults = refl; providers = refl; source = (refl, refl); place = refl; heard = refl },
+)
+
+-- ---- devices that tell nothing
+
+pub hidden-list : Answers ListAll hidden hidden (ends 0)
+hidden-list = (AnswersList.listed byte_records hidden-opened (record { written = inl (refl, refl); place = refl; heard = refl; disk = refl; providers = refl }), (refl, refl))
+
+pub hidden-repair : Answers RepairDue hidden hidden (ends 7)
+hidden-repair = (AnswersAlone.begun byte_records hidden-opened (AnswersJob.refused refusal.NothingDue refl refl (record { status_is = refl; place = refl; heard = refl; disk = tt; providers = refl; sink = refl })), (refl, refl))
+
+pub hidden-get : Answers (GetOf other_name) hidden hidden (ends 3)
+hidden-get = (AnswersAlone.begun byte_records hidden-opened (AnswersJob.refused refusal.NoSuchName refl refl (record { status_is = refl; place = refl; heard = refl; disk = tt; providers = refl; sink = refl })), (refl, refl))

@@ -1,0 +1,119 @@
+-- States whose vault was just opened over four providers, spelled out; and stores that are known.
+use Rattle.std.proofs.Common.{◌≡◌, ◌≢◌, ℕ, ◌≤◌, ◌==◌, true, false, List, [], ◌∷◌, length, Some, None, refl, ap, sym, subst, ◌∙◌, inl, inr, arith}
+use Rattle.std.specs.Prelude.{IsTrue, if◌then◌else◌}
+use Rattle.std.specs.List.{list_all}
+use Rattle.std.proofs.lemmas.Bool.{cases_Bool, eqb-true}
+use Rattle.hail_devices.specs.Cells.{reads, firm}
+use Rattle.hail_devices.specs.Providers.{Provider}
+use Rattle.hail_records.specs.Records.{Record, is_in_grammar, largest_journal}
+use Rattle.hail_records.specs.Journal.{text, text_size, StandsFor}
+use Rattle.hail_records.specs.Acceptance.{AreAccepted}
+use Rattle.hail_machine.specs.States.{State, with_provider}
+use Rattle.hail_machine.proofs.JobLists.{cond_true, cond_false}
+use Rattle.hail_devices.specs.Images.{EachImage}
+use Rattle.hail_commands.specs.Seen.{Seen}
+use Rattle.hail_commands.specs.Opens.{setup_at}
+use Rattle.hail_commands.specs.JobRuns.{IsOpenedOver}
+use Rattle.command_laws.specs.After.{IsSure}
+use Rattle.command_laws.proofs.Images.{image-firm}
+use Rattle.command_laws.proofs.Afterwards.{reads-firm}
+use Rattle.command_laws.proofs.Knowing.{known-good}
+
+-- ---- the providers
+
+-- these four, and others behind them
+abbrev pub over : (ℕ → Provider) → Provider → Provider → Provider → Provider → ℕ → Provider
+over ps p q r s = with_provider (with_provider (with_provider (with_provider ps 3 s) 2 r) 1 q) 0 p
+
+same_at : (ps : ℕ → Provider) (j : ℕ) (p : Provider) → p ≡ ps j → (k : ℕ) → with_provider ps j p k ≡ ps k
+same_at ps j p e k = elim (cases_Bool (k == j)) [
+  | inl t ↦ cond_true (k == j) p (ps k) t ∙ (e ∙ ap ps (sym (eqb-true k j t)))
+  | inr f ↦ cond_false (k == j) p (ps k) f
+]
+
+from_some : {X : Type 0} (x y : X) → Some x ≡ Some y → x ≡ y
+from_some x y e = cc
+
+pub over-is : (ps : ℕ → Provider) (p q r s : Provider) → p ≡ ps 0 → q ≡ ps 1 → r ≡ ps 2 → s ≡ ps 3 → over ps p q r s ≡ ps
+over-is ps p q r s a b c d = λ i k. (same_at (with_provider (with_provider (with_provider ps 3 s) 2 r) 1 q) 0 p a k
+    ∙ (same_at (with_provider (with_provider ps 3 s) 2 r) 1 q b k
+    ∙ (same_at (with_provider ps 3 s) 2 r c k ∙ same_at ps 3 s d k))) i
+
+-- ---- the byte of the file
+
+abbrev pub first_of : List ℕ → ℕ
+first_of [] = 0
+first_of (x ∷ xs) = x
+
+-- object number 1 stands for one byte
+abbrev pub one_byte : (ℕ → List ℕ) → ℕ → List ℕ
+one_byte bytes id = if id == 1 then first_of (bytes 1) ∷ [] else bytes id
+
+one_long : (xs : List ℕ) → length xs ≡ 1 → first_of xs ∷ [] ≡ xs
+one_long [] h = absurd (omega (arith, h))
+one_long (x ∷ []) h = refl
+one_long (x ∷ y ∷ ys) h = absurd (omega (arith, h))
+
+pub one_byte-is : (bytes : ℕ → List ℕ) → length (bytes 1) ≡ 1 → one_byte bytes ≡ bytes
+one_byte-is bytes h = λ i id. (at id) i
+  where
+    at : (id : ℕ) → one_byte bytes id ≡ bytes id
+    at id = elim (cases_Bool (id == 1)) [
+      | inl t ↦ cond_true (id == 1) (first_of (bytes 1) ∷ []) (bytes id) t ∙ (one_long (bytes 1) h ∙ ap bytes (sym (eqb-true id 1 t)))
+      | inr f ↦ cond_false (id == 1) (first_of (bytes 1) ∷ []) (bytes id) f
+    ]
+
+-- ---- the state
+
+abbrev pub formed : List Record → (ℕ → List ℕ) → Provider → Provider → Provider → Provider → State → State
+formed rs bytes p q r s w = record w {
+  records = rs;
+  bytes = bytes;
+  jobs = [];
+  next_job = 1;
+  append = None;
+  doubt = None;
+  providers = over w.providers p q r s;
+  is_open = true;
+  is_barred = false;
+  disk_faults = 0;
+}
+
+pub form-is : (rs : List Record) (bytes : ℕ → List ℕ) (p q r s : Provider) (w : State) → bytes ≡ w.bytes →
+    IsOpenedOver w rs 0 (p ∷ q ∷ r ∷ s ∷ []) → formed rs bytes p q r s w ≡ w
+form-is rs bytes p q r s w same V =
+    (let P : over w.providers p q r s ≡ w.providers = over-is w.providers p q r s
+    (from_some p (w.providers 0) (V.handed.each 0 (omega arith))) (from_some q (w.providers 1) (V.handed.each 1 (omega arith)))
+    (from_some r (w.providers 2) (V.handed.each 2 (omega arith))) (from_some s (w.providers 3) (V.handed.each 3 (omega arith))) in
+    (λ i. record w {
+      records = sym V.records i;
+      bytes = same i;
+      jobs = sym V.jobs i;
+      next_job = sym V.next_job i;
+      append = sym V.append i;
+      doubt = sym V.doubt i;
+      providers = P i;
+      is_open = sym V.is_open i;
+      is_barred = sym V.unbarred i;
+      disk_faults = sym V.faults_are i;
+    }))
+
+-- ---- stores that are known
+
+pub stands-text : (rs : List Record) → IsTrue (list_all is_in_grammar rs) → (image : List ℕ) → image ≡ text rs → StandsFor image rs
+stands-text rs all image is = record { in_grammar = all; gate = 0; rest = []; closed = λ e. omega (arith, e); bytes_are = is }
+
+-- records that a journal may hold and the fold accepts
+pub record AreFit (rs : List Record) : Type 0 where
+  pub some : rs ≢ []
+  pub all : IsTrue (list_all is_in_grammar rs)
+  pub accepted : AreAccepted rs
+  pub room : text_size rs ≤ largest_journal
+
+-- devices whose disk reads them are known
+pub sure : (s : Seen) (rs : List Record) → AreFit rs → s.disk ≡ Some (firm (text rs)) → (setup_at rs).n ≤ length s.providers → IsSure s rs
+sure s rs fit is few = record {
+  known = known-good (setup_at rs) s (firm (text rs)) rs is
+      (record { some = fit.some; accepted = fit.accepted; room = fit.room; setup = refl; stands = stands-text rs fit.all (reads (firm (text rs))) (reads-firm (text rs)) }) few;
+  images = subst (λ told. EachImage told (λ image. StandsFor image rs)) (sym is) (λ image has. stands-text rs fit.all image (image-firm (text rs) image has));
+}

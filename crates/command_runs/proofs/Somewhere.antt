@@ -1,0 +1,29 @@
+-- Over accepted records there is a state just opened, and the job runs from there.
+use Rattle.std.proofs.Common.{ℕ, List}
+use Rattle.hail_devices.specs.Providers.{Provider}
+use Rattle.hail_records.specs.Records.{Record}
+use Rattle.hail_records.specs.Acceptance.{AreAccepted}
+use Rattle.hail_machine.specs.Jobs.{Kind}
+use Rattle.hail_machine.specs.Answers.{Answer}
+use Rattle.hail_machine.specs.Heard.{Entry}
+use Rattle.hail_machine.specs.States.{State}
+use Rattle.hail_commands.specs.Seen.{Seen}
+use Rattle.hail_commands.specs.Opens as opens
+use Rattle.hail_commands.specs.JobRuns.{IsOpenedOver}
+use Rattle.hail_commands.specs.Jobs.{RunsAlone}
+use Rattle.lone_laws.specs.Walked.{IsOpened}
+use Rattle.command_laws.specs.After.{IsSure}
+use Rattle.command_runs.specs.Lone.{RunsSomewhere}
+
+abbrev pub Opened : Type 0
+Opened = (w : State) (old : Seen) (records : List Record) (faults : ℕ) → opens.IsOpened old records → IsOpenedOver w records faults old.providers → IsOpened w
+
+abbrev pub ThereIsOne : Type 0
+ThereIsOne = (records : List Record) (faults : ℕ) (providers : List Provider) → AreAccepted records → (w : State) × IsOpenedOver w records faults providers
+
+pub somewhere : Opened → ThereIsOne → (records : List Record) (kind : Kind) (answer : Answer) (old new : Seen) (heard : List Entry) →
+    IsSure old records → RunsAlone records kind answer old new heard → RunsSomewhere kind answer heard
+somewhere opened one records kind answer old new heard sure alone =
+    (let w = one records alone.faults old.providers sure.known.opened.read.accepted in
+    let ran = alone.ran w.0 0 w.1 in
+    record { start = w.0; last = ran.last; opened = opened w.0 old records alone.faults sure.known.opened w.1; runs = ran.runs })

@@ -1,0 +1,65 @@
+-- A disk whose last gate is loose: each image has any byte there, and with it the last record or not.
+use Rattle.std.proofs.Common.{◌≡◌, ◌⊎◌, ℕ, ◌==◌, true, List, [], ◌∷◌, ◌++◌, refl, ap, sym, subst, ◌∙◌, inl, inr, arith}
+use Rattle.std.proofs.lemmas.Bool.{cases_Bool, eqb-true, eq-eqb, false≢true}
+use Rattle.hail_devices.specs.Cells.{firm}
+use Rattle.hail_devices.specs.Disks.{Stopped}
+use Rattle.hail_devices.specs.Images.{IsImage}
+use Rattle.hail_records.specs.Records.{PutDone}
+use Rattle.hail_records.specs.Spellings.{spelling}
+use Rattle.hail_records.specs.Journal.{text, before_gate, StandsFor}
+use Rattle.command_laws.proofs.Images.{image-firm}
+use Rattle.command_runs.specs.Devices.{started_records, byte_records}
+use Rattle.command_runs.proofs.Stores.{started-fit, byte-fit}
+
+-- an image of bytes around a loose one
+any-gate : (a b : List ℕ) (g : ℕ) (image : List ℕ) → IsImage (firm a ++ (g, true) ∷ firm b) image → (x : ℕ) × (image ≡ a ++ x ∷ b)
+any-gate [] b g [] is = absurd is
+any-gate [] b g (i ∷ image) is = (i, ap (λ l. i ∷ l) (image-firm b image is.1))
+any-gate (x ∷ a) b g [] is = absurd is
+any-gate (x ∷ a) b g (i ∷ image) is = (let r = any-gate a b g image is.1 in (r.0, λ k. is.0 refl k ∷ r.1 k))
+
+-- any byte may stand there
+pub gate-image : (a b : List ℕ) (g x : ℕ) → IsImage (firm a ++ (g, true) ∷ firm b) (a ++ x ∷ b)
+gate-image [] [] g x = (λ e. absurd (false≢true (sym e)), tt)
+gate-image [] (y ∷ b) g x = (λ e. absurd (false≢true (sym e)), firm-image (y ∷ b))
+  where
+    firm-image : (bs : List ℕ) → IsImage (firm bs) bs
+    firm-image [] = tt
+    firm-image (z ∷ bs) = (λ e. refl, firm-image bs)
+gate-image (y ∷ a) b g x = (λ e. refl, gate-image a b g x)
+
+-- the last record with its closed gate
+abbrev behind : List ℕ
+behind = spelling (PutDone 1 1) ++ 0 ∷ []
+
+whole : before_gate started_records ++ 1 ∷ behind ≡ text byte_records
+unfolding spelling
+whole = refl
+
+by_gate : (x : ℕ) (image : List ℕ) → image ≡ before_gate started_records ++ x ∷ behind → StandsFor image started_records ⊎ StandsFor image byte_records
+by_gate x image is = elim (cases_Bool (x == 1)) [
+  | inl t ↦ inr (record {
+    in_grammar = byte-fit.all;
+    gate = 0;
+    rest = [];
+    closed = λ e. omega (arith, e);
+    bytes_are = is ∙ (ap (λ g. before_gate started_records ++ g ∷ behind) (eqb-true x 1 t) ∙ whole);
+  })
+  | inr f ↦ inl (record {
+    in_grammar = started-fit.all;
+    gate = x;
+    rest = behind;
+    closed = λ e. false≢true (sym f ∙ eq-eqb x 1 e);
+    bytes_are = is;
+  })
+]
+
+pub torn-image : (image : List ℕ) → IsImage (firm (before_gate started_records) ++ (1, true) ∷ firm behind) image → StandsFor image started_records ⊎ StandsFor image byte_records
+torn-image image is = (let r = any-gate (before_gate started_records) behind 1 image is in by_gate r.0 image r.1)
+
+-- a stop may leave the gate closed, or open
+pub stopped-closed : Stopped (firm (before_gate started_records) ++ (1, true) ∷ firm behind) (firm (before_gate started_records ++ 0 ∷ behind))
+stopped-closed = (before_gate started_records ++ 0 ∷ behind, gate-image (before_gate started_records) behind 1 0, refl)
+
+pub stopped-open : Stopped (firm (before_gate started_records) ++ (1, true) ∷ firm behind) (firm (text byte_records))
+stopped-open = (text byte_records, subst (IsImage (firm (before_gate started_records) ++ (1, true) ∷ firm behind)) whole (gate-image (before_gate started_records) behind 1 1), refl)

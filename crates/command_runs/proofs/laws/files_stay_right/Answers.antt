@@ -1,0 +1,39 @@
+use Rattle.std.proofs.Common.{refl, inl, inr, false, arith}
+use Rattle.hail_machine.specs.Jobs.{PutJob, AuditJob}
+use Rattle.hail_commands.specs.Forms.{PutUnder, AuditAll}
+use Rattle.hail_commands.specs.Puts.{put_records}
+use Rattle.hail_commands.specs.Audits.{audit_records}
+use Rattle.command_runs.specs.Devices.{named, byte, counts, other_name, four_records, byte_records, both_records, audited_records, to_put, stored, to_put_other, stored_other, damaged, audited, answers_heard, due, repaired, ends, ends_hearing}
+use Rattle.command_runs.proofs.StoredPut.{answers as put}
+use Rattle.command_runs.proofs.DoneAudit.{answers as audit}
+use Rattle.command_runs.proofs.DoneRepair.{answers as repair}
+use Rattle.command_runs.proofs.OtherPut.{answers as other_put}
+use Rattle.command_runs.proofs.Stores.{put-old, damaged-sure, audited-new, due-sure, to_put_other-sure}
+use Rattle.command_runs.proofs.Meets.{second, none-tell, three-tell, due-file, damaged-file, kept-file, repair-steady, other-name}
+use Rattle.command_runs.proofs.laws.files_stay_right.Goals as goal
+
+pub returns-clause-put : goal.returns-clause-put
+returns-clause-put c = c.files_stay.ensures.put named byte four_records (λ j. false) to_put stored (ends 0) put (inl refl) put-old.known refl (λ j l s. none-tell j l)
+
+pub returns-clause-audit : goal.returns-clause-audit
+returns-clause-audit c = c.files_stay.ensures.reads AuditAll named byte byte_records audited_records second damaged audited (ends_hearing 0 answers_heard) audit refl damaged-file
+    (inr (record { kind = AuditJob; of_command = refl; own = audit_records byte_records 0 counts; are_own = (0, counts, refl); count = 2; after_is = refl }))
+
+pub returns-clause-other : goal.returns-clause-other
+returns-clause-other c = c.files_stay.ensures.others (PutUnder other_name) named byte byte_records both_records (λ j. false) to_put_other stored_other (ends 0) other_put
+    other-name to_put_other-sure.known kept-file
+    (inr (record {
+      kind = PutJob other_name byte;
+      of_command = (byte, record { are_bytes = refl; front = refl; few = omega arith; end = λ l. refl }, refl);
+      own = put_records byte_records other_name 1;
+      are_own = refl;
+      count = 2;
+      after_is = refl;
+    }))
+
+pub returns-clause-repair : goal.returns-clause-repair
+returns-clause-repair c = c.files_stay.ensures.repair named byte audited_records (record { number = 1; counts = counts }) second due repaired (ends 0) repair (inl refl) due-sure.known refl due-file
+    (repair-steady second) (omega arith) (λ j l f. three-tell j l)
+
+pub returns-clause-heard : goal.returns-clause-heard
+returns-clause-heard c = c.audits_in_effect_count_what_they_heard.ensures byte_records 0 counts damaged audited audited (ends_hearing 0 answers_heard) audit damaged-sure (record { disk = inl refl; handed = refl }) audited-new.known

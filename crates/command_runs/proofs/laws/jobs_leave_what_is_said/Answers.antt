@@ -1,0 +1,35 @@
+use Rattle.std.proofs.Common.{refl, inl}
+use Rattle.command_runs.specs.Devices.{named, to_put, stored, put_failed, kept, dropped, all_lost, found_lost, due_lost, repair_lost, no_blocks, damaged, audited, answers_heard, due, repaired, repair_failed, ends, ends_at, ends_hearing}
+use Rattle.command_runs.proofs.StoredPut.{answers as put}
+use Rattle.command_runs.proofs.DoneDrop.{answers as drop}
+use Rattle.command_runs.proofs.DoneAudit.{answers as audit}
+use Rattle.command_runs.proofs.DoneRepair.{answers as repair}
+use Rattle.command_runs.proofs.FailedPut.{answers as failed_put}
+use Rattle.command_runs.proofs.FailedRepair.{answers as failed_repair}
+use Rattle.command_runs.proofs.LostGet.{answers as lost_get}
+use Rattle.command_runs.proofs.LostRepair.{answers as lost_repair}
+use Rattle.command_runs.proofs.laws.jobs_leave_what_is_said.Goals as goal
+
+pub returns-clause-put : goal.returns-clause-put
+returns-clause-put c = c.puts_store_the_source.ensures.done named to_put stored (ends 0) put (inl refl)
+
+pub returns-clause-drop : goal.returns-clause-drop
+returns-clause-drop c = c.drops_take_the_file_away.ensures.done named kept dropped (ends 0) drop (inl refl)
+
+pub returns-clause-audit : goal.returns-clause-audit
+returns-clause-audit c = c.audits_count_what_they_hear.ensures.done damaged audited (ends_hearing 0 answers_heard) audit (inl refl)
+
+pub returns-clause-repair : goal.returns-clause-repair
+returns-clause-repair c = c.repairs_write_anew.ensures.done due repaired (ends 0) repair (inl refl)
+
+pub returns-clause-failed_put : goal.returns-clause-failed_put
+returns-clause-failed_put c = c.failed_stores_leave.ensures.put named to_put put_failed (ends 13) failed_put refl
+
+pub returns-clause-failed_repair : goal.returns-clause-failed_repair
+returns-clause-failed_repair c = c.failed_stores_leave.ensures.repair due repair_failed (ends_at 13 2) failed_repair refl
+
+pub returns-clause-lost_file : goal.returns-clause-lost_file
+returns-clause-lost_file c = c.lost_rows_are_told.ensures.get named all_lost found_lost (ends_hearing 4 no_blocks) lost_get refl
+
+pub returns-clause-lost_repair : goal.returns-clause-lost_repair
+returns-clause-lost_repair c = c.lost_rows_are_told.ensures.repair due_lost repair_lost (ends 4) lost_repair refl

@@ -1,0 +1,73 @@
+use Rattle.command_runs.proofs.StoredPut.{answers as stored_put}
+use Rattle.command_runs.proofs.FailedPut.{answers as put_failed}
+use Rattle.command_runs.proofs.CutPut.{answers as put_cut}
+use Rattle.command_runs.proofs.NoRoomPut.{answers as put_unmade}
+use Rattle.command_runs.proofs.OtherPut.{answers as other_put}
+use Rattle.command_runs.proofs.HiddenPut.{answers as hidden_put}
+use Rattle.command_runs.proofs.HiddenGet.{answers as hidden_get}
+use Rattle.command_runs.proofs.DoneDrop.{answers as dropped}
+use Rattle.command_runs.proofs.LostGet.{answers as get_lost}
+use Rattle.command_runs.proofs.LostRepair.{answers as repair_lost}
+use Rattle.command_runs.proofs.DoneAudit.{answers as audited}
+use Rattle.command_runs.proofs.DoneRepair.{answers as repaired}
+use Rattle.command_runs.proofs.FailedRepair.{answers as repair_failed}
+use Rattle.command_runs.proofs.DoneGet.{answers as got}
+use Rattle.command_runs.proofs.TornPut.{answers as torn_put}
+use Rattle.command_runs.proofs.CutDrop.{answers as cut_drop}
+use Rattle.command_runs.proofs.CutAudit.{answers as cut_audit}
+use Rattle.command_runs.proofs.CutRepair.{answers as cut_repair}
+use Rattle.command_runs.proofs.runs.commands_end.Goals as goal
+
+pub returns-clause-put : goal.returns-clause-put
+returns-clause-put c = stored_put
+
+pub returns-clause-failed_put : goal.returns-clause-failed_put
+returns-clause-failed_put c = put_failed
+
+pub returns-clause-cut_put : goal.returns-clause-cut_put
+returns-clause-cut_put c = put_cut
+
+pub returns-clause-unmade_put : goal.returns-clause-unmade_put
+returns-clause-unmade_put c = put_unmade
+
+pub returns-clause-drop : goal.returns-clause-drop
+returns-clause-drop c = dropped
+
+pub returns-clause-lost_get : goal.returns-clause-lost_get
+returns-clause-lost_get c = get_lost
+
+pub returns-clause-lost_repair : goal.returns-clause-lost_repair
+returns-clause-lost_repair c = repair_lost
+
+pub returns-clause-audit : goal.returns-clause-audit
+returns-clause-audit c = audited
+
+pub returns-clause-repair : goal.returns-clause-repair
+returns-clause-repair c = repaired
+
+pub returns-clause-failed_repair : goal.returns-clause-failed_repair
+returns-clause-failed_repair c = repair_failed
+
+pub returns-clause-get : goal.returns-clause-get
+returns-clause-get c = got
+
+pub returns-clause-other_put : goal.returns-clause-other_put
+returns-clause-other_put c = other_put
+
+pub returns-clause-hidden_put : goal.returns-clause-hidden_put
+returns-clause-hidden_put c = hidden_put
+
+pub returns-clause-hidden_get : goal.returns-clause-hidden_get
+returns-clause-hidden_get c = hidden_get
+
+pub returns-clause-torn_put : goal.returns-clause-torn_put
+returns-clause-torn_put c = torn_put
+
+pub returns-clause-cut_drop : goal.returns-clause-cut_drop
+returns-clause-cut_drop c = cut_drop
+
+pub returns-clause-cut_audit : goal.returns-clause-cut_audit
+returns-clause-cut_audit c = cut_audit
+
+pub returns-clause-cut_repair : goal.returns-clause-cut_repair
+returns-clause-cut_repair c = cut_repair

@@ -1,0 +1,17 @@
+-- A job that runs alone from some state.
+--
+--   RunsSomewhere kind answer heard == from some state whose vault was just opened a job of this kind runs to this answer and hears this
+use Rattle.std.specs.Prelude.{List}
+use Rattle.hail_machine.specs.Jobs.{Kind}
+use Rattle.hail_machine.specs.Answers.{Answer}
+use Rattle.hail_machine.specs.Heard.{Entry}
+use Rattle.hail_machine.specs.States.{State}
+use Rattle.hail_commands.specs.JobRuns.{RunsJob}
+use Rattle.lone_laws.specs.Walked.{IsOpened}
+
+-- from some state just opened a job runs to its end
+pub record RunsSomewhere (kind : Kind) (answer : Answer) (heard : List Entry) : Type 0 where
+  pub start : State
+  pub last : State
+  pub opened : IsOpened start
+  pub runs : RunsJob start 0 kind answer heard last

@@ -1,0 +1,143 @@
+//! What the laws on commands say of the commands given outright: each premise is met, and the law is called.
+ghost use Rattle.std.specs.Prelude.{◌≡◌, ◌⊎◌, ◌==◌, ◌&&◌, ◌<◌, ℕ, false, not, List, [], ◌∷◌, length, replicate, Some, None};
+ghost use Rattle.hail_field.specs.Shape.{IsShape};
+ghost use Rattle.hail_codes.specs.Points.{upto};
+ghost use Rattle.hail_codes.specs.DispersalCode.{AcceptsNone};
+ghost use Rattle.hail_columns.specs.Verdicts.{is_flagged};
+ghost use Rattle.hail_devices.specs.Cells.{firm};
+ghost use Rattle.hail_records.specs.Records.{Record, is_setup};
+ghost use Rattle.hail_machine.specs.Jobs.{AuditJob, RepairJob};
+ghost use Rattle.hail_machine.specs.Refusals.{RepairDue as DueRefusal, NothingDue};
+ghost use Rattle.hail_commands.specs.Forms.{PutUnder, GetOf, DropOf, ListAll, RepairDue as RepairCommand};
+ghost use Rattle.hail_commands.specs.Keys.{IsKeyForm};
+ghost use Rattle.hail_commands.specs.Openings.{journal_read, IsBadStart, IsBadInit, IsSetUpAlready};
+ghost use Rattle.hail_commands.specs.Inits.{setup_with};
+ghost use Rattle.hail_commands.specs.Refusals.{refusal_of};
+ghost use Rattle.hail_commands.specs.Audits.{HearsRounds, CountsHeard};
+ghost use Rattle.command_laws.specs.Ends.{IsKnown, IsPut, IsDropped, IsAudited, IsRepaired, FaultsHaveCauses, EndsInOrder, EndsWell, HoldsFile, ran_to, after_put, after_audit, after_repair};
+ghost use Rattle.command_laws.specs.Kept.{FailsToPut, FailsToRepair, LosesFile, LosesRepair, LeavesImages, after_start};
+ghost use Rattle.command_laws.specs.After.{IsSure, IsThen, HasFile};
+ghost use Rattle.command_runs.specs.Devices.{with_source, named, byte, other_name, key_text, four_records, byte_records, audited_records, good_numbers, bad_numbers, to_put, stored, put_failed, put_cut, put_torn, put_gone, drop_cut, audit_cut, repair_cut, kept, dropped, all_lost, found_lost, due_lost, repair_lost, no_blocks, damaged, audited, answers_heard, due, repaired, repair_failed, mended, got, blocks_heard, after_drop, disk_failed, scrambled, hidden, hidden_fetched, counts, both_records, stored_other, ends, ends_at, ends_hearing};
+
+use command_laws::after::{
+    audits_in_effect_count_what_they_heard, done_commands_leave_known_stores, files_stay,
+    gets_tell_what_stands, put_files_are_got, stores_stay_known,
+};
+use command_laws::ends::{
+    audits_count_what_they_hear, drops_take_the_file_away, faults_have_causes, gets_give_the_file,
+    puts_store_the_source, refusals_are_exact, repairs_write_anew, unopened_stores_are_told,
+};
+use command_laws::inits::{init_refusals_are_exact, lists_give_the_files};
+use command_laws::kept::{failed_stores_leave, images_stand, lost_rows_are_told};
+use command_laws::statuses::rows_have_causes;
+
+/// What commands have done that are done, and what such leave whose store failed or that found a row lost.
+pub fn jobs_leave_what_is_said()
+    ensures put { IsPut named to_put stored (ends 0) }
+    ensures drop { IsDropped named kept dropped (ends 0) }
+    ensures audit { IsAudited damaged audited (ends_hearing 0 answers_heard) }
+    ensures repair { IsRepaired due repaired (ends 0) }
+    ensures failed_put { FailsToPut named to_put put_failed (ends 13) }
+    ensures failed_repair { FailsToRepair due repair_failed (ends_at 13 2) }
+    ensures lost_file { LosesFile named all_lost found_lost (ends_hearing 4 no_blocks) }
+    ensures lost_repair { LosesRepair due_lost repair_lost (ends 4) }
+{
+    puts_store_the_source();
+    drops_take_the_file_away();
+    audits_count_what_they_hear();
+    repairs_write_anew();
+    failed_stores_leave();
+    lost_rows_are_told();
+}
+
+/// The causes of the statuses of faults, of stores that are not opened, of refusals and of a lost row; and of the ends over devices that tell
+/// nothing.
+pub fn statuses_have_their_causes()
+    ensures disk { FaultsHaveCauses kept (disk_failed kept) (ends 12) }
+    ensures provider { FaultsHaveCauses to_put put_failed (ends 13) }
+    ensures source { FaultsHaveCauses to_put (record to_put { source_faults = 1 }) (ends 14) }
+    ensures sink { FaultsHaveCauses kept (record kept { sink_faults = 1 }) (ends 15) }
+    ensures bad_journal { (9 < length (journal_read (firm (replicate 12 0)))) × IsBadStart (journal_read (firm (replicate 12 0))) 0 }
+    ensures repair_due { refusal_of audited_records AuditJob ≡ Some DueRefusal }
+    ensures nothing_due { refusal_of byte_records RepairJob ≡ Some NothingDue }
+    ensures row { IsShape 4 1 1 × AcceptsNone (upto 4) (None ∷ None ∷ Some 7 ∷ Some 9 ∷ []) 1 1 }
+    ensures hidden_get { EndsInOrder (GetOf other_name) hidden hidden (ends 3) ⊎ LosesFile other_name hidden hidden (ends 3) }
+    ensures hidden_put { EndsInOrder (PutUnder named) hidden hidden (ends 0) }
+    ensures hidden_lost { EndsInOrder (GetOf named) hidden hidden_fetched (ends_hearing 4 no_blocks)
+        ⊎ LosesFile named hidden hidden_fetched (ends_hearing 4 no_blocks) }
+    ensures hidden_repair { EndsInOrder RepairCommand hidden hidden (ends 7) ⊎ LosesRepair hidden hidden (ends 7) }
+    ensures hidden_list { EndsInOrder ListAll hidden hidden (ends 0) }
+{
+    faults_have_causes();
+    unopened_stores_are_told();
+    refusals_are_exact();
+    rows_have_causes();
+    gets_give_the_file();
+    puts_store_the_source();
+    repairs_write_anew();
+    lists_give_the_files();
+}
+
+/// The causes of the refusals of an init.
+pub fn inits_have_their_causes()
+    ensures bad_setup { is_setup (setup_with bad_numbers []) ≡ false }
+    ensures bad_key { (key : List ℕ) → IsKeyForm [] key → ⊥ }
+    ensures bad_journal { (9 < length (journal_read (firm (replicate 12 0)))) × IsBadInit (journal_read (firm (replicate 12 0))) 0 }
+{
+    init_refusals_are_exact();
+}
+
+/// After a command that a fault of the disk cut off the store is known, also past a stop, be its last record then in effect or not. Where the end
+/// of a put is found in effect the file is whole; where that of a repair is, the flagged provider is right; where that of an audit is, it has
+/// counted what it heard. After a put whose store failed the records are those before, with its start.
+pub fn cut_commands_leave_known_stores()
+    ensures gone { (after : List Record) × IsKnown put_gone after × IsThen (PutUnder named) four_records to_put put_torn after }
+    ensures come { (after : List Record) × IsKnown put_cut after × IsThen (PutUnder named) four_records to_put put_torn after }
+    ensures dropped { (after : List Record) × IsKnown drop_cut after × IsThen (DropOf named) byte_records kept drop_cut after }
+    ensures put { HasFile put_torn (after_put four_records named 1) named byte (λ j. false) }
+    ensures repair { HasFile repair_cut (after_repair audited_records (record { number = 1; counts = counts })) named byte
+        (λ j. (j == 2) && not (is_flagged 0 counts j)) }
+    ensures audit { HearsRounds (ran_to (after_audit byte_records 0 counts) byte_records damaged audit_cut answers_heard) 1
+        × CountsHeard (ran_to (after_audit byte_records 0 counts) byte_records damaged audit_cut answers_heard) 1 0 counts }
+    ensures images { LeavesImages (PutUnder named) to_put put_torn }
+    ensures failed { IsSure put_failed (after_start four_records named) }
+{
+    stores_stay_known();
+    files_stay();
+    audits_in_effect_count_what_they_heard();
+    images_stand();
+    done_commands_leave_known_stores();
+}
+
+/// A put, an audit that finds the lost block, a repair that writes it anew, and a get that gives the file: also where another provider is
+/// spoilt by then. After a drop a get ends with 3.
+pub fn damage_is_mended()
+    ensures repaired { EndsWell byte mended got (ends_hearing 0 blocks_heard) }
+    ensures mended { EndsWell byte mended got (ends_hearing 0 blocks_heard) }
+    ensures dropped { ((ends 3).status ≡ 3) ⊎ ((ends 3).status ≡ 70) }
+{
+    put_files_are_got();
+}
+
+/// Files stay right: after the put, an audit, a put of another file and the repair; and what the audit counts it has heard.
+pub fn files_stay_right()
+    ensures put { HasFile stored (after_put four_records named 1) named byte (λ j. false) }
+    ensures audit { HasFile audited audited_records named byte (λ j. j == 2) }
+    ensures other { HasFile stored_other both_records named byte (λ j. false) }
+    ensures repair { HasFile repaired (after_repair audited_records (record { number = 1; counts = counts })) named byte
+        (λ j. (j == 2) && not (is_flagged 0 counts j)) }
+    ensures heard { HearsRounds (ran_to (after_audit byte_records 0 counts) byte_records damaged audited answers_heard) 1
+        × CountsHeard (ran_to (after_audit byte_records 0 counts) byte_records damaged audited answers_heard) 1 0 counts }
+{
+    files_stay();
+    audits_in_effect_count_what_they_heard();
+}
+
+/// The repair wrote the very block, since no more than one provider was wrong; and the get over what it left is complete.
+pub fn few_bad_providers_do_no_harm()
+    ensures rewritten { HoldsFile audited_records repaired byte (record { name = named; id = 1; size = 1 }) 2 }
+    ensures complete { EndsWell byte mended got (ends_hearing 0 blocks_heard) }
+{
+    repairs_write_anew();
+    gets_tell_what_stands();
+}

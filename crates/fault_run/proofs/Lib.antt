@@ -1,0 +1,5 @@
+pub mod Steps
+pub mod Run
+pub mod Points
+pub mod Parts
+pub mod LostGets

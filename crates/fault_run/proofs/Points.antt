@@ -1,0 +1,220 @@
+-- The places in the run, computed.
+use Rattle.std.proofs.Common.{◌≡◌, ℕ, suc, Bool, true, false, ◌&&◌, List, [], ◌∷◌, Option, Some, None, refl, ap, sym, subst, ◌∙◌, inl, arith}
+use Rattle.std.specs.Prelude.{not, take}
+use Rattle.std.specs.Option.{option_map}
+use Rattle.std.proofs.lemmas.Bool.{and_parts, false≢true}
+use Rattle.poly_laws.specs.Poly.{is_seen as is_seen_over}
+use Rattle.hail_codes.specs.Polynomials.{value, is_seen}
+use Rattle.hail_columns.specs.Objects.{point}
+use Rattle.hail_columns.specs.Challenges.{bare_answer}
+use Rattle.hail_devices.specs.Providers.{Held}
+use Rattle.hail_records.specs.Records.{Record}
+use Rattle.hail_machine.specs.Jobs.{Given, Fetched, Answered, Job}
+use Rattle.hail_machine.specs.Actions.{Fetch, Ask, Remove, actions_of}
+use Rattle.hail_machine.specs.Answers.{Got}
+use Rattle.hail_machine.specs.Events.{Event, Continue}
+use Rattle.hail_machine.specs.States.{Doubt, setup_in}
+use Rattle.hail_machine.specs.Runs.{Moment, first_moments}
+use Rattle.hail_machine.specs.Failures.{OfOthers}
+use Rattle.hail_machine.specs.Heard.{NoneContinues}
+use Rattle.hail_machine.specs.Survival.{takes_out, NeverTakenOut}
+use Rattle.hail_machine.proofs.RunParts.{job_at, append_at}
+use Rattle.damage_run.specs.Schedule.{name, byte}
+use Rattle.damage_run.specs.Points.{at}
+use Rattle.damage_run.proofs.Values.{thing, block, block_sized, right, same_first, asked, decider, agrees_at}
+use Rattle.damage_run.proofs.CalmRun.{calm_by_test, outright}
+use Rattle.damage_run.proofs.Points.{doubt_at, maker_of, the_file, last_of}
+use Rattle.fault_run.specs.Faults.{IsFaulty}
+use Rattle.fault_run.specs.Met.{Fails, HasFaults}
+use Rattle.fault_run.proofs.Run.{moments, is_run}
+
+pub faulty : IsFaulty moments
+unfolding setup_in
+faulty = record {
+  clean = outright.clean;
+  tell = λ j. refl;
+  run = is_run;
+  calm = calm_by_test (λ moments. 0) moments refl;
+  happens = refl;
+}
+
+-- event k
+abbrev pub event_at : ℕ → Moment
+event_at k = last_of (first_moments (suc k) moments)
+
+-- ---- what failed calls gave
+
+abbrev newest_given : Option Job → Option Given
+newest_given None = None
+newest_given (Some job) = first job.given
+  where
+    first : List Given → Option Given
+    first [] = None
+    first (g ∷ gs) = Some g
+
+abbrev block_of : Option Given → Option (List ℕ)
+block_of (Some (Fetched j object stripe block)) = block
+block_of other = None
+
+abbrev symbol_of : Option Given → Option ℕ
+symbol_of (Some (Answered j object round symbol)) = symbol
+symbol_of other = None
+
+no_block : (seen : Option (List ℕ)) → None ≡ seen → seen ≡ Some (block 0) → ⊥
+no_block seen none some = (let e : None ≡ Some (block 0) = none ∙ some in absurd (cc e))
+
+fetch_fails : Fails moments 16 (OfOthers 0)
+unfolding setup_in actions_of
+fetch_fails = record {
+  moment = event_at 16;
+  happened = record { is = refl };
+  failure = record {
+    job = job_at (at 16 moments) 2;
+    action = Fetch 0 1 0;
+    makes = record { event = refl; is_open = refl; unbarred = refl; runs = refl; next = refl; unheld = refl };
+    amiss = (refl, λ seen goes gives. no_block seen (ap (λ job. block_of (newest_given job)) goes) (gives ∙ sym (block_sized 0)));
+  };
+}
+
+-- the right answer is there
+seen_none : (v : ℕ) → is_seen v None ≡ false
+unfolding is_seen_over
+seen_none v = refl
+
+some_right : right 2 ≡ None → ⊥
+some_right none = false≢true (sym (seen_none (value decider (point thing 2))) ∙ subst (λ s. is_seen (value decider (point thing 2)) (bare_answer thing asked 2 s) ≡ true) none (agrees_at 2))
+
+ask_fails : Fails moments 55 (OfOthers 2)
+unfolding setup_in actions_of
+ask_fails = record {
+  moment = event_at 55;
+  happened = record { is = refl };
+  failure = record {
+    job = job_at (at 55 moments) 6;
+    action = Ask 2 1 0;
+    makes = record { event = refl; is_open = refl; unbarred = refl; runs = refl; next = refl; unheld = refl };
+    amiss = (refl, λ symbol goes gives. some_right (same_first _ _ refl ∙ sym (ap (λ job. symbol_of (newest_given job)) goes ∙ gives)));
+  };
+}
+
+still_there : Some (Some (block 3)) ≡ Some None → ⊥
+still_there e = absurd (cc e)
+
+abbrev first_block : Option Held → Option (Option (List ℕ))
+first_block held = option_map (λ h. h 1 0) held
+
+removal_fails : Fails moments 71 (OfOthers 3)
+unfolding setup_in actions_of
+removal_fails = record {
+  moment = event_at 71;
+  happened = record { is = refl };
+  failure = record {
+    job = job_at (at 71 moments) 7;
+    action = Remove 3 1;
+    makes = record { event = refl; is_open = refl; unbarred = refl; runs = refl; next = refl; unheld = refl };
+    amiss = (refl, λ gone. still_there (ap first_block gone));
+  };
+}
+
+-- ---- the first file stays
+
+abbrev is_left : List ℕ → List Record → Option Doubt → Bool
+is_left called rs None = true
+is_left called rs (Some d) = not (takes_out rs called d.entry)
+
+abbrev is_never_out : List ℕ → List Moment → Bool
+is_never_out called [] = true
+is_never_out called (m ∷ ms) = is_left called m.state.records m.state.doubt && is_never_out called ms
+
+from_not : (b : Bool) → not b ≡ true → b ≡ false
+from_not true h = absurd (false≢true h)
+from_not false h = refl
+
+left_by_test : (called : List ℕ) (rs : List Record) (doubt : Option Doubt) → is_left called rs doubt ≡ true → (d : Doubt) → doubt ≡ Some d → takes_out rs called d.entry ≡ false
+left_by_test called rs None h d e = (let f : None ≡ Some d = e in cc)
+left_by_test called rs (Some c) h d e = (let f : c ≡ d = cc in subst (λ (x : Doubt). takes_out rs called x.entry ≡ false) f (from_not (takes_out rs called c.entry) h))
+
+never_by_test : (called : List ℕ) (ms : List Moment) → is_never_out called ms ≡ true → NeverTakenOut called ms
+never_by_test called [] h = tt
+never_by_test called (m ∷ ms) h = (let p = and_parts (is_left called m.state.records m.state.doubt) (is_never_out called ms) h in
+    (left_by_test called m.state.records m.state.doubt p.0, never_by_test called ms p.1))
+
+-- ---- no later call of the program begins
+
+abbrev continues : Event → Bool
+continues Continue = true
+continues event = false
+
+abbrev goes_on : List Moment → Bool
+goes_on [] = true
+goes_on (m ∷ ms) = not (continues m.event) && goes_on ms
+
+none_by_test : (ms : List Moment) → goes_on ms ≡ true → NoneContinues ms
+none_by_test [] h = tt
+none_by_test (m ∷ ms) h = (let p = and_parts (not (continues m.event)) (goes_on ms) h in
+    (λ e. false≢true (sym (from_not (continues m.event) p.0) ∙ ap continues e), none_by_test ms p.1))
+
+-- ---- all of them
+
+abbrev pub after_first : List Moment
+after_first = take 49 (first_moments 63 moments)
+
+abbrev pub after_second : List Moment
+after_second = take 12 (first_moments 60 moments)
+
+pub faults : HasFaults moments
+unfolding setup_in actions_of
+faults = record {
+  fetch_fails = fetch_fails;
+  store_fails = record { moment = event_at 26; happened = record { is = refl }; failure = refl };
+  sync_fails = record { moment = event_at 35; happened = record { is = refl }; failure = tt };
+  reopening_fails = record { moment = event_at 38; happened = record { is = refl }; failure = tt };
+  ask_fails = ask_fails;
+  removal_fails = removal_fails;
+  get_missed = record { job = job_at (at 20 moments) 2; runs = refl; number_is = refl; kind_is = refl; pinned = (0, omega arith, refl); provider_in = omega arith; stripe_in = omega arith; missed = (3, omega arith, refl) };
+  get_rose = λ low. omega arith;
+  get_lost = record { moment = event_at 20; is = refl; event = refl; outcome = refl };
+  must_reopen = record { moment = event_at 36; happened = record { is = refl }; event = refl; outcome = refl; file = the_file; in_effect = refl };
+  no_memory = record { moment = event_at 40; happened = record { is = refl }; event = refl; outcome = refl; file = the_file; in_effect = refl };
+  cut_in_doubt = record { doubt = doubt_at (at 37 moments); in_doubt = refl; entry_is = refl; job = maker_of (doubt_at (at 37 moments)); maker = refl };
+  cut_ended = refl;
+  stop = event_at 37;
+  stopped = record { is = refl };
+  cut_settled = refl;
+  cut_in_effect = refl;
+  later = after_first;
+  came_moment = event_at 13;
+  first_split = refl;
+  first_came = record { done = refl; started = refl; named = refl };
+  never_out = never_by_test name after_first refl;
+  first_got = record { moment = event_at 47; is = refl; event = refl; outcome = refl };
+  has_stored = inl (record {
+    job = job_at (at 6 moments) 1;
+    name = name;
+    bytes = byte;
+    provider = 0;
+    stripe = 0;
+    makes = record { event = refl; is_open = refl; unbarred = refl; runs = refl; next = refl; unheld = refl };
+    puts = refl;
+    begun_is = refl;
+  });
+  has_asked = inl (record {
+    job = job_at (at 53 moments) 6;
+    provider = 0;
+    makes = record { event = refl; is_open = refl; unbarred = refl; runs = refl; next = refl; unheld = refl };
+    audits = refl;
+    begun_is = refl;
+    number_is = refl;
+  });
+  end_in_flight = record { append = append_at (at 58 moments); in_flight = refl; entry_is = refl; job = job_at (at 58 moments) 6; runs = refl };
+  after_get = after_second;
+  reported = record {
+    moment = event_at 47;
+    job = job_at (at 47 moments) 5;
+    before = first_moments 47 moments;
+    split = refl;
+    ends = record { answer = Got byte; event = refl; outcome = refl; runs = refl };
+    none_continues = none_by_test after_second refl;
+  };
+  begun_anew = refl;
+}

@@ -1,0 +1,14 @@
+use Rattle.hail_machine.specs.Examples.{set_up}
+use Rattle.fault_run.proofs.laws.headline_of_it.Goals as goal
+
+pub returns-clause-headline : goal.returns-clause-headline
+returns-clause-headline c = λ ms f. c.every_run_keeps_the_headline.ensures 8 set_up ms f.clean f.run
+
+pub returns-clause-mark : goal.returns-clause-mark
+returns-clause-mark c = λ ms f. c.the_start_is_a_mark.ensures 8 set_up ms f.clean f.tell f.run f.calm
+
+pub returns-clause-halves : goal.returns-clause-halves
+returns-clause-halves c = λ ms f. (
+  (c.every_run_keeps_the_headline.ensures 8 set_up ms f.clean f.run).gets_are_right,
+  c.any_mark_will_do.ensures 8 (λ moments. 0) set_up ms (c.the_start_is_a_mark.ensures 8 set_up ms f.clean f.tell f.run f.calm),
+)

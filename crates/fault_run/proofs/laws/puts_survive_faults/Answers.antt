@@ -1,0 +1,20 @@
+use Rattle.std.proofs.Common.{sym, subst}
+use Rattle.hail_machine.specs.Runs.{IsRun, now, first_moments}
+use Rattle.hail_machine.specs.Survival.{IsKept}
+use Rattle.hail_machine.specs.Examples.{set_up}
+use Rattle.run_laws.proofs.FirstHalf.{first_run}
+use Rattle.damage_run.specs.Schedule.{name}
+use Rattle.fault_run.proofs.Parts.{run_to}
+use Rattle.fault_run.proofs.laws.puts_survive_faults.Goals as goal
+
+pub returns-clause-in_doubt : goal.returns-clause-in_doubt
+returns-clause-in_doubt c = λ ms f h. (let d = h.cut_in_doubt in let law = c.done_puts_are_whole.ensures.in_doubt 8 set_up (first_moments 37 ms) d.doubt 3 0 f.clean (first_run 8 set_up 37 ms f.run) d.in_doubt d.entry_is in
+    (law.0, law.2))
+
+pub returns-clause-settled : goal.returns-clause-settled
+returns-clause-settled c = λ ms f h. c.done_puts_are_whole.ensures.came 8 set_up h.stop (first_moments 37 ms) 3 0 f.clean (run_to ms 37 h.stop f.run h.stopped) h.cut_settled
+
+pub returns-clause-first : goal.returns-clause-first
+returns-clause-first c = λ ms f h. subst (λ later. IsKept (now set_up later) name (record { name = name; id = 1; size = 1 })) (sym h.first_split)
+    (c.acknowledged_files_survive.ensures 8 set_up h.later (first_moments 13 ms) h.came_moment name (record { name = name; id = 1; size = 1 }) f.clean
+    (subst (IsRun 8 set_up) h.first_split (first_run 8 set_up 63 ms f.run)) h.first_came h.never_out)
