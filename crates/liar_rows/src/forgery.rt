@@ -1,5 +1,7 @@
 // A get over providers that are not to be trusted, whose other bytes prove a forgery.
-ghost use Rattle.std.specs.Prelude.{◌≡◌, ◌≢◌, Some, [], map, IfSome};
+ghost use Rattle.std.specs.Prelude.{◌≡◌, ◌≢◌, ◌≤◌, Some, [], length, map, IfSome};
+ghost use Rattle.hail_devices.specs.Cells.{reads};
+ghost use Rattle.hail_records.specs.Journal.{text};
 ghost use Rattle.hail_machine.specs.Heard.{HoldsForgery};
 ghost use Rattle.hail_machine.specs.Setups.{object_of};
 ghost use Rattle.hail_commands.specs.Forms.{IsForm, GetOf};
@@ -7,7 +9,7 @@ ghost use Rattle.hail_commands.specs.Seen.{Seen};
 ghost use Rattle.hail_commands.specs.Commands.{Answers};
 ghost use Rattle.vault.specs.Devices.{as_seen};
 ghost use Rattle.hail_top.specs.Endings.{seen, ending_of};
-ghost use Rattle.liar_rows.specs.Stored.{setup_of, bytes_of, name_of_file};
+ghost use Rattle.liar_rows.specs.Stored.{setup_of, bytes_of, name_of_file, records_of};
 
 use crate::laws::other_bytes_are_a_forgery;
 use crate::stored::Stored;
@@ -53,6 +55,30 @@ fn answer_get<P: Tamper>(
     Some(hail(alloc, words, disk, providers, &mut source, sink))
 }
 
+/// Gets the file of a store whose journal the disk reads: where it ended with 0 and wrote other bytes than the file's, what it heard holds a
+/// forgery against the file. Want of memory for the source is the one refusal.
+fn get_file<P: Tamper>(
+    alloc: Global,
+    stored: Stored,
+    words: &[String],
+    disk: &mut SureDisk,
+    providers: &mut Vec<P>,
+    sink: &mut SureSink,
+) -> Option<Report>
+    requires form { IsForm words.now (GetOf name_of_file) }
+    requires journal { reads disk.old ≡ text (records_of stored) }
+    requires enough { (setup_of stored).n ≤ length providers.old.items }
+    requires empty { sink.old ≡ [] }
+    ensures { IfSome result (λ report. report.status ≡ 0 → sink.new ≢ bytes_of stored →
+        HoldsForgery (object_of (setup_of stored) 1) (bytes_of stored) 1 (ending_of report).heard) }
+{
+    other_bytes_are_a_forgery();
+    match answer_get(alloc, words, disk, providers, sink) {
+        Some(report) => Some(report),
+        None => None,
+    }
+}
+
 /// What a get of the store's file gave and heard, where it ended with 0 and gave other bytes than the file's: then what it heard holds a
 /// forgery against the file, whatever the providers are. `None` where it ended otherwise, where the disk does not read the store's journal,
 /// and where too few providers are handed in.
@@ -65,13 +91,12 @@ pub fn get_other_bytes<P: Tamper>(
     ensures other { IfSome result (λ got. got.sink ≢ bytes_of stored) }
     ensures forged { IfSome result (λ got. HoldsForgery (object_of (setup_of stored) 1) (bytes_of stored) 1 (ending_of got.report).heard) }
 {
-    other_bytes_are_a_forgery();
     if disk.bytes() != stored.journal() || providers.len() < stored.providers() {
         return None;
     }
     let words = get_words(alloc)?;
     let mut sink = SureSink::new(alloc).ok()?;
-    let report = answer_get(alloc, &words, disk, providers, &mut sink)?;
+    let report = get_file(alloc, stored, &words, disk, providers, &mut sink)?;
     if report.status == 0 && sink.written() != stored.file() {
         Some(Gotten { sink, report })
     } else {
