@@ -10,6 +10,8 @@ mod provider_faults;
 #[cfg(test)]
 mod row;
 #[cfg(test)]
+mod set_up_images;
+#[cfg(test)]
 mod store;
 #[cfg(test)]
 mod stream_faults;

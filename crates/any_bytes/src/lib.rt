@@ -1,0 +1,4 @@
+//! Any bytes are answered for.
+#![tactic(auto)]
+
+pub mod laws;
