@@ -9,7 +9,7 @@ use Rattle.hail_records.specs.Records.{Record}
 use Rattle.hail_records.specs.Journal.{StandsFor}
 use Rattle.hail_records.specs.Reading.{IsNotSetUp}
 use Rattle.hail_records.specs.Acceptance.{AreAccepted}
-use Rattle.hail_commands.specs.Openings.{journal_read, IsRead, IsBadStart, IsBadInit, BeginsWithSetup}
+use Rattle.hail_openings.specs.Journals.{journal_read, IsRead, IsBadStart, IsBadInit, BeginsWithSetup}
 use Rattle.hail_commands.specs.Opens.{IsOpened, setup_at}
 use Rattle.hail_commands.specs.Seen.{Seen, Ending}
 

@@ -14,7 +14,7 @@ use Rattle.hail_machine.specs.Machine.{Happens}
 use Rattle.hail_machine.specs.Runs.{Moment}
 use Rattle.hail_machine.specs.States.{State, setup_in, with_provider}
 use Rattle.hail_commands.specs.Forms.{AuditAll}
-use Rattle.hail_commands.specs.Refusals.{refusal_of}
+use Rattle.hail_commands.specs.Refusals.{refusal_over}
 use Rattle.hail_commands.specs.JobRuns.{AreSteps}
 use Rattle.hail_commands.specs.Jobs.{RanAlone, RunsAlone, AnswersJob}
 use Rattle.hail_commands.specs.Commands.{AnswersAlone, Answers}
@@ -26,7 +26,7 @@ use Rattle.command_runs.proofs.Shape.{formed, form-is, one_byte, one_byte-is}
 use Rattle.command_runs.proofs.Stores.{damaged-sure as old-sure, audit_cut-new as new-sure}
 use Rattle.damage_run.proofs.Values.{right, same_first, no_answer, sums, judged}
 
-begins-none : refusal_of byte_records (AuditJob) ≡ None
+begins-none : refusal_over byte_records (AuditJob) ≡ None
 begins-none = refl
 
 module _ (w : State) (n : ℕ) (count : w.handed ≡ 4) where

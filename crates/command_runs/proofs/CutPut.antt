@@ -14,7 +14,7 @@ use Rattle.hail_machine.specs.Machine.{Happens}
 use Rattle.hail_machine.specs.Runs.{Moment}
 use Rattle.hail_machine.specs.States.{State, setup_in, with_provider}
 use Rattle.hail_commands.specs.Forms.{PutUnder}
-use Rattle.hail_commands.specs.Refusals.{refusal_of}
+use Rattle.hail_commands.specs.Refusals.{refusal_over}
 use Rattle.hail_commands.specs.JobRuns.{AreSteps}
 use Rattle.hail_commands.specs.Jobs.{RanAlone, RunsAlone, AnswersJob}
 use Rattle.hail_commands.specs.Commands.{AnswersPut, Answers}
@@ -26,7 +26,7 @@ use Rattle.command_runs.specs.Devices.{named, byte, four_records, started_record
 use Rattle.command_runs.proofs.Shape.{formed, form-is}
 use Rattle.command_runs.proofs.Stores.{put-old as old-sure, cut-new as new-sure}
 
-begins-none : refusal_of four_records (PutJob named byte) ≡ None
+begins-none : refusal_over four_records (PutJob named byte) ≡ None
 begins-none = put-begins four named byte refl (omega arith)
 
 module _ (w : State) (n : ℕ) (count : w.handed ≡ 4) where

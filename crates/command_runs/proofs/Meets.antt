@@ -9,7 +9,7 @@ use Rattle.hail_machine.specs.Setups.{object_of}
 use Rattle.hail_machine.specs.Examples.{four}
 use Rattle.hail_commands.specs.Seen.{provider_at}
 use Rattle.step_laws.proofs.GivesRight.{own_not_wrong}
-use Rattle.command_laws.specs.After.{HasFile, IsUntouched, IsSteady, is_wrong_at}
+use Rattle.command_laws.specs.After.{HasRightFile, IsUntouched, IsSteady, is_wrong_at}
 use Rattle.command_laws.specs.Failing.{bad_seen}
 use Rattle.command_laws.proofs.FilesStay.{bad-few}
 use Rattle.command_laws.proofs.Samples.{never-rises}
@@ -58,7 +58,7 @@ right-at (suc (suc zero)) l s = (let e : true ≡ false = s in absurd (cc e))
 right-at (suc (suc (suc zero))) l s = right_held 3
 right-at (suc (suc (suc (suc j)))) l s = absurd (omega (arith, l))
 
-pub due-file : HasFile due audited_records named byte second
+pub due-file : HasRightFile due audited_records named byte second
 due-file = record { file = record { name = named; id = 1; size = 1 }; in_effect = refl; are_bytes = refl; size = refl; right = right-at }
 
 -- between the put and the audit that block is lost; nothing else changes, and no count rises
@@ -112,7 +112,7 @@ right-kept (suc (suc zero)) l = right_held 2
 right-kept (suc (suc (suc zero))) l = right_held 3
 right-kept (suc (suc (suc (suc j)))) l = absurd (omega (arith, l))
 
-pub kept-file : HasFile to_put_other byte_records named byte (λ j. false)
+pub kept-file : HasRightFile to_put_other byte_records named byte (λ j. false)
 kept-file = record { file = record { name = named; id = 1; size = 1 }; in_effect = refl; are_bytes = refl; size = refl; right = λ j l s. right-kept j l }
 
 right-mended : (j : ℕ) → j < 4 → is_wrong_at repaired_records mended 1 byte j ≡ false
@@ -122,7 +122,7 @@ right-mended (suc (suc zero)) l = right_held 2
 right-mended (suc (suc (suc zero))) l = right_held 3
 right-mended (suc (suc (suc (suc j)))) l = absurd (omega (arith, l))
 
-pub mended-file : HasFile mended repaired_records named byte (λ j. false)
+pub mended-file : HasRightFile mended repaired_records named byte (λ j. false)
 mended-file = record { file = record { name = named; id = 1; size = 1 }; in_effect = refl; are_bytes = refl; size = refl; right = λ j l s. right-mended j l }
 
 right-damaged : (j : ℕ) → j < 4 → second j ≡ false → is_wrong_at byte_records damaged 1 byte j ≡ false
@@ -132,7 +132,7 @@ right-damaged (suc (suc zero)) l s = (let e : true ≡ false = s in absurd (cc e
 right-damaged (suc (suc (suc zero))) l s = right_held 3
 right-damaged (suc (suc (suc (suc j)))) l s = absurd (omega (arith, l))
 
-pub damaged-file : HasFile damaged byte_records named byte second
+pub damaged-file : HasRightFile damaged byte_records named byte second
 damaged-file = record { file = record { name = named; id = 1; size = 1 }; in_effect = refl; are_bytes = refl; size = refl; right = right-damaged }
 
 -- at most one provider is wrong for it, or failed

@@ -13,7 +13,7 @@ use Rattle.hail_machine.specs.Machine.{Happens}
 use Rattle.hail_machine.specs.Runs.{Moment}
 use Rattle.hail_machine.specs.States.{State, setup_in, with_provider}
 use Rattle.hail_commands.specs.Forms.{PutUnder}
-use Rattle.hail_commands.specs.Refusals.{refusal_of}
+use Rattle.hail_commands.specs.Refusals.{refusal_over}
 use Rattle.hail_commands.specs.JobRuns.{AreSteps}
 use Rattle.hail_commands.specs.Jobs.{RanAlone, RunsAlone, AnswersJob}
 use Rattle.hail_commands.specs.Commands.{AnswersPut, Answers}
@@ -24,7 +24,7 @@ use Rattle.command_runs.specs.Devices.{byte, byte_records, given_other, other_na
 use Rattle.command_runs.proofs.Shape.{formed, form-is}
 use Rattle.command_runs.proofs.Stores.{to_put_other-sure as old-sure, stored_other-sure as new-sure}
 
-begins-none : refusal_of byte_records (PutJob other_name byte) ≡ None
+begins-none : refusal_over byte_records (PutJob other_name byte) ≡ None
 begins-none = refl
 
 module _ (w : State) (n : ℕ) (count : w.handed ≡ 4) where

@@ -18,7 +18,7 @@ use Rattle.hail_machine.specs.Examples.{four}
 use Rattle.hail_machine.specs.Refusals as refusal
 use Rattle.hail_commands.specs.Forms.{RowOf, InitWith, PutUnder, GetOf, ListAll, AuditAll, RepairDue}
 use Rattle.hail_commands.specs.Keys.{IsKeyForm, longest_key}
-use Rattle.hail_commands.specs.Openings.{journal_read}
+use Rattle.hail_openings.specs.Journals.{journal_read}
 use Rattle.hail_commands.specs.Opens.{IsOpened, Unstarted}
 use Rattle.hail_records.specs.Records.{is_setup}
 use Rattle.hail_commands.specs.Inits.{setup_with, AnswersInit, InitsDisk}

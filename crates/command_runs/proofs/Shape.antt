@@ -13,7 +13,7 @@ use Rattle.hail_machine.proofs.JobLists.{cond_true, cond_false}
 use Rattle.hail_devices.specs.Images.{EachImage}
 use Rattle.hail_commands.specs.Seen.{Seen}
 use Rattle.hail_commands.specs.Opens.{setup_at}
-use Rattle.hail_commands.specs.JobRuns.{IsOpenedOver}
+use Rattle.hail_openings.specs.Opened.{IsOpenedOver}
 use Rattle.command_laws.specs.After.{IsSure}
 use Rattle.command_laws.proofs.Images.{image-firm}
 use Rattle.command_laws.proofs.Afterwards.{reads-firm}

@@ -9,14 +9,13 @@ use Rattle.hail_machine.specs.Heard.{Entry}
 use Rattle.hail_machine.specs.States.{State}
 use Rattle.hail_commands.specs.Seen.{Seen}
 use Rattle.hail_commands.specs.Opens as opens
-use Rattle.hail_commands.specs.JobRuns.{IsOpenedOver}
+use Rattle.hail_openings.specs.Opened.{IsOpenedOver, IsOpenAtRest}
 use Rattle.hail_commands.specs.Jobs.{RunsAlone}
-use Rattle.lone_laws.specs.Walked.{IsOpened}
 use Rattle.command_laws.specs.After.{IsSure}
 use Rattle.command_runs.specs.Lone.{RunsSomewhere}
 
 abbrev pub Opened : Type 0
-Opened = (w : State) (old : Seen) (records : List Record) (faults : ℕ) → opens.IsOpened old records → IsOpenedOver w records faults old.providers → IsOpened w
+Opened = (w : State) (old : Seen) (records : List Record) (faults : ℕ) → opens.IsOpened old records → IsOpenedOver w records faults old.providers → IsOpenAtRest w 1
 
 abbrev pub ThereIsOne : Type 0
 ThereIsOne = (records : List Record) (faults : ℕ) (providers : List Provider) → AreAccepted records → (w : State) × IsOpenedOver w records faults providers

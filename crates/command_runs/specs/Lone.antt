@@ -7,11 +7,11 @@ use Rattle.hail_machine.specs.Answers.{Answer}
 use Rattle.hail_machine.specs.Heard.{Entry}
 use Rattle.hail_machine.specs.States.{State}
 use Rattle.hail_commands.specs.JobRuns.{RunsJob}
-use Rattle.lone_laws.specs.Walked.{IsOpened}
+use Rattle.hail_openings.specs.Opened.{IsOpenAtRest}
 
 -- from some state just opened a job runs to its end
 pub record RunsSomewhere (kind : Kind) (answer : Answer) (heard : List Entry) : Type 0 where
   pub start : State
   pub last : State
-  pub opened : IsOpened start
+  pub opened : IsOpenAtRest start 1
   pub runs : RunsJob start 0 kind answer heard last

@@ -10,13 +10,13 @@ ghost use Rattle.hail_machine.specs.Jobs.{AuditJob, RepairJob};
 ghost use Rattle.hail_machine.specs.Refusals.{RepairDue as DueRefusal, NothingDue};
 ghost use Rattle.hail_commands.specs.Forms.{PutUnder, GetOf, DropOf, ListAll, RepairDue as RepairCommand};
 ghost use Rattle.hail_commands.specs.Keys.{IsKeyForm};
-ghost use Rattle.hail_commands.specs.Openings.{journal_read, IsBadStart, IsBadInit, IsSetUpAlready};
+ghost use Rattle.hail_openings.specs.Journals.{journal_read, IsBadStart, IsBadInit, IsSetUpAlready};
 ghost use Rattle.hail_commands.specs.Inits.{setup_with};
-ghost use Rattle.hail_commands.specs.Refusals.{refusal_of};
+ghost use Rattle.hail_commands.specs.Refusals.{refusal_over};
 ghost use Rattle.hail_commands.specs.Audits.{HearsRounds, CountsHeard};
-ghost use Rattle.command_laws.specs.Ends.{IsKnown, IsPut, IsDropped, IsAudited, IsRepaired, FaultsHaveCauses, EndsInOrder, EndsWell, HoldsFile, ran_to, after_put, after_audit, after_repair};
+ghost use Rattle.command_laws.specs.Ends.{IsKnown, IsPut, IsDropped, IsAudited, IsRepaired, FaultsHaveCauses, EndsInOrder, GivesUnlessMemory, HoldsFile, ran_to, after_put, after_audit, after_repair};
 ghost use Rattle.command_laws.specs.Kept.{FailsToPut, FailsToRepair, LosesFile, LosesRepair, LeavesImages, after_start};
-ghost use Rattle.command_laws.specs.After.{IsSure, IsThen, HasFile};
+ghost use Rattle.command_laws.specs.After.{IsSure, IsThen, HasRightFile};
 ghost use Rattle.command_runs.specs.Devices.{with_source, named, byte, other_name, key_text, four_records, byte_records, audited_records, good_numbers, bad_numbers, to_put, stored, put_failed, put_cut, put_torn, put_gone, drop_cut, audit_cut, repair_cut, kept, dropped, all_lost, found_lost, due_lost, repair_lost, no_blocks, damaged, audited, answers_heard, due, repaired, repair_failed, mended, got, blocks_heard, after_drop, disk_failed, scrambled, hidden, hidden_fetched, counts, both_records, stored_other, ends, ends_at, ends_hearing};
 
 use command_laws::after::{
@@ -58,8 +58,8 @@ pub fn statuses_have_their_causes()
     ensures source { FaultsHaveCauses to_put (record to_put { source_faults = 1 }) (ends 14) }
     ensures sink { FaultsHaveCauses kept (record kept { sink_faults = 1 }) (ends 15) }
     ensures bad_journal { (9 < length (journal_read (firm (replicate 12 0)))) × IsBadStart (journal_read (firm (replicate 12 0))) 0 }
-    ensures repair_due { refusal_of audited_records AuditJob ≡ Some DueRefusal }
-    ensures nothing_due { refusal_of byte_records RepairJob ≡ Some NothingDue }
+    ensures repair_due { refusal_over audited_records AuditJob ≡ Some DueRefusal }
+    ensures nothing_due { refusal_over byte_records RepairJob ≡ Some NothingDue }
     ensures row { IsShape 4 1 1 × AcceptsNone (upto 4) (None ∷ None ∷ Some 7 ∷ Some 9 ∷ []) 1 1 }
     ensures hidden_get { EndsInOrder (GetOf other_name) hidden hidden (ends 3) ⊎ LosesFile other_name hidden hidden (ends 3) }
     ensures hidden_put { EndsInOrder (PutUnder named) hidden hidden (ends 0) }
@@ -94,8 +94,8 @@ pub fn cut_commands_leave_known_stores()
     ensures gone { (after : List Record) × IsKnown put_gone after × IsThen (PutUnder named) four_records to_put put_torn after }
     ensures come { (after : List Record) × IsKnown put_cut after × IsThen (PutUnder named) four_records to_put put_torn after }
     ensures dropped { (after : List Record) × IsKnown drop_cut after × IsThen (DropOf named) byte_records kept drop_cut after }
-    ensures put { HasFile put_torn (after_put four_records named 1) named byte (λ j. false) }
-    ensures repair { HasFile repair_cut (after_repair audited_records (record { number = 1; counts = counts })) named byte
+    ensures put { HasRightFile put_torn (after_put four_records named 1) named byte (λ j. false) }
+    ensures repair { HasRightFile repair_cut (after_repair audited_records (record { number = 1; counts = counts })) named byte
         (λ j. (j == 2) && not (is_flagged 0 counts j)) }
     ensures audit { HearsRounds (ran_to (after_audit byte_records 0 counts) byte_records damaged audit_cut answers_heard) 1
         × CountsHeard (ran_to (after_audit byte_records 0 counts) byte_records damaged audit_cut answers_heard) 1 0 counts }
@@ -112,8 +112,8 @@ pub fn cut_commands_leave_known_stores()
 /// A put, an audit that finds the lost block, a repair that writes it anew, and a get that gives the file: also where another provider is
 /// spoilt by then. After a drop a get ends with 3.
 pub fn damage_is_mended()
-    ensures repaired { EndsWell byte mended got (ends_hearing 0 blocks_heard) }
-    ensures mended { EndsWell byte mended got (ends_hearing 0 blocks_heard) }
+    ensures repaired { GivesUnlessMemory byte mended got (ends_hearing 0 blocks_heard) }
+    ensures mended { GivesUnlessMemory byte mended got (ends_hearing 0 blocks_heard) }
     ensures dropped { ((ends 3).status ≡ 3) ⊎ ((ends 3).status ≡ 70) }
 {
     put_files_are_got();
@@ -121,10 +121,10 @@ pub fn damage_is_mended()
 
 /// Files stay right: after the put, an audit, a put of another file and the repair; and what the audit counts it has heard.
 pub fn files_stay_right()
-    ensures put { HasFile stored (after_put four_records named 1) named byte (λ j. false) }
-    ensures audit { HasFile audited audited_records named byte (λ j. j == 2) }
-    ensures other { HasFile stored_other both_records named byte (λ j. false) }
-    ensures repair { HasFile repaired (after_repair audited_records (record { number = 1; counts = counts })) named byte
+    ensures put { HasRightFile stored (after_put four_records named 1) named byte (λ j. false) }
+    ensures audit { HasRightFile audited audited_records named byte (λ j. j == 2) }
+    ensures other { HasRightFile stored_other both_records named byte (λ j. false) }
+    ensures repair { HasRightFile repaired (after_repair audited_records (record { number = 1; counts = counts })) named byte
         (λ j. (j == 2) && not (is_flagged 0 counts j)) }
     ensures heard { HearsRounds (ran_to (after_audit byte_records 0 counts) byte_records damaged audited answers_heard) 1
         × CountsHeard (ran_to (after_audit byte_records 0 counts) byte_records damaged audited answers_heard) 1 0 counts }
@@ -136,7 +136,7 @@ pub fn files_stay_right()
 /// The repair wrote the very block, since no more than one provider was wrong; and the get over what it left is complete.
 pub fn few_bad_providers_do_no_harm()
     ensures rewritten { HoldsFile audited_records repaired byte (record { name = named; id = 1; size = 1 }) 2 }
-    ensures complete { EndsWell byte mended got (ends_hearing 0 blocks_heard) }
+    ensures complete { GivesUnlessMemory byte mended got (ends_hearing 0 blocks_heard) }
 {
     repairs_write_anew();
     gets_tell_what_stands();
