@@ -26,7 +26,7 @@ use Rattle.hail_commands.specs.Jobs.{AnswersJob}
 use Rattle.hail_commands.specs.Line.{no_row_line}
 use Rattle.hail_commands.specs.Seen.{Seen, ReadsUpTo}
 use Rattle.hail_commands.specs.Commands.{AnswersAlone, AnswersPut, AnswersList, Answers}
-use Rattle.command_laws.proofs.Readings.{read-set_up}
+use Rattle.hail_openings.proofs.Readings.{read-set_up}
 use Rattle.command_laws.proofs.Afterwards.{reads-firm}
 use Rattle.command_runs.specs.Devices.{with_source, with_sink, named, byte, other_name, four_records, byte_records, audited_records, key_text, good_numbers, bad_numbers, to_put, put_unmade, kept, due, dropped_records, after_drop, disk_failed, deserted, scrambled, hidden, ends}
 use Rattle.command_laws.specs.After.{IsSure}
