@@ -1,0 +1,14 @@
+pub mod Symbols
+pub mod Takes
+pub mod Given
+pub mod Windows
+pub mod Begins
+pub mod Served
+pub mod Progress
+pub mod Looped
+pub mod Framed
+pub mod Received
+pub mod Asked
+pub mod InStep
+pub mod Outcomes
+pub mod Determined
