@@ -6,10 +6,13 @@
 --                               when each end comes
 --   Writes end was now as    == what the sink has then: all answers, and at a fault of the sink a part of the last
 --   HasServed end ..         == all of this, with what is seen of the provider before and after
-use Rattle.std.specs.Prelude.{◌≡◌, ◌≢◌, ◌⊎◌, ℕ, ◌+◌, ◌-◌, ◌^◌, ◌<◌, ◌≤◌, true, false, List, [], ◌∷◌, ◌++◌, length, take, IfSome, Option}
+--   IsOfBytes end            == an end that the bytes alone decide: no fault of source or sink, and no want of memory
+--   EndsOf bytes end rs      == such an end of a server of all these bytes, and the requests that it answers
+use Rattle.std.specs.Prelude.{◌≡◌, ◌≢◌, ◌⊎◌, ℕ, ◌+◌, ◌-◌, ◌^◌, ◌<◌, ◌≤◌, true, false, List, [], ◌∷◌, ◌++◌, length, take, IfSome, IsTrue, Option}
+use Rattle.std.specs.List.{list_all}
 use Rattle.hail_devices.specs.Told.{told_then, then_told, TakesFront}
 use Rattle.hail_devices.specs.Providers.{Provider}
-use Rattle.hail_wire.specs.Requests.{Request, text, AreFrames, SpellsNone, is_bad}
+use Rattle.hail_wire.specs.Requests.{Request, is_request, text, AreFrames, SpellsNone, is_bad}
 use Rattle.hail_wire.specs.Replies.{Reply, Serves, reply_bytes, replies_text}
 
 -- how many bytes of requests are served at most
@@ -47,7 +50,7 @@ abbrev pub EndsWith : End → List Request → List ℕ → List ℕ → Option 
 EndsWith Finished rs read rest left = IsAtEnd left × (rest ≡ []) × (length read ≤ most_bytes)
 EndsWith (BadAt at) rs read rest left = BreaksAt at rs read rest left
 EndsWith TooMany rs read rest left = Exceeds rs read rest
-EndsWith SourceFailed rs read rest left = SpellsNone rest
+EndsWith SourceFailed rs read rest left = SpellsNone rest × (is_bad rest ≡ false) × (length read ≤ most_bytes)
 EndsWith SinkFailed rs read rest left = rs ≢ []
 EndsWith OutOfMemory rs read rest left = (read ≡ []) ⊎ (rs ≢ [])
 
@@ -94,3 +97,44 @@ pub record HasServed (end : End) (had left : Option (List ℕ)) (old new : Provi
   pub served : Serves requests old replies new
   pub written : Writes end was now replies
   pub ends : EndsWith end requests read rest left
+
+-- an end that the bytes alone decide
+abbrev pub IsOfBytes : End → Type 0
+IsOfBytes Finished = Unit {0}
+IsOfBytes (BadAt at) = Unit {0}
+IsOfBytes TooMany = Unit {0}
+IsOfBytes SourceFailed = ⊥
+IsOfBytes SinkFailed = ⊥
+IsOfBytes OutOfMemory = ⊥
+
+-- what stands behind whole requests, as far as it lies within the limit
+abbrev pub within_limit : List Request → List ℕ → List ℕ
+within_limit rs rest = take (most_bytes - length (text rs)) rest
+
+-- The bytes behind whole requests begin none: they are bad by themselves, as far as they lie within the limit, or all
+-- bytes end inside a request.
+abbrev pub BreaksOff : List Request → List ℕ → List ℕ → Type 0
+BreaksOff rs rest bytes = (is_bad (within_limit rs rest) ≡ true) ⊎ ((rest ≢ []) × SpellsNone rest × (length bytes ≤ most_bytes))
+
+-- there are more bytes than the limit, and what lies within it ends inside a request that is not bad by itself
+pub record RunsOver (rs : List Request) (rest bytes : List ℕ) : Type 0 where
+  pub more : most_bytes < length bytes
+  pub within : length (text rs) ≤ most_bytes
+  pub none : SpellsNone (within_limit rs rest)
+  pub not_bad : is_bad (within_limit rs rest) ≡ false
+
+-- how a server ends whose bytes are these whole requests and a rest
+abbrev pub EndsBehind : End → List Request → List ℕ → List ℕ → Type 0
+EndsBehind Finished rs rest bytes = (rest ≡ []) × (length bytes ≤ most_bytes)
+EndsBehind (BadAt at) rs rest bytes = (at ≡ length (text rs)) × BreaksOff rs rest bytes
+EndsBehind TooMany rs rest bytes = RunsOver rs rest bytes
+EndsBehind SourceFailed rs rest bytes = ⊥
+EndsBehind SinkFailed rs rest bytes = ⊥
+EndsBehind OutOfMemory rs rest bytes = ⊥
+
+-- a server of all these bytes answers these requests and ends so
+pub record EndsOf (bytes : List ℕ) (end : End) (rs : List Request) : Type 0 where
+  pub rest : List ℕ
+  pub are_requests : IsTrue (list_all is_request rs)
+  pub parts : bytes ≡ text rs ++ rest
+  pub ends : EndsBehind end rs rest bytes

@@ -104,3 +104,14 @@ failed_counted (r ∷ rs) (a ∷ as_) old new is s o =
     let one = rises a is.0 new c s o in
     let before = failed_counted rs as_ old is.0 is.1 (omega (arith, c.stores)) (omega (arith, c.others)) in
     omega (arith, one, before)
+
+-- the counts of a provider do not fall
+pub counts_kept : (rs : List Request) (as_ : List Reply) (old new : Provider) → Serves rs old as_ new → (old.store_faults ≤ new.store_faults) × (old.other_faults ≤ new.other_faults)
+counts_kept [] [] old new is =
+    let a : new.store_faults ≡ old.store_faults = ap (λ (p : Provider). p.store_faults) is in
+    let b : new.other_faults ≡ old.other_faults = ap (λ (p : Provider). p.other_faults) is in (omega (arith, a), omega (arith, b))
+counts_kept [] (a ∷ as_) old new is = absurd is
+counts_kept (r ∷ rs) [] old new is = absurd is
+counts_kept (r ∷ rs) (a ∷ as_) old new is =
+    let c = counted r a is.0 new is.2 in
+    let before = counts_kept rs as_ old is.0 is.1 in (omega (arith, c.stores, before.0), omega (arith, c.others, before.1))

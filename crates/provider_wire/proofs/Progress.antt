@@ -84,8 +84,8 @@ module _ (had left : Option (List ℕ)) (taken : ℕ) (waiting : List ℕ) (old 
   text_size = ap length (sym p.frames.bytes_are) ∙ front_size
 
   -- the source failed
-  pub source_failed : (left' : Option (List ℕ)) → left' ≡ left → taken ≤ most_bytes → SpellsNone waiting → HasServed SourceFailed had left' old mid was then_
-  source_failed left' same within none = record {
+  pub source_failed : (left' : Option (List ℕ)) → left' ≡ left → taken ≤ most_bytes → SpellsNone waiting → is_bad waiting ≡ false → HasServed SourceFailed had left' old mid was then_
+  source_failed left' same within none fine = record {
     requests = p.requests;
     replies = p.replies;
     read = p.read;
@@ -97,7 +97,7 @@ module _ (had left : Option (List ℕ)) (taken : ℕ) (waiting : List ℕ) (old 
     frames = p.frames;
     served = p.served;
     written = p.written;
-    ends = none;
+    ends = (none, fine, omega (arith, p.count));
   }
 
   ended_left : (left' : Option (List ℕ)) (part : List ℕ) → left ≡ then_told part left' → length part ≡ 0 → left ≡ left'

@@ -1,13 +1,37 @@
 //! What holds of every request, and of every list of requests that a provider answered.
-ghost use Rattle.std.specs.Prelude.{◌≡◌, ◌++◌, ◌+◌, ◌<◌, ◌≤◌, ℕ, List, Some};
+ghost use Rattle.std.specs.Prelude.{◌≡◌, ◌++◌, ◌+◌, ◌<◌, ◌≤◌, ℕ, List, Option, Some, true};
 ghost use Rattle.hail_devices.specs.Faults.{last_count};
 ghost use Rattle.hail_devices.specs.Providers.{Held, Provider};
-ghost use Rattle.hail_wire.specs.Requests.{Request, Spells};
+ghost use Rattle.hail_wire.specs.Requests.{Request, Spells, SpellsNone, AreFrames, is_bad};
+ghost use Rattle.hail_wire.specs.Serving.{End, HasServed, IsOfBytes, EndsOf};
 ghost use Rattle.hail_wire.specs.Replies.{Reply, Serves, AreClean, served, replies_text, failed_count};
 
 /// A request has one spelling, and no spelling begins another: what is read from the front of bytes is determined.
 pub fn one_spelling()
     ensures { (a b : Request) (front other x y : List ℕ) → Spells front a → Spells other b → front ++ x ≡ other ++ y → (a ≡ b) × (front ≡ other) × (x ≡ y) }
+{}
+
+/// Bytes that are bad by themselves begin no request, whatever comes behind them.
+pub fn bad_bytes_begin_none()
+    ensures { (bytes more : List ℕ) → is_bad bytes ≡ true → SpellsNone (bytes ++ more) }
+{}
+
+/// Bytes are the text of one list of requests at most.
+pub fn frames_are_one()
+    ensures { (bytes : List ℕ) (requests others : List Request) → AreFrames bytes requests → AreFrames bytes others → requests ≡ others }
+{}
+
+/// What a server does that ends without a fault is said of all the bytes that its source has, whatever the pieces in
+/// which they come and however many of them it read.
+pub fn ends_are_of_all_bytes()
+    ensures { (bytes : List ℕ) (end : End) (left was now : Option (List ℕ)) (old new : Provider)
+        (served : HasServed end (Some bytes) left old new was now) → IsOfBytes end → EndsOf bytes end served.requests }
+{}
+
+/// Bytes have one such end, and one list of requests that is answered before it.
+pub fn bytes_have_one_end()
+    ensures { (bytes : List ℕ) (end other : End) (requests others : List Request) → EndsOf bytes end requests → EndsOf bytes other others
+        → (end ≡ other) × (requests ≡ others) }
 {}
 
 /// Where no call failed or found no memory, the answers and the blocks held after them are those that the requests and
@@ -23,4 +47,10 @@ pub fn failed_answers_are_counted()
     ensures { (requests : List Request) (replies : List Reply) (old new : Provider) → Serves requests old replies new
         → new.store_faults < last_count → new.other_faults < last_count
         → old.store_faults + old.other_faults + failed_count replies ≤ new.store_faults + new.other_faults }
+{}
+
+/// No count of a provider's faults falls while it is served.
+pub fn counts_never_fall()
+    ensures { (requests : List Request) (replies : List Reply) (old new : Provider) → Serves requests old replies new
+        → (old.store_faults ≤ new.store_faults) × (old.other_faults ≤ new.other_faults) }
 {}

@@ -7,7 +7,7 @@ use Rattle.provider_wire.proofs.server.serve_all.Goals as goal
 pub loop-count-init : goal.loop-count-init
 loop-count-init g c =
     let none : c.args.window.now ≡ [] = c.requires in
-    record { so_far = rw none (starts _ _ _); within = omega arith; none = subst SpellsNone (sym none) nothing_spells; short = rw none (omega arith); source_count = omega arith; sink_count = omega arith }
+    record { so_far = rw none (starts _ _ _); within = omega arith; none = subst SpellsNone (sym none) nothing_spells; fine = ap is_bad none; short = rw none (omega arith); source_count = omega arith; sink_count = omega arith }
 
 pub returns-in-Err-serve_front-clause-served : goal.returns-in-Err-serve_front-clause-served
 returns-in-Err-serve_front-clause-served g c =
@@ -68,6 +68,7 @@ loop-count-preserved g c =
       so_far = rw c.skip.ensures (turned _ _ (c.loop-count.taken + n) w done more bytes _ _ _ _ _ _ p (ap (take w) c.as_slice.ensures) w_is few some c.in-Ok-serve_front.ensures.within c.in-Ok-serve_front.ensures.ok);
       within = less;
       none = subst SpellsNone rest c.in-Ok-serve_front.ensures.none;
+      fine = ap is_bad (sym rest) ∙ fine;
       short = omega (arith, c.in-Ok-serve_front.ensures.short fine, length-drop done bytes, ap length rest);
       source_count = omega (arith, c.loop-count.invariant.source_count, c.fill.ensures.cause.never_falls);
       sink_count = omega (arith, c.loop-count.invariant.sink_count, c.serve_front.ensures.cause.never_falls);

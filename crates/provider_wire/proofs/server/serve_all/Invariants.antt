@@ -1,5 +1,5 @@
-use Rattle.std.proofs.Common.{◌≤◌, ◌<◌, ◌-◌, length}
-use Rattle.hail_wire.specs.Requests.{SpellsNone}
+use Rattle.std.proofs.Common.{◌≡◌, ◌≤◌, ◌<◌, ◌-◌, false, length}
+use Rattle.hail_wire.specs.Requests.{SpellsNone, is_bad}
 use Rattle.provider_wire.specs.Seen.{as_seen}
 use Rattle.provider_wire.proofs.Progress.{Progress}
 use Rattle.provider_wire.proofs.server.serve_all.Given as goal
@@ -11,6 +11,7 @@ invariant-loop-count g l = record {
       (as_seen g.P.Provider.held g.P.Provider.store_faults g.P.Provider.other_faults g.P.Provider.fetches l.provider) (g.K.Sink.written l.initial.sink) (g.K.Sink.written l.sink);
   within : l.taken ≤ 16777216;
   none : SpellsNone l.window;
+  fine : is_bad l.window ≡ false;
   short : length l.window < 2062;
   source_count : g.S.Source.faults l.initial.source ≤ g.S.Source.faults l.source;
   sink_count : g.K.Sink.faults l.initial.sink ≤ g.K.Sink.faults l.sink;
