@@ -12,5 +12,5 @@ pub mod Asked
 pub mod InStep
 pub mod Outcomes
 pub mod Determined
-pub mod Bad
+pub mod BadBytes
 pub mod OneEnd

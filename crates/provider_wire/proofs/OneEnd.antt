@@ -1,18 +1,17 @@
 -- Bytes are the text of one list of requests, up to where they begin none; and a server of them has one end.
 use Rattle.std.proofs.Common.{◌≡◌, ◌≢◌, ◌⊎◌, inl, inr, ℕ, ◌+◌, ◌-◌, ◌<◌, ◌≤◌, ◌^◌, Bool, true, false, List, [], ◌∷◌, ◌++◌, length, take, Option, Some, None, refl, sym, ap, subst, ◌∙◌, arith, append_assoc, length-append}
-use Rattle.std.specs.Prelude.{◌&&◌, reverse, IsTrue}
+use Rattle.std.specs.Prelude.{◌&&◌, IsTrue}
 use Rattle.std.specs.List.{list_all}
-use Rattle.std.proofs.Math.ListN.{reverse_aux}
 use Rattle.std.proofs.Math.Seq.{take-append-add}
 use Rattle.std.proofs.lemmas.Bool.{cases_lt}
-use Rattle.std.proofs.lemmas.List.{append-nil, reverse-reverse, take_all, take-append-le}
+use Rattle.std.proofs.lemmas.List.{append-nil, take_all, take-append-le}
 use Rattle.hail_devices.specs.Providers.{Provider}
 use Rattle.hail_devices.specs.Told.{then_told}
 use Rattle.hail_wire.specs.Requests.{Request, Spells, SpellsNone, AreFrames, is_request, is_bad, spelling, text}
 use Rattle.hail_wire.specs.Serving.{most_bytes, End, Finished, BadAt, TooMany, SourceFailed, SinkFailed, OutOfMemory, HasServed, IsAtEnd, IsOfBytes, EndsOf, EndsBehind, within_limit}
 use Rattle.provider_wire.proofs.Takes.{one_front}
 use Rattle.provider_wire.proofs.Progress.{nothing_spells}
-use Rattle.provider_wire.proofs.Bad.{bad-grows, bad-none}
+use Rattle.provider_wire.proofs.BadBytes.{bad-grows, bad-none}
 
 first_of : (a b : Bool) → (a && b) ≡ true → a ≡ true
 first_of true b e = refl
@@ -29,14 +28,26 @@ forward : List Request → List ℕ
 forward [] = []
 forward (r ∷ rs) = spelling r ++ forward rs
 
-text-forward : (rs others : List Request) → text rs ++ forward others ≡ forward (reverse_aux rs others)
-text-forward [] others = refl
-text-forward (r ∷ rs) others = append_assoc (text rs) (spelling r) (forward others) ∙ text-forward rs (r ∷ others)
+-- requests put before others, the newest first, so that the oldest comes first
+onto : List Request → List Request → List Request
+onto [] others = others
+onto (r ∷ rs) others = onto rs (r ∷ others)
 
-text-is : (rs : List Request) → text rs ≡ forward (reverse rs)
-text-is rs = sym (append-nil (text rs)) ∙ text-forward rs []
+onto-onto : (rs xs ys : List Request) → onto (onto rs xs) ys ≡ onto xs (rs ++ ys)
+onto-onto [] xs ys = refl
+onto-onto (r ∷ rs) xs ys = onto-onto rs (r ∷ xs) ys
 
-all-onto : (rs others : List Request) → list_all is_request rs ≡ true → list_all is_request others ≡ true → list_all is_request (reverse_aux rs others) ≡ true
+turned_back : (rs : List Request) → onto (onto rs []) [] ≡ rs
+turned_back rs = onto-onto rs [] [] ∙ append-nil rs
+
+text-onto : (rs others : List Request) → text rs ++ forward others ≡ forward (onto rs others)
+text-onto [] others = refl
+text-onto (r ∷ rs) others = append_assoc (text rs) (spelling r) (forward others) ∙ text-onto rs (r ∷ others)
+
+text-is : (rs : List Request) → text rs ≡ forward (onto rs [])
+text-is rs = sym (append-nil (text rs)) ∙ text-onto rs []
+
+all-onto : (rs others : List Request) → list_all is_request rs ≡ true → list_all is_request others ≡ true → list_all is_request (onto rs others) ≡ true
 all-onto [] others a b = b
 all-onto (r ∷ rs) others a b = all-onto rs (r ∷ others) (second_of _ _ a) (λ i. first_of _ _ a i && b i)
 
@@ -54,9 +65,9 @@ one_parse (r ∷ rs) (s ∷ ss) x y a b e p q =
 -- bytes are one list of requests, and then what begins none
 pub one_text : (rs ss : List Request) (x y : List ℕ) → list_all is_request rs ≡ true → list_all is_request ss ≡ true → text rs ++ x ≡ text ss ++ y → SpellsNone x → SpellsNone y → (rs ≡ ss) × (x ≡ y)
 one_text rs ss x y a b e p q =
-    let same = one_parse (reverse rs) (reverse ss) x y (all-onto rs [] a refl) (all-onto ss [] b refl)
+    let same = one_parse (onto rs []) (onto ss []) x y (all-onto rs [] a refl) (all-onto ss [] b refl)
     (ap (λ (l : List ℕ). l ++ x) (sym (text-is rs)) ∙ e ∙ ap (λ (l : List ℕ). l ++ y) (text-is ss)) p q in
-    (sym (reverse-reverse rs) ∙ ap reverse same.0 ∙ reverse-reverse ss, same.1)
+    (sym (turned_back rs) ∙ ap (λ (q : List Request). onto q []) same.0 ∙ turned_back ss, same.1)
 
 pub one_frames : (bytes : List ℕ) (rs ss : List Request) → AreFrames bytes rs → AreFrames bytes ss → rs ≡ ss
 one_frames bytes rs ss a b =

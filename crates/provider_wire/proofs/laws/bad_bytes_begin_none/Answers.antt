@@ -1,5 +1,5 @@
 use Rattle.std.proofs.Common.{◌++◌}
-use Rattle.provider_wire.proofs.Bad.{bad-grows, bad-none}
+use Rattle.provider_wire.proofs.BadBytes.{bad-grows, bad-none}
 use Rattle.provider_wire.proofs.laws.bad_bytes_begin_none.Goals as goal
 
 pub returns : goal.returns
