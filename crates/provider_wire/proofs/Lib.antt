@@ -14,3 +14,5 @@ pub mod Outcomes
 pub mod Determined
 pub mod BadBytes
 pub mod OneEnd
+pub mod Counting
+pub mod Instances

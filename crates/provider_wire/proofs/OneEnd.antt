@@ -9,6 +9,7 @@ use Rattle.hail_devices.specs.Providers.{Provider}
 use Rattle.hail_devices.specs.Told.{then_told}
 use Rattle.hail_wire.specs.Requests.{Request, Spells, SpellsNone, AreFrames, is_request, is_bad, spelling, text}
 use Rattle.hail_wire.specs.Serving.{most_bytes, End, Finished, BadAt, TooMany, SourceFailed, SinkFailed, OutOfMemory, HasServed, IsAtEnd, IsOfBytes, EndsOf, EndsBehind, within_limit}
+use Rattle.provider_wire.proofs.Served.{both}
 use Rattle.provider_wire.proofs.Takes.{one_front}
 use Rattle.provider_wire.proofs.Progress.{nothing_spells}
 use Rattle.provider_wire.proofs.BadBytes.{bad-grows, bad-none}
@@ -24,12 +25,12 @@ second_of false b e = absurd cc
 -- ---- one list of requests
 
 -- the bytes of requests, the oldest first
-forward : List Request → List ℕ
+abbrev forward : List Request → List ℕ
 forward [] = []
 forward (r ∷ rs) = spelling r ++ forward rs
 
 -- requests put before others, the newest first, so that the oldest comes first
-onto : List Request → List Request → List Request
+abbrev onto : List Request → List Request → List Request
 onto [] others = others
 onto (r ∷ rs) others = onto rs (r ∷ others)
 
@@ -49,7 +50,8 @@ text-is rs = sym (append-nil (text rs)) ∙ text-onto rs []
 
 all-onto : (rs others : List Request) → list_all is_request rs ≡ true → list_all is_request others ≡ true → list_all is_request (onto rs others) ≡ true
 all-onto [] others a b = b
-all-onto (r ∷ rs) others a b = all-onto rs (r ∷ others) (second_of _ _ a) (λ i. first_of _ _ a i && b i)
+all-onto (r ∷ rs) others a b =
+    all-onto rs (r ∷ others) (second_of (is_request r) (list_all is_request rs) a) (both (is_request r) (list_all is_request others) (first_of (is_request r) (list_all is_request rs) a) b)
 
 one_parse : (rs ss : List Request) (x y : List ℕ) → list_all is_request rs ≡ true → list_all is_request ss ≡ true → forward rs ++ x ≡ forward ss ++ y → SpellsNone x → SpellsNone y → (rs ≡ ss) × (x ≡ y)
 one_parse [] [] x y a b e p q = (refl, e)

@@ -146,6 +146,10 @@ module _ (had left : Option (List ℕ)) (taken : ℕ) (waiting : List ℕ) (old 
       ends = record { place = sym text_size; cause = inr (ended_at left' (ended_left left' part got nothing) end, λ e. absurd (let z : length waiting ≡ 0 = ap length e in omega (arith, z, some)), none, omega (arith, p.count)) };
     }
 
+    -- the same, with its place told otherwise
+    pub ended_inside_at : SpellsNone waiting → 0 < length waiting → (at : ℕ) → at ≡ taken - length waiting → HasServed (BadAt at) had left' old mid was then_
+    ended_inside_at none some at is = subst (λ (k : ℕ). HasServed (BadAt k) had left' old mid was then_) (sym is) (ended_inside none some)
+
   -- more bytes were read
   pub grown : (left' : Option (List ℕ)) (part : List ℕ) (n : ℕ) → left ≡ then_told part left' → length part ≡ n → Progress had left' (taken + n) (waiting ++ part) old mid was then_
   grown left' part n got many = record {

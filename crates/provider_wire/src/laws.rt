@@ -1,9 +1,11 @@
 //! What holds of every request, and of every list of requests that a provider answered.
-ghost use Rattle.std.specs.Prelude.{◌≡◌, ◌++◌, ◌+◌, ◌<◌, ◌≤◌, ℕ, List, Option, Some, true};
+ghost use Rattle.std.specs.Prelude.{◌≡◌, ◌∷◌, ◌++◌, ◌+◌, ◌<◌, ◌≤◌, [], ℕ, List, Option, Some, true};
 ghost use Rattle.hail_devices.specs.Faults.{last_count};
-ghost use Rattle.hail_devices.specs.Providers.{Held, Provider};
-ghost use Rattle.hail_wire.specs.Requests.{Request, Spells, SpellsNone, AreFrames, is_bad};
-ghost use Rattle.hail_wire.specs.Serving.{End, HasServed, IsOfBytes, EndsOf};
+ghost use Rattle.hail_devices.specs.Providers.{Held, Provider, without_object};
+ghost use Rattle.hail_wire.specs.Requests.{Request, Remove, Spells, SpellsNone, AreFrames, is_bad};
+ghost use Rattle.hail_wire.specs.Links.{provider_of};
+ghost use Rattle.hail_wire.specs.Serving.{End, BadAt, HasServed, IsOfBytes, EndsOf};
+ghost use Rattle.provider_wire.specs.Loops.{idle};
 ghost use Rattle.hail_wire.specs.Replies.{Reply, Serves, AreClean, served, replies_text, failed_count};
 
 /// A request has one spelling, and no spelling begins another: what is read from the front of bytes is determined.
@@ -53,4 +55,12 @@ pub fn failed_answers_are_counted()
 pub fn counts_never_fall()
     ensures { (requests : List Request) (replies : List Reply) (old new : Provider) → Serves requests old replies new
         → (old.store_faults ≤ new.store_faults) × (old.other_faults ≤ new.other_faults) }
+{}
+
+/// An instance: of a removal of the object 1 and a byte 9 behind it the removal is answered, and the byte is bad.
+pub fn a_byte_behind_a_removal_is_bad()
+    ensures frames { AreFrames (4 ∷ 1 ∷ 0 ∷ 0 ∷ 0 ∷ 0 ∷ 0 ∷ 0 ∷ 0 ∷ []) (Remove 1 ∷ []) }
+    ensures bad { is_bad (9 ∷ []) ≡ true }
+    ensures server { (held : Held) → HasServed (BadAt 9) (Some (4 ∷ 1 ∷ 0 ∷ 0 ∷ 0 ∷ 0 ∷ 0 ∷ 0 ∷ 0 ∷ 9 ∷ [])) (Some [])
+        (provider_of (idle 0 0 0 held)) (provider_of (idle 0 0 0 (without_object 1 held))) (Some []) (Some (1 ∷ [])) }
 {}

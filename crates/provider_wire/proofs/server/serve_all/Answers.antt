@@ -1,7 +1,7 @@
 use Rattle.std.proofs.Common.{◌≡◌, ◌+◌, ◌-◌, ◌<◌, ◌≤◌, ◌++◌, ℕ, List, [], length, take, drop, true, false, sym, ap, ◌∙◌, subst, arith, length-append, length-drop}
 use Rattle.std.proofs.lemmas.List.{take_rest}
 use Rattle.hail_wire.specs.Requests.{SpellsNone, is_bad}
-use Rattle.provider_wire.proofs.Progress.{starts, nothing_spells, grown_to, write_failed, turned, turned_bad, turned_long, all_within}
+use Rattle.provider_wire.proofs.Progress.{starts, nothing_spells, ended_inside_at, grown_to, write_failed, turned, turned_bad, turned_long, all_within}
 use Rattle.provider_wire.proofs.server.serve_all.Goals as goal
 
 pub loop-count-init : goal.loop-count-init
@@ -73,3 +73,14 @@ loop-count-preserved g c =
       source_count = omega (arith, c.loop-count.invariant.source_count, c.fill.ensures.cause.never_falls);
       sink_count = omega (arith, c.loop-count.invariant.sink_count, c.serve_front.ensures.cause.never_falls);
     }
+
+pub returns-then-count-eq0-clause-served : goal.returns-then-count-eq0-clause-served
+returns-then-count-eq0-clause-served g c =
+    let given = c.in-Ok.ensures.given in
+    let inv = c.loop-count.invariant in
+    let none : c.in-Ok.count ≡ 0 = omega (arith, c.if-count-eq0.true) in
+    let empty : length given.0 ≡ 0 = omega (arith, given.2, none) in
+    let size : length c.fill.new.self ≡ length c.loop-count.window = ap length given.1 ∙ length-append c.loop-count.window given.0 ∙ omega (arith, empty) in
+    let some : 0 < length c.loop-count.window = omega (arith, size, c.len-waiting.ensures, c.if-waiting-eq0.false) in
+    let end = c.in-Ok.ensures.end none (omega (arith, inv.within)) (omega (arith, inv.short)) in
+    ended_inside_at _ _ c.loop-count.taken c.loop-count.window _ _ _ _ inv.so_far _ given.0 given.4 empty end inv.within inv.none some _ (ap (λ (k : ℕ). c.loop-count.taken - k) (c.len-waiting.ensures ∙ size))
