@@ -3,7 +3,7 @@ use Rattle.std.specs.Prelude.{ℕ, List, [], Option}
 use Rattle.hail_devices.specs.Cells.{Cells}
 use Rattle.hail_devices.specs.Providers.{Provider}
 use Rattle.hail_commands.specs.Seen.{Seen, Ending}
-use Rattle.provider_server.specs.declared.served.Served.{Served}
+use Rattle.provider_server.specs.declared.status.Served.{Served}
 
 -- how it ended
 abbrev pub ending_of : Served → Ending

@@ -5,7 +5,7 @@ ghost use Rattle.provider_wire.specs.Seen.{as_seen};
 ghost use Rattle.provider_server.specs.Answers.{AnswersServe};
 ghost use Rattle.provider_server.specs.Statuses.{seen, ending_of};
 
-use crate::served::{Served, TOO_FEW_PROVIDERS, told};
+use crate::status::{Served, TOO_FEW_PROVIDERS, told};
 use provider_model::Provider;
 use provider_wire::laws::counts_never_fall;
 use provider_wire::serve;
