@@ -4,7 +4,7 @@ use Rattle.hail_devices.specs.Faults.{HasCause}
 use Rattle.hail_wire.specs.Serving.{SourceFailed, SinkFailed}
 use Rattle.provider_wire.specs.Seen.{as_seen}
 use Rattle.provider_wire.specs.Ends.{end_of}
-use Rattle.provider_server.proofs.Served.{served-answers, served-counts, cause_source, cause_sink}
+use Rattle.provider_server.proofs.OneServed.{served-answers, served-counts, cause_source, cause_sink}
 use Rattle.provider_server.proofs.command.serve_at.Goals as goal
 
 pub returns-clause-answers : goal.returns-clause-answers
