@@ -84,10 +84,11 @@ module _ {X : Type 0} (f : X → Provider) (ps : List X) (p : ℕ) (old new : X)
   handed : length (map f (slice_set ps p new)) ≡ length (map f ps)
   handed = many-map f (slice_set ps p new) ∙ as_many ps p new ∙ sym (many-map f ps)
 
-  pub served-answers : (end : Served) → end.status ≡ status_of how → end.at ≡ place_of how → (disk : Option Cells) (disk_faults : ℕ)
-      → AnswersServe p (seen disk disk_faults (map f ps) left reads written writes) (seen disk disk_faults (map f (slice_set ps p new)) left' reads' written' writes') (ending_of end)
-  served-answers end status place disk disk_faults =
-      answers.served (omega (arith, many-map f ps, slice_get_within ps p old there)) (record {
+  pub served-answers : (number : ℕ) → p ≡ number → (end : Served) → end.status ≡ status_of how → end.at ≡ place_of how → (disk : Option Cells) (disk_faults : ℕ)
+      → AnswersServe number (seen disk disk_faults (map f ps) left reads written writes) (seen disk disk_faults (map f (slice_set ps p new)) left' reads' written' writes') (ending_of end)
+  served-answers number same end status place disk disk_faults =
+      subst (λ (k : ℕ). AnswersServe k (seen disk disk_faults (map f ps) left reads written writes) (seen disk disk_faults (map f (slice_set ps p new)) left' reads' written' writes') (ending_of end)) same
+      (answers.served (omega (arith, many-map f ps, slice_get_within ps p old there)) (record {
         how = how;
         status_is = status;
         place = place;
@@ -96,7 +97,7 @@ module _ {X : Type 0} (f : X → Provider) (ps : List X) (p : ℕ) (old new : X)
         source = source;
         sink = sink;
         only = record { disk = refl; disk_faults = refl; handed = handed; others = λ k other. seen-other f ps p k new other };
-      })
+      }))
 
   -- a count of the provider served does not fall, nor does that of another
   kept : (count : Provider → ℕ) → count (f old) ≤ count (f new) → (k : ℕ) → count (provider_at (map f ps) k) ≤ count (provider_at (map f (slice_set ps p new)) k)
