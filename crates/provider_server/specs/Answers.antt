@@ -3,7 +3,7 @@
 --   status_of end, place_of end == the status of a server's end, and the offset that it speaks of
 --   OnlyServes number old new == no device was touched but the source, the sink and this provider
 --   Serves number old new end == the requests that the source gives were served with this provider
---   AnswersServe number old new end == `serve`: 22 exactly where the provider was not handed in
+--   AnswersServe number old new end == `serve`: 22 exactly where the provider was not handed in, unless there was no memory for the words
 use Rattle.std.specs.Prelude.{◌≡◌, ◌≢◌, ℕ, ◌<◌, ◌≤◌, List, [], length}
 use Rattle.hail_devices.specs.Faults.{HasCause}
 use Rattle.hail_commands.specs.Seen.{Seen, Ending, provider_at}
@@ -45,7 +45,8 @@ pub record Serves (number : ℕ) (old new : Seen) (end : Ending) : Type 0 where
   pub sink : HasCause old.sink_faults new.sink_faults (how ≡ SinkFailed)
   pub only : OnlyServes number old new
 
--- a `serve`
+-- a `serve`; where there was no memory for its words nothing is touched
 pub data AnswersServe (number : ℕ) (old new : Seen) (end : Ending) : Type 0 where
+  no_memory : end ≡ record { status = 70; at = 0; heard = [] } → new ≡ old → AnswersServe number old new end
   too_few : length old.providers ≤ number → end ≡ record { status = 22; at = 0; heard = [] } → new ≡ old → AnswersServe number old new end
   served : number < length old.providers → Serves number old new end → AnswersServe number old new end
