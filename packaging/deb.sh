@@ -28,9 +28,9 @@ for page in hail hail-watch hail-verify hail-gc; do
     gzip -9n <"$root/packaging/$page.1" >"$tree/usr/share/man/man1/$page.1.gz"
 done
 install -D -m 644 "$root/packaging/completion/hail" "$tree/usr/share/bash-completion/completions/hail"
-for document in README.md docs/*.md; do
-    (cd "$root" && install -D -m 644 $document -t "$tree/usr/share/doc/hail")
-done
+(cd "$root" && for document in README.md docs/*.md docs/*.svg; do
+    install -D -m 644 "$document" "$tree/usr/share/doc/hail/$document"
+done)
 
 mkdir "$tree/DEBIAN"
 cat >"$tree/DEBIAN/control" <<CONTROL
