@@ -15,7 +15,7 @@ use Rattle.command_runs.proofs.DoneAudit.{alone as audit_alone}
 use Rattle.command_runs.proofs.DoneRepair.{alone as repair_alone}
 use Rattle.command_runs.proofs.LostRepair.{alone as lost_repair_alone}
 use Rattle.command_runs.proofs.FailedRepair.{alone as failed_repair_alone}
-use Rattle.command_runs.proofs.lone.jobs_run_alone.Goals as goal
+use Rattle.command_runs.proofs.laws.jobs_run_alone.Goals as goal
 
 pub returns-clause-put : goal.returns-clause-put
 returns-clause-put c = somewhere c.opened_states.ensures.opened c.opened_states.ensures.there_is_one four_records (PutJob named byte) (Put) to_put stored [] put-old put_alone
