@@ -53,8 +53,8 @@ module _ (command : Command) (cells : Cells) (old new : Seen) (end : Ending) (A 
     (calm : Rose old.disk_faults new.disk_faults → ⊥) where
   over-read : (rs : List Record) → IsRead old.disk rs → AnsweredFor cells old end
   over-read rs read = elim (cases_lt (length old.providers) (setup_at rs).n) [
-    inl few ↦ elim (lacking-always command cells old new end rs A opens told read few calm) [
-      inl is ↦ AnsweredFor.too_few_providers rs read few is
+    | inl few ↦ elim (lacking-always command cells old new end rs A opens told read few calm) [
+      | inl is ↦ AnsweredFor.too_few_providers rs read few is
       | inr none ↦ AnsweredFor.no_memory none
     ]
     | inr enough ↦ AnsweredFor.opened rs (record { read = read; enough = enough })
@@ -62,11 +62,11 @@ module _ (command : Command) (cells : Cells) (old new : Seen) (end : Ending) (A 
 
   by-judged : Judged (journal_read cells) → AnsweredFor cells old end
   by-judged (Judged.fresh is) = elim (fresh-always command cells old new end A opens told is calm) [
-    inl nine ↦ AnsweredFor.not_set_up is nine
+    | inl nine ↦ AnsweredFor.not_set_up is nine
     | inr none ↦ AnsweredFor.no_memory none
   ]
   by-judged (Judged.broken at many bad) = elim (broken-always command cells old new end at A opens told many bad calm) [
-    inl eight ↦ AnsweredFor.bad_journal at bad eight.0 eight.1
+    | inl eight ↦ AnsweredFor.bad_journal at bad eight.0 eight.1
     | inr none ↦ AnsweredFor.no_memory none
   ]
   by-judged (Judged.set_up rs some accepted many is) = over-read rs (is-read cells old rs told some accepted many is)

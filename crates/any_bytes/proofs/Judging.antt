@@ -85,7 +85,7 @@ module _ (P : List Record → Type 0) (Q : List Record → Record → Type 0) (n
 
   goes-on : (n : ℕ) → Reads n → (rs : List Record) (r : Record) (tail : List ℕ) → length tail < n → IsTrue (list_all is_in_grammar (r ∷ rs)) → P rs → bytes ≡ before_gate (r ∷ rs) ++ tail → IsBytes tail → Stops P Q bytes
   goes-on n again rs r tail few all good is fits = elim (next rs r good) [
-    inl may ↦ again (r ∷ rs) tail few all may is fits
+    | inl may ↦ again (r ∷ rs) tail few all may is fits
     | inr why ↦ stopped rs good r tail all is why
   ]
 
@@ -100,7 +100,7 @@ module _ (P : List Record → Type 0) (Q : List Record → Record → Type 0) (n
   at-gate : (n : ℕ) → Reads n → (rs : List Record) (g : ℕ) (rest : List ℕ) → length rest < n → IsTrue (list_all is_in_grammar rs) → P rs → bytes ≡ before_gate rs ++ g ∷ rest → IsBytes rest →
       Stops P Q bytes
   at-gate n again rs g rest few all good is fits = elim (cases_eq g 1) [
-    inl opened ↦ at-record n again rs rest few all good (is ∙ ap (λ (k : ℕ). before_gate rs ++ k ∷ rest) opened) fits (record_at rest) refl
+    | inl opened ↦ at-record n again rs rest few all good (is ∙ ap (λ (k : ℕ). before_gate rs ++ k ∷ rest) opened) fits (record_at rest) refl
     | inr shut ↦ stands rs good (record { in_grammar = all; gate = g; rest = rest; closed = shut; bytes_are = is })
   ]
 
@@ -114,7 +114,7 @@ module _ (P : List Record → Type 0) (Q : List Record → Record → Type 0) (n
 stops : (P : List Record → Type 0) (Q : List Record → Record → Type 0) → ((rs : List Record) (r : Record) → P rs → P (r ∷ rs) ⊎ Q rs r) → P [] →
     (bytes : List ℕ) → AreBytes bytes → Stops P Q bytes ⊎ (take 8 bytes ≢ magic)
 stops P Q next none bytes all = elim (begins magic bytes) [
-  inl found ↦ inl (reads P Q next bytes (suc (length found.0)) [] found.0 (omega arith) refl none found.1 (fits-behind magic found.0 (subst IsBytes found.1 (bytes-fit bytes all))))
+  | inl found ↦ inl (reads P Q next bytes (suc (length found.0)) [] found.0 (omega arith) refl none found.1 (fits-behind magic found.0 (subst IsBytes found.1 (bytes-fit bytes all))))
   | inr other ↦ inr other
 ]
 
@@ -150,7 +150,7 @@ judged-stops bytes (stopped rs good r rest all is why) many =
 
 pub bytes-judged : (bytes : List ℕ) → AreBytes bytes → Judged bytes
 bytes-judged bytes all = by-length bytes (λ many. elim (stops AreAccepted IsStopped next-accepted tt bytes all) [
-  inl s ↦ judged-stops bytes s many
+  | inl s ↦ judged-stops bytes s many
   | inr other ↦ Judged.broken 0 many (inl (other, refl))
 ])
 
@@ -182,7 +182,7 @@ begins-so (RepairDone number) (q ∷ rs) = begins-so q rs
 init-stands : (bytes : List ℕ) (rs : List Record) → StandsFor bytes rs → JudgedByInit bytes
 init-stands bytes [] is = JudgedByInit.free (inr is)
 init-stands bytes (r ∷ rs) is = elim (begins-so r rs) [
-  inl first ↦ JudgedByInit.already (r ∷ rs) is first
+  | inl first ↦ JudgedByInit.already (r ∷ rs) is first
   | inr other ↦ JudgedByInit.broken 9 (inr (r ∷ rs, is, other, refl))
 ]
 
@@ -194,6 +194,6 @@ init-stops bytes (stopped rs good r rest all is why) = absurd why
 
 pub bytes-judged-by-init : (bytes : List ℕ) → AreBytes bytes → JudgedByInit bytes
 bytes-judged-by-init bytes all = elim (stops Any Never (λ rs r good. inl tt) tt bytes all) [
-  inl s ↦ init-stops bytes s
+  | inl s ↦ init-stops bytes s
   | inr other ↦ JudgedByInit.broken 0 (inl (inl (other, refl)))
 ]

@@ -69,7 +69,7 @@ pub other-forged : (s : Stored) (old new : Seen) (end : Ending) (cells : Cells) 
 unfolding the-file
 other-forged s old new end cells written law answers is reads_are enough empty wrote ended other =
     elim (law name_of_file (bytes_of s) (records_of s) (the-file s) old new end answers (known s old cells is reads_are enough) (in-effect s) (are-bytes s) refl ended) [
-      inl same ↦ absurd (other (written-is (sym wrote ∙ same ∙ ap (λ told. told_then told (bytes_of s)) empty)))
+      | inl same ↦ absurd (other (written-is (sym wrote ∙ same ∙ ap (λ told. told_then told (bytes_of s)) empty)))
       | inr forged ↦ forged
     ]
   where
