@@ -1,12 +1,12 @@
 -- A command over a store whose disk tells any bytes ends by what they are.
-use Rattle.std.proofs.Common.{◌≡◌, ◌≢◌, ℕ, zero, suc, ◌+◌, ◌<◌, ◌≤◌, true, List, [], ◌∷◌, ◌++◌, length, take, Some, refl, ap, sym, subst, inl, inr, arith, length-append, length-take}
-use Rattle.std.specs.Prelude.{IsTrue, IfSome}
+use Rattle.std.proofs.Common.{◌≡◌, ◌≢◌, ℕ, zero, suc, ◌<◌, ◌≤◌, true, List, [], ◌∷◌, length, take, Some, refl, ap, sym, subst, inl, inr, arith, length-append, length-take}
+use Rattle.std.specs.Prelude.{IfSome}
 use Rattle.std.specs.List.{list_all}
 use Rattle.std.proofs.lemmas.Bool.{cases_lt}
 use Rattle.hail_devices.specs.Cells.{Cells, reads}
 use Rattle.hail_devices.specs.Faults.{Rose}
-use Rattle.hail_records.specs.Records.{Record, is_byte, is_in_grammar, largest_journal}
-use Rattle.hail_records.specs.Journal.{before_gate, text, text_size, StandsFor}
+use Rattle.hail_records.specs.Records.{Record, is_byte, largest_journal}
+use Rattle.hail_records.specs.Journal.{before_gate, text_size, StandsFor}
 use Rattle.hail_records.specs.Acceptance.{AreAccepted}
 use Rattle.hail_records.proofs.Sizes.{length-text}
 use Rattle.hail_machine.specs.Events.{AreBytes}

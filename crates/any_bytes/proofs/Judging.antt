@@ -1,19 +1,19 @@
 -- Bytes are read from the front, record by record, until they end, a gate is closed, no record stands, or one may not follow.
-use Rattle.std.proofs.Common.{◌≡◌, ◌≢◌, ◌⊎◌, ℕ, zero, suc, ◌+◌, ◌<◌, ◌≤◌, true, List, [], ◌∷◌, ◌++◌, length, get_or, take, Option, Some, None, refl, ap, sym, subst, ◌∙◌, inl, inr, arith, append_assoc, length-append}
+use Rattle.std.proofs.Common.{◌≡◌, ◌≢◌, ◌⊎◌, ℕ, zero, suc, ◌+◌, ◌<◌, true, List, [], ◌∷◌, ◌++◌, length, take, Option, Some, None, refl, ap, sym, subst, ◌∙◌, inl, inr, arith, append_assoc, length-append}
 use Rattle.std.specs.Prelude.{IsTrue}
 use Rattle.std.specs.List.{list_all}
 use Rattle.std.proofs.lemmas.Bool.{cases_eq, cases_lt}
 use Rattle.std.proofs.lemmas.Bool.Decides.{nat_tests}
 use Rattle.std.proofs.lemmas.List.{append-nil}
 use Rattle.hail_records.specs.Records.{Record, SetUp, PutStart, PutDone, Drop, AuditStart, AuditDone, RepairDone, is_byte, is_in_grammar}
-use Rattle.hail_records.specs.Spellings.{spelling, Spells}
-use Rattle.hail_records.specs.Journal.{magic, before_gate, StandsFor, SpellsNone, EndsAtGate, BreaksAfterGate, IsBadAt}
+use Rattle.hail_records.specs.Spellings.{spelling}
+use Rattle.hail_records.specs.Journal.{magic, before_gate, StandsFor, SpellsNone, EndsAtGate, BreaksAfterGate}
 use Rattle.hail_records.specs.Acceptance.{Refused, refused, AreAccepted}
 use Rattle.hail_machine.specs.Events.{AreBytes}
 use Rattle.record_codec.specs.Reading.{record_at}
 use Rattle.record_codec.proofs.Fields.{IsBytes, IsBytes-rest}
 use Rattle.record_codec.proofs.Takes.{record_takes, record_again}
-use Rattle.hail_openings.specs.Journals.{IsBadStart, StopsBehind, RefusesBehind, IsBadInit, BeginsWithSetup, BeginsOtherwise}
+use Rattle.hail_openings.specs.Journals.{BeginsWithSetup, BeginsOtherwise}
 use Rattle.any_bytes.specs.Judged.{Judged, JudgedByInit}
 
 -- ---- bytes

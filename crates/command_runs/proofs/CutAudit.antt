@@ -23,6 +23,7 @@ use Rattle.command_laws.proofs.Telling.{left-alone, jobs-leave}
 use Rattle.command_laws.proofs.BeginRefusals.{refusal-of}
 use Rattle.command_runs.specs.Devices.{named, byte_records, counts, audit_cut, holds, ends_hearing, damaged, answers_heard}
 use Rattle.command_runs.proofs.Shape.{formed, form-is, one_byte, one_byte-is}
+use Rattle.command_runs.proofs.Counting.{other-counts}
 use Rattle.command_runs.proofs.Stores.{damaged-sure as old-sure, audit_cut-new as new-sure}
 use Rattle.damage_run.proofs.Values.{right, same_first, no_answer, sums, judged}
 
@@ -40,28 +41,51 @@ module _ (w : State) (n : ℕ) (count : w.handed ≡ 4) where
   s0 = record v { jobs = base ∷ []; next_job = 2 }
 
   abbrev s1 : State
-  s1 = record v { audits = (λ number. if number == 1 then n else v.audits number); jobs = (record base { subject = 1; place = 1 }) ∷ []; next_job = 2; append = Some (record { job = 1; entry = (AuditStart 1); moves = 1 }) }
+  s1 = record v {
+    audits = (λ number. if number == 1 then n else v.audits number);
+    jobs = (record base { subject = 1; place = 1 }) ∷ [];
+    next_job = 2;
+    append = Some (record { job = 1; entry = (AuditStart 1); moves = 1 });
+  }
 
   happens1 : (m : ℕ) → Happens 8 m s0 (Step 1) More s1
   unfolding setup_in actions_of
   happens1 m = ((AuditStart 1), refl, (0, omega arith, refl))
 
   abbrev s2 : State
-  s2 = record v { audits = (λ number. if number == 1 then n else v.audits number); jobs = (record base { subject = 1; place = 2 }) ∷ []; next_job = 2; append = Some (record { job = 1; entry = (AuditStart 1); moves = 2 }) }
+  s2 = record v {
+    audits = (λ number. if number == 1 then n else v.audits number);
+    jobs = (record base { subject = 1; place = 2 }) ∷ [];
+    next_job = 2;
+    append = Some (record { job = 1; entry = (AuditStart 1); moves = 2 });
+  }
 
   happens2 : (m : ℕ) → Happens 8 m s1 (Step 1) More s2
   unfolding setup_in actions_of
   happens2 m = ((refl, refl), (0, omega arith, refl))
 
   abbrev s3 : State
-  s3 = record v { audits = (λ number. if number == 1 then n else v.audits number); jobs = (record base { subject = 1; place = 3 }) ∷ []; next_job = 2; append = Some (record { job = 1; entry = (AuditStart 1); moves = 3 }); doubt = Some (record { entry = (AuditStart 1); maker = Some (record base { subject = 1; place = 3 }) }) }
+  s3 = record v {
+    audits = (λ number. if number == 1 then n else v.audits number);
+    jobs = (record base { subject = 1; place = 3 }) ∷ [];
+    next_job = 2;
+    append = Some (record { job = 1; entry = (AuditStart 1); moves = 3 });
+    doubt = Some (record { entry = (AuditStart 1); maker = Some (record base { subject = 1; place = 3 }) });
+  }
 
   happens3 : (m : ℕ) → Happens 8 m s2 (Step 1) More s3
   unfolding setup_in actions_of
   happens3 m = ((refl, refl), (0, omega arith, refl))
 
   abbrev s4 : State
-  s4 = record v { records = (AuditStart 1 ∷ byte_records); audits = (λ number. if number == 1 then n else v.audits number); jobs = (record base { subject = 1; place = 4 }) ∷ []; next_job = 2; append = None; doubt = None }
+  s4 = record v {
+    records = (AuditStart 1 ∷ byte_records);
+    audits = (λ number. if number == 1 then n else v.audits number);
+    jobs = (record base { subject = 1; place = 4 }) ∷ [];
+    next_job = 2;
+    append = None;
+    doubt = None;
+  }
 
   happens4 : (m : ℕ) → Happens 8 m s3 (Step 1) More s4
   unfolding setup_in actions_of
@@ -71,65 +95,143 @@ module _ (w : State) (n : ℕ) (count : w.handed ≡ 4) where
   ps1 = with_provider v.providers 0 ((v.providers 0))
 
   abbrev s5 : State
-  s5 = record v { records = (AuditStart 1 ∷ byte_records); audits = (λ number. if number == 1 then n else v.audits number); jobs = (record base { subject = 1; place = 5; given = Answered 0 1 0 (right 0) ∷ [] }) ∷ []; next_job = 2; append = None; doubt = None; providers = ps1 }
+  s5 = record v {
+    records = (AuditStart 1 ∷ byte_records);
+    audits = (λ number. if number == 1 then n else v.audits number);
+    jobs = (record base { subject = 1; place = 5; given = Answered 0 1 0 (right 0) ∷ [] }) ∷ [];
+    next_job = 2;
+    append = None;
+    doubt = None;
+    providers = ps1;
+  }
 
   happens5 : (m : ℕ) → Happens 8 m s4 (Step 1) More s5
   unfolding setup_in actions_of
-  happens5 m = (right 0, ((v.providers 0), record { held = refl; counts = record { store_faults = refl; other_faults = omega arith; fetches = refl }; gives = inl (same_first _ _ refl) }, refl))
+  happens5 m = (
+    right 0,
+    ((v.providers 0), record { held = refl; counts = other-counts (v.providers 0); gives = inl (same_first _ _ refl) }, refl),
+  )
 
   abbrev ps2 : ℕ → Provider
   ps2 = with_provider ps1 1 ((ps1 1))
 
   abbrev s6 : State
-  s6 = record v { records = (AuditStart 1 ∷ byte_records); audits = (λ number. if number == 1 then n else v.audits number); jobs = (record base { subject = 1; place = 6; given = Answered 1 1 0 (right 1) ∷ Answered 0 1 0 (right 0) ∷ [] }) ∷ []; next_job = 2; append = None; doubt = None; providers = ps2 }
+  s6 = record v {
+    records = (AuditStart 1 ∷ byte_records);
+    audits = (λ number. if number == 1 then n else v.audits number);
+    jobs = (record base { subject = 1; place = 6; given = Answered 1 1 0 (right 1) ∷ Answered 0 1 0 (right 0) ∷ [] }) ∷ [];
+    next_job = 2;
+    append = None;
+    doubt = None;
+    providers = ps2;
+  }
 
   happens6 : (m : ℕ) → Happens 8 m s5 (Step 1) More s6
   unfolding setup_in actions_of
-  happens6 m = (right 1, ((ps1 1), record { held = refl; counts = record { store_faults = refl; other_faults = omega arith; fetches = refl }; gives = inl (same_first _ _ refl) }, refl))
+  happens6 m = (
+    right 1,
+    ((ps1 1), record { held = refl; counts = other-counts (ps1 1); gives = inl (same_first _ _ refl) }, refl),
+  )
 
   abbrev ps3 : ℕ → Provider
   ps3 = with_provider ps2 2 ((ps2 2))
 
   abbrev s7 : State
-  s7 = record v { records = (AuditStart 1 ∷ byte_records); audits = (λ number. if number == 1 then n else v.audits number); jobs = (record base { subject = 1; place = 7; given = Answered 2 1 0 (None) ∷ Answered 1 1 0 (right 1) ∷ Answered 0 1 0 (right 0) ∷ [] }) ∷ []; next_job = 2; append = None; doubt = None; providers = ps3 }
+  s7 = record v {
+    records = (AuditStart 1 ∷ byte_records);
+    audits = (λ number. if number == 1 then n else v.audits number);
+    jobs = (record base { subject = 1; place = 7; given = Answered 2 1 0 (None) ∷ Answered 1 1 0 (right 1) ∷ Answered 0 1 0 (right 0) ∷ [] }) ∷ [];
+    next_job = 2;
+    append = None;
+    doubt = None;
+    providers = ps3;
+  }
 
   happens7 : (m : ℕ) → Happens 8 m s6 (Step 1) More s7
   unfolding setup_in actions_of
-  happens7 m = (None, ((ps2 2), record { held = refl; counts = record { store_faults = refl; other_faults = omega arith; fetches = refl }; gives = inl (sym (no_answer _ refl)) }, refl))
+  happens7 m = (
+    None,
+    ((ps2 2), record { held = refl; counts = other-counts (ps2 2); gives = inl (sym (no_answer _ refl)) }, refl),
+  )
 
   abbrev ps4 : ℕ → Provider
   ps4 = with_provider ps3 3 ((ps3 3))
 
   abbrev s8 : State
-  s8 = record v { records = (AuditStart 1 ∷ byte_records); audits = (λ number. if number == 1 then n else v.audits number); jobs = (record base { subject = 1; place = 8; given = Answered 3 1 0 (right 3) ∷ Answered 2 1 0 (None) ∷ Answered 1 1 0 (right 1) ∷ Answered 0 1 0 (right 0) ∷ [] }) ∷ []; next_job = 2; append = None; doubt = None; providers = ps4 }
+  s8 = record v {
+    records = (AuditStart 1 ∷ byte_records);
+    audits = (λ number. if number == 1 then n else v.audits number);
+    jobs = (record base { subject = 1; place = 8; given = Answered 3 1 0 (right 3) ∷ Answered 2 1 0 (None) ∷ Answered 1 1 0 (right 1) ∷ Answered 0 1 0 (right 0) ∷ [] }) ∷ [];
+    next_job = 2;
+    append = None;
+    doubt = None;
+    providers = ps4;
+  }
 
   happens8 : (m : ℕ) → Happens 8 m s7 (Step 1) More s8
   unfolding setup_in actions_of
-  happens8 m = (right 3, ((ps3 3), record { held = refl; counts = record { store_faults = refl; other_faults = omega arith; fetches = refl }; gives = inl (same_first _ _ refl) }, refl))
+  happens8 m = (
+    right 3,
+    ((ps3 3), record { held = refl; counts = other-counts (ps3 3); gives = inl (same_first _ _ refl) }, refl),
+  )
 
   abbrev s9 : State
-  s9 = record v { records = (AuditStart 1 ∷ byte_records); audits = (λ number. if number == 1 then n else v.audits number); jobs = (record base { subject = 1; place = 9; given = Answered 3 1 0 (right 3) ∷ Answered 2 1 0 (None) ∷ Answered 1 1 0 (right 1) ∷ Answered 0 1 0 (right 0) ∷ [] }) ∷ []; next_job = 2; append = Some (record { job = 1; entry = (AuditDone 1 0 counts); moves = 1 }); doubt = None; providers = ps4 }
+  s9 = record v {
+    records = (AuditStart 1 ∷ byte_records);
+    audits = (λ number. if number == 1 then n else v.audits number);
+    jobs = (record base { subject = 1; place = 9; given = Answered 3 1 0 (right 3) ∷ Answered 2 1 0 (None) ∷ Answered 1 1 0 (right 1) ∷ Answered 0 1 0 (right 0) ∷ [] }) ∷ [];
+    next_job = 2;
+    append = Some (record { job = 1; entry = (AuditDone 1 0 counts); moves = 1 });
+    doubt = None;
+    providers = ps4;
+  }
 
   happens9 : (m : ℕ) → Happens 8 m s8 (Step 1) More s9
   unfolding setup_in actions_of
   happens9 m = ((AuditDone 1 0 counts), (sums, (sums, (sums, judged, refl), refl), refl), (0, omega arith, refl))
 
   abbrev s10 : State
-  s10 = record v { records = (AuditStart 1 ∷ byte_records); audits = (λ number. if number == 1 then n else v.audits number); jobs = (record base { subject = 1; place = 10; given = Answered 3 1 0 (right 3) ∷ Answered 2 1 0 (None) ∷ Answered 1 1 0 (right 1) ∷ Answered 0 1 0 (right 0) ∷ [] }) ∷ []; next_job = 2; append = Some (record { job = 1; entry = (AuditDone 1 0 counts); moves = 2 }); doubt = None; providers = ps4 }
+  s10 = record v {
+    records = (AuditStart 1 ∷ byte_records);
+    audits = (λ number. if number == 1 then n else v.audits number);
+    jobs = (record base { subject = 1; place = 10; given = Answered 3 1 0 (right 3) ∷ Answered 2 1 0 (None) ∷ Answered 1 1 0 (right 1) ∷ Answered 0 1 0 (right 0) ∷ [] }) ∷ [];
+    next_job = 2;
+    append = Some (record { job = 1; entry = (AuditDone 1 0 counts); moves = 2 });
+    doubt = None;
+    providers = ps4;
+  }
 
   happens10 : (m : ℕ) → Happens 8 m s9 (Step 1) More s10
   unfolding setup_in actions_of
   happens10 m = ((refl, refl), (0, omega arith, refl))
 
   abbrev s11 : State
-  s11 = record v { records = (AuditStart 1 ∷ byte_records); audits = (λ number. if number == 1 then n else v.audits number); jobs = (record base { subject = 1; place = 11; given = Answered 3 1 0 (right 3) ∷ Answered 2 1 0 (None) ∷ Answered 1 1 0 (right 1) ∷ Answered 0 1 0 (right 0) ∷ [] }) ∷ []; next_job = 2; append = Some (record { job = 1; entry = (AuditDone 1 0 counts); moves = 3 }); doubt = Some (record { entry = (AuditDone 1 0 counts); maker = Some (record base { subject = 1; place = 11; given = Answered 3 1 0 (right 3) ∷ Answered 2 1 0 (None) ∷ Answered 1 1 0 (right 1) ∷ Answered 0 1 0 (right 0) ∷ [] }) }); providers = ps4 }
+  s11 = record v {
+    records = (AuditStart 1 ∷ byte_records);
+    audits = (λ number. if number == 1 then n else v.audits number);
+    jobs = (record base { subject = 1; place = 11; given = Answered 3 1 0 (right 3) ∷ Answered 2 1 0 (None) ∷ Answered 1 1 0 (right 1) ∷ Answered 0 1 0 (right 0) ∷ [] }) ∷ [];
+    next_job = 2;
+    append = Some (record { job = 1; entry = (AuditDone 1 0 counts); moves = 3 });
+    doubt = Some (record { entry = (AuditDone 1 0 counts); maker = Some (record base { subject = 1; place = 11; given = Answered 3 1 0 (right 3) ∷ Answered 2 1 0 (None) ∷ Answered 1 1 0 (right 1) ∷ Answered 0 1 0 (right 0) ∷ [] }) });
+    providers = ps4;
+  }
 
   happens11 : (m : ℕ) → Happens 8 m s10 (Step 1) More s11
   unfolding setup_in actions_of
   happens11 m = ((refl, refl), (0, omega arith, refl))
 
   abbrev s12 : State
-  s12 = record v { records = (AuditStart 1 ∷ byte_records); audits = (λ number. if number == 1 then n else v.audits number); jobs = []; next_job = 2; append = None; doubt = Some (record { entry = (AuditDone 1 0 counts); maker = Some (record base { subject = 1; place = 11; given = Answered 3 1 0 (right 3) ∷ Answered 2 1 0 (None) ∷ Answered 1 1 0 (right 1) ∷ Answered 0 1 0 (right 0) ∷ [] }) }); providers = ps4; disk_faults = 1; is_barred = true }
+  s12 = record v {
+    records = (AuditStart 1 ∷ byte_records);
+    audits = (λ number. if number == 1 then n else v.audits number);
+    jobs = [];
+    next_job = 2;
+    append = None;
+    doubt = Some (record { entry = (AuditDone 1 0 counts); maker = Some (record base { subject = 1; place = 11; given = Answered 3 1 0 (right 3) ∷ Answered 2 1 0 (None) ∷ Answered 1 1 0 (right 1) ∷ Answered 0 1 0 (right 0) ∷ [] }) });
+    providers = ps4;
+    disk_faults = 1;
+    is_barred = true;
+  }
 
   happens12 : (m : ℕ) → Happens 8 m s11 (Step 1) (Ended DiskFault) s12
   unfolding setup_in actions_of
@@ -172,7 +274,9 @@ pub alone : RunsAlone byte_records (AuditJob) (DiskFault) (damaged) (audit_cut) 
 alone = record {
   faults = 0;
   before = omega arith;
-  ran = λ w n V. subst (λ u. RanAlone byte_records (AuditJob) (DiskFault) (damaged) (audit_cut) (answers_heard) 0 u n) (form-is byte_records (one_byte w.bytes) (holds 0) (holds 1) (empty_provider) (holds 3) w (one_byte-is w.bytes (V.bytes named (record { name = named; id = 1; size = 1 }) refl).1) V) (ran-formed w n V.handed.count);
+  ran = λ w n V. subst (λ u. RanAlone byte_records (AuditJob) (DiskFault) (damaged) (audit_cut) (answers_heard) 0 u n)
+      (form-is byte_records (one_byte w.bytes) (holds 0) (holds 1) (empty_provider) (holds 3) w (one_byte-is w.bytes (V.bytes named (record { name = named; id = 1; size = 1 }) refl).1) V)
+      (ran-formed w n V.handed.count);
 }
 
 pub answers : Answers (AuditAll) (damaged) (audit_cut) (ends_hearing 12 answers_heard)

@@ -37,28 +37,48 @@ module _ (w : State) (n : ℕ) (count : w.handed ≡ 4) where
   s0 = record v { jobs = base ∷ []; next_job = 2 }
 
   abbrev s1 : State
-  s1 = record v { jobs = (record base { place = 1 }) ∷ []; next_job = 2; append = Some (record { job = 1; entry = (Drop named); moves = 1 }) }
+  s1 = record v {
+    jobs = (record base { place = 1 }) ∷ [];
+    next_job = 2;
+    append = Some (record { job = 1; entry = (Drop named); moves = 1 });
+  }
 
   happens1 : (m : ℕ) → Happens 8 m s0 (Step 1) More s1
   unfolding setup_in actions_of
   happens1 m = ((Drop named), refl, (0, omega arith, refl))
 
   abbrev s2 : State
-  s2 = record v { jobs = (record base { place = 2 }) ∷ []; next_job = 2; append = Some (record { job = 1; entry = (Drop named); moves = 2 }) }
+  s2 = record v {
+    jobs = (record base { place = 2 }) ∷ [];
+    next_job = 2;
+    append = Some (record { job = 1; entry = (Drop named); moves = 2 });
+  }
 
   happens2 : (m : ℕ) → Happens 8 m s1 (Step 1) More s2
   unfolding setup_in actions_of
   happens2 m = ((refl, refl), (0, omega arith, refl))
 
   abbrev s3 : State
-  s3 = record v { jobs = (record base { place = 3 }) ∷ []; next_job = 2; append = Some (record { job = 1; entry = (Drop named); moves = 3 }); doubt = Some (record { entry = (Drop named); maker = Some (record base { place = 3 }) }) }
+  s3 = record v {
+    jobs = (record base { place = 3 }) ∷ [];
+    next_job = 2;
+    append = Some (record { job = 1; entry = (Drop named); moves = 3 });
+    doubt = Some (record { entry = (Drop named); maker = Some (record base { place = 3 }) });
+  }
 
   happens3 : (m : ℕ) → Happens 8 m s2 (Step 1) More s3
   unfolding setup_in actions_of
   happens3 m = ((refl, refl), (0, omega arith, refl))
 
   abbrev s4 : State
-  s4 = record v { jobs = []; next_job = 2; append = None; doubt = Some (record { entry = (Drop named); maker = Some (record base { place = 3 }) }); disk_faults = 1; is_barred = true }
+  s4 = record v {
+    jobs = [];
+    next_job = 2;
+    append = None;
+    doubt = Some (record { entry = (Drop named); maker = Some (record base { place = 3 }) });
+    disk_faults = 1;
+    is_barred = true;
+  }
 
   happens4 : (m : ℕ) → Happens 8 m s3 (Step 1) (Ended DiskFault) s4
   unfolding setup_in actions_of
@@ -101,7 +121,9 @@ pub alone : RunsAlone byte_records (DropJob named) (DiskFault) (kept) (drop_cut)
 alone = record {
   faults = 0;
   before = omega arith;
-  ran = λ w n V. subst (λ u. RanAlone byte_records (DropJob named) (DiskFault) (kept) (drop_cut) ([]) 0 u n) (form-is byte_records (one_byte w.bytes) (holds 0) (holds 1) (holds 2) (holds 3) w (one_byte-is w.bytes (V.bytes named (record { name = named; id = 1; size = 1 }) refl).1) V) (ran-formed w n V.handed.count);
+  ran = λ w n V. subst (λ u. RanAlone byte_records (DropJob named) (DiskFault) (kept) (drop_cut) ([]) 0 u n)
+      (form-is byte_records (one_byte w.bytes) (holds 0) (holds 1) (holds 2) (holds 3) w (one_byte-is w.bytes (V.bytes named (record { name = named; id = 1; size = 1 }) refl).1) V)
+      (ran-formed w n V.handed.count);
 }
 
 pub answers : Answers (DropOf named) (kept) (drop_cut) (ends 12)

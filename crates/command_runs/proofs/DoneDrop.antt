@@ -22,6 +22,7 @@ use Rattle.command_laws.proofs.Telling.{left-alone, jobs-leave}
 use Rattle.command_laws.proofs.BeginRefusals.{refusal-of}
 use Rattle.command_runs.specs.Devices.{named, byte_records, dropped_records, holds, robbed, ends, kept, dropped}
 use Rattle.command_runs.proofs.Shape.{formed, form-is, one_byte, one_byte-is}
+use Rattle.command_runs.proofs.Counting.{robbed-counts}
 use Rattle.command_runs.proofs.Stores.{stored-sure as old-sure, dropped-new as new-sure}
 
 begins-none : refusal_over byte_records (DropJob named) ≡ None
@@ -38,28 +39,47 @@ module _ (w : State) (n : ℕ) (count : w.handed ≡ 4) where
   s0 = record v { jobs = base ∷ []; next_job = 2 }
 
   abbrev s1 : State
-  s1 = record v { jobs = (record base { place = 1 }) ∷ []; next_job = 2; append = Some (record { job = 1; entry = (Drop named); moves = 1 }) }
+  s1 = record v {
+    jobs = (record base { place = 1 }) ∷ [];
+    next_job = 2;
+    append = Some (record { job = 1; entry = (Drop named); moves = 1 });
+  }
 
   happens1 : (m : ℕ) → Happens 8 m s0 (Step 1) More s1
   unfolding setup_in actions_of
   happens1 m = ((Drop named), refl, (0, omega arith, refl))
 
   abbrev s2 : State
-  s2 = record v { jobs = (record base { place = 2 }) ∷ []; next_job = 2; append = Some (record { job = 1; entry = (Drop named); moves = 2 }) }
+  s2 = record v {
+    jobs = (record base { place = 2 }) ∷ [];
+    next_job = 2;
+    append = Some (record { job = 1; entry = (Drop named); moves = 2 });
+  }
 
   happens2 : (m : ℕ) → Happens 8 m s1 (Step 1) More s2
   unfolding setup_in actions_of
   happens2 m = ((refl, refl), (0, omega arith, refl))
 
   abbrev s3 : State
-  s3 = record v { jobs = (record base { place = 3 }) ∷ []; next_job = 2; append = Some (record { job = 1; entry = (Drop named); moves = 3 }); doubt = Some (record { entry = (Drop named); maker = Some (record base { place = 3 }) }) }
+  s3 = record v {
+    jobs = (record base { place = 3 }) ∷ [];
+    next_job = 2;
+    append = Some (record { job = 1; entry = (Drop named); moves = 3 });
+    doubt = Some (record { entry = (Drop named); maker = Some (record base { place = 3 }) });
+  }
 
   happens3 : (m : ℕ) → Happens 8 m s2 (Step 1) More s3
   unfolding setup_in actions_of
   happens3 m = ((refl, refl), (0, omega arith, refl))
 
   abbrev s4 : State
-  s4 = record v { records = dropped_records; jobs = (record base { older = 1 ∷ []; place = 4 }) ∷ []; next_job = 2; append = None; doubt = None }
+  s4 = record v {
+    records = dropped_records;
+    jobs = (record base { older = 1 ∷ []; place = 4 }) ∷ [];
+    next_job = 2;
+    append = None;
+    doubt = None;
+  }
 
   happens4 : (m : ℕ) → Happens 8 m s3 (Step 1) More s4
   unfolding setup_in actions_of
@@ -69,44 +89,79 @@ module _ (w : State) (n : ℕ) (count : w.handed ≡ 4) where
   ps1 = with_provider v.providers 0 (robbed (v.providers 0))
 
   abbrev s5 : State
-  s5 = record v { records = dropped_records; jobs = (record base { older = 1 ∷ []; place = 5 }) ∷ []; next_job = 2; append = None; doubt = None; providers = ps1 }
+  s5 = record v {
+    records = dropped_records;
+    jobs = (record base { older = 1 ∷ []; place = 5 }) ∷ [];
+    next_job = 2;
+    append = None;
+    doubt = None;
+    providers = ps1;
+  }
 
   happens5 : (m : ℕ) → Happens 8 m s4 (Step 1) More s5
   unfolding setup_in actions_of
-  happens5 m = (robbed (v.providers 0), inl (record { held = refl; counts = record { store_faults = refl; other_faults = omega arith; fetches = refl } }), refl)
+  happens5 m = (robbed (v.providers 0), inl (record { held = refl; counts = robbed-counts (v.providers 0) }), refl)
 
   abbrev ps2 : ℕ → Provider
   ps2 = with_provider ps1 1 (robbed (ps1 1))
 
   abbrev s6 : State
-  s6 = record v { records = dropped_records; jobs = (record base { older = 1 ∷ []; place = 6 }) ∷ []; next_job = 2; append = None; doubt = None; providers = ps2 }
+  s6 = record v {
+    records = dropped_records;
+    jobs = (record base { older = 1 ∷ []; place = 6 }) ∷ [];
+    next_job = 2;
+    append = None;
+    doubt = None;
+    providers = ps2;
+  }
 
   happens6 : (m : ℕ) → Happens 8 m s5 (Step 1) More s6
   unfolding setup_in actions_of
-  happens6 m = (robbed (ps1 1), inl (record { held = refl; counts = record { store_faults = refl; other_faults = omega arith; fetches = refl } }), refl)
+  happens6 m = (robbed (ps1 1), inl (record { held = refl; counts = robbed-counts (ps1 1) }), refl)
 
   abbrev ps3 : ℕ → Provider
   ps3 = with_provider ps2 2 (robbed (ps2 2))
 
   abbrev s7 : State
-  s7 = record v { records = dropped_records; jobs = (record base { older = 1 ∷ []; place = 7 }) ∷ []; next_job = 2; append = None; doubt = None; providers = ps3 }
+  s7 = record v {
+    records = dropped_records;
+    jobs = (record base { older = 1 ∷ []; place = 7 }) ∷ [];
+    next_job = 2;
+    append = None;
+    doubt = None;
+    providers = ps3;
+  }
 
   happens7 : (m : ℕ) → Happens 8 m s6 (Step 1) More s7
   unfolding setup_in actions_of
-  happens7 m = (robbed (ps2 2), inl (record { held = refl; counts = record { store_faults = refl; other_faults = omega arith; fetches = refl } }), refl)
+  happens7 m = (robbed (ps2 2), inl (record { held = refl; counts = robbed-counts (ps2 2) }), refl)
 
   abbrev ps4 : ℕ → Provider
   ps4 = with_provider ps3 3 (robbed (ps3 3))
 
   abbrev s8 : State
-  s8 = record v { records = dropped_records; jobs = (record base { older = 1 ∷ []; place = 8 }) ∷ []; next_job = 2; append = None; doubt = None; providers = ps4 }
+  s8 = record v {
+    records = dropped_records;
+    jobs = (record base { older = 1 ∷ []; place = 8 }) ∷ [];
+    next_job = 2;
+    append = None;
+    doubt = None;
+    providers = ps4;
+  }
 
   happens8 : (m : ℕ) → Happens 8 m s7 (Step 1) More s8
   unfolding setup_in actions_of
-  happens8 m = (robbed (ps3 3), inl (record { held = refl; counts = record { store_faults = refl; other_faults = omega arith; fetches = refl } }), refl)
+  happens8 m = (robbed (ps3 3), inl (record { held = refl; counts = robbed-counts (ps3 3) }), refl)
 
   abbrev s9 : State
-  s9 = record v { records = dropped_records; jobs = []; next_job = 2; append = None; doubt = None; providers = ps4 }
+  s9 = record v {
+    records = dropped_records;
+    jobs = [];
+    next_job = 2;
+    append = None;
+    doubt = None;
+    providers = ps4;
+  }
 
   happens9 : (m : ℕ) → Happens 8 m s8 (Step 1) (Ended (Dropped)) s9
   unfolding setup_in actions_of
@@ -149,7 +204,9 @@ pub alone : RunsAlone byte_records (DropJob named) (Dropped) (kept) (dropped) ([
 alone = record {
   faults = 0;
   before = omega arith;
-  ran = λ w n V. subst (λ u. RanAlone byte_records (DropJob named) (Dropped) (kept) (dropped) ([]) 0 u n) (form-is byte_records (one_byte w.bytes) (holds 0) (holds 1) (holds 2) (holds 3) w (one_byte-is w.bytes (V.bytes named (record { name = named; id = 1; size = 1 }) refl).1) V) (ran-formed w n V.handed.count);
+  ran = λ w n V. subst (λ u. RanAlone byte_records (DropJob named) (Dropped) (kept) (dropped) ([]) 0 u n)
+      (form-is byte_records (one_byte w.bytes) (holds 0) (holds 1) (holds 2) (holds 3) w (one_byte-is w.bytes (V.bytes named (record { name = named; id = 1; size = 1 }) refl).1) V)
+      (ran-formed w n V.handed.count);
 }
 
 pub answers : Answers (DropOf named) (kept) (dropped) (ends 0)

@@ -22,6 +22,7 @@ use Rattle.command_laws.proofs.Telling.{left-alone, jobs-leave}
 use Rattle.command_laws.proofs.BeginRefusals.{refusal-of}
 use Rattle.command_runs.specs.Devices.{named, byte, repaired_records, own_block, given_block, holds, fetched, ends_hearing, mended, got, blocks_heard}
 use Rattle.command_runs.proofs.Shape.{formed, form-is, one_byte, one_byte-is}
+use Rattle.command_runs.proofs.Counting.{fetch-counts}
 use Rattle.command_runs.proofs.Stores.{mended-sure as old-sure, got-new as new-sure}
 use Rattle.damage_run.proofs.Values.{block_sized, symbols, all_give, byte_back}
 
@@ -42,44 +43,76 @@ module _ (w : State) (n : ℕ) (count : w.handed ≡ 4) where
   ps1 = with_provider v.providers 0 (fetched (v.providers 0))
 
   abbrev s1 : State
-  s1 = record v { jobs = (record base { place = 1; given = Fetched 0 1 0 (Some (own_block 0)) ∷ [] }) ∷ []; next_job = 2; providers = ps1 }
+  s1 = record v {
+    jobs = (record base { place = 1; given = Fetched 0 1 0 (Some (own_block 0)) ∷ [] }) ∷ [];
+    next_job = 2;
+    providers = ps1;
+  }
 
   happens1 : (m : ℕ) → Happens 8 m s0 (Step 1) More s1
   unfolding setup_in actions_of
-  happens1 m = (Some (own_block 0), (fetched (v.providers 0), record { held = refl; counts = record { store_faults = refl; other_faults = omega arith; fetches = refl }; gives = inl (block_sized 0) }, refl))
+  happens1 m = (
+    Some (own_block 0),
+    (fetched (v.providers 0), record { held = refl; counts = fetch-counts (v.providers 0); gives = inl (block_sized 0) }, refl),
+  )
 
   abbrev ps2 : ℕ → Provider
   ps2 = with_provider ps1 1 (fetched (ps1 1))
 
   abbrev s2 : State
-  s2 = record v { jobs = (record base { place = 2; given = Fetched 1 1 0 (Some (own_block 1)) ∷ Fetched 0 1 0 (Some (own_block 0)) ∷ [] }) ∷ []; next_job = 2; providers = ps2 }
+  s2 = record v {
+    jobs = (record base { place = 2; given = Fetched 1 1 0 (Some (own_block 1)) ∷ Fetched 0 1 0 (Some (own_block 0)) ∷ [] }) ∷ [];
+    next_job = 2;
+    providers = ps2;
+  }
 
   happens2 : (m : ℕ) → Happens 8 m s1 (Step 1) More s2
   unfolding setup_in actions_of
-  happens2 m = (Some (own_block 1), (fetched (ps1 1), record { held = refl; counts = record { store_faults = refl; other_faults = omega arith; fetches = refl }; gives = inl (block_sized 1) }, refl))
+  happens2 m = (
+    Some (own_block 1),
+    (fetched (ps1 1), record { held = refl; counts = fetch-counts (ps1 1); gives = inl (block_sized 1) }, refl),
+  )
 
   abbrev ps3 : ℕ → Provider
   ps3 = with_provider ps2 2 (fetched (ps2 2))
 
   abbrev s3 : State
-  s3 = record v { jobs = (record base { place = 3; given = Fetched 2 1 0 (Some (own_block 2)) ∷ Fetched 1 1 0 (Some (own_block 1)) ∷ Fetched 0 1 0 (Some (own_block 0)) ∷ [] }) ∷ []; next_job = 2; providers = ps3 }
+  s3 = record v {
+    jobs = (record base { place = 3; given = Fetched 2 1 0 (Some (own_block 2)) ∷ Fetched 1 1 0 (Some (own_block 1)) ∷ Fetched 0 1 0 (Some (own_block 0)) ∷ [] }) ∷ [];
+    next_job = 2;
+    providers = ps3;
+  }
 
   happens3 : (m : ℕ) → Happens 8 m s2 (Step 1) More s3
   unfolding setup_in actions_of
-  happens3 m = (Some (own_block 2), (fetched (ps2 2), record { held = refl; counts = record { store_faults = refl; other_faults = omega arith; fetches = refl }; gives = inl (block_sized 2) }, refl))
+  happens3 m = (
+    Some (own_block 2),
+    (fetched (ps2 2), record { held = refl; counts = fetch-counts (ps2 2); gives = inl (block_sized 2) }, refl),
+  )
 
   abbrev ps4 : ℕ → Provider
   ps4 = with_provider ps3 3 (fetched (ps3 3))
 
   abbrev s4 : State
-  s4 = record v { jobs = (record base { place = 4; given = Fetched 3 1 0 (Some (own_block 3)) ∷ Fetched 2 1 0 (Some (own_block 2)) ∷ Fetched 1 1 0 (Some (own_block 1)) ∷ Fetched 0 1 0 (Some (own_block 0)) ∷ [] }) ∷ []; next_job = 2; providers = ps4 }
+  s4 = record v {
+    jobs = (record base { place = 4; given = Fetched 3 1 0 (Some (own_block 3)) ∷ Fetched 2 1 0 (Some (own_block 2)) ∷ Fetched 1 1 0 (Some (own_block 1)) ∷ Fetched 0 1 0 (Some (own_block 0)) ∷ [] }) ∷ [];
+    next_job = 2;
+    providers = ps4;
+  }
 
   happens4 : (m : ℕ) → Happens 8 m s3 (Step 1) More s4
   unfolding setup_in actions_of
-  happens4 m = (Some (own_block 3), (fetched (ps3 3), record { held = refl; counts = record { store_faults = refl; other_faults = omega arith; fetches = refl }; gives = inl (block_sized 3) }, refl))
+  happens4 m = (
+    Some (own_block 3),
+    (fetched (ps3 3), record { held = refl; counts = fetch-counts (ps3 3); gives = inl (block_sized 3) }, refl),
+  )
 
   abbrev s5 : State
-  s5 = record v { jobs = (record base { place = 5; given = Worked 1 0 symbols ∷ Fetched 3 1 0 (Some (own_block 3)) ∷ Fetched 2 1 0 (Some (own_block 2)) ∷ Fetched 1 1 0 (Some (own_block 1)) ∷ Fetched 0 1 0 (Some (own_block 0)) ∷ [] }) ∷ []; next_job = 2; providers = ps4 }
+  s5 = record v {
+    jobs = (record base { place = 5; given = Worked 1 0 symbols ∷ Fetched 3 1 0 (Some (own_block 3)) ∷ Fetched 2 1 0 (Some (own_block 2)) ∷ Fetched 1 1 0 (Some (own_block 1)) ∷ Fetched 0 1 0 (Some (own_block 0)) ∷ [] }) ∷ [];
+    next_job = 2;
+    providers = ps4;
+  }
 
   happens5 : (m : ℕ) → Happens 8 m s4 (Step 1) More s5
   unfolding setup_in actions_of
@@ -129,7 +162,9 @@ pub alone : RunsAlone repaired_records (GetJob named) (Got byte) (mended) (got) 
 alone = record {
   faults = 0;
   before = omega arith;
-  ran = λ w n V. subst (λ u. RanAlone repaired_records (GetJob named) (Got byte) (mended) (got) (blocks_heard) 0 u n) (form-is repaired_records (one_byte w.bytes) (fetched (holds 0)) (fetched (holds 1)) (given_block 2 (fetched empty_provider)) (fetched (holds 3)) w (one_byte-is w.bytes (V.bytes named (record { name = named; id = 1; size = 1 }) refl).1) V) (ran-formed w n V.handed.count);
+  ran = λ w n V. subst (λ u. RanAlone repaired_records (GetJob named) (Got byte) (mended) (got) (blocks_heard) 0 u n)
+      (form-is repaired_records (one_byte w.bytes) (fetched (holds 0)) (fetched (holds 1)) (given_block 2 (fetched empty_provider)) (fetched (holds 3)) w (one_byte-is w.bytes (V.bytes named (record { name = named; id = 1; size = 1 }) refl).1) V)
+      (ran-formed w n V.handed.count);
 }
 
 pub answers : Answers (GetOf named) (mended) (got) (ends_hearing 0 blocks_heard)

@@ -23,6 +23,7 @@ use Rattle.command_laws.proofs.Telling.{left-alone, jobs-leave}
 use Rattle.command_laws.proofs.BeginRefusals.{refusal-of}
 use Rattle.command_runs.specs.Devices.{named, audited_records, repaired_records, own_block, given_block, holds, fetched, ends, due, repaired}
 use Rattle.command_runs.proofs.Shape.{formed, form-is, one_byte, one_byte-is}
+use Rattle.command_runs.proofs.Counting.{fetch-counts, store-counts}
 use Rattle.command_runs.proofs.Stores.{due-sure as old-sure, repaired-new as new-sure}
 use Rattle.damage_run.proofs.Values.{block_sized, symbols, without_two_give}
 
@@ -43,44 +44,76 @@ module _ (w : State) (n : ℕ) (count : w.handed ≡ 4) where
   ps1 = with_provider v.providers 0 (fetched (v.providers 0))
 
   abbrev s1 : State
-  s1 = record v { jobs = (record base { place = 1; given = Fetched 0 1 0 (Some (own_block 0)) ∷ [] }) ∷ []; next_job = 2; providers = ps1 }
+  s1 = record v {
+    jobs = (record base { place = 1; given = Fetched 0 1 0 (Some (own_block 0)) ∷ [] }) ∷ [];
+    next_job = 2;
+    providers = ps1;
+  }
 
   happens1 : (m : ℕ) → Happens 8 m s0 (Step 1) More s1
   unfolding setup_in actions_of
-  happens1 m = (Some (own_block 0), (fetched (v.providers 0), record { held = refl; counts = record { store_faults = refl; other_faults = omega arith; fetches = refl }; gives = inl (block_sized 0) }, refl))
+  happens1 m = (
+    Some (own_block 0),
+    (fetched (v.providers 0), record { held = refl; counts = fetch-counts (v.providers 0); gives = inl (block_sized 0) }, refl),
+  )
 
   abbrev ps2 : ℕ → Provider
   ps2 = with_provider ps1 1 (fetched (ps1 1))
 
   abbrev s2 : State
-  s2 = record v { jobs = (record base { place = 2; given = Fetched 1 1 0 (Some (own_block 1)) ∷ Fetched 0 1 0 (Some (own_block 0)) ∷ [] }) ∷ []; next_job = 2; providers = ps2 }
+  s2 = record v {
+    jobs = (record base { place = 2; given = Fetched 1 1 0 (Some (own_block 1)) ∷ Fetched 0 1 0 (Some (own_block 0)) ∷ [] }) ∷ [];
+    next_job = 2;
+    providers = ps2;
+  }
 
   happens2 : (m : ℕ) → Happens 8 m s1 (Step 1) More s2
   unfolding setup_in actions_of
-  happens2 m = (Some (own_block 1), (fetched (ps1 1), record { held = refl; counts = record { store_faults = refl; other_faults = omega arith; fetches = refl }; gives = inl (block_sized 1) }, refl))
+  happens2 m = (
+    Some (own_block 1),
+    (fetched (ps1 1), record { held = refl; counts = fetch-counts (ps1 1); gives = inl (block_sized 1) }, refl),
+  )
 
   abbrev ps3 : ℕ → Provider
   ps3 = with_provider ps2 2 (fetched (ps2 2))
 
   abbrev s3 : State
-  s3 = record v { jobs = (record base { place = 3; given = Fetched 2 1 0 (None) ∷ Fetched 1 1 0 (Some (own_block 1)) ∷ Fetched 0 1 0 (Some (own_block 0)) ∷ [] }) ∷ []; next_job = 2; providers = ps3 }
+  s3 = record v {
+    jobs = (record base { place = 3; given = Fetched 2 1 0 (None) ∷ Fetched 1 1 0 (Some (own_block 1)) ∷ Fetched 0 1 0 (Some (own_block 0)) ∷ [] }) ∷ [];
+    next_job = 2;
+    providers = ps3;
+  }
 
   happens3 : (m : ℕ) → Happens 8 m s2 (Step 1) More s3
   unfolding setup_in actions_of
-  happens3 m = (None, (fetched (ps2 2), record { held = refl; counts = record { store_faults = refl; other_faults = omega arith; fetches = refl }; gives = inl (refl) }, refl))
+  happens3 m = (
+    None,
+    (fetched (ps2 2), record { held = refl; counts = fetch-counts (ps2 2); gives = inl (refl) }, refl),
+  )
 
   abbrev ps4 : ℕ → Provider
   ps4 = with_provider ps3 3 (fetched (ps3 3))
 
   abbrev s4 : State
-  s4 = record v { jobs = (record base { place = 4; given = Fetched 3 1 0 (Some (own_block 3)) ∷ Fetched 2 1 0 (None) ∷ Fetched 1 1 0 (Some (own_block 1)) ∷ Fetched 0 1 0 (Some (own_block 0)) ∷ [] }) ∷ []; next_job = 2; providers = ps4 }
+  s4 = record v {
+    jobs = (record base { place = 4; given = Fetched 3 1 0 (Some (own_block 3)) ∷ Fetched 2 1 0 (None) ∷ Fetched 1 1 0 (Some (own_block 1)) ∷ Fetched 0 1 0 (Some (own_block 0)) ∷ [] }) ∷ [];
+    next_job = 2;
+    providers = ps4;
+  }
 
   happens4 : (m : ℕ) → Happens 8 m s3 (Step 1) More s4
   unfolding setup_in actions_of
-  happens4 m = (Some (own_block 3), (fetched (ps3 3), record { held = refl; counts = record { store_faults = refl; other_faults = omega arith; fetches = refl }; gives = inl (block_sized 3) }, refl))
+  happens4 m = (
+    Some (own_block 3),
+    (fetched (ps3 3), record { held = refl; counts = fetch-counts (ps3 3); gives = inl (block_sized 3) }, refl),
+  )
 
   abbrev s5 : State
-  s5 = record v { jobs = (record base { place = 5; given = Worked 1 0 symbols ∷ Fetched 3 1 0 (Some (own_block 3)) ∷ Fetched 2 1 0 (None) ∷ Fetched 1 1 0 (Some (own_block 1)) ∷ Fetched 0 1 0 (Some (own_block 0)) ∷ [] }) ∷ []; next_job = 2; providers = ps4 }
+  s5 = record v {
+    jobs = (record base { place = 5; given = Worked 1 0 symbols ∷ Fetched 3 1 0 (Some (own_block 3)) ∷ Fetched 2 1 0 (None) ∷ Fetched 1 1 0 (Some (own_block 1)) ∷ Fetched 0 1 0 (Some (own_block 0)) ∷ [] }) ∷ [];
+    next_job = 2;
+    providers = ps4;
+  }
 
   happens5 : (m : ℕ) → Happens 8 m s4 (Step 1) More s5
   unfolding setup_in actions_of
@@ -90,42 +123,76 @@ module _ (w : State) (n : ℕ) (count : w.handed ≡ 4) where
   ps5 = with_provider ps4 2 (given_block 2 (ps4 2))
 
   abbrev s6 : State
-  s6 = record v { jobs = (record base { place = 6; given = Worked 1 0 symbols ∷ Fetched 3 1 0 (Some (own_block 3)) ∷ Fetched 2 1 0 (None) ∷ Fetched 1 1 0 (Some (own_block 1)) ∷ Fetched 0 1 0 (Some (own_block 0)) ∷ [] }) ∷ []; next_job = 2; providers = ps5 }
+  s6 = record v {
+    jobs = (record base { place = 6; given = Worked 1 0 symbols ∷ Fetched 3 1 0 (Some (own_block 3)) ∷ Fetched 2 1 0 (None) ∷ Fetched 1 1 0 (Some (own_block 1)) ∷ Fetched 0 1 0 (Some (own_block 0)) ∷ [] }) ∷ [];
+    next_job = 2;
+    providers = ps5;
+  }
 
   happens6 : (m : ℕ) → Happens 8 m s5 (Step 1) More s6
   unfolding setup_in actions_of
-  happens6 m = (given_block 2 (ps4 2), record { held = refl; counts = record { store_faults = omega arith; other_faults = refl; fetches = refl } }, refl)
+  happens6 m = (given_block 2 (ps4 2), record { held = refl; counts = store-counts 2 (ps4 2) }, refl)
 
   abbrev s7 : State
-  s7 = record v { jobs = (record base { place = 7; given = Worked 1 0 symbols ∷ Fetched 3 1 0 (Some (own_block 3)) ∷ Fetched 2 1 0 (None) ∷ Fetched 1 1 0 (Some (own_block 1)) ∷ Fetched 0 1 0 (Some (own_block 0)) ∷ [] }) ∷ []; next_job = 2; append = Some (record { job = 1; entry = (RepairDone 1); moves = 1 }); providers = ps5 }
+  s7 = record v {
+    jobs = (record base { place = 7; given = Worked 1 0 symbols ∷ Fetched 3 1 0 (Some (own_block 3)) ∷ Fetched 2 1 0 (None) ∷ Fetched 1 1 0 (Some (own_block 1)) ∷ Fetched 0 1 0 (Some (own_block 0)) ∷ [] }) ∷ [];
+    next_job = 2;
+    append = Some (record { job = 1; entry = (RepairDone 1); moves = 1 });
+    providers = ps5;
+  }
 
   happens7 : (m : ℕ) → Happens 8 m s6 (Step 1) More s7
   unfolding setup_in actions_of
   happens7 m = ((RepairDone 1), refl, (0, omega arith, refl))
 
   abbrev s8 : State
-  s8 = record v { jobs = (record base { place = 8; given = Worked 1 0 symbols ∷ Fetched 3 1 0 (Some (own_block 3)) ∷ Fetched 2 1 0 (None) ∷ Fetched 1 1 0 (Some (own_block 1)) ∷ Fetched 0 1 0 (Some (own_block 0)) ∷ [] }) ∷ []; next_job = 2; append = Some (record { job = 1; entry = (RepairDone 1); moves = 2 }); providers = ps5 }
+  s8 = record v {
+    jobs = (record base { place = 8; given = Worked 1 0 symbols ∷ Fetched 3 1 0 (Some (own_block 3)) ∷ Fetched 2 1 0 (None) ∷ Fetched 1 1 0 (Some (own_block 1)) ∷ Fetched 0 1 0 (Some (own_block 0)) ∷ [] }) ∷ [];
+    next_job = 2;
+    append = Some (record { job = 1; entry = (RepairDone 1); moves = 2 });
+    providers = ps5;
+  }
 
   happens8 : (m : ℕ) → Happens 8 m s7 (Step 1) More s8
   unfolding setup_in actions_of
   happens8 m = ((refl, refl), (0, omega arith, refl))
 
   abbrev s9 : State
-  s9 = record v { jobs = (record base { place = 9; given = Worked 1 0 symbols ∷ Fetched 3 1 0 (Some (own_block 3)) ∷ Fetched 2 1 0 (None) ∷ Fetched 1 1 0 (Some (own_block 1)) ∷ Fetched 0 1 0 (Some (own_block 0)) ∷ [] }) ∷ []; next_job = 2; append = Some (record { job = 1; entry = (RepairDone 1); moves = 3 }); doubt = Some (record { entry = (RepairDone 1); maker = Some (record base { place = 9; given = Worked 1 0 symbols ∷ Fetched 3 1 0 (Some (own_block 3)) ∷ Fetched 2 1 0 (None) ∷ Fetched 1 1 0 (Some (own_block 1)) ∷ Fetched 0 1 0 (Some (own_block 0)) ∷ [] }) }); providers = ps5 }
+  s9 = record v {
+    jobs = (record base { place = 9; given = Worked 1 0 symbols ∷ Fetched 3 1 0 (Some (own_block 3)) ∷ Fetched 2 1 0 (None) ∷ Fetched 1 1 0 (Some (own_block 1)) ∷ Fetched 0 1 0 (Some (own_block 0)) ∷ [] }) ∷ [];
+    next_job = 2;
+    append = Some (record { job = 1; entry = (RepairDone 1); moves = 3 });
+    doubt = Some (record { entry = (RepairDone 1); maker = Some (record base { place = 9; given = Worked 1 0 symbols ∷ Fetched 3 1 0 (Some (own_block 3)) ∷ Fetched 2 1 0 (None) ∷ Fetched 1 1 0 (Some (own_block 1)) ∷ Fetched 0 1 0 (Some (own_block 0)) ∷ [] }) });
+    providers = ps5;
+  }
 
   happens9 : (m : ℕ) → Happens 8 m s8 (Step 1) More s9
   unfolding setup_in actions_of
   happens9 m = ((refl, refl), (0, omega arith, refl))
 
   abbrev s10 : State
-  s10 = record v { records = repaired_records; jobs = (record base { place = 10; given = Worked 1 0 symbols ∷ Fetched 3 1 0 (Some (own_block 3)) ∷ Fetched 2 1 0 (None) ∷ Fetched 1 1 0 (Some (own_block 1)) ∷ Fetched 0 1 0 (Some (own_block 0)) ∷ [] }) ∷ []; next_job = 2; append = None; doubt = None; providers = ps5 }
+  s10 = record v {
+    records = repaired_records;
+    jobs = (record base { place = 10; given = Worked 1 0 symbols ∷ Fetched 3 1 0 (Some (own_block 3)) ∷ Fetched 2 1 0 (None) ∷ Fetched 1 1 0 (Some (own_block 1)) ∷ Fetched 0 1 0 (Some (own_block 0)) ∷ [] }) ∷ [];
+    next_job = 2;
+    append = None;
+    doubt = None;
+    providers = ps5;
+  }
 
   happens10 : (m : ℕ) → Happens 8 m s9 (Step 1) More s10
   unfolding setup_in actions_of
   happens10 m = ((refl, refl), (0, omega arith, refl))
 
   abbrev s11 : State
-  s11 = record v { records = repaired_records; jobs = []; next_job = 2; append = None; doubt = None; providers = ps5 }
+  s11 = record v {
+    records = repaired_records;
+    jobs = [];
+    next_job = 2;
+    append = None;
+    doubt = None;
+    providers = ps5;
+  }
 
   happens11 : (m : ℕ) → Happens 8 m s10 (Step 1) (Ended (Repaired 1)) s11
   unfolding setup_in actions_of
@@ -168,7 +235,9 @@ pub alone : RunsAlone audited_records (RepairJob) (Repaired 1) (due) (repaired) 
 alone = record {
   faults = 0;
   before = omega arith;
-  ran = λ w n V. subst (λ u. RanAlone audited_records (RepairJob) (Repaired 1) (due) (repaired) ([]) 0 u n) (form-is audited_records (one_byte w.bytes) (holds 0) (holds 1) (empty_provider) (holds 3) w (one_byte-is w.bytes (V.bytes named (record { name = named; id = 1; size = 1 }) refl).1) V) (ran-formed w n V.handed.count);
+  ran = λ w n V. subst (λ u. RanAlone audited_records (RepairJob) (Repaired 1) (due) (repaired) ([]) 0 u n)
+      (form-is audited_records (one_byte w.bytes) (holds 0) (holds 1) (empty_provider) (holds 3) w (one_byte-is w.bytes (V.bytes named (record { name = named; id = 1; size = 1 }) refl).1) V)
+      (ran-formed w n V.handed.count);
 }
 
 pub answers : Answers (RepairDue) (due) (repaired) (ends 0)

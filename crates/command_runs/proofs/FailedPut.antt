@@ -40,28 +40,51 @@ module _ (w : State) (n : ℕ) (count : w.handed ≡ 4) where
   s0 = record v { jobs = base ∷ []; next_job = 2 }
 
   abbrev s1 : State
-  s1 = record v { bytes = (λ id. if id == 1 then byte else v.bytes id); jobs = (record base { subject = 1; place = 1 }) ∷ []; next_job = 2; append = Some (record { job = 1; entry = (PutStart 1 named); moves = 1 }) }
+  s1 = record v {
+    bytes = (λ id. if id == 1 then byte else v.bytes id);
+    jobs = (record base { subject = 1; place = 1 }) ∷ [];
+    next_job = 2;
+    append = Some (record { job = 1; entry = (PutStart 1 named); moves = 1 });
+  }
 
   happens1 : (m : ℕ) → Happens 8 m s0 (Step 1) More s1
   unfolding setup_in actions_of
   happens1 m = ((PutStart 1 named), refl, (0, omega arith, refl))
 
   abbrev s2 : State
-  s2 = record v { bytes = (λ id. if id == 1 then byte else v.bytes id); jobs = (record base { subject = 1; place = 2 }) ∷ []; next_job = 2; append = Some (record { job = 1; entry = (PutStart 1 named); moves = 2 }) }
+  s2 = record v {
+    bytes = (λ id. if id == 1 then byte else v.bytes id);
+    jobs = (record base { subject = 1; place = 2 }) ∷ [];
+    next_job = 2;
+    append = Some (record { job = 1; entry = (PutStart 1 named); moves = 2 });
+  }
 
   happens2 : (m : ℕ) → Happens 8 m s1 (Step 1) More s2
   unfolding setup_in actions_of
   happens2 m = ((refl, refl), (0, omega arith, refl))
 
   abbrev s3 : State
-  s3 = record v { bytes = (λ id. if id == 1 then byte else v.bytes id); jobs = (record base { subject = 1; place = 3 }) ∷ []; next_job = 2; append = Some (record { job = 1; entry = (PutStart 1 named); moves = 3 }); doubt = Some (record { entry = (PutStart 1 named); maker = Some (record base { subject = 1; place = 3 }) }) }
+  s3 = record v {
+    bytes = (λ id. if id == 1 then byte else v.bytes id);
+    jobs = (record base { subject = 1; place = 3 }) ∷ [];
+    next_job = 2;
+    append = Some (record { job = 1; entry = (PutStart 1 named); moves = 3 });
+    doubt = Some (record { entry = (PutStart 1 named); maker = Some (record base { subject = 1; place = 3 }) });
+  }
 
   happens3 : (m : ℕ) → Happens 8 m s2 (Step 1) More s3
   unfolding setup_in actions_of
   happens3 m = ((refl, refl), (0, omega arith, refl))
 
   abbrev s4 : State
-  s4 = record v { records = started_records; bytes = (λ id. if id == 1 then byte else v.bytes id); jobs = (record base { subject = 1; place = 4 }) ∷ []; next_job = 2; append = None; doubt = None }
+  s4 = record v {
+    records = started_records;
+    bytes = (λ id. if id == 1 then byte else v.bytes id);
+    jobs = (record base { subject = 1; place = 4 }) ∷ [];
+    next_job = 2;
+    append = None;
+    doubt = None;
+  }
 
   happens4 : (m : ℕ) → Happens 8 m s3 (Step 1) More s4
   unfolding setup_in actions_of
@@ -71,11 +94,30 @@ module _ (w : State) (n : ℕ) (count : w.handed ≡ 4) where
   ps1 = with_provider v.providers 0 (failed_store (v.providers 0))
 
   abbrev s5 : State
-  s5 = record v { records = started_records; bytes = (λ id. if id == 1 then byte else v.bytes id); jobs = []; next_job = 2; append = None; doubt = None; providers = ps1 }
+  s5 = record v {
+    records = started_records;
+    bytes = (λ id. if id == 1 then byte else v.bytes id);
+    jobs = [];
+    next_job = 2;
+    append = None;
+    doubt = None;
+    providers = ps1;
+  }
 
   happens5 : (m : ℕ) → Happens 8 m s4 (Step 1) (Ended (ProviderFault 0)) s5
   unfolding setup_in actions_of
-  happens5 m = (refl, (failed_store (v.providers 0), record { held = refl; counts = record { store_faults = omega arith; other_faults = refl; fetches = refl }; cause = λ low. omega arith }, refl))
+  happens5 m = (
+    refl,
+    (
+      failed_store (v.providers 0),
+      record {
+        held = refl;
+        counts = record { store_faults = omega arith; other_faults = refl; fetches = refl };
+        cause = λ low. omega arith;
+      },
+      refl,
+    ),
+  )
 
   abbrev step : State → Moment
   step s = moment (Step 1) More s
@@ -114,7 +156,9 @@ pub alone : RunsAlone four_records (PutJob named byte) (ProviderFault 0) (to_put
 alone = record {
   faults = 0;
   before = omega arith;
-  ran = λ w n V. subst (λ u. RanAlone four_records (PutJob named byte) (ProviderFault 0) (to_put) (put_failed) ([]) 0 u n) (form-is four_records w.bytes (empty_provider) (empty_provider) (empty_provider) (empty_provider) w refl V) (ran-formed w n V.handed.count);
+  ran = λ w n V. subst (λ u. RanAlone four_records (PutJob named byte) (ProviderFault 0) (to_put) (put_failed) ([]) 0 u n)
+      (form-is four_records w.bytes (empty_provider) (empty_provider) (empty_provider) (empty_provider) w refl V)
+      (ran-formed w n V.handed.count);
 }
 
 pub answers : Answers (PutUnder named) (to_put) (put_failed) (ends 13)

@@ -23,3 +23,4 @@ pub mod CutDrop
 pub mod CutAudit
 pub mod CutRepair
 pub mod DoneRow
+pub mod Counting

@@ -22,6 +22,7 @@ use Rattle.command_laws.proofs.Telling.{left-alone, jobs-leave}
 use Rattle.command_laws.proofs.BeginRefusals.{refusal-of}
 use Rattle.command_runs.specs.Devices.{named, audited_records, fetched, ends, due_lost, repair_lost}
 use Rattle.command_runs.proofs.Shape.{formed, form-is, one_byte, one_byte-is}
+use Rattle.command_runs.proofs.Counting.{fetch-counts}
 use Rattle.column_laws.proofs.Worked.{none-lose}
 use Rattle.command_runs.proofs.Stores.{robbed_due-old as old-sure, lost_due-new as new-sure}
 
@@ -42,41 +43,69 @@ module _ (w : State) (n : ℕ) (count : w.handed ≡ 4) where
   ps1 = with_provider v.providers 0 (fetched (v.providers 0))
 
   abbrev s1 : State
-  s1 = record v { jobs = (record base { place = 1; given = Fetched 0 1 0 (None) ∷ [] }) ∷ []; next_job = 2; providers = ps1 }
+  s1 = record v {
+    jobs = (record base { place = 1; given = Fetched 0 1 0 (None) ∷ [] }) ∷ [];
+    next_job = 2;
+    providers = ps1;
+  }
 
   happens1 : (m : ℕ) → Happens 8 m s0 (Step 1) More s1
   unfolding setup_in actions_of
-  happens1 m = (None, (fetched (v.providers 0), record { held = refl; counts = record { store_faults = refl; other_faults = omega arith; fetches = refl }; gives = inl (refl) }, refl))
+  happens1 m = (
+    None,
+    (fetched (v.providers 0), record { held = refl; counts = fetch-counts (v.providers 0); gives = inl (refl) }, refl),
+  )
 
   abbrev ps2 : ℕ → Provider
   ps2 = with_provider ps1 1 (fetched (ps1 1))
 
   abbrev s2 : State
-  s2 = record v { jobs = (record base { place = 2; given = Fetched 1 1 0 (None) ∷ Fetched 0 1 0 (None) ∷ [] }) ∷ []; next_job = 2; providers = ps2 }
+  s2 = record v {
+    jobs = (record base { place = 2; given = Fetched 1 1 0 (None) ∷ Fetched 0 1 0 (None) ∷ [] }) ∷ [];
+    next_job = 2;
+    providers = ps2;
+  }
 
   happens2 : (m : ℕ) → Happens 8 m s1 (Step 1) More s2
   unfolding setup_in actions_of
-  happens2 m = (None, (fetched (ps1 1), record { held = refl; counts = record { store_faults = refl; other_faults = omega arith; fetches = refl }; gives = inl (refl) }, refl))
+  happens2 m = (
+    None,
+    (fetched (ps1 1), record { held = refl; counts = fetch-counts (ps1 1); gives = inl (refl) }, refl),
+  )
 
   abbrev ps3 : ℕ → Provider
   ps3 = with_provider ps2 2 (fetched (ps2 2))
 
   abbrev s3 : State
-  s3 = record v { jobs = (record base { place = 3; given = Fetched 2 1 0 (None) ∷ Fetched 1 1 0 (None) ∷ Fetched 0 1 0 (None) ∷ [] }) ∷ []; next_job = 2; providers = ps3 }
+  s3 = record v {
+    jobs = (record base { place = 3; given = Fetched 2 1 0 (None) ∷ Fetched 1 1 0 (None) ∷ Fetched 0 1 0 (None) ∷ [] }) ∷ [];
+    next_job = 2;
+    providers = ps3;
+  }
 
   happens3 : (m : ℕ) → Happens 8 m s2 (Step 1) More s3
   unfolding setup_in actions_of
-  happens3 m = (None, (fetched (ps2 2), record { held = refl; counts = record { store_faults = refl; other_faults = omega arith; fetches = refl }; gives = inl (refl) }, refl))
+  happens3 m = (
+    None,
+    (fetched (ps2 2), record { held = refl; counts = fetch-counts (ps2 2); gives = inl (refl) }, refl),
+  )
 
   abbrev ps4 : ℕ → Provider
   ps4 = with_provider ps3 3 (fetched (ps3 3))
 
   abbrev s4 : State
-  s4 = record v { jobs = (record base { place = 4; given = Fetched 3 1 0 (None) ∷ Fetched 2 1 0 (None) ∷ Fetched 1 1 0 (None) ∷ Fetched 0 1 0 (None) ∷ [] }) ∷ []; next_job = 2; providers = ps4 }
+  s4 = record v {
+    jobs = (record base { place = 4; given = Fetched 3 1 0 (None) ∷ Fetched 2 1 0 (None) ∷ Fetched 1 1 0 (None) ∷ Fetched 0 1 0 (None) ∷ [] }) ∷ [];
+    next_job = 2;
+    providers = ps4;
+  }
 
   happens4 : (m : ℕ) → Happens 8 m s3 (Step 1) More s4
   unfolding setup_in actions_of
-  happens4 m = (None, (fetched (ps3 3), record { held = refl; counts = record { store_faults = refl; other_faults = omega arith; fetches = refl }; gives = inl (refl) }, refl))
+  happens4 m = (
+    None,
+    (fetched (ps3 3), record { held = refl; counts = fetch-counts (ps3 3); gives = inl (refl) }, refl),
+  )
 
   abbrev s5 : State
   s5 = record v { jobs = []; next_job = 2; providers = ps4 }
@@ -122,7 +151,9 @@ pub alone : RunsAlone audited_records (RepairJob) (Lost 0 0) (due_lost) (repair_
 alone = record {
   faults = 0;
   before = omega arith;
-  ran = λ w n V. subst (λ u. RanAlone audited_records (RepairJob) (Lost 0 0) (due_lost) (repair_lost) ([]) 0 u n) (form-is audited_records (one_byte w.bytes) (empty_provider) (empty_provider) (empty_provider) (empty_provider) w (one_byte-is w.bytes (V.bytes named (record { name = named; id = 1; size = 1 }) refl).1) V) (ran-formed w n V.handed.count);
+  ran = λ w n V. subst (λ u. RanAlone audited_records (RepairJob) (Lost 0 0) (due_lost) (repair_lost) ([]) 0 u n)
+      (form-is audited_records (one_byte w.bytes) (empty_provider) (empty_provider) (empty_provider) (empty_provider) w (one_byte-is w.bytes (V.bytes named (record { name = named; id = 1; size = 1 }) refl).1) V)
+      (ran-formed w n V.handed.count);
 }
 
 pub answers : Answers (RepairDue) (due_lost) (repair_lost) (ends 4)

@@ -81,7 +81,9 @@ pub alone : RunsAlone four_records (PutJob named byte) (Memory) (to_put) (put_un
 alone = record {
   faults = 0;
   before = omega arith;
-  ran = λ w n V. subst (λ u. RanAlone four_records (PutJob named byte) (Memory) (to_put) (put_unmade) ([]) 0 u n) (form-is four_records w.bytes (empty_provider) (empty_provider) (empty_provider) (empty_provider) w refl V) (ran-formed w n V.handed.count);
+  ran = λ w n V. subst (λ u. RanAlone four_records (PutJob named byte) (Memory) (to_put) (put_unmade) ([]) 0 u n)
+      (form-is four_records w.bytes (empty_provider) (empty_provider) (empty_provider) (empty_provider) w refl V)
+      (ran-formed w n V.handed.count);
 }
 
 pub answers : Answers (PutUnder named) (to_put) (put_unmade) (ends 70)

@@ -1,5 +1,5 @@
 -- Commands that end before a job of theirs begins: refused, or by a fault, or for want of memory.
-use Rattle.std.proofs.Common.{◌≡◌, ◌≢◌, ◌≤◌, ◌<◌, ℕ, suc, ◌+◌, Bool, true, false, cond, List, [], ◌∷◌, ◌++◌, length, Option, Some, None, refl, ap, sym, subst, inl, inr, arith}
+use Rattle.std.proofs.Common.{◌≡◌, ◌≢◌, ◌≤◌, ◌<◌, ℕ, ◌+◌, Bool, true, false, cond, List, [], ◌∷◌, ◌++◌, length, Option, Some, None, refl, ap, sym, subst, inl, inr, arith}
 use Rattle.std.specs.Prelude.{take}
 use Rattle.std.specs.Fmt.{digits}
 use Rattle.std.proofs.lemmas.List.{get_or-replicate}
@@ -9,29 +9,28 @@ use Rattle.poly_laws.specs.Poly.{agree as agree_over, is_seen as is_seen_over}
 use Rattle.hail_field.specs.Shape.{IsShape}
 use Rattle.hail_codes.specs.Polynomials.{value, agree, is_seen}
 use Rattle.hail_codes.specs.Points.{upto}
-use Rattle.hail_codes.specs.DispersalCode.{Accepts, AcceptsNone}
-use Rattle.hail_devices.specs.Cells.{Cells, firm}
+use Rattle.hail_codes.specs.DispersalCode.{AcceptsNone}
+use Rattle.hail_devices.specs.Cells.{firm}
 use Rattle.hail_devices.specs.Disks.{synced}
 use Rattle.hail_records.specs.Journal.{text, magic}
 use Rattle.hail_records.specs.Records.{Record}
 use Rattle.hail_machine.specs.Examples.{four}
 use Rattle.hail_machine.specs.Refusals as refusal
 use Rattle.hail_commands.specs.Forms.{RowOf, InitWith, PutUnder, GetOf, ListAll, AuditAll, RepairDue}
-use Rattle.hail_commands.specs.Keys.{IsKeyForm, longest_key}
+use Rattle.hail_commands.specs.Keys.{IsKeyForm}
 use Rattle.hail_openings.specs.Journals.{journal_read}
-use Rattle.hail_commands.specs.Opens.{IsOpened, Unstarted}
+use Rattle.hail_commands.specs.Opens.{Unstarted}
 use Rattle.hail_records.specs.Records.{is_setup}
 use Rattle.hail_commands.specs.Inits.{setup_with, AnswersInit, InitsDisk}
 use Rattle.hail_commands.specs.Jobs.{AnswersJob}
 use Rattle.hail_commands.specs.Line.{no_row_line}
-use Rattle.hail_commands.specs.Seen.{Seen, ReadsUpTo}
 use Rattle.hail_commands.specs.Commands.{AnswersAlone, AnswersPut, AnswersList, Answers}
-use Rattle.command_laws.proofs.Readings.{read-set_up}
+use Rattle.hail_openings.proofs.Readings.{read-set_up}
 use Rattle.command_laws.proofs.Afterwards.{reads-firm}
 use Rattle.command_runs.specs.Devices.{with_source, with_sink, named, byte, other_name, four_records, byte_records, audited_records, key_text, good_numbers, bad_numbers, to_put, put_unmade, kept, due, dropped_records, after_drop, disk_failed, deserted, scrambled, hidden, ends}
 use Rattle.command_laws.specs.After.{IsSure}
 use Rattle.command_runs.proofs.Shape.{sure}
-use Rattle.command_runs.proofs.Stores.{put-old, stored-sure, due-sure, byte-fit, dropped-fit, hidden-opened}
+use Rattle.command_runs.proofs.Stores.{put-old, stored-sure, due-sure, dropped-fit, hidden-opened}
 
 -- a disk with nothing loose is left as it is by a sync
 same-disk : (rs : List Record) → Some (firm (text rs)) ≡ Some (synced (firm (text rs)))

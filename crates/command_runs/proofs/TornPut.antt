@@ -24,6 +24,7 @@ use Rattle.command_laws.proofs.BeginRefusals.{refusal-of}
 use Rattle.command_laws.proofs.Chains.{put-begins}
 use Rattle.command_runs.specs.Devices.{named, byte, four_records, started_records, given_block, put_torn, ends, to_put}
 use Rattle.command_runs.proofs.Shape.{formed, form-is}
+use Rattle.command_runs.proofs.Counting.{store-counts}
 use Rattle.command_runs.proofs.Stores.{put-old as old-sure}
 use Rattle.command_runs.proofs.Torn.{torn-image}
 
@@ -41,28 +42,51 @@ module _ (w : State) (n : ℕ) (count : w.handed ≡ 4) where
   s0 = record v { jobs = base ∷ []; next_job = 2 }
 
   abbrev s1 : State
-  s1 = record v { bytes = (λ id. if id == 1 then byte else v.bytes id); jobs = (record base { subject = 1; place = 1 }) ∷ []; next_job = 2; append = Some (record { job = 1; entry = (PutStart 1 named); moves = 1 }) }
+  s1 = record v {
+    bytes = (λ id. if id == 1 then byte else v.bytes id);
+    jobs = (record base { subject = 1; place = 1 }) ∷ [];
+    next_job = 2;
+    append = Some (record { job = 1; entry = (PutStart 1 named); moves = 1 });
+  }
 
   happens1 : (m : ℕ) → Happens 8 m s0 (Step 1) More s1
   unfolding setup_in actions_of
   happens1 m = ((PutStart 1 named), refl, (0, omega arith, refl))
 
   abbrev s2 : State
-  s2 = record v { bytes = (λ id. if id == 1 then byte else v.bytes id); jobs = (record base { subject = 1; place = 2 }) ∷ []; next_job = 2; append = Some (record { job = 1; entry = (PutStart 1 named); moves = 2 }) }
+  s2 = record v {
+    bytes = (λ id. if id == 1 then byte else v.bytes id);
+    jobs = (record base { subject = 1; place = 2 }) ∷ [];
+    next_job = 2;
+    append = Some (record { job = 1; entry = (PutStart 1 named); moves = 2 });
+  }
 
   happens2 : (m : ℕ) → Happens 8 m s1 (Step 1) More s2
   unfolding setup_in actions_of
   happens2 m = ((refl, refl), (0, omega arith, refl))
 
   abbrev s3 : State
-  s3 = record v { bytes = (λ id. if id == 1 then byte else v.bytes id); jobs = (record base { subject = 1; place = 3 }) ∷ []; next_job = 2; append = Some (record { job = 1; entry = (PutStart 1 named); moves = 3 }); doubt = Some (record { entry = (PutStart 1 named); maker = Some (record base { subject = 1; place = 3 }) }) }
+  s3 = record v {
+    bytes = (λ id. if id == 1 then byte else v.bytes id);
+    jobs = (record base { subject = 1; place = 3 }) ∷ [];
+    next_job = 2;
+    append = Some (record { job = 1; entry = (PutStart 1 named); moves = 3 });
+    doubt = Some (record { entry = (PutStart 1 named); maker = Some (record base { subject = 1; place = 3 }) });
+  }
 
   happens3 : (m : ℕ) → Happens 8 m s2 (Step 1) More s3
   unfolding setup_in actions_of
   happens3 m = ((refl, refl), (0, omega arith, refl))
 
   abbrev s4 : State
-  s4 = record v { records = started_records; bytes = (λ id. if id == 1 then byte else v.bytes id); jobs = (record base { subject = 1; place = 4 }) ∷ []; next_job = 2; append = None; doubt = None }
+  s4 = record v {
+    records = started_records;
+    bytes = (λ id. if id == 1 then byte else v.bytes id);
+    jobs = (record base { subject = 1; place = 4 }) ∷ [];
+    next_job = 2;
+    append = None;
+    doubt = None;
+  }
 
   happens4 : (m : ℕ) → Happens 8 m s3 (Step 1) More s4
   unfolding setup_in actions_of
@@ -72,65 +96,131 @@ module _ (w : State) (n : ℕ) (count : w.handed ≡ 4) where
   ps1 = with_provider v.providers 0 (given_block 0 (v.providers 0))
 
   abbrev s5 : State
-  s5 = record v { records = started_records; bytes = (λ id. if id == 1 then byte else v.bytes id); jobs = (record base { subject = 1; place = 5 }) ∷ []; next_job = 2; append = None; doubt = None; providers = ps1 }
+  s5 = record v {
+    records = started_records;
+    bytes = (λ id. if id == 1 then byte else v.bytes id);
+    jobs = (record base { subject = 1; place = 5 }) ∷ [];
+    next_job = 2;
+    append = None;
+    doubt = None;
+    providers = ps1;
+  }
 
   happens5 : (m : ℕ) → Happens 8 m s4 (Step 1) More s5
   unfolding setup_in actions_of
-  happens5 m = (given_block 0 (v.providers 0), record { held = refl; counts = record { store_faults = omega arith; other_faults = refl; fetches = refl } }, refl)
+  happens5 m = (given_block 0 (v.providers 0), record { held = refl; counts = store-counts 0 (v.providers 0) }, refl)
 
   abbrev ps2 : ℕ → Provider
   ps2 = with_provider ps1 1 (given_block 1 (ps1 1))
 
   abbrev s6 : State
-  s6 = record v { records = started_records; bytes = (λ id. if id == 1 then byte else v.bytes id); jobs = (record base { subject = 1; place = 6 }) ∷ []; next_job = 2; append = None; doubt = None; providers = ps2 }
+  s6 = record v {
+    records = started_records;
+    bytes = (λ id. if id == 1 then byte else v.bytes id);
+    jobs = (record base { subject = 1; place = 6 }) ∷ [];
+    next_job = 2;
+    append = None;
+    doubt = None;
+    providers = ps2;
+  }
 
   happens6 : (m : ℕ) → Happens 8 m s5 (Step 1) More s6
   unfolding setup_in actions_of
-  happens6 m = (given_block 1 (ps1 1), record { held = refl; counts = record { store_faults = omega arith; other_faults = refl; fetches = refl } }, refl)
+  happens6 m = (given_block 1 (ps1 1), record { held = refl; counts = store-counts 1 (ps1 1) }, refl)
 
   abbrev ps3 : ℕ → Provider
   ps3 = with_provider ps2 2 (given_block 2 (ps2 2))
 
   abbrev s7 : State
-  s7 = record v { records = started_records; bytes = (λ id. if id == 1 then byte else v.bytes id); jobs = (record base { subject = 1; place = 7 }) ∷ []; next_job = 2; append = None; doubt = None; providers = ps3 }
+  s7 = record v {
+    records = started_records;
+    bytes = (λ id. if id == 1 then byte else v.bytes id);
+    jobs = (record base { subject = 1; place = 7 }) ∷ [];
+    next_job = 2;
+    append = None;
+    doubt = None;
+    providers = ps3;
+  }
 
   happens7 : (m : ℕ) → Happens 8 m s6 (Step 1) More s7
   unfolding setup_in actions_of
-  happens7 m = (given_block 2 (ps2 2), record { held = refl; counts = record { store_faults = omega arith; other_faults = refl; fetches = refl } }, refl)
+  happens7 m = (given_block 2 (ps2 2), record { held = refl; counts = store-counts 2 (ps2 2) }, refl)
 
   abbrev ps4 : ℕ → Provider
   ps4 = with_provider ps3 3 (given_block 3 (ps3 3))
 
   abbrev s8 : State
-  s8 = record v { records = started_records; bytes = (λ id. if id == 1 then byte else v.bytes id); jobs = (record base { subject = 1; place = 8 }) ∷ []; next_job = 2; append = None; doubt = None; providers = ps4 }
+  s8 = record v {
+    records = started_records;
+    bytes = (λ id. if id == 1 then byte else v.bytes id);
+    jobs = (record base { subject = 1; place = 8 }) ∷ [];
+    next_job = 2;
+    append = None;
+    doubt = None;
+    providers = ps4;
+  }
 
   happens8 : (m : ℕ) → Happens 8 m s7 (Step 1) More s8
   unfolding setup_in actions_of
-  happens8 m = (given_block 3 (ps3 3), record { held = refl; counts = record { store_faults = omega arith; other_faults = refl; fetches = refl } }, refl)
+  happens8 m = (given_block 3 (ps3 3), record { held = refl; counts = store-counts 3 (ps3 3) }, refl)
 
   abbrev s9 : State
-  s9 = record v { records = started_records; bytes = (λ id. if id == 1 then byte else v.bytes id); jobs = (record base { subject = 1; place = 9 }) ∷ []; next_job = 2; append = Some (record { job = 1; entry = (PutDone 1 1); moves = 1 }); doubt = None; providers = ps4 }
+  s9 = record v {
+    records = started_records;
+    bytes = (λ id. if id == 1 then byte else v.bytes id);
+    jobs = (record base { subject = 1; place = 9 }) ∷ [];
+    next_job = 2;
+    append = Some (record { job = 1; entry = (PutDone 1 1); moves = 1 });
+    doubt = None;
+    providers = ps4;
+  }
 
   happens9 : (m : ℕ) → Happens 8 m s8 (Step 1) More s9
   unfolding setup_in actions_of
   happens9 m = ((PutDone 1 1), refl, (0, omega arith, refl))
 
   abbrev s10 : State
-  s10 = record v { records = started_records; bytes = (λ id. if id == 1 then byte else v.bytes id); jobs = (record base { subject = 1; place = 10 }) ∷ []; next_job = 2; append = Some (record { job = 1; entry = (PutDone 1 1); moves = 2 }); doubt = None; providers = ps4 }
+  s10 = record v {
+    records = started_records;
+    bytes = (λ id. if id == 1 then byte else v.bytes id);
+    jobs = (record base { subject = 1; place = 10 }) ∷ [];
+    next_job = 2;
+    append = Some (record { job = 1; entry = (PutDone 1 1); moves = 2 });
+    doubt = None;
+    providers = ps4;
+  }
 
   happens10 : (m : ℕ) → Happens 8 m s9 (Step 1) More s10
   unfolding setup_in actions_of
   happens10 m = ((refl, refl), (0, omega arith, refl))
 
   abbrev s11 : State
-  s11 = record v { records = started_records; bytes = (λ id. if id == 1 then byte else v.bytes id); jobs = (record base { subject = 1; place = 11 }) ∷ []; next_job = 2; append = Some (record { job = 1; entry = (PutDone 1 1); moves = 3 }); doubt = Some (record { entry = (PutDone 1 1); maker = Some (record base { subject = 1; place = 11 }) }); providers = ps4 }
+  s11 = record v {
+    records = started_records;
+    bytes = (λ id. if id == 1 then byte else v.bytes id);
+    jobs = (record base { subject = 1; place = 11 }) ∷ [];
+    next_job = 2;
+    append = Some (record { job = 1; entry = (PutDone 1 1); moves = 3 });
+    doubt = Some (record { entry = (PutDone 1 1); maker = Some (record base { subject = 1; place = 11 }) });
+    providers = ps4;
+  }
 
   happens11 : (m : ℕ) → Happens 8 m s10 (Step 1) More s11
   unfolding setup_in actions_of
   happens11 m = ((refl, refl), (0, omega arith, refl))
 
   abbrev s12 : State
-  s12 = record v { records = started_records; bytes = (λ id. if id == 1 then byte else v.bytes id); jobs = []; next_job = 2; append = None; doubt = Some (record { entry = (PutDone 1 1); maker = Some (record base { subject = 1; place = 11 }) }); providers = ps4; disk_faults = 1; is_barred = true }
+  s12 = record v {
+    records = started_records;
+    bytes = (λ id. if id == 1 then byte else v.bytes id);
+    jobs = [];
+    next_job = 2;
+    append = None;
+    doubt = Some (record { entry = (PutDone 1 1); maker = Some (record base { subject = 1; place = 11 }) });
+    providers = ps4;
+    disk_faults = 1;
+    is_barred = true;
+  }
 
   happens12 : (m : ℕ) → Happens 8 m s11 (Step 1) (Ended DiskFault) s12
   unfolding setup_in actions_of
@@ -173,7 +263,9 @@ pub alone : RunsAlone four_records (PutJob named byte) (DiskFault) (to_put) (put
 alone = record {
   faults = 0;
   before = omega arith;
-  ran = λ w n V. subst (λ u. RanAlone four_records (PutJob named byte) (DiskFault) (to_put) (put_torn) ([]) 0 u n) (form-is four_records w.bytes (empty_provider) (empty_provider) (empty_provider) (empty_provider) w refl V) (ran-formed w n V.handed.count);
+  ran = λ w n V. subst (λ u. RanAlone four_records (PutJob named byte) (DiskFault) (to_put) (put_torn) ([]) 0 u n)
+      (form-is four_records w.bytes (empty_provider) (empty_provider) (empty_provider) (empty_provider) w refl V)
+      (ran-formed w n V.handed.count);
 }
 
 pub answers : Answers (PutUnder named) (to_put) (put_torn) (ends 12)

@@ -6,7 +6,8 @@ ghost use Rattle.hail_codes.specs.DispersalCode.{AcceptsNone};
 ghost use Rattle.hail_columns.specs.Verdicts.{is_flagged};
 ghost use Rattle.hail_devices.specs.Cells.{firm};
 ghost use Rattle.hail_records.specs.Records.{Record, is_setup};
-ghost use Rattle.hail_machine.specs.Jobs.{AuditJob, RepairJob};
+ghost use Rattle.hail_machine.specs.Jobs.{PutJob, GetJob, DropJob, AuditJob, RepairJob};
+ghost use Rattle.hail_machine.specs.Answers.{Put, Got, Dropped, Audited, Repaired, Lost, ProviderFault, DiskFault, Memory};
 ghost use Rattle.hail_machine.specs.Refusals.{RepairDue as DueRefusal, NothingDue};
 ghost use Rattle.hail_commands.specs.Forms.{PutUnder, GetOf, DropOf, ListAll, RepairDue as RepairCommand};
 ghost use Rattle.hail_commands.specs.Keys.{IsKeyForm};
@@ -17,12 +18,14 @@ ghost use Rattle.hail_commands.specs.Audits.{HearsRounds, CountsHeard};
 ghost use Rattle.command_laws.specs.Ends.{IsKnown, IsPut, IsDropped, IsAudited, IsRepaired, FaultsHaveCauses, EndsInOrder, GivesUnlessMemory, HoldsFile, ran_to, after_put, after_audit, after_repair};
 ghost use Rattle.command_laws.specs.Kept.{FailsToPut, FailsToRepair, LosesFile, LosesRepair, LeavesImages, after_start};
 ghost use Rattle.command_laws.specs.After.{IsSure, IsThen, HasRightFile};
+ghost use Rattle.command_runs.specs.Lone.{RunsSomewhere};
 ghost use Rattle.command_runs.specs.Devices.{with_source, named, byte, other_name, key_text, four_records, byte_records, audited_records, good_numbers, bad_numbers, to_put, stored, put_failed, put_cut, put_torn, put_gone, drop_cut, audit_cut, repair_cut, kept, dropped, all_lost, found_lost, due_lost, repair_lost, no_blocks, damaged, audited, answers_heard, due, repaired, repair_failed, mended, got, blocks_heard, after_drop, disk_failed, scrambled, hidden, hidden_fetched, counts, both_records, stored_other, ends, ends_at, ends_hearing};
 
 use command_laws::after::{
     audits_in_effect_count_what_they_heard, done_commands_leave_known_stores, files_stay,
     gets_tell_what_stands, put_files_are_got, stores_stay_known,
 };
+use command_laws::alone::opened_states;
 use command_laws::ends::{
     audits_count_what_they_hear, drops_take_the_file_away, faults_have_causes, gets_give_the_file,
     puts_store_the_source, refusals_are_exact, repairs_write_anew, unopened_stores_are_told,
@@ -140,4 +143,21 @@ pub fn few_bad_providers_do_no_harm()
 {
     repairs_write_anew();
     gets_tell_what_stands();
+}
+
+/// There is a state just opened from which a job of each kind runs to its end: done, lost, cut off by a fault, or for want of memory.
+pub fn jobs_run_alone()
+    ensures put { RunsSomewhere (PutJob named byte) Put [] }
+    ensures failed_put { RunsSomewhere (PutJob named byte) (ProviderFault 0) [] }
+    ensures cut_put { RunsSomewhere (PutJob named byte) DiskFault [] }
+    ensures unmade_put { RunsSomewhere (PutJob named byte) Memory [] }
+    ensures drop { RunsSomewhere (DropJob named) Dropped [] }
+    ensures get { RunsSomewhere (GetJob named) (Got byte) blocks_heard }
+    ensures lost_get { RunsSomewhere (GetJob named) (Lost 0 0) no_blocks }
+    ensures audit { RunsSomewhere AuditJob (Audited 1 0 counts) answers_heard }
+    ensures repair { RunsSomewhere RepairJob (Repaired 1) [] }
+    ensures lost_repair { RunsSomewhere RepairJob (Lost 0 0) [] }
+    ensures failed_repair { RunsSomewhere RepairJob (ProviderFault 2) [] }
+{
+    opened_states();
 }

@@ -2,6 +2,5 @@
 #![tactic(auto)]
 
 pub mod laws;
-pub mod lone;
 pub mod refused;
 pub mod runs;

@@ -12,6 +12,3 @@ mod step;
 
 pub use client::Client;
 pub use fault::ReopenFault;
-
-#[cfg(test)]
-mod tests;

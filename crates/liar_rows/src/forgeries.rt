@@ -1,4 +1,4 @@
-use crate::forgery::get_other_bytes;
+use crate::forgery::other_bytes;
 use crate::store::{Store, done, four_liars, set_up};
 use crate::stored::Stored;
 use provider_model::{SureProvider, Untold};
@@ -8,18 +8,18 @@ use std::test::Fail;
 /// Two symbols 1.
 const ONES: &[u8] = b"\x01\0\0\0\0\0\0\0\0\0\0\0\0\0\0\0\x01\0\0\0\0\0\0\0\0\0\0\0\0\0\0\0";
 
-// Three that add the same symbol give other bytes; that these prove a forgery is the contract of the call.
+// Three that add the same symbol give other bytes; that these are a forgery says the law, whose suppositions are tested here.
 #[test]
 fn three_that_lie_alike_make_a_forgery(rt: HostRuntime) -> Result<(), Fail> {
     let mut store = four_liars(rt.alloc(), [0, 1, 1, 1]).expect(&rt, "a file is stored");
-    let got = get_other_bytes(
+    let got = other_bytes(
         rt.alloc(),
         Stored::FourZeros,
         &mut store.disk,
         &mut store.providers,
     );
-    let got = got.expect(&rt, "a forgery");
-    assert_eq!(rt; got.sink.written(), ONES);
+    let written = got.expect(&rt, "a forgery");
+    assert_eq!(rt; written.written(), ONES);
     Ok(())
 }
 
@@ -28,7 +28,7 @@ fn three_that_lie_alike_make_a_forgery(rt: HostRuntime) -> Result<(), Fail> {
 fn fewer_liars_give_no_other_bytes(rt: HostRuntime) -> Result<(), Fail> {
     for symbols in [[0, 0, 0, 0], [0, 0, 0, 1], [1, 0, 0, 0], [0, 1, 1, 0]] {
         let mut store = four_liars(rt.alloc(), symbols).expect(&rt, "a file is stored");
-        let got = get_other_bytes(
+        let got = other_bytes(
             rt.alloc(),
             Stored::FourZeros,
             &mut store.disk,
@@ -62,13 +62,13 @@ fn columns_of_another_file_are_a_forgery(rt: HostRuntime) -> Result<(), Fail> {
     let first = six(rt.alloc(), &[b't'; 100]).expect(&rt, "a file is stored");
     let mut store = six(rt.alloc(), &[b'o'; 100]).expect(&rt, "another is stored");
     store.disk = first.disk;
-    let got = get_other_bytes(
+    let got = other_bytes(
         rt.alloc(),
         Stored::SixLetters,
         &mut store.disk,
         &mut store.providers,
     );
-    let got = got.expect(&rt, "a forgery");
-    assert_eq!(rt; got.sink.written(), [b'o'; 100].as_slice());
+    let written = got.expect(&rt, "a forgery");
+    assert_eq!(rt; written.written(), [b'o'; 100].as_slice());
     Ok(())
 }

@@ -1,0 +1,4 @@
+pub mod Requests
+pub mod Replies
+pub mod Serving
+pub mod Links

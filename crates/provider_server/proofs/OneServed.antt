@@ -1,0 +1,130 @@
+-- One provider of those handed in is served.
+use Rattle.std.proofs.Common.{◌≡◌, ◌≢◌, ◌⊎◌, inl, inr, ℕ, zero, suc, ◌<◌, ◌≤◌, Bool, true, false, List, [], ◌∷◌, length, Option, Some, None, refl, sym, ap, subst, ◌∙◌, arith}
+use Rattle.std.specs.Prelude.{map, slice_get, slice_set, unwrap_or, ◌==◌}
+use Rattle.std.specs.Option.{option_map}
+use Rattle.std.proofs.lemmas.Bool.{cases_lt}
+use Rattle.std.proofs.lemmas.Option.{slice_get-map, slice_get_within}
+use Rattle.hail_devices.specs.Cells.{Cells}
+use Rattle.hail_devices.specs.Faults.{HasCause}
+use Rattle.hail_devices.specs.Providers.{Provider}
+use Rattle.hail_commands.specs.Seen.{Seen, Ending, NoCountFalls, nobody, provider_at}
+use Rattle.hail_wire.specs.Serving.{End, SourceFailed, SinkFailed, HasServed}
+use Rattle.hail_wire.specs.Requests.{Request}
+use Rattle.hail_wire.specs.Replies.{Reply, Serves as ServesRequests}
+use Rattle.provider_wire.specs.Ends.{end_of}
+use Rattle.provider_wire.specs.declared.end.ServeEnd.{ServeEnd}
+use Rattle.provider_wire.specs.declared.end.ServeEnd.TheVariants as serve_end
+use Rattle.provider_server.specs.Answers as answers
+use Rattle.provider_server.specs.Answers.{status_of, place_of, OnlyServes, Serves, AnswersServe}
+use Rattle.provider_server.specs.Statuses.{seen, ending_of}
+use Rattle.provider_server.specs.declared.status.Served.{Served}
+
+-- the cause of a fault, by the end that plain data tell
+source-only : (end : ServeEnd) → end_of end ≡ SourceFailed → end ≡ serve_end.SourceFault
+source-only serve_end.Done e = absurd cc
+source-only (serve_end.BadFrame at) e = absurd cc
+source-only serve_end.TooLong e = absurd cc
+source-only serve_end.SourceFault e = refl
+source-only serve_end.SinkFault e = absurd cc
+source-only serve_end.Memory e = absurd cc
+
+sink-only : (end : ServeEnd) → end_of end ≡ SinkFailed → end ≡ serve_end.SinkFault
+sink-only serve_end.Done e = absurd cc
+sink-only (serve_end.BadFrame at) e = absurd cc
+sink-only serve_end.TooLong e = absurd cc
+sink-only serve_end.SourceFault e = absurd cc
+sink-only serve_end.SinkFault e = refl
+sink-only serve_end.Memory e = absurd cc
+
+pub cause_source : (before now : ℕ) (end : ServeEnd) → HasCause before now (end ≡ serve_end.SourceFault) → HasCause before now (end_of end ≡ SourceFailed)
+cause_source before now end cause = record { never_falls = cause.never_falls; rose = λ e. cause.rose (source-only end e) }
+
+pub cause_sink : (before now : ℕ) (end : ServeEnd) → HasCause before now (end ≡ serve_end.SinkFault) → HasCause before now (end_of end ≡ SinkFailed)
+cause_sink before now end cause = record { never_falls = cause.never_falls; rose = λ e. cause.rose (sink-only end e) }
+
+got_same : {X : Type 0} (xs : List X) (p : ℕ) (x y : X) → slice_get xs p ≡ Some x → slice_get (slice_set xs p y) p ≡ Some y
+got_same [] p x y h = (let e : None ≡ Some x = h in cc)
+got_same (z ∷ zs) zero x y h = refl
+got_same (z ∷ zs) (suc p) x y h = got_same zs p x y h
+
+got_other : {X : Type 0} (xs : List X) (p k : ℕ) (y : X) → k ≢ p → slice_get (slice_set xs p y) k ≡ slice_get xs k
+got_other [] p k y other = refl
+got_other (z ∷ zs) zero zero y other = absurd (other refl)
+got_other (z ∷ zs) zero (suc k) y other = refl
+got_other (z ∷ zs) (suc p) zero y other = refl
+got_other (z ∷ zs) (suc p) (suc k) y other = got_other zs p k y (λ e. other (ap suc e))
+
+as_many : {X : Type 0} (xs : List X) (p : ℕ) (y : X) → length (slice_set xs p y) ≡ length xs
+as_many [] p y = refl
+as_many (z ∷ zs) zero y = refl
+as_many (z ∷ zs) (suc p) y = ap suc (as_many zs p y)
+
+many-map : {X Y : Type 0} (f : X → Y) (xs : List X) → length (map f xs) ≡ length xs
+many-map f [] = refl
+many-map f (x ∷ xs) = ap suc (many-map f xs)
+
+-- what is seen of the provider at a place
+seen-at : {X : Type 0} (f : X → Provider) (xs : List X) (k : ℕ) (x : X) → slice_get xs k ≡ Some x → provider_at (map f xs) k ≡ f x
+seen-at f xs k x there = ap (λ (o : Option Provider). unwrap_or o nobody) (slice_get-map f xs k ∙ ap (option_map f) there)
+
+seen-other : {X : Type 0} (f : X → Provider) (xs : List X) (p k : ℕ) (y : X) → k ≢ p → provider_at (map f (slice_set xs p y)) k ≡ provider_at (map f xs) k
+seen-other f xs p k y other =
+    ap (λ (o : Option Provider). unwrap_or o nobody) (slice_get-map f (slice_set xs p y) k ∙ ap (option_map f) (got_other xs p k y other) ∙ sym (slice_get-map f xs k))
+
+module _ {X : Type 0} (f : X → Provider) (ps : List X) (p : ℕ) (old new : X) (there : slice_get ps p ≡ Some old)
+    (left left' : Option (List ℕ)) (reads reads' : ℕ) (written written' : Option (List ℕ)) (writes writes' : ℕ) (how : End)
+    (done : HasServed how left left' (f old) (f new) written written')
+    (source : HasCause reads reads' (how ≡ SourceFailed)) (sink : HasCause writes writes' (how ≡ SinkFailed)) where
+  before : provider_at (map f ps) p ≡ f old
+  before = seen-at f ps p old there
+
+  after : provider_at (map f (slice_set ps p new)) p ≡ f new
+  after = seen-at f (slice_set ps p new) p new (got_same ps p old new there)
+
+  handed : length (map f (slice_set ps p new)) ≡ length (map f ps)
+  handed = many-map f (slice_set ps p new) ∙ as_many ps p new ∙ sym (many-map f ps)
+
+  pub served-answers : (number : ℕ) → p ≡ number → (end : Served) → end.status ≡ status_of how → end.at ≡ place_of how → (disk : Option Cells) (disk_faults : ℕ)
+      → AnswersServe number (seen disk disk_faults (map f ps) left reads written writes) (seen disk disk_faults (map f (slice_set ps p new)) left' reads' written' writes') (ending_of end)
+  served-answers number same end status place disk disk_faults =
+      subst (λ (k : ℕ). AnswersServe k (seen disk disk_faults (map f ps) left reads written writes) (seen disk disk_faults (map f (slice_set ps p new)) left' reads' written' writes') (ending_of end)) same
+      (answers.served (omega (arith, many-map f ps, slice_get_within ps p old there)) (record {
+        how = how;
+        status_is = status;
+        place = place;
+        heard = refl;
+        served = subst (λ (q : Provider). HasServed how left left' (provider_at (map f ps) p) q written written') (sym after) (subst (λ (q : Provider). HasServed how left left' q (f new) written written') (sym before) done);
+        source = source;
+        sink = sink;
+        only = record { disk = refl; disk_faults = refl; handed = handed; others = λ k other. seen-other f ps p k new other };
+      }))
+
+  -- a count of the provider served does not fall, nor does that of another
+  kept : (count : Provider → ℕ) → count (f old) ≤ count (f new) → (k : ℕ) → count (provider_at (map f ps) k) ≤ count (provider_at (map f (slice_set ps p new)) k)
+  kept count rises k =
+      elim (cases_lt k p) [
+        | inl less ↦ (let same = ap count (seen-other f ps p k new (λ e. absurd (omega (arith, less, e)))) in omega (arith, same))
+        | inr more ↦ elim (cases_lt p k) [
+          | inl less ↦ (let same = ap count (seen-other f ps p k new (λ e. absurd (omega (arith, less, e)))) in omega (arith, same))
+          | inr fewer ↦ (
+              let is : k ≡ p = omega arith in
+              let one : count (provider_at (map f ps) k) ≡ count (f old) = ap (λ (m : ℕ). count (provider_at (map f ps) m)) is ∙ ap count before in
+              let two : count (provider_at (map f (slice_set ps p new)) k) ≡ count (f new) = ap (λ (m : ℕ). count (provider_at (map f (slice_set ps p new)) m)) is ∙ ap count after in
+              omega (arith, one, two, rises)
+              )
+        ]
+      ]
+
+  pub served-counts : ((requests : List Request) (replies : List Reply) (a b : Provider) → ServesRequests requests a replies b → (a.store_faults ≤ b.store_faults) × (a.other_faults ≤ b.other_faults))
+      → (disk : Option Cells) (disk_faults : ℕ)
+      → NoCountFalls (seen disk disk_faults (map f ps) left reads written writes) (seen disk disk_faults (map f (slice_set ps p new)) left' reads' written' writes')
+  served-counts law disk disk_faults =
+      let rise = law done.requests done.replies (f old) (f new) done.served in
+      record {
+        disk = omega arith;
+        handed = handed;
+        stores = kept (λ q. q.store_faults) rise.0;
+        others = kept (λ q. q.other_faults) rise.1;
+        source = source.never_falls;
+        sink = sink.never_falls;
+      }

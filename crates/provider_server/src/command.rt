@@ -1,0 +1,44 @@
+ghost use Rattle.std.specs.Prelude.{ℕ, Option, map};
+ghost use Rattle.hail_devices.specs.Cells.{Cells};
+ghost use Rattle.hail_commands.specs.Seen.{NoCountFalls};
+ghost use Rattle.provider_wire.specs.Seen.{as_seen};
+ghost use Rattle.provider_server.specs.Answers.{AnswersServe};
+ghost use Rattle.provider_server.specs.Statuses.{seen, ending_of};
+
+use crate::status::{Served, TOO_FEW_PROVIDERS, told};
+use provider_model::Provider;
+use provider_wire::laws::counts_never_fall;
+use provider_wire::serve;
+use std::alloc::Global;
+use stream_model::{Sink, Source};
+
+/// Serves the requests that the source gives with the provider of this number, and writes each answer as it comes. Nothing
+/// is touched where the provider was not handed in.
+pub fn serve_at<P: Provider, S: Source, K: Sink>(
+    alloc: Global,
+    number: u8,
+    providers: &mut [P],
+    source: &mut S,
+    sink: &mut K,
+) -> Served
+    ensures answers { (disk : Option Cells) (disk_faults : ℕ) → AnswersServe number
+        (seen disk disk_faults (map (as_seen P.held P.store_faults P.other_faults P.fetches) providers.old) (S.left source.old)
+        (S.faults source.old) (K.written sink.old) (K.faults sink.old))
+        (seen disk disk_faults (map (as_seen P.held P.store_faults P.other_faults P.fetches) providers.new) (S.left source.new)
+        (S.faults source.new) (K.written sink.new) (K.faults sink.new)) (ending_of result) }
+    ensures counts { (disk : Option Cells) (disk_faults : ℕ) → NoCountFalls
+        (seen disk disk_faults (map (as_seen P.held P.store_faults P.other_faults P.fetches) providers.old) (S.left source.old)
+        (S.faults source.old) (K.written sink.old) (K.faults sink.old))
+        (seen disk disk_faults (map (as_seen P.held P.store_faults P.other_faults P.fetches) providers.new) (S.left source.new)
+        (S.faults source.new) (K.written sink.new) (K.faults sink.new)) }
+{
+    let place = usize::from(number);
+    if place >= providers.len() {
+        return Served {
+            status: TOO_FEW_PROVIDERS,
+            at: 0,
+        };
+    }
+    counts_never_fall();
+    told(serve(alloc, &mut providers[place], source, sink))
+}

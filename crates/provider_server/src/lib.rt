@@ -1,0 +1,13 @@
+//! The command that serves one of the providers handed in: its words, and what it answers.
+#![tactic(auto)]
+
+mod command;
+mod status;
+mod words;
+
+pub use command::serve_at;
+pub use status::{BAD_FRAME, Served};
+pub use words::read_serve;
+
+#[cfg(test)]
+mod tests;

@@ -1,0 +1,32 @@
+-- How a provider over a link counts its failures.
+use Rattle.std.proofs.Common.{◌≡◌, ℕ, ◌+◌, ◌<◌, ◌^◌, Bool, true, false, Option, Some, None, is_some, refl, sym, ap, ◌∙◌, arith}
+use Rattle.std.specs.Prelude.{not, min, IsSome}
+use Rattle.std.specs.Option.{option_eq}
+use Rattle.std.proofs.Common.{eqb}
+use Rattle.std.proofs.lemmas.Bool.Decides.{nat_tests}
+use Rattle.hail_devices.specs.Faults.{last_count, one_more}
+use Rattle.provider_wire.specs.LinkProviders.{CountsFaults}
+
+pub one_more_is : (n : ℕ) → n < 2 ^ 64 → min (n + 1) last_count ≡ one_more n
+one_more_is n fits = grind (arith, nat_tests, fits)
+
+-- the call went well
+pub went : (result : Option ℕ) (k : ℕ) (was now : Bool) (F : Type 0) (before after : ℕ) → option_eq eqb result (Some k) ≡ true → (IsSome result → now ≡ was) → (was ≡ true → result ≡ None) → (F → ⊥)
+    → after ≡ before → CountsFaults was now F before after
+went None k was now F before after is kept out well same = absurd cc
+went (Some x) k was now F before after is kept out well same = record {
+  stays = λ e. absurd (let h = out e in cc h);
+  fails = λ e. absurd (let h = out (sym (kept refl) ∙ e) in cc h);
+  raised = λ f. absurd (well f);
+  same = λ _. same;
+}
+
+-- the call failed
+pub lost : (result : Option ℕ) (was now : Bool) (F : Type 0) (before after : ℕ) → now ≡ not (option_eq eqb result (Some 2)) → (was ≡ true → result ≡ None) → F
+    → after ≡ min (before + 1) last_count → before < 2 ^ 64 → CountsFaults was now F before after
+lost result was now F before after is out failed more fits = record {
+  stays = λ e. is ∙ ap (λ (o : Option ℕ). not (option_eq eqb o (Some 2))) (out e);
+  fails = λ _. failed;
+  raised = λ _. more ∙ one_more_is before fits;
+  same = λ f. absurd (f failed);
+}

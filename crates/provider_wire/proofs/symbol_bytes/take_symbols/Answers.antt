@@ -1,0 +1,11 @@
+use Rattle.std.proofs.Common.{arith, refl}
+use Rattle.provider_wire.specs.Reading.{symbols_in}
+use Rattle.provider_wire.proofs.Symbols.{took_more}
+use Rattle.provider_wire.proofs.symbol_bytes.take_symbols.Goals as goal
+
+pub loop-k-init : goal.loop-k-init
+unfolding symbols_in
+loop-k-init c = refl
+
+pub loop-k-preserved : goal.loop-k-preserved
+loop-k-preserved c = took_more _ _ c.loop-k.k _ c.symbol_of.result (omega arith) (omega arith) c.symbol_of.ensures c.loop-k.invariant

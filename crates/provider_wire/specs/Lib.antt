@@ -1,0 +1,7 @@
+pub mod Asking
+pub mod Reading
+pub mod Seen
+pub mod Ends
+pub mod Loops
+pub mod Linked
+pub mod LinkProviders

@@ -1,0 +1,76 @@
+ghost use Rattle.std.specs.Prelude.{◌≡◌, []};
+ghost use Rattle.provider_wire.specs.Linked.{out_of_step};
+
+use crate::link::Link;
+use crate::receive::ask_link;
+use stream_model::Memory;
+
+/// A provider behind a link. Over a link that tells what is behind it, it is seen as the provider there; over any other it
+/// keeps counts of its own.
+#[derive(Drop)]
+pub struct LinkProvider<L: Link> {
+    pub(crate) link: L,
+    pub(crate) broken: bool,
+    pub(crate) store_faults: u64,
+    pub(crate) other_faults: u64,
+    pub(crate) fetches: u64,
+    ghost in_step: { out_of_step (L.behind link) broken ≡ [] },
+}
+
+impl<L: Link> LinkProvider<L> {
+    ghost use Rattle.std.specs.Prelude.{◌≡◌, ◌^◌, ℕ, List, Some, None, [], false, true, length, IfOk, IfSome, IsSome};
+    ghost use Rattle.hail_wire.specs.Requests.{Request, Spells};
+    ghost use Rattle.hail_wire.specs.Links.{Behind};
+    ghost use Rattle.provider_wire.specs.Linked.{AskedFor, answer_size};
+    ghost use Rattle.provider_wire.specs.LinkProviders.{link_of, broken_of, store_faults_of, other_faults_of, fetches_of};
+
+    /// A provider behind this link, over which no bytes are due.
+    pub fn new(link: L) -> Result<LinkProvider<L>, Memory>
+        requires { IfSome (L.behind link) (λ b. b.due ≡ []) }
+        ensures link { IfOk result (λ provider. link_of provider ≡ link) }
+        ensures broken { IfOk result (λ provider. broken_of provider ≡ false) }
+        ensures store_faults { IfOk result (λ provider. store_faults_of provider ≡ 0) }
+        ensures other_faults { IfOk result (λ provider. other_faults_of provider ≡ 0) }
+        ensures fetches { IfOk result (λ provider. fetches_of provider ≡ 0) }
+    {
+        Ok(LinkProvider {
+            link,
+            broken: false,
+            store_faults: 0,
+            other_faults: 0,
+            fetches: 0,
+        })
+    }
+
+    /// Whether the link is out of step: a call of it failed, or an answer ended early or was none of those that there are.
+    /// It stays so. A link that tells what is behind it is never out of step.
+    pub fn broken(&self) -> bool
+        ensures value { result ≡ broken_of self.now }
+        ensures told { IsSome (L.behind (link_of self.now)) → result ≡ false }
+    {
+        self.broken
+    }
+
+    /// Sends a request, unless the link is out of step, and receives its answer. None where the link is out of step then.
+    pub(crate) fn request(&mut self, request: &[u8], symbols: &mut [u8]) -> Option<u8>
+        requires { (r : Request) × Spells request.now r × (length symbols.old ≡ answer_size r) }
+        ensures told { (b : Behind) (r : Request) → L.behind (link_of self.old) ≡ Some b → Spells request.now r
+            → length symbols.old ≡ answer_size r → AskedFor r result symbols.new b (L.behind (link_of self.new)) }
+        ensures untold { L.behind (link_of self.old) ≡ None → L.behind (link_of self.new) ≡ None }
+        ensures ok { IsSome result → broken_of self.new ≡ broken_of self.old }
+        ensures was { broken_of self.old ≡ true → result ≡ None }
+        ensures broke { result ≡ None → broken_of self.new ≡ true }
+        ensures store_faults { store_faults_of self.new ≡ store_faults_of self.old }
+        ensures other_faults { other_faults_of self.new ≡ other_faults_of self.old }
+        ensures fetches { fetches_of self.new ≡ fetches_of self.old }
+    {
+        if self.broken {
+            return None;
+        }
+        let answer = ask_link(&mut self.link, request, symbols);
+        if answer.is_none() {
+            self.broken = true;
+        }
+        answer
+    }
+}
