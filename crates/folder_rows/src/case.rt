@@ -1,35 +1,8 @@
 use crate::command::{Row, first_wrong, goes};
-use crate::medium::{Part, Stays};
+use crate::medium::{ALL, CUTS, Stays};
 use crate::stand_in::StandIn;
 use std::alloc::Global;
 use std::fs;
-
-/// All that was not synced stays.
-const ALL: Stays = Stays {
-    names: true,
-    bytes: Part::All,
-};
-
-/// Unsynced names stay or go, and unsynced bytes stay, or half of them where the names stay, or go.
-pub const CUTS: [Stays; 5] = [
-    Stays {
-        names: false,
-        bytes: Part::Nothing,
-    },
-    Stays {
-        names: false,
-        bytes: Part::All,
-    },
-    Stays {
-        names: true,
-        bytes: Part::Nothing,
-    },
-    Stays {
-        names: true,
-        bytes: Part::Half,
-    },
-    ALL,
-];
 
 /// What commands show of a home, and the objects whose blocks are then whole on each of its four providers.
 #[derive(Clone, Copy)]
@@ -53,18 +26,8 @@ pub struct Case<'a> {
     pub with: Shown<'a>,
 }
 
-/// A cut at which things go otherwise: behind how many calls that change something, and what stayed.
-#[derive(Clone, Copy, Debug, PartialEq)]
-pub struct Cut {
-    pub calls: u64,
-    pub stays: Stays,
-}
-
-/// What is told where a command that is not cut goes otherwise than its row says.
-const NEVER: Cut = Cut {
-    calls: u64::MAX,
-    stays: ALL,
-};
+/// A cut: behind how many calls that change something, and which of `CUTS` is what stays.
+pub type Cut = (u64, usize);
 
 /// The home before a command and behind it, where the power was not cut.
 #[derive(Drop)]
@@ -177,27 +140,28 @@ impl<'a> Case<'a> {
         })
     }
 
-    /// The first way, if any, in which things go otherwise where the power is cut behind so many calls.
-    fn first_wrong_stays(&self, alloc: Global, uncut: &Uncut, calls: u64) -> Option<Stays> {
+    /// The first of `CUTS`, if any, in which things go otherwise where the power is cut behind so many calls.
+    fn first_wrong_stays(&self, alloc: Global, uncut: &Uncut, calls: u64) -> Option<usize> {
         let Some(cut) = self.cut_off(alloc, uncut, calls) else {
-            return Some(ALL);
+            return Some(CUTS.len());
         };
-        for stays in CUTS {
-            if self.is_right(alloc, uncut, &cut, stays) != Some(true) {
-                return Some(stays);
+        for place in 0..CUTS.len() {
+            if self.is_right(alloc, uncut, &cut, CUTS[place]) != Some(true) {
+                return Some(place);
             }
         }
         None
     }
 
-    /// The first cut at which things go otherwise, from before the first call that changes something on to behind the last.
+    /// The first cut at which things go otherwise, from before the first call that changes something on to behind the last. Where the
+    /// command that is not cut goes otherwise than its row says, that is told behind the last call of all.
     pub fn first_wrong_cut(&self, alloc: Global) -> Option<Cut> {
         let Some(uncut) = self.uncut(alloc) else {
-            return Some(NEVER);
+            return Some((u64::MAX, CUTS.len()));
         };
         for calls in 0..uncut.calls.saturating_add(2) {
-            if let Some(stays) = self.first_wrong_stays(alloc, &uncut, calls) {
-                return Some(Cut { calls, stays });
+            if let Some(place) = self.first_wrong_stays(alloc, &uncut, calls) {
+                return Some((calls, place));
             }
         }
         None

@@ -25,16 +25,6 @@ pub fn done(line: &'static str, input: &'static [u8], text: &'static [u8]) -> Ro
     }
 }
 
-/// A command without input that writes nothing and ends with this status.
-pub fn refused(line: &'static str, status: u8) -> Row {
-    Row {
-        line,
-        input: b"",
-        status,
-        text: b"",
-    }
-}
-
 /// How a command ended.
 #[derive(Drop)]
 struct Answered {

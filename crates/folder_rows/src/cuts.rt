@@ -1,5 +1,5 @@
 use crate::case::{Case, Shown};
-use crate::command::{Row, done, refused};
+use crate::command::{Row, done};
 use std::test::Fail;
 
 /// The bytes of the master key are 0 to 31.
@@ -20,6 +20,40 @@ const PUT: Row = Row {
     status: 0,
     text: b"stored a 3\n",
 };
+
+/// A second file is stored, as the object 2.
+const PUT_OTHER: Row = Row {
+    line: "put b",
+    input: b"other",
+    status: 0,
+    text: b"stored b 5\n",
+};
+
+/// A repair that is due is done.
+const REPAIRED: Row = Row {
+    line: "repair",
+    input: b"",
+    status: 0,
+    text: b"repaired 1\n",
+};
+
+/// No repair is due.
+const NOTHING_DUE: Row = Row {
+    line: "repair",
+    input: b"",
+    status: 7,
+    text: b"",
+};
+
+/// No store is set up.
+fn not_set_up() -> Row {
+    Row {
+        line: "list",
+        input: b"",
+        status: 9,
+        text: b"",
+    }
+}
 
 /// What a home shows that holds the first file alone.
 const FIRST: [Row; 2] = [
@@ -44,7 +78,7 @@ fn a_set_up_is_whole_or_not_there(rt: HostRuntime) -> Result<(), Fail> {
         lost: None,
         row: INIT,
         without: Shown {
-            rows: &[refused("list", 9), INIT],
+            rows: &[not_set_up(), done(INIT.line, KEY, b"ready\n")],
             objects: &[],
         },
         with: Shown {
@@ -97,7 +131,7 @@ fn a_put_over_a_name_leaves_one_of_two_files(rt: HostRuntime) -> Result<(), Fail
 #[test]
 fn a_drop_takes_its_file_alone(rt: HostRuntime) -> Result<(), Fail> {
     let case = Case {
-        before: &[INIT, PUT, done("put b", b"other", b"stored b 5\n")],
+        before: &[INIT, PUT, PUT_OTHER],
         lost: None,
         row: done("drop b", b"", b"dropped b\n"),
         without: Shown {
@@ -126,13 +160,13 @@ fn a_repair_is_done_or_still_due(rt: HostRuntime) -> Result<(), Fail> {
     let case = Case {
         before: &[INIT, PUT],
         lost: Some(("home/provider-2/1-0", audit)),
-        row: done("repair", b"", b"repaired 1\n"),
+        row: REPAIRED,
         without: Shown {
-            rows: &[FIRST[0], FIRST[1], done("repair", b"", b"repaired 1\n")],
+            rows: &[FIRST[0], FIRST[1], REPAIRED],
             objects: &[1],
         },
         with: Shown {
-            rows: &[FIRST[0], FIRST[1], refused("repair", 7)],
+            rows: &[FIRST[0], FIRST[1], NOTHING_DUE],
             objects: &[1],
         },
     };

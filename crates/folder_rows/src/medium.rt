@@ -25,7 +25,7 @@ struct Name {
 }
 
 /// How much of a file's unsynced bytes stays.
-#[derive(Clone, Copy, Debug, PartialEq)]
+#[derive(Clone, Copy)]
 pub enum Part {
     Nothing,
     Half,
@@ -33,11 +33,38 @@ pub enum Part {
 }
 
 /// What stays of unsynced changes when the power is cut: whether the names in folders do, and how much of the bytes of files.
-#[derive(Clone, Copy, Debug, PartialEq)]
+#[derive(Clone, Copy)]
 pub struct Stays {
     pub names: bool,
     pub bytes: Part,
 }
+
+/// All that was not synced stays.
+pub const ALL: Stays = Stays {
+    names: true,
+    bytes: Part::All,
+};
+
+/// Unsynced names stay or go, and unsynced bytes stay, or half of them where the names stay, or go.
+pub const CUTS: [Stays; 5] = [
+    Stays {
+        names: false,
+        bytes: Part::Nothing,
+    },
+    Stays {
+        names: false,
+        bytes: Part::All,
+    },
+    Stays {
+        names: true,
+        bytes: Part::Nothing,
+    },
+    Stays {
+        names: true,
+        bytes: Part::Half,
+    },
+    ALL,
+];
 
 /// A file system in memory that keeps what was written apart from what was synced. A name is on the medium once its folder is synced,
 /// a file's bytes once the file is. Its power is cut behind so many calls that change something: each call after them fails.
@@ -86,10 +113,13 @@ fn overwritten(alloc: Global, old: &[u8], at: usize, bytes: &[u8]) -> io::Result
 
 /// How many bytes both begin with.
 fn same_at_front(a: &[u8], b: &[u8]) -> usize {
-    a.iter()
-        .zip(b.iter())
-        .take_while(|pair| pair.0 == pair.1)
-        .count()
+    let most = a.len().min(b.len());
+    for n in 0..most {
+        if a[n] != b[n] {
+            return n;
+        }
+    }
+    most
 }
 
 /// The bytes of a file that was cut half-way through what it has that is new.

@@ -1,4 +1,6 @@
 // What stands between a home and other programs: streams that are open, and a lock.
+ghost use Rattle.std.specs.Prelude.{◌≡◌, ◌↔◌, ◌⊎◌, codes, IsTrue};
+
 use std::fs::{self, File};
 use std::io::{self, ErrorKind};
 use std::os::unix::io::AsRawFd;
@@ -30,10 +32,17 @@ pub fn hold_streams(rt: &HostRuntime) -> io::Result<HeldStreams> {
     })
 }
 
-/// Whether the command only reads the home.
+/// Whether the command of this name only reads the home.
+fn is_reader(command: &str) -> bool
+    ensures { IsTrue result ↔ ((command.now ≡ codes "get") ⊎ (command.now ≡ codes "list")) }
+{
+    command == "get" || command == "list"
+}
+
+/// Whether the words are a command that only reads the home.
 fn only_reads(words: &[String]) -> bool {
     match words {
-        [command, ..] => matches!(command.as_str(), "get" | "list"),
+        [command, ..] => is_reader(command.as_str()),
         [] => false,
     }
 }
