@@ -66,7 +66,7 @@ fn answer<D: Disk, P: Tamper, S: Source, K: Sink>(
 
 /// Answers the words over an empty memory and these providers, which are gone afterwards. Want of memory for the devices is the
 /// one refusal.
-fn run_in_memory<P: Tamper>(
+fn run_in_memory<P: Tamper + Drop>(
     rt: &HostRuntime,
     words: &[String],
     mut providers: Vec<P>,

@@ -40,7 +40,10 @@ pub fn serve_words<P: Provider, S: Source, K: Sink>(
         (seen_beside disk disk_faults P.Provider S.Source K.Sink providers.new source.new sink.new) }
 {
     match read_serve(words) {
-        Some(number) => served(serve_at(alloc, number, providers, source, sink)),
+        Some(number) => {
+            let end = serve_at(alloc, number, providers, source, sink);
+            served(end)
+        }
         None => Report::of(USAGE),
     }
 }
