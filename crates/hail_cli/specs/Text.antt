@@ -1,7 +1,8 @@
 -- The line on standard error.
 --
 --   status_text status      == its text; every other status than these is that of no memory
---   speaks_of_place status  == it is followed by a place: a row, a byte of the journal, a provider, a line of the schedule
+--   speaks_of_place status  == it is followed by a place: a row, a byte of the journal, a provider, a line of the
+--                             schedule, a byte of the requests
 use Rattle.std.specs.Prelude.{ℕ, Bool, List, codes, ◌==◌, ◌||◌, if◌then◌else◌}
 
 -- the text of a status other than 0
@@ -26,8 +27,9 @@ status_text status =
     (if status == 19 then codes "hail: bad schedule line" else
     (if status == 20 then codes "hail: bad setup" else
     (if status == 21 then codes "hail: too many files" else
-    (if status == 22 then codes "hail: too few providers" else codes "hail: no memory")))))))))))))))))))
+    (if status == 22 then codes "hail: too few providers" else
+    (if status == 25 then codes "hail: bad frame at" else codes "hail: no memory"))))))))))))))))))))
 
 -- a place follows the text
 abbrev pub speaks_of_place : ℕ → Bool
-speaks_of_place status = status == 4 || (status == 8 || (status == 13 || status == 19))
+speaks_of_place status = status == 4 || (status == 8 || (status == 13 || (status == 19 || status == 25)))

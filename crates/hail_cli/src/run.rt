@@ -1,14 +1,21 @@
 // The command over the devices that the first word names.
 use crate::guard::{hold_streams, lock_home};
 use disk_model::{Disk, SureDisk};
-use hail_adapters::{StdSink, StdSource, Unsynced, folder_providers, journal_disk};
+use hail_adapters::{FolderProvider, StdSink, StdSource, Unsynced, folder_providers, journal_disk};
 use hail_top::{DISK_FAULT, NO_MEMORY, hail};
 use provider_model::{SureProvider, Tamper};
+use provider_wire::{LinkProvider, LoopLink};
 use std::alloc::Global;
 use stream_model::{Sink, Source};
 
 /// The first word of a command over memory.
 const IN_MEMORY: &str = "-";
+
+/// The first word of a command over memory whose providers stand behind links.
+const BEHIND_LINKS: &str = "+";
+
+/// A provider in memory behind a link.
+type Linked = LinkProvider<LoopLink<SureProvider>>;
 
 /// What is told of a command that ended: its status, and the place that the status speaks of.
 #[derive(Clone, Copy, Debug)]
@@ -22,6 +29,21 @@ fn sure_providers(alloc: Global) -> Option<Vec<SureProvider>> {
     let mut providers = Vec::new(alloc);
     for _ in 0..16u8 {
         providers.push(SureProvider::new(alloc)).ok()?;
+    }
+    Some(providers)
+}
+
+/// A provider in memory behind a link. Want of memory is the one refusal.
+fn linked(alloc: Global) -> Option<Linked> {
+    let link = LoopLink::new(SureProvider::new(alloc)).ok()?;
+    LinkProvider::new(link).ok()
+}
+
+/// Sixteen of them.
+fn linked_providers(alloc: Global) -> Option<Vec<Linked>> {
+    let mut providers = Vec::new(alloc);
+    for _ in 0..16u8 {
+        providers.push(linked(alloc)?).ok()?;
     }
     Some(providers)
 }
@@ -42,11 +64,15 @@ fn answer<D: Disk, P: Tamper, S: Source, K: Sink>(
     }
 }
 
-/// Answers the words over an empty memory, which is gone afterwards. Want of memory for the devices is the one refusal.
-fn run_in_memory(rt: &HostRuntime, words: &[String]) -> Option<Told> {
+/// Answers the words over an empty memory and these providers, which are gone afterwards. Want of memory for the devices is the
+/// one refusal.
+fn run_in_memory<P: Tamper + Drop>(
+    rt: &HostRuntime,
+    words: &[String],
+    mut providers: Vec<P>,
+) -> Option<Told> {
     let alloc = rt.alloc();
     let mut disk = SureDisk::new(alloc, &[]).ok()?;
-    let mut providers = sure_providers(alloc)?;
     let mut source = StdSource::new(rt).ok()?;
     let mut sink = StdSink::new(rt).ok()?;
     Some(answer(
@@ -59,12 +85,39 @@ fn run_in_memory(rt: &HostRuntime, words: &[String]) -> Option<Told> {
     ))
 }
 
+/// The providers of a home, where each store syncs its folder.
+fn synced_providers(
+    rt: &HostRuntime,
+    alloc: Global,
+    home: &str,
+) -> Option<Vec<FolderProvider<HostRuntime>>> {
+    let mut providers = Vec::new(alloc);
+    for number in 0..16u8 {
+        let path = format!(in alloc; "{home}/provider-{number}").ok()?;
+        let provider = FolderProvider::new(rt, alloc, &path).ok()?;
+        providers.push(provider).ok()?;
+    }
+    Some(providers)
+}
+
+/// Whether the command serves a provider. No record of the journal follows its stores, which would sync them.
+fn serves(words: &[String]) -> bool {
+    match words {
+        [command, ..] => command.as_str() == "serve",
+        [] => false,
+    }
+}
+
 /// Answers the words over the journal and the providers of a home. Want of memory for the devices is the one refusal.
 fn run_at_home(rt: &HostRuntime, home: &str, words: &[String]) -> Option<Told> {
     let alloc = rt.alloc();
     let unsynced = Unsynced::new(alloc).ok()?;
     let mut disk = journal_disk(rt, alloc, home, &unsynced).ok()?;
-    let mut providers = folder_providers(rt, alloc, home, &unsynced).ok()?;
+    let mut providers = if serves(words) {
+        synced_providers(rt, alloc, home)?
+    } else {
+        folder_providers(rt, alloc, home, &unsynced).ok()?
+    };
     let mut source = StdSource::new(rt).ok()?;
     let mut sink = StdSink::new(rt).ok()?;
     Some(answer(
@@ -93,11 +146,23 @@ fn run_alone(rt: &HostRuntime, home: &str, words: &[String]) -> Option<Told> {
     run_at_home(rt, home, words)
 }
 
-/// Answers the words of a command line: the first is `-` for memory, or else a home. No words are answered as no command.
+/// Answers the words over providers in memory.
+fn run_unlinked(rt: &HostRuntime, words: &[String]) -> Option<Told> {
+    run_in_memory(rt, words, sure_providers(rt.alloc())?)
+}
+
+/// Answers the words over providers in memory that stand behind links.
+fn run_linked(rt: &HostRuntime, words: &[String]) -> Option<Told> {
+    run_in_memory(rt, words, linked_providers(rt.alloc())?)
+}
+
+/// Answers the words of a command line: the first is `-` for memory, `+` for memory behind links, or else a home. No words are
+/// answered as no command.
 pub fn run(rt: &HostRuntime, words: &[String]) -> Told {
     let told = match words {
-        [] => run_in_memory(rt, words),
-        [place, command @ ..] if place.as_str() == IN_MEMORY => run_in_memory(rt, command),
+        [] => run_unlinked(rt, words),
+        [place, command @ ..] if place.as_str() == IN_MEMORY => run_unlinked(rt, command),
+        [place, command @ ..] if place.as_str() == BEHIND_LINKS => run_linked(rt, command),
         [home, command @ ..] => run_alone(rt, home.as_str(), command),
     };
     told.unwrap_or(Told {

@@ -3,7 +3,7 @@ ghost use Rattle.std.specs.Prelude.{◌≡◌, ◌↔◌, ◌⊎◌, IsTrue};
 ghost use Rattle.hail_cli.specs.Text.{status_text, speaks_of_place};
 
 use hail_top::{
-    ALREADY_SET_UP, BAD_JOURNAL, BAD_KEY, BAD_NAME, BAD_SCHEDULE, BAD_SETUP, DISK_FAULT,
+    ALREADY_SET_UP, BAD_FRAME, BAD_JOURNAL, BAD_KEY, BAD_NAME, BAD_SCHEDULE, BAD_SETUP, DISK_FAULT,
     JOURNAL_FULL, LOST_ROW, NO_SUCH_NAME, NOT_SET_UP, NOTHING_DUE, PROVIDER_FAULT, REPAIR_DUE,
     SINK_FAULT, SOURCE_FAULT, TOO_FEW_PROVIDERS, TOO_LONG, TOO_MANY_FILES, USAGE,
 };
@@ -33,6 +33,7 @@ pub fn text_of(status: u8) -> &'static str
         BAD_SETUP => "hail: bad setup",
         TOO_MANY_FILES => "hail: too many files",
         TOO_FEW_PROVIDERS => "hail: too few providers",
+        BAD_FRAME => "hail: bad frame at",
         _ => "hail: no memory",
     }
 }
@@ -42,7 +43,7 @@ pub fn has_place(status: u8) -> bool
     ensures { result ≡ speaks_of_place status }
 {
     match status {
-        LOST_ROW | BAD_JOURNAL | PROVIDER_FAULT | BAD_SCHEDULE => true,
+        LOST_ROW | BAD_JOURNAL | PROVIDER_FAULT | BAD_SCHEDULE | BAD_FRAME => true,
         _ => false,
     }
 }

@@ -40,11 +40,11 @@ answered-form words form other old new end found a is = subst (λ (f : Form). An
 
 -- ---- words that spell a command
 
-abbrev first-word : List (String Global) → List ℕ
+abbrev pub first-word : List (String Global) → List ℕ
 first-word [] = []
 first-word (word ∷ words) = string_bytes word
 
-abbrev command-word : Spelled → List ℕ
+abbrev pub command-word : Spelled → List ℕ
 command-word (RowOf n l b seen) = codes "row"
 command-word (InitWith numbers) = codes "init"
 command-word (PutUnder name) = codes "put"
@@ -54,7 +54,7 @@ command-word ListAll = codes "list"
 command-word AuditAll = codes "audit"
 command-word RepairDue = codes "repair"
 
-abbrev form-word : Form → List ℕ
+abbrev pub form-word : Form → List ℕ
 form-word forms.Replay = codes "replay"
 form-word (forms.Trial number) = codes "trial"
 
@@ -86,7 +86,7 @@ trial-first (c ∷ []) number form = absurd form
 trial-first (c ∷ n ∷ []) number form = form.0
 trial-first (c ∷ n ∷ more ∷ words) number form = absurd form
 
-command-first : (words : List (String Global)) (command : Spelled) → IsForm words command → first-word words ≡ command-word command
+pub command-first : (words : List (String Global)) (command : Spelled) → IsForm words command → first-word words ≡ command-word command
 command-first words (RowOf n l b seen) form = row-first words n l b seen form
 command-first words (InitWith numbers) form = init-first words numbers form
 command-first words (PutUnder name) form = named-first (codes "put") words name form
@@ -96,7 +96,7 @@ command-first words ListAll form = bare-first (codes "list") words form
 command-first words AuditAll form = bare-first (codes "audit") words form
 command-first words RepairDue form = bare-first (codes "repair") words form
 
-form-first : (words : List (String Global)) (form : Form) → IsFormOf words form → first-word words ≡ form-word form
+pub form-first : (words : List (String Global)) (form : Form) → IsFormOf words form → first-word words ≡ form-word form
 form-first words forms.Replay is = bare-first (codes "replay") words is
 form-first words (forms.Trial number) is = trial-first words number is
 

@@ -16,3 +16,4 @@ mod Told
 mod Taken
 mod Carried
 mod FormWords
+mod ServeWords

@@ -3,6 +3,7 @@
 --   seen holds faults providers left read_faults written write_faults == what is seen of the devices, by the members of their traits
 --   seen_over D P K disk providers left read_faults sink == the same, of a disk, providers and a sink by their traits' members taken whole
 --   seen_of D P S K disk providers source sink == and of a source
+--   seen_beside disk disk_faults P S K providers source sink == the same, whatever is seen of the disk
 --   ending_of report        == how a command ended
 --   ends status at          == it ended with this status, which speaks of this place, and nothing was heard
 use Rattle.std.specs.Prelude.{ℕ, List, [], Option, map}
@@ -38,6 +39,12 @@ seen_over D P K disk providers left read_faults sink =
 -- and of a source
 abbrev pub seen_of : {W X Y Z : Type 0} → DiskGhosts W → ProviderGhosts X → SourceGhosts Y → SinkGhosts Z → W → List X → Y → Z → Seen
 seen_of D P S K disk providers source sink = seen_over D P K disk providers (S.left source) (S.faults source) sink
+
+-- the same, whatever is seen of the disk
+abbrev pub seen_beside : {X Y Z : Type 0} → Option Cells → ℕ → ProviderGhosts X → SourceGhosts Y → SinkGhosts Z → List X → Y → Z → Seen
+seen_beside disk disk_faults P S K providers source sink =
+    seen disk disk_faults (map (as_seen P.held P.store_faults P.other_faults P.fetches) providers) (S.left source) (S.faults source)
+    (K.written sink) (K.faults sink)
 
 -- how a command ended
 abbrev pub ending_of : Report → Ending

@@ -1,4 +1,4 @@
-ghost use Rattle.std.specs.Prelude.{◌≡◌, map, is_some};
+ghost use Rattle.std.specs.Prelude.{◌≡◌, ℕ, map, is_some};
 ghost use Rattle.hail_commands.specs.Forms.{Command as Spelled, IsForm};
 ghost use Rattle.hail_commands.specs.Seen.{NoCountFalls};
 ghost use Rattle.hail_commands.specs.Commands.{Answers, IsUsage};
@@ -7,6 +7,8 @@ ghost use Rattle.command_words.specs.Commands.{command_of};
 ghost use Rattle.hail_top.specs.Carried.{AnswersForm, KeepsTheHeadline};
 ghost use Rattle.hail_replay.specs.Forms.{IsFormOf};
 ghost use Rattle.hail_replay.specs.declared.forms.Form.{Form as FormOf};
+ghost use Rattle.provider_server.specs.Words.{IsServeForm};
+ghost use Rattle.provider_server.specs.Answers.{AnswersServe};
 ghost use Rattle.hail_top.specs.Endings.{seen, seen_of, ending_of};
 ghost use Rattle.hail_top.specs.Rows.{HasItsSymbols};
 
@@ -14,8 +16,9 @@ use crate::alone::alone;
 use crate::carry::{do_trial, replay_source};
 use crate::list::list;
 use crate::put::put;
-use crate::report::{NO_MEMORY, Report, USAGE};
+use crate::report::{NO_MEMORY, Report};
 use crate::row::answer_row;
+use crate::serve::serve_words;
 use crate::set_up::set_up;
 use command_jobs::Job;
 use command_words::laws::words_spell_one_command;
@@ -84,7 +87,7 @@ fn carry<D: Disk, P: Tamper, S: Source, K: Sink>(
     }
 }
 
-/// Does what words ask for that are no command: a replay, a trial or nothing.
+/// Does what words ask for that are no command: a replay, a trial, a server or nothing.
 fn carry_words<D: Disk, P: Tamper, S: Source, K: Sink>(
     alloc: Global,
     words: &[String],
@@ -93,10 +96,13 @@ fn carry_words<D: Disk, P: Tamper, S: Source, K: Sink>(
     source: &mut S,
     sink: &mut K,
 ) -> Report
-    ensures usage { ((form : FormOf) → IsFormOf words.now form → ⊥) → IsUsage
+    ensures usage { ((form : FormOf) → IsFormOf words.now form → ⊥) → ((number : ℕ) → IsServeForm words.now number → ⊥) → IsUsage
         (seen_of D.Disk P.Provider S.Source K.Sink disk.old providers.old source.old sink.old)
         (seen_of D.Disk P.Provider S.Source K.Sink disk.new providers.new source.new sink.new) (ending_of result) }
     ensures carries { (form : FormOf) → IsFormOf words.now form → AnswersForm form
+        (seen_of D.Disk P.Provider S.Source K.Sink disk.old providers.old source.old sink.old)
+        (seen_of D.Disk P.Provider S.Source K.Sink disk.new providers.new source.new sink.new) (ending_of result) }
+    ensures serves { (number : ℕ) → IsServeForm words.now number → AnswersServe number
         (seen_of D.Disk P.Provider S.Source K.Sink disk.old providers.old source.old sink.old)
         (seen_of D.Disk P.Provider S.Source K.Sink disk.new providers.new source.new sink.new) (ending_of result) }
     ensures counts { NoCountFalls
@@ -106,7 +112,7 @@ fn carry_words<D: Disk, P: Tamper, S: Source, K: Sink>(
 {
     match read_form(words) {
         Some(form) => carry(alloc, form, disk, providers, source, sink),
-        None => Report::of(USAGE),
+        None => serve_words(alloc, words, providers, source, sink),
     }
 }
 
@@ -119,13 +125,17 @@ pub fn hail<D: Disk, P: Tamper, S: Source, K: Sink>(
     source: &mut S,
     sink: &mut K,
 ) -> Report
-    ensures usage { ((command : Spelled) → IsForm words.now command → ⊥) → ((form : FormOf) → IsFormOf words.now form → ⊥) → IsUsage
+    ensures usage { ((command : Spelled) → IsForm words.now command → ⊥) → ((form : FormOf) → IsFormOf words.now form → ⊥)
+        → ((number : ℕ) → IsServeForm words.now number → ⊥) → IsUsage
         (seen_of D.Disk P.Provider S.Source K.Sink disk.old providers.old.items source.old sink.old)
         (seen_of D.Disk P.Provider S.Source K.Sink disk.new providers.new.items source.new sink.new) (ending_of result) }
     ensures answers { (command : Spelled) → IsForm words.now command → Answers command
         (seen_of D.Disk P.Provider S.Source K.Sink disk.old providers.old.items source.old sink.old)
         (seen_of D.Disk P.Provider S.Source K.Sink disk.new providers.new.items source.new sink.new) (ending_of result) }
     ensures carries { (form : FormOf) → IsFormOf words.now form → AnswersForm form
+        (seen_of D.Disk P.Provider S.Source K.Sink disk.old providers.old.items source.old sink.old)
+        (seen_of D.Disk P.Provider S.Source K.Sink disk.new providers.new.items source.new sink.new) (ending_of result) }
+    ensures serves { (number : ℕ) → IsServeForm words.now number → AnswersServe number
         (seen_of D.Disk P.Provider S.Source K.Sink disk.old providers.old.items source.old sink.old)
         (seen_of D.Disk P.Provider S.Source K.Sink disk.new providers.new.items source.new sink.new) (ending_of result) }
     ensures headline { (form : FormOf) → IsFormOf words.now form → KeepsTheHeadline
