@@ -115,12 +115,14 @@ done
 
 # Sends a request to the server, and takes the first byte of its answer.
 asks() {
-    bytes "$1" >&"${server[1]}"
-    answer=$(head -c 1 <&"${server[0]}" | digits)
+    bytes "$1" >&8
+    answer=$(head -c 1 <&9 | digits)
 }
 
-coproc server { exec "$hail" other serve 2; }
-process=$server_PID
+mkfifo asking answering
+"$hail" other serve 2 <asking >answering &
+process=$!
+exec 8>asking 9<answering
 for file in home/provider-2/*-*; do
     place=${file##*/}
     asks "$(store "${place%-*}" "${place#*-}" "$(digits <"$file")")"
@@ -131,14 +133,13 @@ count=0
 for file in home/provider-2/*-*; do
     place=${file##*/}
     asks "$(fetch "${place%-*}" "${place#*-}" 6)"
-    [ "$answer" = 01 ] && head -c 96 <&"${server[0]}" | cmp -s - "$file" || wrong "the fetch of $place gives another block"
+    [ "$answer" = 01 ] && head -c 96 <&9 | cmp -s - "$file" || wrong "the fetch of $place gives another block"
     count=$((count + 1))
 done
 [ "$count" -ge 40 ] || wrong "only $count blocks were moved"
 asks "$(fetch 1 0 7)"
 [ "$answer" = 00 ] || wrong "a fetch of another size answers $answer"
-input=${server[1]}
-exec {input}>&-
+exec 8>&-
 wait "$process" || wrong 'the server ends otherwise than with 0'
 
 # The store goes on with the blocks of the other home.
