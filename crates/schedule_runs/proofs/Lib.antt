@@ -1,0 +1,4 @@
+pub mod Left
+pub mod Going
+pub mod Stopped
+pub mod Text
