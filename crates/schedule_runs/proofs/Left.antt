@@ -1,9 +1,8 @@
 -- Each run has left devices: those of its last state.
-use Rattle.std.proofs.Common.{◌≡◌, ℕ, ◌<◌, IsTrue, List, length, Some, refl, sym, inl, arith, subst}
+use Rattle.std.proofs.Common.{◌≡◌, ℕ, ◌<◌, IsTrue, List, [], Some, refl, sym, inl, arith}
 use Rattle.std.proofs.lemmas.List.FromFn.{length-map-range_with_len}
-use Rattle.std.specs.Prelude.{map}
 use Rattle.std.specs.List.{list_all}
-use Rattle.hail_codes.specs.Points.{upto}
+
 use Rattle.hail_records.specs.Records.{Record, is_in_grammar}
 use Rattle.hail_records.specs.Journal.{text, StandsFor}
 use Rattle.hail_machine.specs.Runs.{Moment, IsRun, now}

@@ -2,13 +2,14 @@
 use Rattle.std.proofs.Common.{ℕ, ◌^◌, ◌<◌, List, [], ◌∷◌, refl, inl, inr, arith}
 use Rattle.std.specs.Prelude.{reverse, codes}
 use Rattle.std.specs.Fmt.{decimal, digits}
+use Rattle.hex.specs.Hex.{decode_pairs}
 use Rattle.hail_machine.specs.Events.{Begin, Step, Lose, Stop, Reopen}
 use Rattle.hail_machine.specs.Jobs.{PutJob, GetJob, AuditJob, RepairJob}
-use Rattle.hail_machine.specs.Transcripts.{Command, Once, RunJob}
+use Rattle.hail_machine.specs.Transcripts.{Once, RunJob}
 use Rattle.schedule_text.specs.Grammar.{IsNumber, IsHex}
-use Rattle.schedule_text.specs.Schedules.{lines, AreLines, IsSchedule}
+use Rattle.schedule_text.specs.Schedules.{IsSchedule}
 use Rattle.schedule_text.proofs.Plain.{number-decimal}
-use Rattle.damage_run.specs.Schedule.{name, byte, schedule}
+use Rattle.damage_run.specs.Schedule.{name, byte}
 use Rattle.schedule_runs.specs.Schedule.{stopped_schedule, stopped_text}
 
 -- a number is spelled by its digits
@@ -16,6 +17,7 @@ digit : (bits n : ℕ) → n < 2 ^ bits → n < 10 → IsNumber bits (decimal n)
 digit bits n fits small = number-decimal bits n fits (omega (arith, small))
 
 hex-byte : IsHex (codes "6f") byte
+unfolding decode_pairs
 hex-byte = inr refl
 
 pub spells : IsSchedule stopped_text (reverse stopped_schedule)
