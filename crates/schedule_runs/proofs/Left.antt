@@ -2,7 +2,6 @@
 use Rattle.std.proofs.Common.{◌≡◌, ℕ, ◌<◌, IsTrue, List, [], Some, refl, sym, inl, arith}
 use Rattle.std.proofs.lemmas.List.FromFn.{length-map-range_with_len}
 use Rattle.std.specs.List.{list_all}
-
 use Rattle.hail_records.specs.Records.{Record, is_in_grammar}
 use Rattle.hail_records.specs.Journal.{text, StandsFor}
 use Rattle.hail_machine.specs.Runs.{Moment, IsRun, now}

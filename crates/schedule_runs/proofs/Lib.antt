@@ -2,3 +2,4 @@ pub mod Left
 pub mod Going
 pub mod Stopped
 pub mod Text
+pub mod BadLine

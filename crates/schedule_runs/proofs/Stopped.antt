@@ -61,7 +61,7 @@ happens_57 = inl refl
 
 happens_58 : Happens 8 58 state_58 Reopen Opened state_59
 unfolding setup_in
-happens_58 = (state_58, inl refl, refl, omega arith, 0, omega arith, refl)
+happens_58 = (state_58, inl refl, refl, omega arith, (0, omega arith, refl))
 
 happens_59 : Happens 8 59 state_59 (Begin (GetJob name)) (Begun 6) state_60
 unfolding setup_in actions_of

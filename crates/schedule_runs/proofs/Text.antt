@@ -1,6 +1,7 @@
 -- The text spells the commands.
 use Rattle.std.proofs.Common.{ℕ, ◌^◌, ◌<◌, List, [], ◌∷◌, refl, inl, inr, arith}
 use Rattle.std.specs.Prelude.{reverse, codes}
+use Rattle.std.specs.List.{AllByRecursion}
 use Rattle.std.specs.Fmt.{decimal, digits}
 use Rattle.hex.specs.Hex.{decode_pairs}
 use Rattle.hail_machine.specs.Events.{Begin, Step, Lose, Stop, Reopen}
@@ -8,6 +9,7 @@ use Rattle.hail_machine.specs.Jobs.{PutJob, GetJob, AuditJob, RepairJob}
 use Rattle.hail_machine.specs.Transcripts.{Once, RunJob}
 use Rattle.schedule_text.specs.Grammar.{IsNumber, IsHex}
 use Rattle.schedule_text.specs.Schedules.{IsSchedule}
+use Rattle.schedule_text.specs.Spelling.{IsName, CanBeSpelled}
 use Rattle.schedule_text.proofs.Plain.{number-decimal}
 use Rattle.damage_run.specs.Schedule.{name, byte}
 use Rattle.schedule_runs.specs.Schedule.{stopped_schedule, stopped_text}
@@ -46,3 +48,11 @@ spells =
     inr (Once (Begin (GetJob name)), _, refl, refl,
     inr (RunJob 6, _, refl, (codes "6", refl, digit 32 6 (omega arith) (omega arith)),
     inl (tt, refl)))))))))))))))))))))))
+
+-- each of the commands can be spelled
+named : IsName name
+named = (omega arith, (((λ e. omega (arith, e)), (λ e. omega (arith, e))), tt))
+
+pub fits : AllByRecursion CanBeSpelled (reverse stopped_schedule)
+fits =
+    (tt, (((refl, refl), named), (omega arith, ((refl, named), (omega arith, (omega arith, (omega arith, (omega arith, ((omega arith, omega arith, omega arith), ((tt, tt), (omega arith, (omega arith, (omega arith, ((tt, tt), (omega arith, ((omega arith, omega arith, omega arith), ((refl, named), (omega arith, (refl, (tt, ((refl, named), (omega arith, tt))))))))))))))))))))))

@@ -3,6 +3,7 @@
 --   stopped_schedule    == the commands of the run with damage, and then a stop, a reopening and a get, the newest first
 --   stopped_written     == all that they write
 --   stopped_text        == the text that spells them
+--   bad_text            == a text whose second line has too many words
 --   IsStopped ms        == these moments carry it out, from a start of four providers; the last of them gives the file
 use Rattle.std.specs.Prelude.{ℕ, List, [], ◌∷◌, ◌++◌, codes}
 use Rattle.std.specs.List.{flat_map}
@@ -32,6 +33,10 @@ stopped_text = flat_map line (codes "reopen" ∷ codes "begin put a 6f" ∷ code
     ∷ codes "lose 2 1 0" ∷ codes "begin audit" ∷ codes "step 3" ∷ codes "run 2" ∷ codes "run 3"
     ∷ codes "begin repair" ∷ codes "run 4" ∷ codes "lose 0 1 0" ∷ codes "begin get a" ∷ codes "run 5"
     ∷ codes "stop -" ∷ codes "reopen" ∷ codes "begin get a" ∷ codes "run 6" ∷ [])
+
+-- a text whose second line has too many words
+abbrev pub bad_text : List ℕ
+bad_text = flat_map line (codes "reopen" ∷ codes "lose 2 1 0 2 1 0" ∷ [])
 
 -- these moments carry it out
 pub record IsStopped (ms : List Moment) : Type 0 where

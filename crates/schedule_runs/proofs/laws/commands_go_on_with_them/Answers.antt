@@ -28,6 +28,11 @@ returns-clause-replay c = λ start ms text old new end starts run is does. (does
     does.runs start ms (let told = c.runs_leave_devices.ensures.tell start ms in subst (λ d. IsSome d.holds) (sym is) told)
     (subst (AreLeft start ms) (sym is) (c.runs_leave_devices.ensures.each start ms starts run)))
 
+pub returns-clause-trial : goal.returns-clause-trial
+returns-clause-trial c = λ start ms number old new end starts run is does.
+    does.runs start ms (let told = c.runs_leave_devices.ensures.tell start ms in subst (λ d. IsSome d.holds) (sym is) told)
+    (subst (AreLeft start ms) (sym is) (c.runs_leave_devices.ensures.each start ms starts run))
+
 pub returns-clause-damaged : goal.returns-clause-damaged
 returns-clause-damaged c = (damage, outright, λ old new end is keeps.
     keeps-file c.acknowledged_files_survive.ensures set_up after_damage (first_moments 13 damage) (last_of (first_moments 14 damage)) name (record { name = name; id = 1; size = 1 })
