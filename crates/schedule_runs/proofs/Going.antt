@@ -11,7 +11,7 @@ use Rattle.hail_commands.specs.Seen.{Seen, Ending}
 use Rattle.vault.specs.Devices.{Devices}
 use Rattle.hail_replay.specs.Answers.{devices_seen}
 use Rattle.hail_replay.specs.Starts.{AreLeft, call_from}
-use Rattle.hail_top.specs.Carried.{GoesOn, KeepsTheHeadline}
+use Rattle.hail_top.specs.Carried.{KeepsTheHeadline}
 use Rattle.schedule_runs.specs.Left.{GoesOnWith, KeepsItsFile}
 
 -- a command does nothing, or goes on with the run that has left the devices
@@ -62,5 +62,6 @@ keeps-file survives start later before m name file old new end starts comes neve
   where
     call : Moment
     call = call_from (now start (later ++ m ∷ before))
+
     split : (goes.later ++ call ∷ later) ++ m ∷ before ≡ goes.later ++ call ∷ (later ++ m ∷ before)
     split = append_assoc goes.later (call ∷ later) (m ∷ before)

@@ -1,17 +1,15 @@
 -- Each run has left devices: those of its last state.
-use Rattle.std.proofs.Common.{◌≡◌, ℕ, ◌<◌, IsTrue, List, [], Some, refl, sym, inl, arith}
+use Rattle.std.proofs.Common.{IsTrue, List, [], refl, sym, inl, arith}
 use Rattle.std.proofs.lemmas.List.FromFn.{length-map-range_with_len}
 use Rattle.std.specs.List.{list_all}
 use Rattle.hail_records.specs.Records.{Record, is_in_grammar}
 use Rattle.hail_records.specs.Journal.{text, StandsFor}
-use Rattle.hail_machine.specs.Runs.{Moment, IsRun, now}
-use Rattle.hail_machine.specs.States.{State, IsStart}
+use Rattle.hail_machine.specs.States.{State}
 use Rattle.hail_openings.specs.Opened.{AreHanded}
 use Rattle.sound_states.specs.Sound.{IsSound}
 use Rattle.hail_client.proofs.Settled.{firm-stands}
 use Rattle.step_laws.proofs.Lists.{get_map_upto}
 use Rattle.vault.specs.Devices.{AreDevices}
-use Rattle.hail_replay.specs.Starts.{AreLeft}
 use Rattle.schedule_runs.specs.Left.{left_by}
 
 -- the text of records stands for them

@@ -12,7 +12,7 @@ use Rattle.hail_machine.specs.Events.{Begin, Step, Stop, Reopen, Begun, More, En
 use Rattle.hail_machine.specs.States.{State, setup_in, going_on, ended, given_up, with_provider}
 use Rattle.hail_machine.specs.Machine.{Happens}
 use Rattle.hail_machine.specs.Runs.{Moment, IsRun}
-use Rattle.hail_machine.specs.Transcripts.{Once, RunJob, CarriesOut}
+use Rattle.hail_machine.specs.Transcripts.{Once, CarriesOut}
 use Rattle.hail_machine.specs.Examples.{set_up}
 use Rattle.hail_machine.proofs.RunParts.{begun, job_at, stepped, not_more, reopened}
 use Rattle.damage_run.specs.Schedule.{name, byte, schedule, written}

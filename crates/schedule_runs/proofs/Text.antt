@@ -1,5 +1,5 @@
 -- The text spells the commands.
-use Rattle.std.proofs.Common.{ℕ, ◌^◌, ◌<◌, List, [], ◌∷◌, refl, inl, inr, arith}
+use Rattle.std.proofs.Common.{ℕ, ◌^◌, ◌<◌, [], refl, inl, inr, arith}
 use Rattle.std.specs.Prelude.{reverse, codes}
 use Rattle.std.specs.List.{AllByRecursion}
 use Rattle.std.specs.Fmt.{decimal, digits}
@@ -25,29 +25,139 @@ hex-byte = inr refl
 pub spells : IsSchedule stopped_text (reverse stopped_schedule)
 unfolding digits
 spells =
-    inr (Once Reopen, _, refl, refl,
-    inr (Once (Begin (PutJob name byte)), _, refl, (codes "6f", refl, hex-byte),
-    inr (RunJob 1, _, refl, (codes "1", refl, digit 32 1 (omega arith) (omega arith)),
-    inr (Once (Begin (GetJob name)), _, refl, refl,
-    inr (Once (Step 2), _, refl, (codes "2", refl, digit 32 2 (omega arith) (omega arith)),
-    inr (Once (Step 2), _, refl, (codes "2", refl, digit 32 2 (omega arith) (omega arith)),
-    inr (Once (Step 2), _, refl, (codes "2", refl, digit 32 2 (omega arith) (omega arith)),
-    inr (Once (Step 2), _, refl, (codes "2", refl, digit 32 2 (omega arith) (omega arith)),
-    inr (Once (Lose 2 1 0), _, refl, (codes "2", codes "1", codes "0", refl, digit 32 2 (omega arith) (omega arith), digit 64 1 (omega arith) (omega arith), digit 32 0 (omega arith) (omega arith)),
-    inr (Once (Begin AuditJob), _, refl, refl,
-    inr (Once (Step 3), _, refl, (codes "3", refl, digit 32 3 (omega arith) (omega arith)),
-    inr (RunJob 2, _, refl, (codes "2", refl, digit 32 2 (omega arith) (omega arith)),
-    inr (RunJob 3, _, refl, (codes "3", refl, digit 32 3 (omega arith) (omega arith)),
-    inr (Once (Begin RepairJob), _, refl, refl,
-    inr (RunJob 4, _, refl, (codes "4", refl, digit 32 4 (omega arith) (omega arith)),
-    inr (Once (Lose 0 1 0), _, refl, (codes "0", codes "1", codes "0", refl, digit 32 0 (omega arith) (omega arith), digit 64 1 (omega arith) (omega arith), digit 32 0 (omega arith) (omega arith)),
-    inr (Once (Begin (GetJob name)), _, refl, refl,
-    inr (RunJob 5, _, refl, (codes "5", refl, digit 32 5 (omega arith) (omega arith)),
-    inr (Once (Stop []), _, refl, (codes "-", refl, inl (refl, refl)),
-    inr (Once Reopen, _, refl, refl,
-    inr (Once (Begin (GetJob name)), _, refl, refl,
-    inr (RunJob 6, _, refl, (codes "6", refl, digit 32 6 (omega arith) (omega arith)),
-    inl (tt, refl)))))))))))))))))))))))
+    inr (
+      Once Reopen,
+      _,
+      refl,
+      refl,
+      inr (
+        Once (Begin (PutJob name byte)),
+        _,
+        refl,
+        (codes "6f", refl, hex-byte),
+        inr (
+          RunJob 1,
+          _,
+          refl,
+          (codes "1", refl, digit 32 1 (omega arith) (omega arith)),
+          inr (
+            Once (Begin (GetJob name)),
+            _,
+            refl,
+            refl,
+            inr (
+              Once (Step 2),
+              _,
+              refl,
+              (codes "2", refl, digit 32 2 (omega arith) (omega arith)),
+              inr (
+                Once (Step 2),
+                _,
+                refl,
+                (codes "2", refl, digit 32 2 (omega arith) (omega arith)),
+                inr (
+                  Once (Step 2),
+                  _,
+                  refl,
+                  (codes "2", refl, digit 32 2 (omega arith) (omega arith)),
+                  inr (
+                    Once (Step 2),
+                    _,
+                    refl,
+                    (codes "2", refl, digit 32 2 (omega arith) (omega arith)),
+                    inr (
+                      Once (Lose 2 1 0),
+                      _,
+                      refl,
+                      (codes "2", codes "1", codes "0", refl, digit 32 2 (omega arith) (omega arith), digit 64 1 (omega arith) (omega arith), digit 32 0 (omega arith) (omega arith)),
+                      inr (
+                        Once (Begin AuditJob),
+                        _,
+                        refl,
+                        refl,
+                        inr (
+                          Once (Step 3),
+                          _,
+                          refl,
+                          (codes "3", refl, digit 32 3 (omega arith) (omega arith)),
+                          inr (
+                            RunJob 2,
+                            _,
+                            refl,
+                            (codes "2", refl, digit 32 2 (omega arith) (omega arith)),
+                            inr (
+                              RunJob 3,
+                              _,
+                              refl,
+                              (codes "3", refl, digit 32 3 (omega arith) (omega arith)),
+                              inr (
+                                Once (Begin RepairJob),
+                                _,
+                                refl,
+                                refl,
+                                inr (
+                                  RunJob 4,
+                                  _,
+                                  refl,
+                                  (codes "4", refl, digit 32 4 (omega arith) (omega arith)),
+                                  inr (
+                                    Once (Lose 0 1 0),
+                                    _,
+                                    refl,
+                                    (codes "0", codes "1", codes "0", refl, digit 32 0 (omega arith) (omega arith), digit 64 1 (omega arith) (omega arith), digit 32 0 (omega arith) (omega arith)),
+                                    inr (
+                                      Once (Begin (GetJob name)),
+                                      _,
+                                      refl,
+                                      refl,
+                                      inr (
+                                        RunJob 5,
+                                        _,
+                                        refl,
+                                        (codes "5", refl, digit 32 5 (omega arith) (omega arith)),
+                                        inr (
+                                          Once (Stop []),
+                                          _,
+                                          refl,
+                                          (codes "-", refl, inl (refl, refl)),
+                                          inr (
+                                            Once Reopen,
+                                            _,
+                                            refl,
+                                            refl,
+                                            inr (
+                                              Once (Begin (GetJob name)),
+                                              _,
+                                              refl,
+                                              refl,
+                                              inr (
+                                                RunJob 6,
+                                                _,
+                                                refl,
+                                                (codes "6", refl, digit 32 6 (omega arith) (omega arith)),
+                                                inl (tt, refl),
+                                              ),
+                                            ),
+                                          ),
+                                        ),
+                                      ),
+                                    ),
+                                  ),
+                                ),
+                              ),
+                            ),
+                          ),
+                        ),
+                      ),
+                    ),
+                  ),
+                ),
+              ),
+            ),
+          ),
+        ),
+      ),
+    )
 
 -- each of the commands can be spelled
 named : IsName name

@@ -43,7 +43,7 @@ pub fn runs_leave_devices()
 }
 
 /// A schedule as text, with lost blocks, an audit, a repair, a stop and gets: the commands that it spells are carried out by a run, and the
-/// get behind the stop gives the file, though a provider has lost its block. The first line outside the grammar of another text.
+/// get behind the stop gives the file, though a provider has lost its block. Another text has a line outside the grammar.
 pub fn a_schedule_has_its_run()
     ensures spells { IsSchedule stopped_text (reverse stopped_schedule) }
     ensures fits { AllByRecursion CanBeSpelled (reverse stopped_schedule) }

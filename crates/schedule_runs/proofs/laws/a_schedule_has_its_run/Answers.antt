@@ -24,11 +24,15 @@ pub returns-clause-run : goal.returns-clause-run
 returns-clause-run c = (stopped_moments, is_stopped, c.runs_leave_devices.ensures.each set_up stopped_moments is_stopped.clean is_stopped.run)
 
 pub returns-clause-used : goal.returns-clause-used
-returns-clause-used c = (stopped_moments, is_stopped, λ old new end is keeps.
-    keeps-file c.acknowledged_files_survive.ensures set_up after_put (first_moments 13 stopped_moments) (last_of (first_moments 14 stopped_moments)) name
-    (record { name = name; id = 1; size = 1 }) old new end is_stopped.clean (record { done = refl; started = refl; named = refl }) (never-out name after_put refl) (λ d e. cc)
-    (goes-on set_up stopped_moments (left_by (now set_up stopped_moments)) old new end
-    (c.runs_leave_devices.ensures.each set_up stopped_moments is_stopped.clean is_stopped.run) refl is keeps))
+returns-clause-used c = (
+  stopped_moments,
+  is_stopped,
+  λ old new end is keeps.
+      keeps-file c.acknowledged_files_survive.ensures set_up after_put (first_moments 13 stopped_moments) (last_of (first_moments 14 stopped_moments)) name
+      (record { name = name; id = 1; size = 1 }) old new end is_stopped.clean (record { done = refl; started = refl; named = refl }) (never-out name after_put refl) (λ d e. cc)
+      (goes-on set_up stopped_moments (left_by (now set_up stopped_moments)) old new end
+      (c.runs_leave_devices.ensures.each set_up stopped_moments is_stopped.clean is_stopped.run) refl is keeps),
+)
   where
     after_put : List Moment
     after_put = take 52 stopped_moments
