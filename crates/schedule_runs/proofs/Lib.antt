@@ -1,0 +1,5 @@
+pub mod Left
+pub mod Going
+pub mod Stopped
+pub mod Text
+pub mod BadLine
