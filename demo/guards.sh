@@ -4,17 +4,7 @@
 # nothing behind.
 set -u
 
-root=$(CDPATH='' cd -P -- "$(dirname "$0")/.." && pwd -P)
-hail=${HAIL:-$root/hail}
-scratch=$(mktemp -d) || exit 1
-trap 'rm -rf "$scratch"' EXIT
-cd "$scratch" || exit 1
-failed=0
-
-wrong() {
-    echo "guards: $1" >&2
-    failed=1
-}
+. "$(dirname "$0")/common.sh"
 
 # A new home with one file, `notes`, and the key that no other home has.
 new_home() {

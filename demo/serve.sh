@@ -3,17 +3,7 @@
 # It tells each that goes otherwise, ends with 0 exactly where none does, and leaves nothing behind.
 set -u
 
-root=$(CDPATH='' cd -P -- "$(dirname "$0")/.." && pwd -P)
-hail=${HAIL:-$root/hail}
-scratch=$(mktemp -d) || exit 1
-trap 'rm -rf "$scratch"' EXIT
-cd "$scratch" || exit 1
-failed=0
-
-wrong() {
-    echo "serve: $1" >&2
-    failed=1
-}
+. "$(dirname "$0")/common.sh"
 
 # The bytes that hexadecimal digits spell.
 bytes() {

@@ -22,7 +22,7 @@ pub struct KeptFile<R: Files + Clone + Drop> {
 }
 
 impl<R: Files + Clone + Drop> KeptFile<R> {
-    /// Opens nothing.
+    /// A file at a path, which is opened when it is first needed. It refuses only for want of memory.
     pub fn new(rt: &R, alloc: Global, path: &str) -> Result<KeptFile<R>, Memory>
         ensures { IfOk result (λ file. string_bytes file.path ≡ path.now) }
     {
@@ -74,7 +74,7 @@ impl<R: Files + Clone + Drop> KeptFile<R> {
         Ok(())
     }
 
-    /// How many bytes the file has.
+    /// How many bytes the file has; 0 where there is none. An error is std's, or comes behind a sync that failed.
     pub fn len(&mut self) -> io::Result<u64>
         ensures { IsTrue self.old.has_failed → IsErr result }
     {

@@ -23,7 +23,7 @@ pub struct DecodeWork {
     ghost errors_fit: { errors ≤ (profile_of code).fix },
 }
 
-/// Adds an error to each of the first symbols.
+/// Adds an error to each of the first symbols of a block, as many as there are errors.
 pub fn spoil(errors: u32, error: Symbol, block: &mut [Symbol])
     requires errors { errors ≤ length block.old }
     requires error { error ≢ 0 }
