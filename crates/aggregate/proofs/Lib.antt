@@ -1,2 +1,3 @@
 pub mod HonestAnswers
+pub mod Horner
 pub mod RightRow

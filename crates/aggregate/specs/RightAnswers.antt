@@ -4,7 +4,8 @@ use Rattle.hail_codes.specs.Polynomials.{value}
 use Rattle.hail_columns.specs.Objects.{Object, point}
 use Rattle.hail_columns.specs.Challenges.{Challenge, right_answer, bare_answer}
 
--- a polynomial of degree below l whose values at the providers' points are their right answers without the mask sums
+-- a polynomial of degree below l whose values at the providers' points are their right answers without the
+-- mask sums
 pub record IsRightRow (o : Object) (bytes : List ℕ) (c : Challenge) (p : List ℕ) : Type 0 where
   pub degree : length p ≤ o.shape.l
   pub values : (j : ℕ) → bare_answer o c j (right_answer o bytes j c) ≡ Some (value p (point o j))

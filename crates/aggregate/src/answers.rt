@@ -3,7 +3,7 @@ ghost use Rattle.hail_columns.specs.Challenges.{honest_answer, held_symbol};
 ghost use Rattle.challenge.specs.Asked.{asked};
 
 use crate::Blocks;
-use challenge::Challenge;
+use challenge::{Challenge, Drawn};
 use hail_field::Symbol;
 
 // The symbol held in a row.
@@ -15,21 +15,24 @@ fn symbol_in<B: Blocks>(challenge: &Challenge, blocks: &B, row: u64) -> Option<S
     blocks.at((row / size) as u32, (row % size) as u32, challenge.size)
 }
 
-/// The honest answer to a challenge: the sum, over the picks `k`, of `alpha ^ (k + 1)` times the symbol held in row `k`;
-/// none where one of these rows has no symbol.
-#[tactic(auto, unfolding(hail_columns::specs::Challenges::sum_over, hail_columns::specs::Challenges::all_held, hail_field::specs::Nim::nim_pow))]
+/// The honest answer to a challenge that was drawn: the sum, over the picks `k`, of `alpha ^ (k + 1)` times the symbol held
+/// in row `k`; none where one of these rows has no symbol. It takes one product a pick (Horner's rule).
+pub fn answer_drawn<B: Blocks>(drawn: &Drawn, blocks: &B) -> Option<Symbol>
+    ensures { result ≡ honest_answer (asked drawn.now.challenge) (B.held blocks.now) }
+{
+    let mut sum = Symbol::ZERO;
+    for k in (0..drawn.challenge.picks as usize).rev() {
+        let Some(symbol) = symbol_in(&drawn.challenge, blocks, drawn.rows[k]) else {
+            return None;
+        };
+        sum = drawn.weight.mul(symbol.add(sum));
+    }
+    Some(sum)
+}
+
+/// The honest answer to a challenge, of which [`answer_drawn`] says more.
 pub fn answer<B: Blocks>(challenge: &Challenge, blocks: &B) -> Option<Symbol>
     ensures { result ≡ honest_answer (asked challenge.now) (B.held blocks.now) }
 {
-    let alpha = challenge.alpha();
-    let mut weight = Symbol::ONE;
-    let mut sum = Symbol::ZERO;
-    for k in 0..challenge.picks {
-        weight = alpha.mul(weight);
-        let Some(symbol) = symbol_in(challenge, blocks, challenge.row(k)) else {
-            return None;
-        };
-        sum = sum.add(weight.mul(symbol));
-    }
-    Some(sum)
+    answer_drawn(&challenge.draw(), blocks)
 }

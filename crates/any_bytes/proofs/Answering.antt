@@ -12,7 +12,7 @@ use Rattle.hail_records.proofs.Sizes.{length-text}
 use Rattle.hail_machine.specs.Events.{AreBytes}
 use Rattle.hail_commands.specs.Forms.{Command}
 use Rattle.hail_openings.specs.Journals.{journal_read, IsRead}
-use Rattle.hail_commands.specs.Opens.{setup_at}
+use Rattle.hail_commands.specs.Opens.{setup_in_effect}
 use Rattle.hail_commands.specs.Seen.{Seen, Ending}
 use Rattle.hail_commands.specs.Commands.{Answers}
 use Rattle.command_laws.specs.Ends.{opens_store}
@@ -52,7 +52,7 @@ is-read cells old rs told some accepted many is = record {
 module _ (command : Command) (cells : Cells) (old new : Seen) (end : Ending) (A : Answers command old new end) (opens : opens_store command ≡ true) (told : old.disk ≡ Some cells)
     (calm : Rose old.disk_faults new.disk_faults → ⊥) where
   over-read : (rs : List Record) → IsRead old.disk rs → AnsweredFor cells old end
-  over-read rs read = elim (cases_lt (length old.providers) (setup_at rs).n) [
+  over-read rs read = elim (cases_lt (length old.providers) (setup_in_effect rs).n) [
     | inl few ↦ elim (lacking-always command cells old new end rs A opens told read few calm) [
       | inl is ↦ AnsweredFor.too_few_providers rs read few is
       | inr none ↦ AnsweredFor.no_memory none

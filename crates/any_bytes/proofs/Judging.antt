@@ -3,31 +3,19 @@ use Rattle.std.proofs.Common.{◌≡◌, ◌≢◌, ◌⊎◌, ℕ, zero, suc, �
 use Rattle.std.specs.Prelude.{IsTrue}
 use Rattle.std.specs.List.{list_all}
 use Rattle.std.proofs.lemmas.Bool.{cases_eq, cases_lt}
-use Rattle.std.proofs.lemmas.Bool.Decides.{nat_tests}
 use Rattle.std.proofs.lemmas.List.{append-nil}
-use Rattle.hail_records.specs.Records.{Record, SetUp, PutStart, PutDone, Drop, AuditStart, AuditDone, RepairDone, is_byte, is_in_grammar}
+use Rattle.hail_records.specs.Records.{Record, SetUp, PutStart, PutDone, Drop, AuditStart, AuditDone, RepairDone, is_in_grammar, PutDoneIn, Version, Resume, InEffect, RepairDue, is_byte}
 use Rattle.hail_records.specs.Spellings.{spelling}
 use Rattle.hail_records.specs.Journal.{magic, before_gate, StandsFor, SpellsNone, EndsAtGate, BreaksAfterGate}
 use Rattle.hail_records.specs.Acceptance.{Refused, refused, AreAccepted}
 use Rattle.hail_machine.specs.Events.{AreBytes}
 use Rattle.record_codec.specs.Reading.{record_at}
 use Rattle.record_codec.proofs.Fields.{IsBytes, IsBytes-rest}
-use Rattle.record_codec.proofs.Takes.{record_takes, record_again}
+use Rattle.record_codec.proofs.Takes.{record_takes, record_again, IsBytes-from_all}
 use Rattle.hail_openings.specs.Journals.{BeginsWithSetup, BeginsOtherwise}
 use Rattle.any_bytes.specs.Judged.{Judged, JudgedByInit}
 
 -- ---- bytes
-
-first-fits : (b : ℕ) (bytes : List ℕ) → list_all is_byte (b ∷ bytes) ≡ true → b < 256
-first-fits b bytes all = grind (arith, nat_tests, all)
-
-rest-all : (b : ℕ) (bytes : List ℕ) → list_all is_byte (b ∷ bytes) ≡ true → list_all is_byte bytes ≡ true
-rest-all b bytes all = grind (arith, all)
-
-bytes-fit : (bytes : List ℕ) → list_all is_byte bytes ≡ true → IsBytes bytes
-bytes-fit [] all i = omega arith
-bytes-fit (b ∷ bytes) all zero = first-fits b bytes all
-bytes-fit (b ∷ bytes) all (suc i) = bytes-fit bytes (rest-all b bytes all) i
 
 fits-behind : (front rest : List ℕ) → IsBytes (front ++ rest) → IsBytes rest
 fits-behind [] rest fits = fits
@@ -114,7 +102,7 @@ module _ (P : List Record → Type 0) (Q : List Record → Record → Type 0) (n
 stops : (P : List Record → Type 0) (Q : List Record → Record → Type 0) → ((rs : List Record) (r : Record) → P rs → P (r ∷ rs) ⊎ Q rs r) → P [] →
     (bytes : List ℕ) → AreBytes bytes → Stops P Q bytes ⊎ (take 8 bytes ≢ magic)
 stops P Q next none bytes all = elim (begins magic bytes) [
-  | inl found ↦ inl (reads P Q next bytes (suc (length found.0)) [] found.0 (omega arith) refl none found.1 (fits-behind magic found.0 (subst IsBytes found.1 (bytes-fit bytes all))))
+  | inl found ↦ inl (reads P Q next bytes (suc (length found.0)) [] found.0 (omega arith) refl none found.1 (fits-behind magic found.0 (subst IsBytes found.1 (IsBytes-from_all bytes all))))
   | inr other ↦ inr other
 ]
 
@@ -171,6 +159,11 @@ begins-so (Drop name) [] = inr tt
 begins-so (AuditStart number) [] = inr tt
 begins-so (AuditDone number undecided counts) [] = inr tt
 begins-so (RepairDone number) [] = inr tt
+begins-so (PutDoneIn id size profile) [] = inr tt
+begins-so Version [] = inr tt
+begins-so (Resume next audit) [] = inr tt
+begins-so (InEffect id size profile kept) [] = inr tt
+begins-so (RepairDue number counts) [] = inr tt
 begins-so (SetUp s) (q ∷ rs) = begins-so q rs
 begins-so (PutStart id name) (q ∷ rs) = begins-so q rs
 begins-so (PutDone id size) (q ∷ rs) = begins-so q rs
@@ -178,6 +171,11 @@ begins-so (Drop name) (q ∷ rs) = begins-so q rs
 begins-so (AuditStart number) (q ∷ rs) = begins-so q rs
 begins-so (AuditDone number undecided counts) (q ∷ rs) = begins-so q rs
 begins-so (RepairDone number) (q ∷ rs) = begins-so q rs
+begins-so (PutDoneIn id size profile) (q ∷ rs) = begins-so q rs
+begins-so Version (q ∷ rs) = begins-so q rs
+begins-so (Resume next audit) (q ∷ rs) = begins-so q rs
+begins-so (InEffect id size profile kept) (q ∷ rs) = begins-so q rs
+begins-so (RepairDue number counts) (q ∷ rs) = begins-so q rs
 
 init-stands : (bytes : List ℕ) (rs : List Record) → StandsFor bytes rs → JudgedByInit bytes
 init-stands bytes [] is = JudgedByInit.free (inr is)

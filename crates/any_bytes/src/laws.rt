@@ -19,6 +19,8 @@ pub fn any_bytes_are_judged()
 /// Whatever bytes a disk tells that does not fail, a command over a store tells what they are, or it runs over the records that they stand
 /// for, or it found no memory.
 pub fn any_disk_is_answered_for()
-    ensures { (command : Command) (cells : Cells) (old new : Seen) (end : Ending) → Answers command old new end → opens_store command ≡ true →
-        old.disk ≡ Some cells → AreBytes (reads cells) → (Rose old.disk_faults new.disk_faults → ⊥) → AnsweredFor cells old end }
+    ensures { (command : Command) (cells : Cells) (old new : Seen) (end : Ending)
+        → Answers command old new end → opens_store command ≡ true →
+        old.disk ≡ Some cells → AreBytes (reads cells) → (Rose old.disk_faults new.disk_faults → ⊥)
+        → AnsweredFor cells old end }
 {}

@@ -7,27 +7,16 @@ use Rattle.hail_codes.specs.Polynomials.{value, is_seen}
 use Rattle.hail_columns.specs.Objects.{Object}
 use Rattle.hail_columns.specs.Challenges.{Challenge, bare_answer, bare_answers}
 use Rattle.hail_columns.specs.Verdicts.{counts_after}
+use Rattle.hail_columns.proofs.CountLaws.{length-counts_after}
 
 -- one place more of a list that a function makes
 pub put_more : {X : Type 0} (f : ℕ → X) (xs : List X) (i : ℕ) (x d : X) → i < length xs → x ≡ f i → ((k : ℕ) → k < i → get_or xs k d ≡ f k) →
     (k : ℕ) → k < i + 1 → get_or (set xs i x) k d ≡ f k
 put_more {X} f xs i x d below e each k within = subst (λ (y : X). get_or (set xs i y) k d ≡ f k) (sym e) (fill_by_more f xs i d below each k within)
 
--- within a list, what is read past its end does not count
-pub get_or-within : {X : Type 0} (xs : List X) (i : ℕ) (d e : X) → i < length xs → get_or xs i d ≡ get_or xs i e
-get_or-within [] i d e h = absurd (omega (arith, h))
-get_or-within (x ∷ xs) zero d e h = refl
-get_or-within (x ∷ xs) (suc i) d e h = get_or-within xs i d e (omega (arith, h))
-
 -- a count after a round
 abbrev pub next_count : List ℕ → ℕ → Option ℕ → ℕ → ℕ
 next_count p x answer n = if is_seen (value p x) answer then n else n + 1
-
-pub length-counted : (p xs : List ℕ) (heard : List (Option ℕ)) (counts : List ℕ) → length (counts_after p xs heard counts) ≡ length counts
-length-counted p [] heard counts = refl
-length-counted p (x ∷ xs) [] counts = refl
-length-counted p (x ∷ xs) (a ∷ heard) [] = refl
-length-counted p (x ∷ xs) (a ∷ heard) (n ∷ counts) = ap suc (length-counted p xs heard counts)
 
 -- the count of a provider
 pub get_or-counted : (p xs : List ℕ) (heard : List (Option ℕ)) (counts : List ℕ) (k : ℕ) → k < length xs → k < length heard → k < length counts →
@@ -43,7 +32,7 @@ get_or-counted p (x ∷ xs) (a ∷ heard) (n ∷ counts) (suc k) in_xs in_heard 
 pub counted-each : (p xs : List ℕ) (heard : List (Option ℕ)) (old new : List ℕ) (n : ℕ) → length xs ≡ n → length heard ≡ n → length old ≡ n → length new ≡ n →
     ((k : ℕ) → k < n → get_or new k 0 ≡ next_count p (get_or xs k 0) (get_or heard k None) (get_or old k 0)) → new ≡ counts_after p xs heard old
 counted-each p xs heard old new n long_xs long_heard long_old long_new each =
-    ext_get_or 0 new (counts_after p xs heard old) (long_new ∙ sym (length-counted p xs heard old ∙ long_old))
+    ext_get_or 0 new (counts_after p xs heard old) (long_new ∙ sym (length-counts_after p xs heard old ∙ long_old))
     (λ k below. each k (omega (arith, below, long_new))
     ∙ sym (get_or-counted p xs heard old k (omega (arith, below, long_new, long_xs)) (omega (arith, below, long_new, long_heard)) (omega (arith, below, long_new, long_old))))
 

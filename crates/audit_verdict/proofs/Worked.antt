@@ -1,22 +1,20 @@
 -- The premises of the laws at a round of one pick.
-use Rattle.std.specs.Prelude.{◌≡◌, ◌≢◌, ℕ, zero, suc, ◌+◌, ◌/◌, ◌%◌, ◌<◌, ◌≤◌, ◌==◌, Bool, true, false, not, List, [], ◌∷◌, length, map, slice_get, Option, None, Some, if◌then◌else◌}
-use Rattle.std.proofs.Common.{arith, ap, sym, refl, ◌∙◌, get_or, inl}
-use Rattle.std.proofs.lemmas.Option.{slice_get-get_or}
-use Rattle.field_laws.proofs.Ring.{sum_zero}
+use Rattle.std.specs.Prelude.{◌≡◌, ◌≢◌, ℕ, zero, suc, ◌/◌, ◌%◌, ◌<◌, ◌≤◌, ◌==◌, true, List, [], ◌∷◌, length, map, slice_get, Option, None, Some, if◌then◌else◌}
+use Rattle.std.proofs.Common.{arith, ap, sym, refl, ◌∙◌, inl}
 use Rattle.hail_field.specs.Nim.{nim_add}
 use Rattle.hail_field.proofs.AllNumbers.{nim_ring}
 use Rattle.poly_laws.specs.Poly.{is_seen as is_seen_over}
 use Rattle.hail_codes.specs.Polynomials.{value, is_seen}
-use Rattle.hail_codes.specs.Points.{upto}
+use Rattle.hail_codes.proofs.Values.{is_seen-none}
 use Rattle.hail_columns.specs.Objects.{Object, symbols_in, point, points}
 use Rattle.hail_columns.specs.Columns.{columns}
 use Rattle.hail_columns.specs.Challenges.{Challenge, right_answer, bare_answer, bare_answers, symbol_at, held_symbol, picked_row}
-use Rattle.hail_columns.specs.Verdicts.{Sums, Judges, counts_after}
+use Rattle.hail_columns.specs.Verdicts.{Judges, counts_after}
 use Rattle.hail_columns.proofs.ColumnLaws.{length-column_of_symbols}
 use Rattle.column_laws.specs.Example.{example}
 use Rattle.column_laws.proofs.Worked.{example-shape}
 use Rattle.aggregate.proofs.RightRow.{right_row, IsRightRow-right_row}
-use Rattle.audit_verdict.specs.Rounds.{answer_of, is_right, wrong_answers, HasFewWrong, DiffersOnce, own_symbol}
+use Rattle.audit_verdict.specs.Rounds.{is_right, wrong_answers, HasFewWrong, DiffersOnce, own_symbol}
 use Rattle.audit_verdict.specs.Example.{one_pick, three_heard}
 use Rattle.audit_verdict.proofs.RoundLaws.{seen-same, bare-absent, right-decides}
 
@@ -55,11 +53,6 @@ agrees master bytes j =
     ((IsRightRow-right_row (example master) bytes (one_pick master bytes) (omega arith) refl).values j)
     ∙ seen-same (value (right_row (example master) bytes (one_pick master bytes)) (point (example master) j))
 
--- an absent one does not
-absent : (y : ℕ) → is_seen y None ≡ false
-unfolding is_seen_over
-absent y = refl
-
 -- so the fourth counts
 counts-one : (master bytes : List ℕ) → counts_after (right_row (example master) bytes (one_pick master bytes)) (points (example master))
     (bare_answers (example master) (one_pick master bytes) 0 (three_heard master bytes)) (0 ∷ 0 ∷ 0 ∷ 0 ∷ []) ≡ 0 ∷ 0 ∷ 0 ∷ 1 ∷ []
@@ -69,7 +62,7 @@ counts-one master bytes =
       agrees master bytes 1,
       agrees master bytes 2,
       bare-absent (example master) (one_pick master bytes) 3,
-      absent (value (right_row (example master) bytes (one_pick master bytes)) (point (example master) 3)),
+      is_seen-none (value (right_row (example master) bytes (one_pick master bytes)) (point (example master) 3)),
     ) refl
 
 pub judged-one : (master bytes : List ℕ) → Judges (example master) (one_pick master bytes) (three_heard master bytes)

@@ -13,5 +13,6 @@ one_pick master bytes = challenge_of (example master) (length bytes) 1 1 0
 -- three right answers
 abbrev pub three_heard : List ℕ → List ℕ → List (Option ℕ)
 three_heard master bytes =
-    right_answer (example master) bytes 0 (one_pick master bytes) ∷ right_answer (example master) bytes 1 (one_pick master bytes)
+    right_answer (example master) bytes 0 (one_pick master bytes)
+    ∷ right_answer (example master) bytes 1 (one_pick master bytes)
     ∷ right_answer (example master) bytes 2 (one_pick master bytes) ∷ None ∷ []

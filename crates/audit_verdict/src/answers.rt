@@ -1,11 +1,11 @@
 ghost use Rattle.std.specs.Prelude.{◌≡◌, ◌≤◌, ◌<◌, ◌*◌, length};
 ghost use Rattle.hail_columns.specs.Objects.{stripes, points as points_of};
 ghost use Rattle.hail_columns.specs.Challenges.{challenge_of, bare_answer as bare_answer_of, bare_answers as bare_answers_of};
-ghost use Rattle.file_layout.specs.Files.{object_of};
+ghost use Rattle.file_layout.specs.Files.{shaped_object};
 ghost use Rattle.challenge.specs.Asked.{asked};
 
-use aggregate::mask_sum;
-use challenge::Challenge;
+use aggregate::mask_sum_drawn;
+use challenge::{Challenge, Drawn};
 use file_layout::FileShape;
 use hail_field::Symbol;
 use key_schedule::{Master, file_key, point, seed};
@@ -18,10 +18,12 @@ pub fn round_challenge(
     round: u32,
     picks: u32,
 ) -> Challenge
-    requires rows { 1 ≤ stripes (object_of master.now.0 file.now) file.now.length * file.now.profile.size }
+    requires rows { 1 ≤ stripes (shaped_object master.now.0 file.now) file.now.length *
+        file.now.profile.size }
     requires some_picks { 1 ≤ picks }
     requires few_picks { picks ≤ 64 }
-    ensures { asked result ≡ challenge_of (object_of master.now.0 file.now) file.now.length picks number round }
+    ensures { asked result ≡ challenge_of (shaped_object master.now.0 file.now) file.now.length picks number
+        round }
 {
     Challenge {
         seed: seed(master, number, file.id, round),
@@ -34,7 +36,7 @@ pub fn round_challenge(
 /// Fills `out` with the points of a file's providers.
 pub fn points_into(master: &Master, file: &FileShape, out: &mut [Symbol])
     requires { length out.old ≡ file.now.shape.n }
-    ensures { out.new ≡ points_of (object_of master.now.0 file.now) }
+    ensures { out.new ≡ points_of (shaped_object master.now.0 file.now) }
 {
     let l = u32::from(file.shape.l);
     for j in 0..out.len() {
@@ -46,35 +48,37 @@ pub fn points_into(master: &Master, file: &FileShape, out: &mut [Symbol])
 fn bare_answer(
     master: &Master,
     file: &FileShape,
-    challenge: &Challenge,
+    drawn: &Drawn,
     provider: u32,
     answer: Option<Symbol>,
 ) -> Option<Symbol>
-    ensures { result ≡ bare_answer_of (object_of master.now.0 file.now) (asked challenge.now) provider answer }
+    ensures { result ≡ bare_answer_of (shaped_object master.now.0 file.now) (asked drawn.now.challenge)
+        provider answer }
 {
     if provider < u32::from(file.shape.l) {
         return answer;
     }
     let key = file_key(master, b'M', file.id, provider);
     match answer {
-        Some(symbol) => Some(symbol.add(mask_sum(&key, challenge))),
+        Some(symbol) => Some(symbol.add(mask_sum_drawn(&key, drawn))),
         None => None,
     }
 }
 
-/// Fills `out` with the answers of all providers with their mask sums taken off.
+/// Fills `out` with the answers of all providers, to a challenge that was drawn, with their mask sums taken off.
 pub fn bare_answers_into(
     master: &Master,
     file: &FileShape,
-    challenge: &Challenge,
+    drawn: &Drawn,
     heard: &[Option<Symbol>],
     out: &mut [Option<Symbol>],
 )
     requires few { length heard.now ≤ 16 }
     requires out { length out.old ≡ length heard.now }
-    ensures { out.new ≡ bare_answers_of (object_of master.now.0 file.now) (asked challenge.now) 0 heard.now }
+    ensures { out.new ≡ bare_answers_of (shaped_object master.now.0 file.now) (asked drawn.now.challenge) 0
+        heard.now }
 {
     for j in 0..heard.len() {
-        out[j] = bare_answer(master, file, challenge, j as u32, heard[j]);
+        out[j] = bare_answer(master, file, drawn, j as u32, heard[j]);
     }
 }

@@ -2,7 +2,7 @@ ghost use Rattle.std.specs.Prelude.{◌≡◌, ◌≤◌, ◌<◌, ◌+◌, ◌*
 ghost use Rattle.hail_columns.specs.Objects.{stripes};
 ghost use Rattle.hail_columns.specs.Challenges.{challenge_of};
 ghost use Rattle.hail_columns.specs.Verdicts.{Judges};
-ghost use Rattle.file_layout.specs.Files.{object_of};
+ghost use Rattle.file_layout.specs.Files.{shaped_object};
 ghost use Rattle.record_codec.specs.Entries.{IsPadded};
 ghost use Rattle.audit_verdict.specs.Rounds.{sums_of};
 
@@ -30,7 +30,8 @@ pub fn judge_round(
     undecided: &mut u32,
     work: &mut Work,
 )
-    requires rows { 1 ≤ stripes (object_of master.now.0 file.now) file.now.length * file.now.profile.size }
+    requires rows { 1 ≤ stripes (shaped_object master.now.0 file.now) file.now.length *
+        file.now.profile.size }
     requires some_picks { 1 ≤ picks }
     requires few_picks { picks ≤ 64 }
     requires heard { length heard.now ≡ file.now.shape.n }
@@ -38,8 +39,8 @@ pub fn judge_round(
     requires small { (j : ℕ) → slice_index counts.old.by j < 2 ^ 31 }
     requires few { undecided.old < 2 ^ 31 }
     requires room { 16 ≤ work.old.size }
-    ensures judged { Judges (object_of master.now.0 file.now)
-        (challenge_of (object_of master.now.0 file.now) file.now.length picks number round) heard.now
+    ensures judged { Judges (shaped_object master.now.0 file.now)
+        (challenge_of (shaped_object master.now.0 file.now) file.now.length picks number round) heard.now
         (sums_of counts.old undecided.old) (sums_of counts.new undecided.new) }
     ensures n { counts.new.n ≡ counts.old.n }
     ensures behind { drop counts.old.n counts.new.by ≡ drop counts.old.n counts.old.by }
@@ -52,10 +53,10 @@ pub fn judge_round(
     let mut all_points = [Symbol::ZERO; 16];
     let points = &mut all_points[..n];
     points_into(master, file, points);
-    let challenge = round_challenge(master, file, number, round, picks);
+    let drawn = round_challenge(master, file, number, round, picks).draw();
     let mut all_answers = [None; 16];
     let answers = &mut all_answers[..n];
-    bare_answers_into(master, file, &challenge, heard, answers);
+    bare_answers_into(master, file, &drawn, heard, answers);
     match open_row(points, answers, file.shape, work) {
         Some(()) => {
             let mut by = counts.by;

@@ -20,20 +20,26 @@ pub fn rounds_with_few_wrong_answers_are_decided()
 
 /// In such a round a provider whose answer is right is not counted.
 pub fn right_answers_are_not_counted()
-    ensures { (o : Object) (bytes : List ℕ) (c : Challenge) (heard : List (Option ℕ)) (old new : Sums) (j : ℕ) →
-        HasFewWrong o bytes c heard → length old.counts ≡ o.shape.n → Judges o c heard old new → j < o.shape.n →
+    ensures { (o : Object) (bytes : List ℕ) (c : Challenge) (heard : List (Option ℕ)) (old new : Sums)
+        (j : ℕ) →
+        HasFewWrong o bytes c heard → length old.counts ≡ o.shape.n → Judges o c heard old new
+        → j < o.shape.n →
         answer_of heard j ≡ right_answer o bytes j c → count_of_provider new j ≡ count_of_provider old j }
 {}
 
 /// In such a round a provider is counted whose answer is absent, or is honest over blocks of which exactly one pick falls on a
 /// symbol that differs from the provider's own.
 pub fn wrong_answers_are_counted()
-    ensures absent { (o : Object) (bytes : List ℕ) (c : Challenge) (heard : List (Option ℕ)) (old new : Sums) (j : ℕ) →
-        HasFewWrong o bytes c heard → length old.counts ≡ o.shape.n → Judges o c heard old new → j < o.shape.n →
-        answer_of heard j ≡ None → count_of_provider new j ≡ count_of_provider old j + 1 }
-    ensures differing { (o : Object) (bytes : List ℕ) (c : Challenge) (heard : List (Option ℕ)) (held : ℕ → Option (List ℕ))
+    ensures absent { (o : Object) (bytes : List ℕ) (c : Challenge) (heard : List (Option ℕ))
         (old new : Sums) (j : ℕ) →
-        HasFewWrong o bytes c heard → length old.counts ≡ o.shape.n → Judges o c heard old new → j < o.shape.n →
+        HasFewWrong o bytes c heard → length old.counts ≡ o.shape.n → Judges o c heard old new
+        → j < o.shape.n →
+        answer_of heard j ≡ None → count_of_provider new j ≡ count_of_provider old j + 1 }
+    ensures differing { (o : Object) (bytes : List ℕ) (c : Challenge) (heard : List (Option ℕ))
+        (held : ℕ → Option (List ℕ))
+        (old new : Sums) (j : ℕ) →
+        HasFewWrong o bytes c heard → length old.counts ≡ o.shape.n → Judges o c heard old new
+        → j < o.shape.n →
         answer_of heard j ≡ honest_answer c held → DiffersOnce o bytes j c held →
         count_of_provider new j ≡ count_of_provider old j + 1 }
 {}
@@ -43,8 +49,10 @@ pub fn wrong_answers_are_counted()
 pub fn one_absent_answer_of_four_counts()
     ensures few { (master bytes : List ℕ) →
         HasFewWrong (example master) bytes (one_pick master bytes) (three_heard master bytes) }
-    ensures judged { (master bytes : List ℕ) → Judges (example master) (one_pick master bytes) (three_heard master bytes)
-        (record { counts = 0 ∷ 0 ∷ 0 ∷ 0 ∷ []; undecided = 0 }) (record { counts = 0 ∷ 0 ∷ 0 ∷ 1 ∷ []; undecided = 0 }) }
+    ensures judged { (master bytes : List ℕ)
+        → Judges (example master) (one_pick master bytes) (three_heard master bytes)
+        (record { counts = 0 ∷ 0 ∷ 0 ∷ 0 ∷ []; undecided = 0 })
+        (record { counts = 0 ∷ 0 ∷ 0 ∷ 1 ∷ []; undecided = 0 }) }
     ensures differs { (master bytes : List ℕ) → DiffersOnce (example master) bytes 3 (one_pick master bytes)
         (λ stripe. Some (map (nim_add 1) (columns (example master) bytes 3 stripe))) }
 {}

@@ -1,11 +1,12 @@
 -- Blocks that are absent take nothing from accepted rows: only wrong ones that are there could forge one.
-use Rattle.std.proofs.Common.{◌≡◌, ℕ, zero, suc, ◌+◌, ◌-◌, ◌*◌, ◌<◌, ◌≤◌, ◌&&◌, Bool, true, false, ◌⊎◌, List, [], ◌∷◌, length, drop, map, get_or, Some, None, refl, ap, sym, ◌∙◌, inl, inr, arith, get_or-take, get_or-drop}
-use Rattle.std.specs.Prelude.{is_some, nat_lt, slice_index}
-use Rattle.std.specs.List.{range_with_len}
-use Rattle.std.proofs.lemmas.Bool.{cases_eq, and_parts, and_from, false≢true}
+use Rattle.std.proofs.Common.{◌≡◌, ℕ, suc, ◌+◌, ◌-◌, ◌*◌, ◌<◌, ◌≤◌, ◌&&◌, true, false, List, [], length, drop, map, get_or, Some, None, refl, ap, sym, ◌∙◌, inl, inr, arith, get_or-take, get_or-drop}
+use Rattle.std.specs.Prelude.{is_some, slice_index}
+use Rattle.std.proofs.lemmas.Bool.{and_parts, and_from, false≢true}
 use Rattle.std.proofs.Math.Nat.{mul-le-mul_right}
 use Rattle.std.proofs.lemmas.List.FromFn.{get_or-map-range_with_len, fill_by_all}
 use Rattle.std.proofs.lemmas.Option.{get_or_from_slice_get}
+use Rattle.plain_facts.proofs.Lists.{map-range_at, same_or_other}
+use Rattle.plain_facts.proofs.Places.{IsPlace, place-of}
 use Rattle.hail_field.specs.Shape.{IsShape}
 use Rattle.poly_laws.specs.Poly.{is_seen as is_seen_over}
 use Rattle.hail_codes.specs.Polynomials.{value, interpolate, is_seen}
@@ -23,54 +24,6 @@ use Rattle.column_laws.proofs.RightBlocks.{length-symbols_in}
 use Rattle.column_laws.proofs.Counts.{count_of-within, opens-at}
 use Rattle.column_laws.proofs.OtherRows.{forgery-of_other}
 use Rattle.calm_laws.specs.FewWrong.{is_wrong_seen}
-
--- two lists of numbers are equal or they are not
-same_or_other : (xs ys : List ℕ) → (xs ≡ ys) ⊎ (xs ≡ ys → ⊥)
-same_or_other [] [] = inl refl
-same_or_other [] (y ∷ ys) = inr (λ e. cc)
-same_or_other (x ∷ xs) [] = inr (λ e. cc)
-same_or_other (x ∷ xs) (y ∷ ys) = elim (cases_eq x y) [
-  | inr other ↦ inr (λ e. other (let f : x ≡ y = cc in f))
-  | inl same ↦ elim (same_or_other xs ys) [
-    | inl rest ↦ inl (let f : x ∷ xs ≡ y ∷ ys = cc in f)
-    | inr other ↦ inr (λ e. other (let f : xs ≡ ys = cc in f))
-  ]
-]
-
--- two lists of values are equal at each place
-map_at : (f g : ℕ → ℕ) (a n : ℕ) → map f (range_with_len a n) ≡ map g (range_with_len a n) → (j : ℕ) → a ≤ j → j < a + n → f j ≡ g j
-map_at f g a zero e j low high = absurd (omega (arith, low, high))
-map_at f g a (suc n) e j low high =
-    let parts : f a ∷ map f (range_with_len (a + 1) n) ≡ g a ∷ map g (range_with_len (a + 1) n) = e in
-    let first : f a ≡ g a = cc in
-    let rest : map f (range_with_len (a + 1) n) ≡ map g (range_with_len (a + 1) n) = cc in
-    elim (cases_eq j a) [
-      | inl here ↦ ap f here ∙ (first ∙ ap g (sym here))
-      | inr other ↦ map_at f g (a + 1) n rest j (omega (arith, low, other)) (omega (arith, high))
-    ]
-
--- each number below l * keep is a place of one of l blocks
-record IsPlace (l keep i : ℕ) : Type 0 where
-  block : ℕ
-  place : ℕ
-  block_in : block < l
-  place_in : place < keep
-  sum : i ≡ block * keep + place
-
-place-of : (l keep i : ℕ) → i < l * keep → IsPlace l keep i
-place-of zero keep i below = absurd (omega (arith, below))
-place-of (suc l) keep i below = go (nat_lt i (l * keep)) refl (place-of l keep i)
-  where
-    split : suc l * keep ≡ l * keep + keep
-    split = grind arith
-
-    go : (b : Bool) → nat_lt i (l * keep) ≡ b → (i < l * keep → IsPlace l keep i) → IsPlace (suc l) keep i
-    go true is before =
-        let h = before (grind (arith, is)) in
-        record { block = h.block; place = h.place; block_in = omega (arith, h.block_in); place_in = h.place_in; sum = h.sum }
-    go false is before =
-        let out : l * keep ≤ i = grind (arith, is) in
-        record { block = l; place = i - l * keep; block_in = omega arith; place_in = omega (arith, out, below, split); sum = omega (arith, out) }
 
 module _ (o : Object) (bytes : List ℕ) where
   -- a symbol of a stripe, in layout order
@@ -135,6 +88,6 @@ own_symbols o bytes number stripe seen symbols is shape below few gives = right-
     by_row : (place : ℕ) → place < o.profile.keep → AcceptsSymbols o gives.opened place symbols → IsRightRow o bytes stripe symbols place
     by_row place kept one = λ j l.
         get_or_from_slice_get symbols (j * o.profile.keep + place) (value one.row j) 0 (one.values j l)
-        ∙ map_at (value one.row) (λ k. slice_index (codeword o.profile (kept_by o (symbols_in o bytes stripe) k)) place) 0 o.shape.l
+        ∙ map-range_at (value one.row) (λ k. slice_index (codeword o.profile (kept_by o (symbols_in o bytes stripe) k)) place) 0 o.shape.l
         (own_row o bytes number stripe place seen gives.opened one.row is shape (record { stripe_in = below; place_in = kept }) few gives.opens one.accepted) j (omega arith) (omega (arith, l))
         ∙ primary-symbol o bytes stripe place j kept (omega (arith, kept, profile-room o number is)) l

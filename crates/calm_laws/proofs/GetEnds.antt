@@ -1,8 +1,9 @@
 -- How gets end, and that few wrong blocks leave a get its file.
-use Rattle.std.proofs.Common.{◌≡◌, ℕ, zero, suc, ◌+◌, ◌<◌, ◌≤◌, ◌==◌, Bool, true, false, cond, ◌&&◌, List, [], ◌∷◌, ◌++◌, length, take, map, Option, Some, None, refl, ap, sym, subst, ◌∙◌, inl, inr, arith}
-use Rattle.std.specs.Prelude.{slice_get, is_some, nat_le}
-use Rattle.std.specs.List.{flat_map, range_with_len}
-use Rattle.std.proofs.lemmas.Bool.{cases_Bool, eq-eqb, false≢true}
+use Rattle.std.proofs.Common.{◌≡◌, ℕ, ◌+◌, ◌<◌, ◌≤◌, Bool, true, false, List, [], ◌∷◌, ◌++◌, length, take, Option, Some, None, refl, ap, sym, subst, ◌∙◌, arith}
+use Rattle.std.specs.Prelude.{slice_get}
+use Rattle.plain_facts.specs.Lists.{Each}
+use Rattle.plain_facts.proofs.Each.{each_get, each_append, each_map, each_flat}
+use Rattle.plain_facts.proofs.Lists.{flat_map-range_same}
 use Rattle.hail_field.specs.Shape.{IsShape}
 use Rattle.hail_codes.specs.Points.{upto}
 use Rattle.hail_codes.proofs.Profiles.{some_kept}
@@ -13,49 +14,36 @@ use Rattle.hail_columns.specs.Forgeries.{count_of}
 use Rattle.column_laws.proofs.Counts.{count_of-within}
 use Rattle.column_laws.proofs.UniqueLaws.{profile-room}
 use Rattle.column_laws.proofs.RightRows.{row-right, symbols-right}
-use Rattle.hail_records.specs.Records.{Setup, is_name}
+use Rattle.hail_records.specs.Records.{Setup}
 use Rattle.hail_records.specs.Table.{File, setup_of}
-use Rattle.hail_machine.specs.Jobs.{Kind, GetJob, Pinned, Given, Fetched, Answered, Worked, Job, job_of}
-use Rattle.hail_machine.specs.Setups.{setup_or_none, object_of, stripes_of}
+use Rattle.hail_machine.specs.Jobs.{Kind, GetJob, Pinned, Given, Job, job_of}
+use Rattle.hail_machine.specs.Setups.{object_of, stripes_of, pinned_stripes}
 use Rattle.hail_machine.specs.Actions.{Action, WriteBody, SyncBody, WriteGate, SyncGate, Store, Fetch, Ask, Work, Remove, End, on_each_provider, on_each_stripe, open_actions, read_actions}
 use Rattle.hail_machine.specs.Refusals as refusal
-use Rattle.hail_machine.specs.Refusals.{Refusal}
 use Rattle.hail_machine.specs.Answers as answer
 use Rattle.hail_machine.specs.Answers.{Answer}
 use Rattle.hail_machine.specs.Events.{Event, Step, Outcome, Ended}
-use Rattle.hail_machine.specs.States.{State, IsStart, setup_in, object_in, file_in}
-use Rattle.hail_machine.specs.Begins.{is_busy, begin_refusal, pinned_file, pin_one, pinned_for}
+use Rattle.hail_machine.specs.States.{State, IsStart, setup_in, object_in, file_object, pinned_object, file_in}
+use Rattle.hail_machine.specs.Begins.{begin_refusal, pinned_file, pin_one, pinned_for}
 use Rattle.hail_machine.specs.Given.{block_given, blocks_given}
 use Rattle.hail_machine.specs.Steps.{next_action, holder_of, Ends, Acts, ActsOrWaits, StepsOn, StepsJob, StepsOpen, Steps}
 use Rattle.hail_machine.specs.Machine.{Happens}
 use Rattle.hail_machine.specs.Runs.{Moment, now, first_moments, IsRun}
-use Rattle.hail_machine.specs.Heard.{Entry, entries_of, heard_by_kind, heard_by, given_to}
-use Rattle.hail_machine.proofs.JobLists.{cond_true, cond_false, same_value, found_none}
-use Rattle.hail_machine.proofs.ActionLists.{Each, each_get, each_append, each_map, each_flat}
+use Rattle.hail_machine.specs.Heard.{heard_by, given_to}
+use Rattle.hail_machine.proofs.JobLists.{same_value, found_none}
 use Rattle.hail_machine.proofs.Changes.{Grown, Job_is, Changes}
 use Rattle.hail_machine.proofs.Events.{changes}
 use Rattle.hail_machine.proofs.Numbers.{next_by, next_is_by}
 use Rattle.hail_machine.proofs.PinFacts.{Pins_is, pins_is, setup_same, setup_one, wrote_setup}
 use Rattle.hail_machine.proofs.Held.{All, all, first_more, first_all}
-use Rattle.hail_machine.proofs.Gets.{HasFile, got_is_opened}
+use Rattle.hail_machine.proofs.Gets.{HasFile, got_is_opened, heard_blocks, get_file}
+use Rattle.hail_machine.proofs.Given.{block_at-given}
 use Rattle.run_laws.proofs.SymbolBytes.{bytes_back}
 use Rattle.run_laws.proofs.InEffect.{valid_setup, valid_shape, held_file}
+use Rattle.run_laws.proofs.FirstHalf.{first_run, shape_in}
 use Rattle.calm_laws.specs.FewWrong.{IsFewWrong}
 
 -- ---- a get has one file, that of its name at its begin
-
-get_file : (limit : ℕ) (w : State) (name : List ℕ) (o : Option File) → file_in w name ≡ o → begin_refusal limit w (GetJob name) ≡ None → (f : File) × (file_in w name ≡ Some f)
-get_file limit w name (Some f) is h = (f, is)
-get_file limit w name None is h = absurd (elim (cases_Bool w.is_barred) [
-  | inl a ↦ (let e = rw a at h in let f : Some refusal.MustReopen ≡ None = e in cc)
-  | inr a ↦ elim (cases_Bool (is_busy limit w (GetJob name))) [
-    | inl b ↦ (let e = rw (a, b) at h in let f : Some refusal.Busy ≡ None = e in cc)
-    | inr b ↦ elim (cases_Bool (is_name name)) [
-      | inl c ↦ (let e = rw (a, b, c, is) at h in let f : Some refusal.NoSuchName ≡ None = e in cc)
-      | inr c ↦ (let e = rw (a, b, c) at h in let f : Some refusal.BadName ≡ None = e in cc)
-    ]
-  ]
-])
 
 -- the state at the begin of a job
 abbrev pub begin_of : State → List Moment → Job → State
@@ -119,7 +107,7 @@ IsOfGet id action = ⊥
 of_get : (t : Setup) (f : Pinned) → Each (IsOfGet f.id) (read_actions t (f ∷ []) ++ End ∷ [])
 of_get t f = each_append (IsOfGet f.id) (read_actions t (f ∷ [])) (End ∷ [])
     (each_append (IsOfGet f.id) (on_each_stripe t (length f.bytes) (open_actions t f.id)) []
-    (each_flat (IsOfGet f.id) (open_actions t f.id) (upto (stripes_of t (length f.bytes)))
+    (each_flat (IsOfGet f.id) (open_actions t f.id) (upto (pinned_stripes t f))
     (λ s. each_append (IsOfGet f.id) (on_each_provider t (λ j. Fetch j f.id s)) (Work f.id s ∷ []) (each_map (IsOfGet f.id) (λ j. Fetch j f.id s) (upto t.n) (λ j. refl)) (refl, tt))) tt)
     (tt, tt)
 
@@ -158,7 +146,7 @@ module _ (old : State) (job : Job) (name : List ℕ) (f : Pinned) (new : State) 
   at_work o s o_is next_is (answer.Lost t row) (t_is, lost, is) =
       Get_ends.is_lost t row refl
       (next_is ∙ (ap (λ n. Some (Work n s)) o_is ∙ ap (λ n. Some (Work f.id n)) (sym t_is)))
-      (subst (λ n. LosesRow (object_in old f.id) n (blocks_given job.given (setup_in old).n f.id n) row) (sym t_is)
+      (subst (λ n. LosesRow (pinned_object old f) n (blocks_given job.given (setup_in old).n f.id n) row) (sym t_is)
       (subst (λ n. LosesRow (object_in old n) s (blocks_given job.given (setup_in old).n n s) row) o_is lost))
   at_work o s o_is next_is (answer.Got bytes) h = absurd h
   at_work o s o_is next_is answer.Put h = absurd h
@@ -222,89 +210,18 @@ get_ends limit start m ms job name f how run event outcome runs kind pinned =
 
 -- ---- few wrong blocks leave the file
 
--- the first moments of a run are a run
-pub first_run : (limit : ℕ) (start : State) (k : ℕ) (ms : List Moment) → IsRun limit start ms → IsRun limit start (first_moments k ms)
-first_run limit start k [] run = tt
-first_run limit start k (m ∷ ms) run = elim (cases_Bool (nat_le (length (m ∷ ms)) k)) [
-  | inl t ↦ subst (IsRun limit start) (sym (cond_true (nat_le (length (m ∷ ms)) k) (m ∷ ms) (first_moments k ms) t)) run
-  | inr e ↦ subst (IsRun limit start) (sym (cond_false (nat_le (length (m ∷ ms)) k) (m ∷ ms) (first_moments k ms) e)) (first_run limit start k ms run.2)
-]
-
--- a setup in effect makes a shape
-shape_in : (w : State) → ((s : Setup) → setup_of w.records ≡ Some s → IsShape s.n s.l s.b) → is_some (setup_of w.records) ≡ true → IsShape (setup_in w).n (setup_in w).l (setup_in w).b
-unfolding setup_in
-shape_in w valid up = go (setup_of w.records) valid up
-  where
-    go : (o : Option Setup) → ((s : Setup) → o ≡ Some s → IsShape s.n s.l s.b) → is_some o ≡ true → IsShape (setup_or_none o).n (setup_or_none o).l (setup_or_none o).b
-    go None f h = absurd (false≢true h)
-    go (Some s) f h = f s refl
-
 pub shape_of_file : (limit : ℕ) (start : State) (ms : List Moment) (name : List ℕ) (file : File) → IsStart start → IsRun limit start ms → file_in (now start ms) name ≡ Some file →
     IsShape (setup_in (now start ms)).n (setup_in (now start ms)).l (setup_in (now start ms)).b
 shape_of_file limit start ms name file clean run h =
     shape_in (now start ms) (λ s e. valid_shape s (valid_setup limit start ms s clean run e)) (held_file limit start ms name file clean run h).up
-
-flat_map_same : (f g : ℕ → List ℕ) (a n : ℕ) → ((k : ℕ) → k < a + n → f k ≡ g k) → flat_map f (range_with_len a n) ≡ flat_map g (range_with_len a n)
-flat_map_same f g a zero h = refl
-flat_map_same f g a (suc n) h = (λ i. h a (omega arith) i ++ flat_map_same f g (a + 1) n (λ k l. h k (omega (arith, l))) i)
-
-map_same : {A B : Type 0} (f g : A → B) (xs : List A) → ((x : A) → f x ≡ g x) → map f xs ≡ map g xs
-map_same f g [] h = refl
-map_same f g (x ∷ xs) h = (let a = h x in let b = map_same f g xs h in (let e : f x ∷ map f xs ≡ g x ∷ map g xs = cc in e))
-
-slice_range : {X : Type 0} (f : ℕ → X) (a n j : ℕ) → j < n → slice_get (map f (range_with_len a n)) j ≡ Some (f (a + j))
-slice_range f a zero j l = absurd (omega (arith, l))
-slice_range f a (suc n) zero l = ap (λ k. Some (f k)) (let e : a ≡ a + 0 = omega arith in e)
-slice_range f a (suc n) (suc j) l = slice_range f (a + 1) n j (omega (arith, l)) ∙ ap (λ k. Some (f k)) (let e : a + 1 + j ≡ a + suc j = omega arith in e)
-
-given_at : (given : List Given) (n object s j : ℕ) → j < n → block_at (blocks_given given n object s) j ≡ block_given given object s j
-given_at given n object s j l = ap (λ x. block_at_of x) (slice_range (block_given given object s) 0 n j l) ∙ ap (block_given given object s) (let e : 0 + j ≡ j = omega arith in e)
-  where
-    block_at_of : Option (Option (List ℕ)) → Option (List ℕ)
-    block_at_of None = None
-    block_at_of (Some x) = x
 
 few_seen : (o : Object) (bytes : List ℕ) (given : List Given) (object stripe : ℕ) →
     count_of (λ j. is_wrong_block o bytes j stripe (block_given given object stripe j)) (upto o.shape.n) ≤ o.shape.b →
     count_of (λ j. is_wrong_block o bytes j stripe (block_at (blocks_given given o.shape.n object stripe) j)) (upto o.shape.n) ≤ o.shape.b
 few_seen o bytes given object stripe few =
     (let w = count_of-within (λ j. is_wrong_block o bytes j stripe (block_at (blocks_given given o.shape.n object stripe) j)) (λ j. is_wrong_block o bytes j stripe (block_given given object stripe j)) 0 o.shape.n
-    (λ j l h. ap (is_wrong_block o bytes j stripe) (sym (given_at given o.shape.n object stripe j (omega (arith, l)))) ∙ h) in
+    (λ j l h. ap (is_wrong_block o bytes j stripe) (sym (block_at-given given o.shape.n object stripe j (omega (arith, l)))) ∙ h) in
     omega (arith, w, few))
-
--- what a report has of a get's fetches is what they gave
-abbrev heard : List Given → List Given
-heard [] = []
-heard (Worked o s symbols ∷ more) = heard more
-heard (Fetched i o s block ∷ more) = Fetched i o s block ∷ heard more
-heard (Answered i o r symbol ∷ more) = Answered i o r symbol ∷ heard more
-
-given_last : (n : ℕ) (es : List Entry) (g : Given) → given_to n (es ++ record { job = n; given = g } ∷ []) ≡ g ∷ given_to n es
-given_last n [] g = cond_true (n == n) ([] ++ g ∷ []) [] (eq-eqb n n refl)
-given_last n (e ∷ es) g = elim (cases_Bool (e.job == n)) [
-  | inl t ↦ cond_true (e.job == n) (given_to n (es ++ record { job = n; given = g } ∷ []) ++ e.given ∷ []) (given_to n (es ++ record { job = n; given = g } ∷ [])) t
-      ∙ (ap (λ l. l ++ e.given ∷ []) (given_last n es g) ∙ ap (λ l. g ∷ l) (sym (cond_true (e.job == n) (given_to n es ++ e.given ∷ []) (given_to n es) t)))
-  | inr f ↦ cond_false (e.job == n) (given_to n (es ++ record { job = n; given = g } ∷ []) ++ e.given ∷ []) (given_to n (es ++ record { job = n; given = g } ∷ [])) f
-      ∙ (given_last n es g ∙ ap (λ l. g ∷ l) (sym (cond_false (e.job == n) (given_to n es ++ e.given ∷ []) (given_to n es) f)))
-]
-
-given_back : (n : ℕ) (given : List Given) → given_to n (entries_of n given) ≡ heard given
-given_back n [] = refl
-given_back n (Worked o s symbols ∷ more) = given_back n more
-given_back n (Fetched i o s block ∷ more) = given_last n (entries_of n more) (Fetched i o s block) ∙ ap (λ l. Fetched i o s block ∷ l) (given_back n more)
-given_back n (Answered i o r symbol ∷ more) = given_last n (entries_of n more) (Answered i o r symbol) ∙ ap (λ l. Answered i o r symbol ∷ l) (given_back n more)
-
-heard_block : (given : List Given) (object s j : ℕ) → block_given (heard given) object s j ≡ block_given given object s j
-heard_block [] object s j = refl
-heard_block (Worked o t symbols ∷ more) object s j = heard_block more object s j
-heard_block (Fetched i o t block ∷ more) object s j = ap (cond (((i == j) && (o == object)) && (t == s)) block) (heard_block more object s j)
-heard_block (Answered i o r symbol ∷ more) object s j = heard_block more object s j
-
--- what a get's fetches gave, in a report
-pub heard_blocks : (job : Job) (name : List ℕ) (n object s : ℕ) → job.kind ≡ GetJob name → blocks_given (given_to job.number (heard_by (Some job))) n object s ≡ blocks_given job.given n object s
-heard_blocks job name n object s kind =
-    ap (λ es. blocks_given (given_to job.number es) n object s) (ap (heard_by_kind job) kind)
-    ∙ (ap (λ g. blocks_given g n object s) (given_back job.number job.given) ∙ map_same (block_given (heard job.given) object s) (block_given job.given object s) (upto n) (λ j. heard_block job.given object s j))
 
 module _ (limit : ℕ) (start : State) (m : Moment) (ms : List Moment) (job : Job) (name : List ℕ) (clean : IsStart start) (run : IsRun limit start (m ∷ ms)) (runs : job_of (now start ms).jobs job.number ≡ Some job) (kind : job.kind ≡ GetJob name)
     (event : m.event ≡ Step job.number) (file : File) (in_effect : file_in (begin_of start ms job) name ≡ Some file) where
@@ -315,21 +232,21 @@ module _ (limit : ℕ) (start : State) (m : Moment) (ms : List Moment) (job : Jo
   run_b = first_run limit start job.begun ms run.2
 
   pub few_give : (bytes : List ℕ) → m.outcome ≡ Ended (answer.Got bytes) →
-      ((stripe : ℕ) → stripe < stripes (object_in (begin_of start ms job) file.id) (length ((begin_of start ms job).bytes file.id)) → IsFewWrong (begin_of start ms job) file job stripe) → bytes ≡ (begin_of start ms job).bytes file.id
+      ((stripe : ℕ) → stripe < stripes (file_object (begin_of start ms job) file) (length ((begin_of start ms job).bytes file.id)) → IsFewWrong (begin_of start ms job) file job stripe) → bytes ≡ (begin_of start ms job).bytes file.id
   few_give bytes outcome few =
       (let got = got_is_opened limit start m ms job name bytes clean run (record { event = event; outcome = outcome; runs = runs; kind = kind }) in
       let same : got.file ≡ file = same_value _ got.file file got.in_effect in_effect in
       by_file got.file same got.opens)
     where
-      by_file : (g : File) → g ≡ file → OpensFile (object_in b g.id) (length (b.bytes g.id)) (blocks_given (given_to job.number (heard_by (Some job))) (setup_in b).n g.id) bytes → bytes ≡ b.bytes file.id
+      by_file : (g : File) → g ≡ file → OpensFile (file_object b g) (length (b.bytes g.id)) (blocks_given (given_to job.number (heard_by (Some job))) (setup_in b).n g.id) bytes → bytes ≡ b.bytes file.id
       by_file g same opens_g =
-          (let o = object_in b file.id in
+          (let o = file_object b file in
           let own = b.bytes file.id in
           let shape = shape_of_file limit start (first_moments job.begun ms) name file clean run_b in_effect in
           let opens : OpensFile o (length own) (blocks_given (given_to job.number (heard_by (Some job))) (setup_in b).n file.id) bytes =
-          subst (λ (x : File). OpensFile (object_in b x.id) (length (b.bytes x.id)) (blocks_given (given_to job.number (heard_by (Some job))) (setup_in b).n x.id) bytes) same opens_g in
+          subst (λ (x : File). OpensFile (file_object b x) (length (b.bytes x.id)) (blocks_given (given_to job.number (heard_by (Some job))) (setup_in b).n x.id) bytes) same opens_g in
           opens.cut
-          ∙ (ap (take (length own)) (flat_map_same (λ s. bytes_of_symbols (opens.symbols s)) (λ s. bytes_of_symbols (symbols_in o own s)) 0 (stripes o (length own))
+          ∙ (ap (take (length own)) (flat_map-range_same (λ s. bytes_of_symbols (opens.symbols s)) (λ s. bytes_of_symbols (symbols_in o own s)) 0 (stripes o (length own))
           (λ s l. ap bytes_of_symbols (symbols-right o own (setup_in b).profile s (blocks_given job.given (setup_in b).n file.id s) (opens.symbols s) refl shape (few_seen o own job.given file.id s (few s (omega (arith, l))))
           (subst (λ seen. GivesSymbols o s seen (opens.symbols s)) (heard_blocks job name (setup_in b).n file.id s kind) (opens.given s (omega (arith, l)))))))
           ∙ bytes_back o own shape.2 (some_kept (setup_in b).profile) (held_file limit start (first_moments job.begun ms) name file clean run_b in_effect).bytes))
@@ -347,11 +264,11 @@ module _ (limit : ℕ) (start : State) (m : Moment) (ms : List Moment) (job : Jo
           (let t_is : t ≡ stripe = (let f : answer.Lost stripe row ≡ answer.Lost t r = e in cc) in
           contradicts t_is (subst (λ (u : Setup). LosesRow (object_of u file.id) t (blocks_given job.given u.n file.id t) r) s lost))
         where
-          contradicts : t ≡ stripe → LosesRow (object_in b file.id) t (blocks_given job.given (setup_in b).n file.id t) r → ⊥
+          contradicts : t ≡ stripe → LosesRow (file_object b file) t (blocks_given job.given (setup_in b).n file.id t) r → ⊥
           contradicts t_is l =
-              l.lost (row_polynomial (object_in b file.id) (symbols_in (object_in b file.id) (b.bytes file.id) t) l.place)
-              (row-right (object_in b file.id) (b.bytes file.id) (setup_in b).profile t l.place (blocks_given job.given (setup_in b).n file.id t) l.opened refl
+              l.lost (row_polynomial (file_object b file) (symbols_in (file_object b file) (b.bytes file.id) t) l.place)
+              (row-right (file_object b file) (b.bytes file.id) (setup_in b).profile t l.place (blocks_given job.given (setup_in b).n file.id t) l.opened refl
               (shape_of_file limit start (first_moments job.begun ms) name file clean run_b in_effect)
-              (few_seen (object_in b file.id) (b.bytes file.id) job.given file.id t (subst (IsFewWrong b file job) (sym t_is) few))
+              (few_seen (file_object b file) (b.bytes file.id) job.given file.id t (subst (IsFewWrong b file job) (sym t_is) few))
               l.opens
-              (let room = profile-room (object_in b file.id) (setup_in b).profile refl in let k = l.kept in omega (arith, room, k)))
+              (let room = profile-room (file_object b file) (setup_in b).profile refl in let k = l.kept in omega (arith, room, k)))

@@ -1,36 +1,19 @@
 -- Blocks of files in effect, and of those that jobs work on, change only by replacements and by the stores of repairs.
-use Rattle.std.proofs.Common.{◌≡◌, ℕ, ◌⊎◌, List, ◌∷◌, length, Some, None, refl, ap, sym, ◌∙◌, inl, inr, arith}
+use Rattle.std.proofs.Common.{◌≡◌, ℕ, List, ◌∷◌, length, Some, None, refl, ap, sym, ◌∙◌, inl, inr, arith}
 use Rattle.std.specs.Option.{option_map}
 use Rattle.std.specs.List.{Contains}
+use Rattle.plain_facts.specs.Lists.{In}
 use Rattle.hail_records.specs.Table.{File, started_as}
-use Rattle.hail_machine.specs.Jobs.{Kind, PutJob, GetJob, DropJob, AuditJob, RepairJob, Pinned, Job, job_of}
+use Rattle.hail_machine.specs.Jobs.{Pinned, Job, job_of}
 use Rattle.hail_machine.specs.Actions.{Store, Remove}
 use Rattle.hail_machine.specs.States.{State, IsStart, file_in}
 use Rattle.hail_machine.specs.Steps.{block_to_store}
 use Rattle.hail_machine.specs.Runs.{Moment, now, IsRun}
 use Rattle.hail_machine.proofs.Changes.{Block_is, Changes}
 use Rattle.hail_machine.proofs.Events.{changes}
-use Rattle.hail_machine.proofs.RecordFacts.{In}
-use Rattle.hail_machine.proofs.Fair.{IsFair, is_fair, store_place}
-use Rattle.hail_machine.proofs.Held.{contains_in, All, all}
+use Rattle.hail_machine.proofs.Fair.{is_fair, store_place}
+use Rattle.hail_machine.proofs.Held.{contains_in, All, all, store_kinds, remove_kinds}
 use Rattle.calm_laws.specs.Stays.{Stays}
-
--- a store is one of a put under its own number, or one of a repair
-store_kinds : (job : Job) (kind : Kind) (i o s : ℕ) → job.kind ≡ kind → IsFair job kind (Store i o s) →
-    ((name : List ℕ) × (bytes : List ℕ) × (job.kind ≡ PutJob name bytes) × (o ≡ job.subject)) ⊎ (job.kind ≡ RepairJob)
-store_kinds job (PutJob name bytes) i o s is h = inl (name, bytes, is, h)
-store_kinds job RepairJob i o s is h = inr is
-store_kinds job (GetJob name) i o s is h = absurd h
-store_kinds job (DropJob name) i o s is h = absurd h
-store_kinds job AuditJob i o s is h = absurd h
-
--- a removal is of the object that the job takes away
-remove_kinds : (job : Job) (kind : Kind) (i o : ℕ) → IsFair job kind (Remove i o) → In o job.older
-remove_kinds job (PutJob name bytes) i o h = h
-remove_kinds job (GetJob name) i o h = h
-remove_kinds job (DropJob name) i o h = h
-remove_kinds job AuditJob i o h = h
-remove_kinds job RepairJob i o h = h
 
 module _ (limit : ℕ) (start : State) (m : Moment) (ms : List Moment) (A : All start ms) (X : Changes limit (length ms) (now start ms) m.event m.outcome m.state) where
   stays : (i o s : ℕ) → started_as (now start ms).records o ≡ None → ((x : Job) → job_of (now start ms).jobs x.number ≡ Some x → In o x.older → ⊥) → Stays (now start ms) m i o s
@@ -41,7 +24,7 @@ module _ (limit : ℕ) (start : State) (m : Moment) (ms : List Moment) (A : All 
       | inl p ↦ absurd (let place = store_place (now start ms) x p.0 p.1 i o s p.2 next_is in
           let st = A.pins.started x.number x p.0 p.1 runs p.2 place.0 (let l = place.1 in omega arith) in
           let z : None ≡ Some p.0 = sym quiet ∙ (ap (started_as (now start ms).records) p.3 ∙ st) in cc)
-      | inr repairs ↦ inr (inr (record {
+      | inr (repairs, pin) ↦ inr (inr (record {
         job = x;
         runs = runs;
         repairs = repairs;
@@ -49,7 +32,7 @@ module _ (limit : ℕ) (start : State) (m : Moment) (ms : List Moment) (A : All 
         told = told ∙ ap (λ kd. option_map (λ held. Some (block_to_store (now start ms) x kd i o s)) ((now start ms).providers i).held) repairs;
       }))
     ]
-    | Block_is.removed x runs next_is ↦ absurd (no_older x runs (remove_kinds x x.kind i o (is_fair (now start ms) x (Remove i o) next_is)))
+    | Block_is.removed x runs next_is ↦ absurd (no_older x runs (remove_kinds x x.kind i o refl (is_fair (now start ms) x (Remove i o) next_is)))
   ]
 
   in_effect_stays : (name : List ℕ) (file : File) (i s : ℕ) → file_in (now start ms) name ≡ Some file → Stays (now start ms) m i file.id s

@@ -2,8 +2,9 @@
 use Rattle.std.proofs.Common.{◌≡◌, ℕ, ◌==◌, Bool, true, false, cond, List, [], ◌∷◌, length, Option, Some, None, refl, ap, sym, subst, ◌∙◌, inl, inr}
 use Rattle.std.specs.Prelude.{IsTrue, not, is_some}
 use Rattle.std.proofs.lemmas.Bool.{cases_Bool, false≢true}
-use Rattle.hail_records.specs.Records.{Record, SetUp, PutStart, PutDone, Drop, AuditStart, AuditDone, RepairDone, is_name}
+use Rattle.hail_records.specs.Records.{Record, SetUp, PutStart, PutDone, Drop, AuditStart, AuditDone, RepairDone, PutDoneIn, Version, Resume, InEffect, RepairDue, is_name}
 use Rattle.hail_records.specs.Table.{File, started_as, is_start_of, is_same_name, file_of, next_id}
+use Rattle.hail_records.proofs.FilesLaws.{same-eq}
 use Rattle.hail_machine.specs.Jobs.{Kind, PutJob, GetJob, DropJob, AuditJob, RepairJob, Job, job_of}
 use Rattle.hail_machine.specs.Refusals as refusal
 use Rattle.hail_machine.specs.Refusals.{Refusal}
@@ -19,11 +20,11 @@ use Rattle.hail_machine.proofs.Changes.{Job_is, Append_is, Records_is, Doubt_is,
 use Rattle.hail_machine.proofs.Events.{changes}
 use Rattle.hail_machine.proofs.Numbers.{objects}
 use Rattle.hail_machine.proofs.Numbers as num
-use Rattle.hail_machine.proofs.RecordFacts.{same_name-true}
 
--- a put's start names a name of the grammar
+-- a put's start and a packed file name a name of the grammar
 abbrev IsNamed : Record → Type 0
 IsNamed (PutStart id name) = is_name name ≡ true
+IsNamed (InEffect id size profile name) = is_name name ≡ true
 IsNamed r = Unit {0}
 
 abbrev AreNamed : List Record → Type 0
@@ -50,10 +51,18 @@ started_named (Drop n ∷ rs) id name named h = started_named rs id name named.1
 started_named (AuditStart number ∷ rs) id name named h = started_named rs id name named.1 h
 started_named (AuditDone number undecided counts ∷ rs) id name named h = started_named rs id name named.1 h
 started_named (RepairDone number ∷ rs) id name named h = started_named rs id name named.1 h
+started_named (PutDoneIn k size profile ∷ rs) id name named h = elim (cases_Bool (k == id)) [
+  | inl t ↦ (let e : None ≡ Some name = sym (cond_true (k == id) None (started_as rs id) t) ∙ h in cc)
+  | inr f ↦ started_named rs id name named.1 (sym (cond_false (k == id) None (started_as rs id) f) ∙ h)
+]
+started_named (Version ∷ rs) id name named h = started_named rs id name named.1 h
+started_named (Resume next audit ∷ rs) id name named h = started_named rs id name named.1 h
+started_named (InEffect k size profile kept ∷ rs) id name named h = started_named rs id name named.1 h
+started_named (RepairDue number counts ∷ rs) id name named h = started_named rs id name named.1 h
 
 start_named : (o : Option (List ℕ)) (name : List ℕ) → is_start_of name o ≡ true → ((x : List ℕ) → o ≡ Some x → is_name x ≡ true) → is_name name ≡ true
 start_named None name h f = absurd (false≢true h)
-start_named (Some x) name h f = subst (λ y. is_name y ≡ true) (same_name-true x name h) (f x refl)
+start_named (Some x) name h f = subst (λ y. is_name y ≡ true) (same-eq x name h) (f x refl)
 
 file_named : (rs : List Record) (name : List ℕ) (file : File) → AreNamed rs → file_of rs name ≡ Some file → is_name name ≡ true
 file_named [] name file named h = let e : None ≡ Some file = h in cc
@@ -70,6 +79,21 @@ file_named (Drop n ∷ rs) name file named h = elim (cases_Bool (is_same_name n 
 file_named (AuditStart number ∷ rs) name file named h = file_named rs name file named.1 h
 file_named (AuditDone number undecided counts ∷ rs) name file named h = file_named rs name file named.1 h
 file_named (RepairDone number ∷ rs) name file named h = file_named rs name file named.1 h
+file_named (PutDoneIn k size profile ∷ rs) name file named h =
+    elim (cases_Bool (is_start_of name (started_as rs k))) [
+      | inl t ↦ start_named (started_as rs k) name t (λ x e. started_named rs k x named.1 e)
+      | inr f ↦ file_named rs name file named.1
+          (sym (cond_false (is_start_of name (started_as rs k)) _ (file_of rs name) f) ∙ h)
+    ]
+file_named (Version ∷ rs) name file named h = file_named rs name file named.1 h
+file_named (Resume next audit ∷ rs) name file named h = file_named rs name file named.1 h
+file_named (InEffect k size profile kept ∷ rs) name file named h =
+    elim (cases_Bool (is_same_name kept name)) [
+      | inl t ↦ subst (λ x. is_name x ≡ true) (same-eq kept name t) named.0
+      | inr f ↦ file_named rs name file named.1
+          (sym (cond_false (is_same_name kept name) _ (file_of rs name) f) ∙ h)
+    ]
+file_named (RepairDue number counts ∷ rs) name file named h = file_named rs name file named.1 h
 
 writes_named : (w : State) (job : Job) (kind : Kind) (entry : Record) → IsNamedJob kind → Writes w job kind entry → IsNamed entry
 writes_named w job (PutJob name bytes) entry named h = elim (cases_Bool (is_first_append job)) [

@@ -1,7 +1,8 @@
 -- What a fetch of a job gave.
 --
---   GaveFetched old new job j object stripe  == the job goes on with a block or none of provider j: where it tells, what it held then,
---                                               if that is of the size; or none, and its count of failed calls rose
+--   GaveFetched old new job j object stripe  == the job goes on with a block or none of provider j: where
+--                                          it tells, what it held then, if that is of the size; or none,
+--                                          and its count of failed calls rose
 use Rattle.std.specs.Prelude.{◌≡◌, ◌⊎◌, ℕ, List, Option, Some}
 use Rattle.hail_devices.specs.ProviderCalls.{FetchGives, FailsToGive}
 use Rattle.hail_machine.specs.Jobs.{Job, Fetched, job_of, advanced_with}

@@ -1,7 +1,9 @@
 -- How blocks of files that are kept change.
 --
---   IsRewritten old m j object stripe  == a running repair stored the block that its work on the stripe gave on provider j
---   Stays old m j object stripe        == a moment after this state left provider j's block as it was, or is a replacement of j, or a repair rewrote it
+--   IsRewritten old m j object stripe  == a running repair stored the block that its work on the stripe
+--                                         gave on provider j
+--   Stays old m j object stripe        == a moment after this state left provider j's block as it was, or
+--                                         is a replacement of j, or a repair rewrote it
 use Rattle.std.specs.Prelude.{◌≡◌, ◌⊎◌, ℕ, true, Some}
 use Rattle.std.specs.Option.{option_map}
 use Rattle.hail_machine.specs.Jobs.{RepairJob, Job, job_of}
@@ -17,7 +19,8 @@ pub record IsRewritten (old : State) (m : Moment) (j object stripe : ℕ) : Type
   pub runs : job_of old.jobs job.number ≡ Some job
   pub repairs : job.kind ≡ RepairJob
   pub next : next_action old job ≡ Some (Store j object stripe)
-  pub told : told_block m.state j object stripe ≡ option_map (λ held. Some (block_to_store old job RepairJob j object stripe)) (old.providers j).held
+  pub told : told_block m.state j object stripe
+      ≡ option_map (λ held. Some (block_to_store old job RepairJob j object stripe)) (old.providers j).held
 
 -- a block stays as it is told, or its provider is replaced, or a repair rewrites it
 abbrev pub Stays : State → Moment → ℕ → ℕ → ℕ → Type 0

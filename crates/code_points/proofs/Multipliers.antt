@@ -2,7 +2,8 @@
 use Rattle.std.proofs.Common.{◌≡◌, ◌≢◌, ◌≤◌, ◌<◌, ◌+◌, ◌^◌, ◌⊎◌, inl, inr, ℕ, zero, suc, Bool, true, false, cond, nat_eq, ◌==◌, List, [], ◌∷◌, refl, sym, ap, ◌∙◌, get_or, arith, bit_xor, eqb-true, nat_lt, ltb-true, ◌-◌}
 use Rattle.std.specs.List.{range_with_len}
 use Rattle.std.proofs.lemmas.Nat.{xor_lt}
-use Rattle.field_laws.specs.Field.{Each}
+use Rattle.std.proofs.lemmas.Bool.{cases_lt}
+use Rattle.plain_facts.specs.Lists.{Each}
 use Rattle.hail_field.specs.Nim.{product, width, nim_add, nim_mul}
 use Rattle.hail_field.proofs.Products.{product-lt}
 use Rattle.hail_field.proofs.AllNumbers.{nim_ring, nim_mul_at, nim_inv_is}
@@ -105,13 +106,9 @@ at_quarter start x holds low high =
     let e : start + (x - start) ≡ x = omega arith in
     sym (ap (entry_test other_entry 128) e) ∙ at_each 32 (λ k. entry_test other_entry 128 (start + k)) holds (x - start) (omega arith)
 
--- where one of two numbers is greater
-low_or_high : (x n : ℕ) → (x < n) ⊎ (n ≤ x)
-low_or_high x n = grind arith
-
 -- profile 4 at each place
 at_4 : (x : ℕ) → x < 128 → entry_test other_entry 128 x ≡ true
-at_4 x h = go (low_or_high x 64) (low_or_high x 32) (low_or_high x 96)
+at_4 x h = go (cases_lt x 64) (cases_lt x 32) (cases_lt x 96)
   where
     go : (x < 64) ⊎ (64 ≤ x) → (x < 32) ⊎ (32 ≤ x) → (x < 96) ⊎ (96 ≤ x) → entry_test other_entry 128 x ≡ true
     go (inl a) (inl b) c = at_each 32 (entry_test other_entry 128) holds_4a x b

@@ -1,9 +1,10 @@
 -- Choices of symbols, by which it is decided whether some polynomial is accepted: some symbols are chosen, and the places
 -- from one on are yet to be looked at.
-use Rattle.std.proofs.Common.{◌≡◌, ◌≢◌, ◌≤◌, ◌<◌, ◌+◌, ◌++◌, [], ◌∷◌, ℕ, suc, List, length, drop, get_or, Option, Some, None, cond, Bool, true, false, eqb, arith, append_assoc, refl, sym, ◌∙◌, subst, zero, ap, add-one}
-use Rattle.std.proofs.lemmas.List.{get_or_read, length-append, drop_more}
+use Rattle.std.proofs.Common.{◌≡◌, ◌≢◌, ◌≤◌, ◌<◌, ◌+◌, ◌++◌, [], ◌∷◌, ℕ, suc, List, length, drop, get_or, Option, Some, None, cond, Bool, true, false, eqb, arith, append_assoc, refl, sym, ◌∙◌, subst, ap, add-one}
+use Rattle.std.proofs.lemmas.List.{get_or_read, length-append, drop_more, get_or_default}
 use Rattle.std.proofs.lemmas.Bool.{eqb-true}
-use Rattle.field_laws.specs.Field.{Apart, Each}
+use Rattle.plain_facts.specs.Lists.{Each}
+use Rattle.field_laws.specs.Field.{Apart}
 use Rattle.hail_field.specs.Nim.{nim}
 use Rattle.hail_field.proofs.AllNumbers.{nim_laws}
 use Rattle.poly_laws.specs.Poly.{agree as agree_over}
@@ -29,15 +30,6 @@ pub record AcceptsNoneFrom (points : List ℕ) (seen : List (Option ℕ)) (l b a
 agree_step : (p xs : List ℕ) (ss : List (Option ℕ)) (k : ℕ) (s : Option ℕ) → k < length xs → k < length ss → s ≡ get_or ss k s →
     agree p (drop k xs) (drop k ss) ≡ cond (is_seen (value p (get_or xs k 0)) s) 1 0 + agree p (drop (k + 1) xs) (drop (k + 1) ss)
 agree_step p xs ss k s h e r = rw add-one (agree_drop nim p xs ss k s h e r)
-
--- the chosen points are apart
-pub Apart-front : (xs ys : List ℕ) → Apart (xs ++ ys) → Apart xs
-Apart-front [] ys h = tt
-Apart-front (x ∷ xs) ys h = (each xs h.0, Apart-front xs ys h.1)
-  where
-    each : (us : List ℕ) → Each (λ y. x ≢ y) (us ++ ys) → Each (λ y. x ≢ y) us
-    each [] h = tt
-    each (u ∷ us) h = (h.0, each us h.1)
 
 -- a point may be left out
 Apart-skip : (xs ys : List ℕ) (y : ℕ) → Apart (xs ++ y ∷ ys) → Apart (xs ++ ys)
@@ -109,12 +101,6 @@ pub few_left : (points : List ℕ) (seen : List (Option ℕ)) (l b at : ℕ) (ch
 few_left points seen l b at chosen few =
     record { none = λ p accepts takes left. omega (arith, left, few, agree_at_most p (drop at points) (drop at seen)) }
 
--- an element that is there needs no default
-read_any : {A : Type 0} (xs : List A) (k : ℕ) (d e : A) → k < length xs → get_or xs k d ≡ get_or xs k e
-read_any [] k d e h = absurd (omega arith)
-read_any (x ∷ xs) zero d e h = refl
-read_any (x ∷ xs) (suc k) d e h = read_any xs k d e (omega arith)
-
 -- an absent symbol is passed over
 pub absent_accepts_none : (points : List ℕ) (seen : List (Option ℕ)) (l b at : ℕ) (chosen : Chosen) (d : Option ℕ) → at < length points → length points ≡ length seen →
     get_or seen at d ≡ None → AcceptsNoneFrom points seen l b (at + 1) chosen → AcceptsNoneFrom points seen l b at chosen
@@ -125,7 +111,7 @@ absent_accepts_none points seen l b at chosen d lt even is_none h =
             arith,
             left,
             rw (is_seen-none nim (value p (get_or points at 0))) at
-                (agree_step p points seen at None lt (omega arith) (sym is_none ∙ read_any seen at d None (omega arith))),
+                (agree_step p points seen at None lt (omega arith) (sym is_none ∙ get_or_default seen at d None (omega arith))),
           ));
     }
 
@@ -146,7 +132,7 @@ present_accepts_none points seen l b at x y xs ys d lt even same read_x is_some 
     record { none = λ p accepts takes left. go p accepts takes left (eqb y (value p (get_or points at 0))) refl }
   where
     read_y : Some y ≡ get_or seen at (Some y)
-    read_y = sym is_some ∙ read_any seen at d (Some y) (omega arith)
+    read_y = sym is_some ∙ get_or_default seen at d (Some y) (omega arith)
 
     go : (p : List ℕ) → Accepts points seen l b p → Takes p xs ys → length points ≤ length xs + agree p (drop at points) (drop at seen) + b →
         (t : Bool) → eqb y (value p (get_or points at 0)) ≡ t → ⊥

@@ -3,7 +3,7 @@ use Rattle.std.specs.Prelude.{All, OnOk, Result, Ok, Err, ◌≡◌, ◌≢◌, 
 use Rattle.std.proofs.Common.{arith, ap, sym, refl, ◌∙◌, get_or, set, subst, eqb-true}
 use Rattle.std.specs.Bool.{OnTrue, OnFalse}
 use Rattle.std.specs.List.{range_with_len}
-use Rattle.std.proofs.lemmas.List.{get_or-set_same, get_or-set_other, get_or-take, length-set, length-take-le, ext_get_or}
+use Rattle.std.proofs.lemmas.List.{get_or-set_same, get_or-set_other, get_or-take, length-set, length-take-le, ext_get_or, get_or_default}
 use Rattle.std.proofs.lemmas.Grind.{get_or-set_at}
 use Rattle.std.proofs.lemmas.Nat.{div-mul-add, mod-mul-add}
 use Rattle.std.proofs.lemmas.List.FromFn.{length-map-range_with_len, get_or-map-range_with_len}
@@ -17,22 +17,10 @@ use Rattle.hail_columns.specs.Opened.{SeenBlock, masked, bare, OpensTo, AllOpen,
 use Rattle.field_laws.specs.Field.{Apart}
 use Rattle.hail_columns.proofs.PointLaws.{Apart-points}
 use Rattle.std.proofs.lemmas.Option.{slice_get-get_or}
+use Rattle.hail_columns.proofs.MaskLengths.{length-bare}
 use Rattle.column_codec.proofs.Places.{index_within}
-use Rattle.column_codec.proofs.RowLemmas.{get_or-within}
 use Rattle.column_codec.specs.ObjectKeys.{ArePoints}
 use Rattle.column_codec.specs.OpenedBlocks.{opened_at, opened_of, HasRow, LosesPlace}
-
--- masks change no length
-length-masked : (o : Object) (j row : ℕ) (block : List ℕ) → length (masked o j row block) ≡ length block
-length-masked o j row [] = refl
-length-masked o j row (x ∷ xs) = ap suc (length-masked o j (row + 1) xs)
-
-length-bare : (o : Object) (j stripe : ℕ) (block : List ℕ) → length (bare o j stripe block) ≡ length block
-length-bare o j stripe block =
-    elim (is_primary o j) as (λ b. length (if b then block else masked o j (row_number o stripe 0) block) ≡ length block) [
-      | true ↦ refl
-      | false ↦ length-masked o j (row_number o stripe 0) block
-    ]
 
 -- a primary block has no masks
 pub bare-primary : (o : Object) (j stripe : ℕ) (block : List ℕ) → j < o.shape.l → block ≡ bare o j stripe block
@@ -222,7 +210,7 @@ loses o stripe row seen opened opens h = record {
 
 -- the sizes of all blocks, whatever is read past the end
 pub all-blocks : (blocks : List (List ℕ)) (size : ℕ) → ((k : ℕ) → k < length blocks → length (get_or blocks k []) ≡ size) → All (λ block. length block ≡ size) blocks
-all-blocks blocks size each k d below = ap length (get_or-within blocks k d [] below) ∙ each k below
+all-blocks blocks size each k d below = ap length (get_or_default blocks k d [] below) ∙ each k below
 
 -- a fact that holds where a call succeeded gives another there
 pub on_ok : {T E : Type 0} (P Q : Type 0) (r : Result T E) → (P → Q) → OnOk r P → OnOk r Q

@@ -1,25 +1,23 @@
 -- Each seen block opens to something, so rows that some blocks carry are accepted whatever the others open to.
-use Rattle.std.specs.Prelude.{◌≡◌, ◌≢◌, ℕ, zero, suc, ◌+◌, ◌*◌, ◌<◌, ◌≤◌, nat_eq, nat_le, Bool, true, false, cond, List, [], ◌∷◌, ◌++◌, length, map, drop, slice_get, Option, None, Some, ◌⊎◌, if◌then◌else◌}
-use Rattle.std.proofs.Common.{arith, ap, sym, refl, ◌∙◌, get_or, subst, eqb-true, inl, inr}
+use Rattle.std.specs.Prelude.{◌≡◌, ℕ, zero, suc, ◌+◌, ◌<◌, ◌≤◌, nat_eq, nat_le, Bool, true, false, cond, List, [], ◌∷◌, ◌++◌, length, map, drop, Option, None, Some, ◌⊎◌, if◌then◌else◌}
+use Rattle.std.proofs.Common.{arith, ap, refl, get_or, subst, eqb-true, inl, inr}
 use Rattle.std.specs.List.{range_with_len}
-use Rattle.std.proofs.lemmas.List.{length-append, length-drop}
+use Rattle.std.proofs.lemmas.List.{length-append, length-drop, get_or_default}
 use Rattle.std.proofs.lemmas.List.FromFn.{length-range_with_len}
 use Rattle.field_laws.specs.Field.{Apart}
-use Rattle.hail_field.specs.Nim.{nim}
+use Rattle.field_laws.proofs.Apart.{Apart-front}
 use Rattle.poly_laws.specs.Poly.{agree as agree_over, is_seen as is_seen_over}
 use Rattle.hail_codes.specs.Polynomials.{value, agree, is_seen, trim, interpolate}
 use Rattle.hail_codes.specs.Points.{upto}
 use Rattle.hail_codes.specs.Profiles.{Profile}
-use Rattle.hail_codes.specs.ServerCode.{IsCodeword, IsNear, Opens, OpensToNone}
+use Rattle.hail_codes.specs.ServerCode.{Opens, OpensToNone}
 use Rattle.hail_codes.specs.DispersalCode.{Accepts}
 use Rattle.hail_codes.proofs.Points.{Apart-range}
-use Rattle.hail_codes.proofs.Codewords.{near_itself}
-use Rattle.column_codec.proofs.Choices.{AcceptsNoneFrom, Apart-front, Apart-next, Apart-with, full_accepts, full_accepts_none, few_left, absent_accepts_none, present_accepts_none}
+use Rattle.column_codec.proofs.Choices.{AcceptsNoneFrom, Apart-next, Apart-with, full_accepts, full_accepts_none, few_left, absent_accepts_none, present_accepts_none}
 use Rattle.hail_columns.specs.Objects.{Object, stripe_symbols, points}
 use Rattle.hail_columns.specs.Opened.{SeenBlock, bare, OpensTo, AllOpen, AcceptsRow, GivesSymbols, symbol_in}
 use Rattle.column_codec.specs.OpenedBlocks.{opened_at, opened_of, AreOpened, HasRow}
 use Rattle.column_codec.proofs.OpenLemmas.{seen-map, all-open, gives}
-use Rattle.column_codec.proofs.RowLemmas.{get_or-within}
 
 -- some polynomial that goes on from chosen symbols is accepted, or none is
 abbrev Decided : List ℕ → List (Option ℕ) → ℕ → ℕ → ℕ → List ℕ → List ℕ → Type 0
@@ -45,7 +43,7 @@ decide_place points seen l b at xs ys inside even pairs chosen (inr skipped) (So
   where
     go : Decided points seen l b (at + 1) (xs ++ get_or points at 0 ∷ []) (ys ++ y ∷ []) → Decided points seen l b at xs ys
     go (inl found) = inl found
-    go (inr none) = inr (present_accepts_none points seen l b at (get_or points at 0) y xs ys None inside even pairs (get_or-within points at 0 (get_or points at 0) inside) is none skipped)
+    go (inr none) = inr (present_accepts_none points seen l b at (get_or points at 0) y xs ys None inside even pairs (get_or_default points at 0 (get_or points at 0) inside) is none skipped)
 
 decide : (points : List ℕ) (seen : List (Option ℕ)) (l b at left : ℕ) (xs ys : List ℕ) → left + at ≡ length points → length points ≡ length seen → l + b ≤ length points →
     Apart (xs ++ drop at points) → length ys ≡ length xs → length xs ≤ l → Decided points seen l b at xs ys
@@ -59,7 +57,7 @@ decide points seen l b at zero xs ys count even room apart pairs few = go (nat_e
 decide points seen l b at (suc left) xs ys count even room apart pairs few =
     go
     (λ less y. decide points seen l b (at + 1) left (xs ++ get_or points at 0 ∷ []) (ys ++ y ∷ []) (omega (arith, count)) even room
-    (Apart-with xs points at (get_or points at 0) inside (get_or-within points at 0 (get_or points at 0) inside) apart)
+    (Apart-with xs points at (get_or points at 0) inside (get_or_default points at 0 (get_or points at 0) inside) apart)
     (omega (arith, pairs, length-append xs (get_or points at 0 ∷ []), length-append ys (y ∷ []))) (omega (arith, less, length-append xs (get_or points at 0 ∷ []))))
     (decide points seen l b (at + 1) left xs ys (omega (arith, count)) even room (Apart-next xs points at inside apart) pairs few)
     (nat_eq (length xs) l) refl

@@ -4,6 +4,7 @@ use Rattle.std.proofs.Common.{arith, ap, sym, refl, ◌∙◌, get_or}
 use Rattle.std.specs.List.{range_with_len}
 use Rattle.std.proofs.lemmas.List.{ext_get_or, get_or-take, get_or-drop, length-take-le}
 use Rattle.std.proofs.lemmas.List.FromFn.{length-map-range_with_len, get_or-map-range_with_len}
+use Rattle.plain_facts.proofs.Lists.{take-front, map-range_same}
 use Rattle.hail_field.specs.Nim.{nim_add}
 use Rattle.hail_codes.specs.Polynomials.{value, interpolate}
 use Rattle.hail_codes.specs.Points.{upto, values_at}
@@ -18,12 +19,9 @@ use Rattle.hail_codes.specs.Sums.{dot}
 use Rattle.hail_columns.proofs.PointLaws.{point-low}
 use Rattle.hail_columns.proofs.ColumnLaws.{value-interpolate_upto, length-column_of_symbols}
 use Rattle.hail_columns.proofs.SecondaryLaws.{column_polynomial, value-column_polynomial, length-column_polynomial, length-kept_by, codeword-values, point-outside, secondary-column}
+use Rattle.hail_columns.proofs.MaskLengths.{length-masked}
 use Rattle.column_codec.specs.ObjectKeys.{ArePoints, AreWeights}
 use Rattle.column_codec.specs.Rows.{symbols_at, row_value}
-
-map-range-same : (f g : ℕ → ℕ) (a n : ℕ) → ((j : ℕ) → j < a + n → f j ≡ g j) → map f (range_with_len a n) ≡ map g (range_with_len a n)
-map-range-same f g a zero h = refl
-map-range-same f g a (suc n) h = (λ i. h a (omega arith) i ∷ map-range-same f g (a + 1) n (λ j below. h j (omega (arith, below))) i)
 
 -- no point of a secondary provider is that of a primary one
 pub secondary-outside : (o : Object) (ps : List ℕ) → ArePoints o.shape.n o.shape.l o.master o.id ps → o.shape.n ≤ 256 →
@@ -49,7 +47,7 @@ codeword-front profile kept place long within fits =
 pub symbols_at-row : (o : Object) (symbols : List ℕ) (place : ℕ) → length symbols ≡ stripe_symbols o → place < o.profile.keep → o.profile.keep ≤ o.profile.size →
     symbols_at o.shape.l o.profile.keep place symbols ≡ primary_row o symbols place
 symbols_at-row o symbols place long within fits =
-    map-range-same (λ j. slice_index symbols (j * o.profile.keep + place)) (λ j. slice_index (codeword o.profile (kept_by o symbols j)) place) 0 o.shape.l
+    map-range_same (λ j. slice_index symbols (j * o.profile.keep + place)) (λ j. slice_index (codeword o.profile (kept_by o symbols j)) place) 0 o.shape.l
     (λ j below. sym (codeword-front o.profile (kept_by o symbols j) place (length-kept_by o symbols j long (omega (arith, below))) within fits
     ∙ get_or-take o.profile.keep (drop (j * o.profile.keep) symbols) place 0 within ∙ get_or-drop (j * o.profile.keep) symbols place 0))
 
@@ -73,7 +71,7 @@ pub secondary-encoded : (o : Object) (symbols : List ℕ) (j stripe : ℕ) → l
 secondary-encoded o symbols j stripe long fits second below =
     let q = column_polynomial o symbols (point o j) in
     let kept : map (row_value o symbols j) (upto o.profile.keep) ≡ values_at (upto o.profile.keep) q =
-    map-range-same (row_value o symbols j) (value q) 0 o.profile.keep
+    map-range_same (row_value o symbols j) (value q) 0 o.profile.keep
     (λ place within. value-column_polynomial o symbols place (point o j) (omega (arith, within, fits)) (point-outside o j second below)) in
     let zero_row : stripe * o.profile.size ≡ stripe * o.profile.size + 0 = omega arith in
     let is : is_primary o j ≡ false = grind (arith, second) in
@@ -81,11 +79,6 @@ secondary-encoded o symbols j stripe long fits second below =
     ∙ ap (masked o j (stripe * o.profile.size + 0)) (codeword-values o.profile q (length-column_polynomial o symbols (point o j) long))
     ∙ masked-on o j (stripe * o.profile.size) (value q) 0 o.profile.size
     ∙ sym (secondary-column o symbols j stripe is below)
-
--- masks put on place by place
-length-masked : (o : Object) (j row : ℕ) (block : List ℕ) → length (masked o j row block) ≡ length block
-length-masked o j row [] = refl
-length-masked o j row (x ∷ xs) = ap suc (length-masked o j (row + 1) xs)
 
 get_or-masked : (o : Object) (j row i : ℕ) (block : List ℕ) → i < length block → get_or (masked o j row block) i 0 ≡ nim_add (get_or block i 0) (mask o.master o.id j (row + i))
 get_or-masked o j row i [] below = absurd (omega (arith, below))
@@ -113,10 +106,6 @@ primary-final o symbols block kept j stripe p below e is kept_is =
     is ∙ (λ i. codeword (e i) (kept_is i))
     ∙ sym (ap (λ b. if b then codeword o.profile (kept_by o symbols j) else map (secondary_symbol o symbols j stripe) (upto o.profile.size)) primary)
 
--- a profile keeps no more symbols than a block has
-pub profile_fits : (number size keep : ℕ) → size ≡ (profile_of number).size → keep ≡ (profile_of number).keep → keep ≤ size
-profile_fits number size keep e f = omega (arith, e, f, size_is number)
-
 -- no block is longer than 128 symbols, and at most 96 are kept
 pub profile_small : (number size keep : ℕ) → size ≡ (profile_of number).size → keep ≡ (profile_of number).keep → (size ≤ 128) × (keep ≤ 96)
 profile_small zero size keep e f = (omega (arith, e), omega (arith, f))
@@ -125,24 +114,12 @@ profile_small (suc (suc zero)) size keep e f = (omega (arith, e), omega (arith, 
 profile_small (suc (suc (suc zero))) size keep e f = (omega (arith, e), omega (arith, f))
 profile_small (suc (suc (suc (suc more)))) size keep e f = (omega (arith, e), omega (arith, f))
 
--- the front of a joined list
-front : (xs rest : List ℕ) (n : ℕ) → length xs ≡ n → take n (xs ++ rest) ≡ xs
-front [] rest n e = let z : n ≡ 0 = omega (arith, e) in ap (λ m. take m rest) z
-front (x ∷ xs) rest zero e = absurd (omega (arith, e))
-front (x ∷ xs) rest (suc n) e = ap (λ (l : List ℕ). x ∷ l) (front xs rest n (omega (arith, e)))
-
 -- the masks that were read into the front of a longer list
 pub masks_front : (out zeros rest key : List ℕ) (m stripe : ℕ) → m ≤ length zeros →
     out ≡ masks_from key (stripe * length (take m zeros)) (length (take m zeros)) → take m (out ++ rest) ≡ masks_from key (stripe * m) m
 masks_front out zeros rest key m stripe fits is =
     let whole : out ≡ masks_from key (stripe * m) m = is ∙ ap (λ n. masks_from key (stripe * n) n) (length-take-le m zeros fits) in
-    front out rest m (ap length whole ∙ length-map-range_with_len (mask_of key) (stripe * m) m) ∙ whole
-
--- what is read within a list does not depend on what is read past its end
-pub get_or-within : {X : Type 0} (xs : List X) (i : ℕ) (d e : X) → i < length xs → get_or xs i d ≡ get_or xs i e
-get_or-within [] i d e h = absurd (omega (arith, h))
-get_or-within (x ∷ xs) zero d e h = refl
-get_or-within (x ∷ xs) (suc i) d e h = get_or-within xs i d e (omega (arith, h))
+    take-front out rest m (ap length whole ∙ length-map-range_with_len (mask_of key) (stripe * m) m) ∙ whole
 
 -- what is encoded from kept rows, with the masks
 pub secondary-final : (o : Object) (symbols block kept : List ℕ) (j stripe : ℕ) (p : Profile) → length symbols ≡ stripe_symbols o → o.profile.keep ≤ o.profile.size → o.shape.l ≤ j → j < 256 →

@@ -4,7 +4,8 @@ use Rattle.std.proofs.Common.{arith, ap, sym, refl, ◌∙◌, get_or, add-one}
 use Rattle.std.specs.List.{range_with_len}
 use Rattle.std.proofs.lemmas.List.{get_or-take, length-take-le, length-replicate}
 use Rattle.std.proofs.lemmas.List.FromFn.{length-range_with_len, length-map-range_with_len, map-range_with_len_more, fill_by_all}
-use Rattle.field_laws.specs.Field.{Each}
+use Rattle.plain_facts.specs.Lists.{Each}
+use Rattle.plain_facts.proofs.Each.{each_range}
 use Rattle.hail_field.specs.Nim.{nim, nim_add, nim_mul, nim_inv}
 use Rattle.hail_field.proofs.AllNumbers.{nim_laws, nim_ring}
 use Rattle.field_laws.proofs.Inverse.{factor_zero}
@@ -46,10 +47,6 @@ pub inverse_gaps : (x p l : ℕ) → x ≢ p →
     nim_inv (nim_mul (nim_add x p) (others_product p (upto l))) ≡ nim_mul (nim_inv (nim_add x p)) (nim_inv (others_product p (upto l)))
 inverse_gaps x p l differ = nim_inv-mul (nim_add x p) (others_product p (upto l)) (gap_not_zero x p differ) (others_product-not_zero p (upto l))
 
-Each-below : (P : ℕ → Type 0) (a n : ℕ) → ((j : ℕ) → j < a + n → P j) → Each P (range_with_len a n)
-Each-below P a zero h = tt
-Each-below P a (suc n) h = (h a (omega arith), Each-below P (a + 1) n (λ j below. h j (omega (arith, below))))
-
 -- more coefficients than symbols do not count
 dot-take : (ws ys : List ℕ) (l : ℕ) → length ys ≡ l → dot ws ys ≡ dot (take l ws) ys
 unfolding dot
@@ -68,13 +65,13 @@ are_weights l x ws enough outside each = record {
   gives = λ ys long.
       value-interpolate (upto l) ys x (length-range_with_len 0 l ∙ sym long) (Apart-range 0 l) out
       ∙ ap (λ v. nim_mul v (dot (map (part (upto l) x) (upto l)) ys)) (sym (others_product-outside x (upto l) out))
-      ∙ sym (dot-scaled (part (upto l) x) w (others_product x (upto l)) (upto l) ys (Each-below (λ p. w p ≡ nim_mul (others_product x (upto l)) (part (upto l) x p)) 0 l (λ j below. refl)))
+      ∙ sym (dot-scaled (part (upto l) x) w (others_product x (upto l)) (upto l) ys (each_range (λ p. w p ≡ nim_mul (others_product x (upto l)) (part (upto l) x p)) 0 l (λ j below. refl)))
       ∙ ap (λ (front : List ℕ). dot front ys) (sym filled)
       ∙ sym (dot-take ws ys l long);
 }
   where
     out : Each (λ p. x ≢ p) (upto l)
-    out = Each-below (λ p. x ≢ p) 0 l (λ j below. outside j (omega (arith, below)))
+    out = each_range (λ p. x ≢ p) 0 l (λ j below. outside j (omega (arith, below)))
 
     w : ℕ → ℕ
     w p = nim_mul (others_product x (upto l)) (part (upto l) x p)
@@ -102,7 +99,7 @@ weights-whole l x ws some are = sym (are.gives (replicate l 1) (length-replicate
         ap (λ (ys : List ℕ). value (interpolate (upto l) ys) x) (ones 0 l)
         ∙ same_values nim nim_laws p (1 ∷ [])
         (plus_zero nim nim_laws (upto l) p (1 ∷ []) (Apart-range 0 l)
-        (Each-below (λ z. value p z ≡ value (1 ∷ []) z) 0 l (λ j below. value-interpolate_upto (λ k. 1) l j (omega (arith, below)) ∙ sym (one j)))
+        (each_range (λ z. value p z ≡ value (1 ∷ []) z) 0 l (λ j below. value-interpolate_upto (λ k. 1) l j (omega (arith, below)) ∙ sym (one j)))
         (omega (arith, length-interpolate nim nim_laws (upto l) (map (λ j. 1) (upto l)) (length-range_with_len 0 l ∙ sym (length-map-range_with_len (λ j. 1) 0 l)), length-range_with_len 0 l))
         (omega (arith, some, length-range_with_len 0 l))) x
         ∙ one x

@@ -6,4 +6,6 @@ use Rattle.column_codec.specs.contracts.block.Block.{the_row as block_row}
 
 -- the block ends as the symbols that were left, of which there are as many as before
 abbrev pub LendsSymbols : MutBor (List ℕ) → MutBor (List ℕ) → Fml
-LendsSymbols block symbols = Lends block_row (Array symbol_row 0) block symbols (λ left. take (length block.now) (left ++ drop (length left) block.now))
+LendsSymbols block symbols =
+    Lends block_row (Array symbol_row 0) block symbols
+    (λ left. take (length block.now) (left ++ drop (length left) block.now))

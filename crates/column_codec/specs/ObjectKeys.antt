@@ -16,15 +16,19 @@ AreMaskKeys n master id keys = (j : ℕ) → j < n → slice_index_or keys j [] 
 -- the first l coefficients give the value at x of the polynomial through l symbols as a sum over the symbols
 pub record AreWeights (l x : ℕ) (weights : List ℕ) : Type 0 where
   pub enough : l ≤ length weights
-  pub gives : (symbols : List ℕ) → length symbols ≡ l → value (interpolate (upto l) symbols) x ≡ dot weights symbols
+  pub gives : (symbols : List ℕ) → length symbols ≡ l
+      → value (interpolate (upto l) symbols) x ≡ dot weights symbols
 
 -- each secondary point, of those from l on, has its weights
 abbrev pub HasWeights : ℕ → ℕ → List ℕ → List (List ℕ) → Type 0
-HasWeights n l points weights = (j : ℕ) → l ≤ j → j < n → AreWeights l (slice_index points j) (slice_index_or weights j [])
+HasWeights n l points weights =
+    (j : ℕ) → l ≤ j → j < n → AreWeights l (slice_index points j) (slice_index_or weights j [])
 
--- the weights that have tables, one secondary provider after the other: those of its primary ones but the first
+-- the weights that have tables, one secondary provider after the other: those of its primary ones but the
+-- first
 abbrev pub weight_at : ℕ → List (List ℕ) → ℕ → ℕ
-weight_at l weights place = slice_index (slice_index_or weights (l + place / (l - 1)) []) (1 + place % (l - 1))
+weight_at l weights place =
+    slice_index (slice_index_or weights (l + place / (l - 1)) []) (1 + place % (l - 1))
 
 -- they are all weights that have tables
 abbrev pub AreTabled : ℕ → ℕ → List (List ℕ) → List ℕ → Type 0

@@ -30,4 +30,5 @@ pub record LosesPlace (o : Object) (opened : List SeenBlock) (stripe row : ℕ) 
 -- each block that is marked is what that of its provider opened to
 abbrev pub AreOpened : Object → ℕ → List SeenBlock → List Bool → List (List ℕ) → Type 0
 AreOpened o stripe seen marks blocks =
-    (j : ℕ) → j < o.shape.n → slice_index_or marks j false ≡ true → OpensTo o j stripe (slice_index_or seen j None) (Some (slice_index_or blocks j []))
+    (j : ℕ) → j < o.shape.n → slice_index_or marks j false ≡ true
+    → OpensTo o j stripe (slice_index_or seen j None) (Some (slice_index_or blocks j []))

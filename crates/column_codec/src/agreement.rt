@@ -41,7 +41,7 @@ impl ObjectKeys {
     ghost use Rattle.std.specs.Prelude.{◌≡◌, ◌≤◌, ◌<◌, ◌*◌, ℕ, [], length, slice_index_or};
     ghost use Rattle.hail_columns.specs.Columns.{row_polynomial};
     ghost use Rattle.hail_columns.specs.Opened.{AcceptsRow};
-    ghost use Rattle.file_layout.specs.Files.{object_of};
+    ghost use Rattle.file_layout.specs.Files.{shaped_object};
     ghost use Rattle.column_codec.specs.OpenedBlocks.{opened_at, opened_of};
     ghost use Rattle.column_codec.specs.Agreement.{agreeing_at, agreed};
 
@@ -60,7 +60,8 @@ impl ObjectKeys {
         requires counts { length counts.old ≡ self.now.file.profile.keep }
         requires few { (place : ℕ) → slice_index counts.old place ≤ provider }
         ensures counts { (place : ℕ) → place < self.now.file.profile.keep → slice_index counts.new place
-            ≡ slice_index counts.old place + agreeing_at (object_of self.now.master.0 self.now.file) rows.now place provider
+            ≡ slice_index counts.old place
+            + agreeing_at (shaped_object self.now.master.0 self.now.file) rows.now place provider
             (if mark then Some block.now else None) }
         ensures few { (place : ℕ) → slice_index counts.new place ≤ provider + 1 }
     {
@@ -76,13 +77,15 @@ impl ObjectKeys {
     /// Counts, from zeros on, how many providers agree with each kept row of these primary symbols.
     fn count_all(&self, marks: &[bool; 16], blocks: &[Block], rows: &[Symbol], counts: &mut [u8])
         requires blocks { length blocks.now ≡ self.now.file.shape.n }
-        requires sizes { (j : ℕ) → j < length blocks.now → length (slice_index_or blocks.now j []) ≡ self.now.file.profile.size }
+        requires sizes { (j : ℕ) → j < length blocks.now
+            → length (slice_index_or blocks.now j []) ≡ self.now.file.profile.size }
         requires rows { length rows.now ≡ self.now.file.shape.l * self.now.file.profile.keep }
         requires counts { length counts.old ≡ self.now.file.profile.keep }
         requires zeros { (place : ℕ) → slice_index counts.old place ≡ 0 }
         ensures size { length counts.new ≡ self.now.file.profile.keep }
         ensures counts { (place : ℕ) → place < self.now.file.profile.keep → slice_index counts.new place
-            ≡ agreed (object_of self.now.master.0 self.now.file) rows.now marks.now blocks.now place self.now.file.shape.n }
+            ≡ agreed (shaped_object self.now.master.0 self.now.file) rows.now marks.now blocks.now place
+            self.now.file.shape.n }
     {
         for j in 0..blocks.len() {
             self.count_provider(rows, j, marks[j], blocks[j].symbols(), counts);
@@ -97,11 +100,13 @@ impl ObjectKeys {
         rows: &[Symbol],
     ) -> Option<usize>
         requires blocks { length blocks.now ≡ self.now.file.shape.n }
-        requires sizes { (j : ℕ) → j < length blocks.now → length (slice_index_or blocks.now j []) ≡ self.now.file.profile.size }
+        requires sizes { (j : ℕ) → j < length blocks.now
+            → length (slice_index_or blocks.now j []) ≡ self.now.file.profile.size }
         requires rows { length rows.now ≡ self.now.file.shape.l * self.now.file.profile.keep }
         ensures none { IfNone result ((place : ℕ) → place < self.now.file.profile.keep →
-            AcceptsRow (object_of self.now.master.0 self.now.file) (opened_of marks.now blocks.now self.now.file.shape.n) place
-            (row_polynomial (object_of self.now.master.0 self.now.file) rows.now place)) }
+            AcceptsRow (shaped_object self.now.master.0 self.now.file)
+            (opened_of marks.now blocks.now self.now.file.shape.n) place
+            (row_polynomial (shaped_object self.now.master.0 self.now.file) rows.now place)) }
         ensures some { IfSome result (λ place. place < self.now.file.profile.keep) }
     {
         let keep = self.file.profile.keep as usize;

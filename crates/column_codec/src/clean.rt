@@ -9,8 +9,8 @@ impl ObjectKeys {
     ghost use Rattle.std.specs.Prelude.{◌≡◌, ◌≤◌, ◌<◌, ◌*◌, ℕ, Some, None, [], length, slice_index_or};
     ghost use Rattle.std.specs.Bool.{OnTrue};
     ghost use Rattle.hail_columns.specs.Opened.{OpensTo, GivesSymbols};
-    ghost use Rattle.file_layout.specs.Files.{object_of};
-    ghost use Rattle.server_code.specs.Any.{profile_of};
+    ghost use Rattle.file_layout.specs.Files.{shaped_object};
+    ghost use Rattle.server_code.specs.Any.{code_profile};
     ghost use Rattle.column_codec.specs.OpenedBlocks.{AreOpened};
     ghost use Rattle.column_codec.specs.PresentBlocks.{present_blocks};
 
@@ -24,10 +24,11 @@ impl ObjectKeys {
         out: &mut [Symbol],
     ) -> bool
         requires provider { provider < self.now.file.shape.n }
-        requires code { profile_of code.now ≡ self.now.file.profile }
+        requires code { code_profile code.now ≡ self.now.file.profile }
         requires seen { length seen.now ≡ self.now.file.profile.size }
         requires out { length out.old ≡ self.now.file.profile.size }
-        ensures { OnTrue result (OpensTo (object_of self.now.master.0 self.now.file) provider stripe (Some seen.now) (Some out.new)) }
+        ensures { OnTrue result (OpensTo (shaped_object self.now.master.0 self.now.file) provider stripe
+            (Some seen.now) (Some out.new)) }
     {
         out.copy_from_slice(seen);
         self.take_masks_off(stripe, provider, out);
@@ -47,14 +48,16 @@ impl ObjectKeys {
         out: &mut [Symbol],
     ) -> bool
         requires provider { provider < self.now.file.shape.n }
-        requires code { profile_of code.now ≡ self.now.file.profile }
+        requires code { code_profile code.now ≡ self.now.file.profile }
         requires seen { length seen.now ≡ self.now.file.shape.n * self.now.file.profile.size }
         requires present { length present.now ≡ self.now.file.shape.n }
         requires out { length out.old ≡ self.now.file.profile.size }
-        requires mark { OnTrue mark (OpensTo (object_of self.now.master.0 self.now.file) provider stripe
-            (slice_index_or (present_blocks self.now.file.profile.size present.now seen.now) provider None) (Some out.old)) }
-        ensures { OnTrue result (OpensTo (object_of self.now.master.0 self.now.file) provider stripe
-            (slice_index_or (present_blocks self.now.file.profile.size present.now seen.now) provider None) (Some out.new)) }
+        requires mark { OnTrue mark (OpensTo (shaped_object self.now.master.0 self.now.file) provider stripe
+            (slice_index_or (present_blocks self.now.file.profile.size present.now seen.now) provider None)
+            (Some out.old)) }
+        ensures { OnTrue result (OpensTo (shaped_object self.now.master.0 self.now.file) provider stripe
+            (slice_index_or (present_blocks self.now.file.profile.size present.now seen.now) provider None)
+            (Some out.new)) }
     {
         if mark {
             return true;
@@ -80,15 +83,17 @@ impl ObjectKeys {
         marks: &mut [bool; 16],
         out: &mut [Block],
     ) -> u8
-        requires code { profile_of code.now ≡ self.now.file.profile }
+        requires code { code_profile code.now ≡ self.now.file.profile }
         requires seen { length seen.now ≡ self.now.file.shape.n * self.now.file.profile.size }
         requires present { length present.now ≡ self.now.file.shape.n }
         requires out { length out.old ≡ self.now.file.shape.n }
-        requires sizes { (j : ℕ) → j < length out.old → length (slice_index_or out.old j []) ≡ self.now.file.profile.size }
-        requires opened { AreOpened (object_of self.now.master.0 self.now.file) stripe
+        requires sizes { (j : ℕ) → j < length out.old
+            → length (slice_index_or out.old j []) ≡ self.now.file.profile.size }
+        requires opened { AreOpened (shaped_object self.now.master.0 self.now.file) stripe
             (present_blocks self.now.file.profile.size present.now seen.now) marks.old out.old }
-        ensures sizes { (j : ℕ) → j < length out.new → length (slice_index_or out.new j []) ≡ self.now.file.profile.size }
-        ensures opened { AreOpened (object_of self.now.master.0 self.now.file) stripe
+        ensures sizes { (j : ℕ) → j < length out.new
+            → length (slice_index_or out.new j []) ≡ self.now.file.profile.size }
+        ensures opened { AreOpened (shaped_object self.now.master.0 self.now.file) stripe
             (present_blocks self.now.file.profile.size present.now seen.now) marks.new out.new }
     {
         let mut count = 0;
@@ -126,19 +131,21 @@ impl ObjectKeys {
         scratch: &mut [Block],
         work: &mut Work,
     ) -> bool
-        requires code { profile_of code.now ≡ self.now.file.profile }
+        requires code { code_profile code.now ≡ self.now.file.profile }
         requires seen { length seen.now ≡ self.now.file.shape.n * self.now.file.profile.size }
         requires present { length present.now ≡ self.now.file.shape.n }
         requires rows { length rows.old ≡ self.now.file.shape.l * self.now.file.profile.keep }
         requires scratch { length scratch.old ≡ self.now.file.shape.n }
-        requires sizes { (j : ℕ) → j < length scratch.old → length (slice_index_or scratch.old j []) ≡ self.now.file.profile.size }
-        requires opened { AreOpened (object_of self.now.master.0 self.now.file) stripe
+        requires sizes { (j : ℕ) → j < length scratch.old
+            → length (slice_index_or scratch.old j []) ≡ self.now.file.profile.size }
+        requires opened { AreOpened (shaped_object self.now.master.0 self.now.file) stripe
             (present_blocks self.now.file.profile.size present.now seen.now) marks.old scratch.old }
         requires room { 16 ≤ work.old.size }
-        ensures given { OnTrue result (GivesSymbols (object_of self.now.master.0 self.now.file) stripe
+        ensures given { OnTrue result (GivesSymbols (shaped_object self.now.master.0 self.now.file) stripe
             (present_blocks self.now.file.profile.size present.now seen.now) rows.new) }
-        ensures sizes { (j : ℕ) → j < length scratch.new → length (slice_index_or scratch.new j []) ≡ self.now.file.profile.size }
-        ensures opened { AreOpened (object_of self.now.master.0 self.now.file) stripe
+        ensures sizes { (j : ℕ) → j < length scratch.new
+            → length (slice_index_or scratch.new j []) ≡ self.now.file.profile.size }
+        ensures opened { AreOpened (shaped_object self.now.master.0 self.now.file) stripe
             (present_blocks self.now.file.profile.size present.now seen.now) marks.new scratch.new }
         ensures room { work.new.size ≡ work.old.size }
     {
@@ -163,16 +170,18 @@ impl ObjectKeys {
         scratch: &mut [Block],
         work: &mut Work,
     ) -> bool
-        requires code { profile_of code.now ≡ self.now.file.profile }
+        requires code { code_profile code.now ≡ self.now.file.profile }
         requires seen { length seen.now ≡ self.now.file.shape.n * self.now.file.profile.size }
         requires present { length present.now ≡ self.now.file.shape.n }
         requires rows { length rows.old ≡ self.now.file.shape.l * self.now.file.profile.keep }
         requires scratch { length scratch.old ≡ self.now.file.shape.n }
-        requires sizes { (j : ℕ) → j < length scratch.old → length (slice_index_or scratch.old j []) ≡ self.now.file.profile.size }
+        requires sizes { (j : ℕ) → j < length scratch.old
+            → length (slice_index_or scratch.old j []) ≡ self.now.file.profile.size }
         requires room { 16 ≤ work.old.size }
-        ensures given { OnTrue result (GivesSymbols (object_of self.now.master.0 self.now.file) stripe
+        ensures given { OnTrue result (GivesSymbols (shaped_object self.now.master.0 self.now.file) stripe
             (present_blocks self.now.file.profile.size present.now seen.now) rows.new) }
-        ensures sizes { (j : ℕ) → j < length scratch.new → length (slice_index_or scratch.new j []) ≡ self.now.file.profile.size }
+        ensures sizes { (j : ℕ) → j < length scratch.new
+            → length (slice_index_or scratch.new j []) ≡ self.now.file.profile.size }
         ensures room { work.new.size ≡ work.old.size }
     {
         let shape = self.file.shape;

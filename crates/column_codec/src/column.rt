@@ -8,14 +8,15 @@ impl ObjectKeys {
     ghost use Rattle.std.specs.Prelude.{◌≡◌, ◌≤◌, ◌<◌, ◌*◌, length};
     ghost use Rattle.hail_columns.specs.Columns.{column_of_symbols};
     ghost use Rattle.hail_columns.specs.Opened.{masked};
-    ghost use Rattle.file_layout.specs.Files.{object_of};
-    ghost use Rattle.server_code.specs.Any.{profile_of};
+    ghost use Rattle.file_layout.specs.Files.{shaped_object};
+    ghost use Rattle.server_code.specs.Any.{code_profile};
 
     /// Adds a provider's masks to a block of a stripe, which also takes them off.
     pub fn add_masks(&self, stripe: u32, provider: usize, block: &mut [Symbol])
         requires provider { provider < self.now.file.shape.n }
         requires block { length block.old ≤ 128 }
-        ensures { block.new ≡ masked (object_of self.now.master.0 self.now.file) provider (stripe * length block.old) block.old }
+        ensures { block.new ≡ masked (shaped_object self.now.master.0 self.now.file) provider
+            (stripe * length block.old) block.old }
     {
         let mut masks = [Symbol::ZERO; 128];
         let size = block.len();
@@ -34,9 +35,10 @@ impl ObjectKeys {
     )
         requires provider { provider < self.now.file.shape.l }
         requires symbols { length symbols.now ≡ self.now.file.shape.l * self.now.file.profile.keep }
-        requires code { profile_of code.now ≡ self.now.file.profile }
+        requires code { code_profile code.now ≡ self.now.file.profile }
         requires out { length out.old ≡ self.now.file.profile.size }
-        ensures { out.new ≡ column_of_symbols (object_of self.now.master.0 self.now.file) symbols.now provider stripe }
+        ensures { out.new ≡ column_of_symbols (shaped_object self.now.master.0 self.now.file) symbols.now
+            provider stripe }
     {
         let _ = stripe;
         let keep = self.file.profile.keep as usize;
@@ -56,9 +58,10 @@ impl ObjectKeys {
         requires secondary { self.now.file.shape.l ≤ provider }
         requires provider { provider < self.now.file.shape.n }
         requires symbols { length symbols.now ≡ self.now.file.shape.l * self.now.file.profile.keep }
-        requires code { profile_of code.now ≡ self.now.file.profile }
+        requires code { code_profile code.now ≡ self.now.file.profile }
         requires out { length out.old ≡ self.now.file.profile.size }
-        ensures { out.new ≡ column_of_symbols (object_of self.now.master.0 self.now.file) symbols.now provider stripe }
+        ensures { out.new ≡ column_of_symbols (shaped_object self.now.master.0 self.now.file) symbols.now
+            provider stripe }
     {
         let keep = self.file.profile.keep as usize;
         let mut buffer = [Symbol::ZERO; 96];
@@ -79,9 +82,10 @@ impl ObjectKeys {
     )
         requires provider { provider < self.now.file.shape.n }
         requires symbols { length symbols.now ≡ self.now.file.shape.l * self.now.file.profile.keep }
-        requires code { profile_of code.now ≡ self.now.file.profile }
+        requires code { code_profile code.now ≡ self.now.file.profile }
         requires out { length out.old ≡ self.now.file.profile.size }
-        ensures { out.new ≡ column_of_symbols (object_of self.now.master.0 self.now.file) symbols.now provider stripe }
+        ensures { out.new ≡ column_of_symbols (shaped_object self.now.master.0 self.now.file) symbols.now
+            provider stripe }
     {
         if provider < usize::from(self.file.shape.l) {
             self.primary_column(code, stripe, symbols, provider, out);

@@ -2,8 +2,8 @@ ghost use Rattle.std.specs.Prelude.{◌≡◌, ◌≤◌, ◌<◌, ◌*◌, All,
 ghost use Rattle.hail_codes.specs.Points.{upto};
 ghost use Rattle.hail_columns.specs.Objects.{symbols_in};
 ghost use Rattle.hail_columns.specs.Columns.{columns, column_of_symbols};
-ghost use Rattle.file_layout.specs.Files.{object_of};
-ghost use Rattle.server_code.specs.Any.{profile_of};
+ghost use Rattle.file_layout.specs.Files.{shaped_object};
+ghost use Rattle.server_code.specs.Any.{code_profile};
 
 use crate::block::Block;
 use crate::gather::stripe_symbols_into;
@@ -19,7 +19,7 @@ impl ObjectKeys {
     #[tactic(auto, using(crate::proofs::Places::stripe_small, crate::proofs::RowLemmas::profile_small))]
     pub fn symbols_into(&self, stripe: u32, bytes: &[u8], rows: &mut [Symbol])
         requires { length rows.old ≡ self.now.file.shape.l * self.now.file.profile.keep }
-        ensures { rows.new ≡ symbols_in (object_of self.now.master.0 self.now.file) bytes.now stripe }
+        ensures { rows.new ≡ symbols_in (shaped_object self.now.master.0 self.now.file) bytes.now stripe }
     {
         stripe_symbols_into(&self.file, stripe, bytes, rows);
     }
@@ -27,10 +27,11 @@ impl ObjectKeys {
     /// Fills each provider's block of a stripe with these symbols.
     fn columns_into(&self, code: &AnyCode, stripe: u32, symbols: &[Symbol], out: &mut [Block])
         requires symbols { length symbols.now ≡ self.now.file.shape.l * self.now.file.profile.keep }
-        requires code { profile_of code.now ≡ self.now.file.profile }
+        requires code { code_profile code.now ≡ self.now.file.profile }
         requires out { length out.old ≡ self.now.file.shape.n }
         requires blocks { All (λ block. length block ≡ self.now.file.profile.size) out.old }
-        ensures { out.new ≡ map (λ j. column_of_symbols (object_of self.now.master.0 self.now.file) symbols.now j stripe)
+        ensures { out.new ≡ map (λ j. column_of_symbols (shaped_object self.now.master.0 self.now.file)
+            symbols.now j stripe)
             (upto self.now.file.shape.n) }
     {
         for j in 0..out.len() {
@@ -43,10 +44,11 @@ impl ObjectKeys {
     /// the next stripe can be made in them.
     #[tactic(auto, using(crate::proofs::Places::stripe_small, crate::proofs::RowLemmas::profile_small))]
     pub fn encode_stripe(&self, code: &AnyCode, stripe: u32, bytes: &[u8], out: &mut [Block])
-        requires code { profile_of code.now ≡ self.now.file.profile }
+        requires code { code_profile code.now ≡ self.now.file.profile }
         requires out { length out.old ≡ self.now.file.shape.n }
         requires blocks { All (λ block. length block ≡ self.now.file.profile.size) out.old }
-        ensures blocks { out.new ≡ map (λ j. columns (object_of self.now.master.0 self.now.file) bytes.now j stripe)
+        ensures blocks { out.new ≡ map (λ j. columns (shaped_object self.now.master.0 self.now.file)
+            bytes.now j stripe)
             (upto self.now.file.shape.n) }
         ensures sizes { All (λ block. length block ≡ self.now.file.profile.size) out.new }
     {
@@ -69,11 +71,12 @@ pub fn encode_stripe(
     out: &mut [Block],
     work: &mut Work,
 )
-    requires code { profile_of code.now ≡ file.now.profile }
+    requires code { code_profile code.now ≡ file.now.profile }
     requires out { length out.old ≡ file.now.shape.n }
     requires blocks { All (λ block. length block ≡ file.now.profile.size) out.old }
     requires room { 16 ≤ work.old.size }
-    ensures blocks { out.new ≡ map (λ j. columns (object_of master.now.0 file.now) bytes.now j stripe) (upto file.now.shape.n) }
+    ensures blocks { out.new ≡ map (λ j. columns (shaped_object master.now.0 file.now) bytes.now j stripe)
+        (upto file.now.shape.n) }
     ensures sizes { All (λ block. length block ≡ file.now.profile.size) out.new }
     ensures room { work.new.size ≡ work.old.size }
 {
@@ -94,12 +97,13 @@ pub fn column_block(
     scratch: &mut [Block],
     work: &mut Work,
 )
-    requires code { profile_of code.now ≡ file.now.profile }
+    requires code { code_profile code.now ≡ file.now.profile }
     requires rows { length rows.now ≡ file.now.shape.l * file.now.profile.keep }
     requires provider { provider < file.now.shape.n }
     requires out { length out.old ≡ file.now.profile.size }
     requires room { 16 ≤ work.old.size }
-    ensures block { out.new ≡ column_of_symbols (object_of master.now.0 file.now) rows.now provider stripe }
+    ensures block { out.new ≡ column_of_symbols (shaped_object master.now.0 file.now) rows.now provider
+        stripe }
     ensures scratch { scratch.new ≡ scratch.old }
     ensures room { work.new.size ≡ work.old.size }
 {

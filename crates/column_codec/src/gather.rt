@@ -1,7 +1,7 @@
 ghost use Rattle.std.specs.Prelude.{◌≡◌, ◌≤◌, ◌<◌, ◌*◌, ℕ, List, length, slice_index, replicate};
 ghost use Rattle.hail_field.specs.Nim.{nim_add};
 ghost use Rattle.hail_columns.specs.Objects.{symbols_in};
-ghost use Rattle.file_layout.specs.Files.{object_of};
+ghost use Rattle.file_layout.specs.Files.{shaped_object};
 
 use file_layout::FileShape;
 use hail_field::Symbol;
@@ -11,7 +11,7 @@ use hail_field::Symbol;
 pub fn stripe_symbols_into(file: &FileShape, stripe: u32, bytes: &[u8], out: &mut [Symbol])
     requires fits { length out.old ≡ file.now.shape.l * file.now.profile.keep }
     requires few { length out.old ≤ 2048 }
-    ensures { (master : List ℕ) → out.new ≡ symbols_in (object_of master file.now) bytes.now stripe }
+    ensures { (master : List ℕ) → out.new ≡ symbols_in (shaped_object master file.now) bytes.now stripe }
 {
     let first = u64::from(stripe) * out.len() as u64;
     for i in 0..out.len() {

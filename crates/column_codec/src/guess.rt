@@ -72,7 +72,8 @@ impl ObjectKeys {
     /// Copies what trusted primary providers hold of the kept rows, and leaves zeros for the others.
     fn copy_trusted(&self, trusted: &[bool; 16], blocks: &[Block], rows: &mut [Symbol])
         requires blocks { length blocks.now ≡ self.now.file.shape.n }
-        requires sizes { (j : ℕ) → j < length blocks.now → length (slice_index_or blocks.now j []) ≡ self.now.file.profile.size }
+        requires sizes { (j : ℕ) → j < length blocks.now
+            → length (slice_index_or blocks.now j []) ≡ self.now.file.profile.size }
         requires rows { length rows.old ≡ self.now.file.shape.l * self.now.file.profile.keep }
     {
         let keep = self.file.profile.keep as usize;
@@ -89,7 +90,8 @@ impl ObjectKeys {
     /// What a secondary provider holds of the kept rows beyond their values by `rows` at its point.
     fn residue(&self, blocks: &[Block], provider: usize, rows: &[Symbol], out: &mut [Symbol; 96])
         requires blocks { length blocks.now ≡ self.now.file.shape.n }
-        requires sizes { (j : ℕ) → j < length blocks.now → length (slice_index_or blocks.now j []) ≡ self.now.file.profile.size }
+        requires sizes { (j : ℕ) → j < length blocks.now
+            → length (slice_index_or blocks.now j []) ≡ self.now.file.profile.size }
         requires secondary { self.now.file.shape.l ≤ provider }
         requires provider { provider < self.now.file.shape.n }
         requires rows { length rows.now ≡ self.now.file.shape.l * self.now.file.profile.keep }
@@ -158,7 +160,8 @@ impl ObjectKeys {
         requires lacking { lacking ≤ 8 }
         requires end { end ≤ 16 }
         requires blocks { length blocks.now ≡ self.now.file.shape.n }
-        requires sizes { (j : ℕ) → j < length blocks.now → length (slice_index_or blocks.now j []) ≡ self.now.file.profile.size }
+        requires sizes { (j : ℕ) → j < length blocks.now
+            → length (slice_index_or blocks.now j []) ≡ self.now.file.profile.size }
         requires rows { length rows.old ≡ self.now.file.shape.l * self.now.file.profile.keep }
     {
         let (l, n) = (
@@ -178,7 +181,8 @@ impl ObjectKeys {
     /// place of those that are not trusted what follows from as many trusted secondary ones. False where these are too few.
     pub(crate) fn guess(&self, trusted: &[bool; 16], blocks: &[Block], rows: &mut [Symbol]) -> bool
         requires blocks { length blocks.now ≡ self.now.file.shape.n }
-        requires sizes { (j : ℕ) → j < length blocks.now → length (slice_index_or blocks.now j []) ≡ self.now.file.profile.size }
+        requires sizes { (j : ℕ) → j < length blocks.now
+            → length (slice_index_or blocks.now j []) ≡ self.now.file.profile.size }
         requires rows { length rows.old ≡ self.now.file.shape.l * self.now.file.profile.keep }
     {
         let (l, n) = (

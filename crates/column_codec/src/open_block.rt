@@ -8,14 +8,14 @@ impl ObjectKeys {
     ghost use Rattle.std.specs.Prelude.{◌≡◌, ◌≤◌, ◌<◌, ◌*◌, Some, None, length};
     ghost use Rattle.std.specs.Bool.{OnTrue, OnFalse};
     ghost use Rattle.hail_columns.specs.Opened.{bare, OpensTo};
-    ghost use Rattle.file_layout.specs.Files.{object_of};
-    ghost use Rattle.server_code.specs.Any.{profile_of};
+    ghost use Rattle.file_layout.specs.Files.{shaped_object};
+    ghost use Rattle.server_code.specs.Any.{code_profile};
 
     /// Takes a provider's masks off a block of a stripe, which a primary one has none of.
     pub(crate) fn take_masks_off(&self, stripe: u32, provider: usize, block: &mut [Symbol])
         requires provider { provider < self.now.file.shape.n }
         requires block { length block.old ≡ self.now.file.profile.size }
-        ensures { block.new ≡ bare (object_of self.now.master.0 self.now.file) provider stripe block.old }
+        ensures { block.new ≡ bare (shaped_object self.now.master.0 self.now.file) provider stripe block.old }
     {
         if provider >= usize::from(self.file.shape.l) {
             self.add_masks(stripe, provider, block);
@@ -33,12 +33,14 @@ impl ObjectKeys {
         work: &mut Work,
     ) -> bool
         requires provider { provider < self.now.file.shape.n }
-        requires code { profile_of code.now ≡ self.now.file.profile }
+        requires code { code_profile code.now ≡ self.now.file.profile }
         requires seen { length seen.now ≡ self.now.file.profile.size }
         requires out { length out.old ≡ self.now.file.profile.size }
         requires room { 128 ≤ work.old.size }
-        ensures yes { OnTrue result (OpensTo (object_of self.now.master.0 self.now.file) provider stripe (Some seen.now) (Some out.new)) }
-        ensures no { OnFalse result (OpensTo (object_of self.now.master.0 self.now.file) provider stripe (Some seen.now) None) }
+        ensures yes { OnTrue result (OpensTo (shaped_object self.now.master.0 self.now.file) provider stripe
+            (Some seen.now) (Some out.new)) }
+        ensures no { OnFalse result (OpensTo (shaped_object self.now.master.0 self.now.file) provider stripe
+            (Some seen.now) None) }
         ensures room { work.new.size ≡ work.old.size }
     {
         out.copy_from_slice(seen);
@@ -60,11 +62,13 @@ impl ObjectKeys {
         work: &mut Work,
     ) -> bool
         requires provider { provider < self.now.file.shape.n }
-        requires code { profile_of code.now ≡ self.now.file.profile }
+        requires code { code_profile code.now ≡ self.now.file.profile }
         requires out { length out.old ≡ self.now.file.profile.size }
         requires room { 128 ≤ work.old.size }
-        ensures yes { OnTrue result (OpensTo (object_of self.now.master.0 self.now.file) provider stripe (Some seen.now) (Some out.new)) }
-        ensures no { OnFalse result (OpensTo (object_of self.now.master.0 self.now.file) provider stripe (Some seen.now) None) }
+        ensures yes { OnTrue result (OpensTo (shaped_object self.now.master.0 self.now.file) provider stripe
+            (Some seen.now) (Some out.new)) }
+        ensures no { OnFalse result (OpensTo (shaped_object self.now.master.0 self.now.file) provider stripe
+            (Some seen.now) None) }
         ensures room { work.new.size ≡ work.old.size }
     {
         if seen.len() == out.len() {
@@ -85,11 +89,13 @@ impl ObjectKeys {
         work: &mut Work,
     ) -> bool
         requires provider { provider < self.now.file.shape.n }
-        requires code { profile_of code.now ≡ self.now.file.profile }
+        requires code { code_profile code.now ≡ self.now.file.profile }
         requires out { length out.old ≡ self.now.file.profile.size }
         requires room { 128 ≤ work.old.size }
-        ensures yes { OnTrue result (OpensTo (object_of self.now.master.0 self.now.file) provider stripe seen.now (Some out.new)) }
-        ensures no { OnFalse result (OpensTo (object_of self.now.master.0 self.now.file) provider stripe seen.now None) }
+        ensures yes { OnTrue result (OpensTo (shaped_object self.now.master.0 self.now.file) provider stripe
+            seen.now (Some out.new)) }
+        ensures no { OnFalse result (OpensTo (shaped_object self.now.master.0 self.now.file) provider stripe
+            seen.now None) }
         ensures room { work.new.size ≡ work.old.size }
     {
         match seen {

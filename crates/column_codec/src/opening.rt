@@ -3,8 +3,8 @@ ghost use Rattle.std.specs.Bool.{OnTrue, OnFalse};
 ghost use Rattle.hail_codes.specs.Polynomials.{value};
 ghost use Rattle.hail_codes.specs.Points.{upto};
 ghost use Rattle.hail_columns.specs.Opened.{AllOpen, AcceptsRow, AcceptsNoRow, GivesSymbols, LosesRow, symbol_in};
-ghost use Rattle.file_layout.specs.Files.{object_of};
-ghost use Rattle.server_code.specs.Any.{profile_of};
+ghost use Rattle.file_layout.specs.Files.{shaped_object};
+ghost use Rattle.server_code.specs.Any.{code_profile};
 ghost use Rattle.column_codec.specs.OpenedBlocks.{opened_at, opened_of, HasRow, LosesPlace};
 
 use crate::block::Block;
@@ -35,7 +35,8 @@ fn seen_row(marks: &[bool; 16], blocks: &[Block], place: usize, out: &mut [Optio
     requires few { length blocks.now ≤ 16 }
     requires fits { length out.old ≡ length blocks.now }
     requires place { (j : ℕ) → j < length blocks.now → place < length (slice_index_or blocks.now j []) }
-    ensures { out.new ≡ map (λ j. symbol_in place (opened_at marks.now blocks.now j)) (upto (length out.old)) }
+    ensures { out.new ≡ map (λ j. symbol_in place (opened_at marks.now blocks.now j))
+        (upto (length out.old)) }
 {
     for j in 0..out.len() {
         out[j] = marked_symbol(marks[j], &blocks[j], place);
@@ -80,13 +81,15 @@ impl ObjectKeys {
         out: &mut [Block],
         work: &mut Work,
     ) -> [bool; 16]
-        requires code { profile_of code.now ≡ self.now.file.profile }
+        requires code { code_profile code.now ≡ self.now.file.profile }
         requires seen { length seen.now ≡ self.now.file.shape.n }
         requires out { length out.old ≡ self.now.file.shape.n }
         requires blocks { All (λ block. length block ≡ self.now.file.profile.size) out.old }
         requires room { 128 ≤ work.old.size }
-        ensures opens { AllOpen (object_of self.now.master.0 self.now.file) stripe 0 seen.now (opened_of result out.new self.now.file.shape.n) }
-        ensures sizes { (j : ℕ) → j < length out.new → length (slice_index_or out.new j []) ≡ self.now.file.profile.size }
+        ensures opens { AllOpen (shaped_object self.now.master.0 self.now.file) stripe 0 seen.now
+            (opened_of result out.new self.now.file.shape.n) }
+        ensures sizes { (j : ℕ) → j < length out.new
+            → length (slice_index_or out.new j []) ≡ self.now.file.profile.size }
         ensures room { work.new.size ≡ work.old.size }
     {
         let mut marks = [false; 16];
@@ -108,9 +111,9 @@ impl ObjectKeys {
         requires blocks { length blocks.now ≡ self.now.file.shape.n }
         requires place { (j : ℕ) → j < length blocks.now → place < length (slice_index_or blocks.now j []) }
         requires room { 16 ≤ work.old.size }
-        ensures yes { OnTrue result (AcceptsRow (object_of self.now.master.0 self.now.file)
+        ensures yes { OnTrue result (AcceptsRow (shaped_object self.now.master.0 self.now.file)
             (opened_of marks.now blocks.now self.now.file.shape.n) place work.new.rest) }
-        ensures no { OnFalse result (AcceptsNoRow (object_of self.now.master.0 self.now.file)
+        ensures no { OnFalse result (AcceptsNoRow (shaped_object self.now.master.0 self.now.file)
             (opened_of marks.now blocks.now self.now.file.shape.n) place) }
         ensures room { work.new.size ≡ work.old.size }
     {
@@ -163,11 +166,13 @@ impl ObjectKeys {
         work: &mut Work,
     ) -> bool
         requires blocks { length blocks.now ≡ self.now.file.shape.n }
-        requires sizes { (j : ℕ) → j < length blocks.now → length (slice_index_or blocks.now j []) ≡ self.now.file.profile.size }
+        requires sizes { (j : ℕ) → j < length blocks.now
+            → length (slice_index_or blocks.now j []) ≡ self.now.file.profile.size }
         requires rows { length rows.old ≡ self.now.file.shape.l * self.now.file.profile.keep }
         requires room { 16 ≤ work.old.size }
         ensures carried { OnTrue result ((place : ℕ) → place < self.now.file.profile.keep →
-            HasRow (object_of self.now.master.0 self.now.file) (opened_of marks.now blocks.now self.now.file.shape.n) place rows.new) }
+            HasRow (shaped_object self.now.master.0 self.now.file)
+            (opened_of marks.now blocks.now self.now.file.shape.n) place rows.new) }
         ensures room { work.new.size ≡ work.old.size }
     {
         let mut liars = [false; 16];
@@ -200,12 +205,14 @@ impl ObjectKeys {
         work: &mut Work,
     ) -> Result<(), RowLost>
         requires blocks { length blocks.now ≡ self.now.file.shape.n }
-        requires sizes { (j : ℕ) → j < length blocks.now → length (slice_index_or blocks.now j []) ≡ self.now.file.profile.size }
+        requires sizes { (j : ℕ) → j < length blocks.now
+            → length (slice_index_or blocks.now j []) ≡ self.now.file.profile.size }
         requires rows { length rows.old ≡ self.now.file.shape.l * self.now.file.profile.keep }
         requires room { 16 ≤ work.old.size }
         ensures ok { OnOk result ((place : ℕ) → place < self.now.file.profile.keep →
-            HasRow (object_of self.now.master.0 self.now.file) (opened_of marks.now blocks.now self.now.file.shape.n) place rows.new) }
-        ensures err { IfErr result (λ lost. LosesPlace (object_of self.now.master.0 self.now.file)
+            HasRow (shaped_object self.now.master.0 self.now.file)
+            (opened_of marks.now blocks.now self.now.file.shape.n) place rows.new) }
+        ensures err { IfErr result (λ lost. LosesPlace (shaped_object self.now.master.0 self.now.file)
             (opened_of marks.now blocks.now self.now.file.shape.n) stripe lost.row) }
         ensures zeros { OnErr result (rows.new ≡ replicate (length rows.old) 0) }
         ensures room { work.new.size ≡ work.old.size }
@@ -234,12 +241,14 @@ impl ObjectKeys {
         work: &mut Work,
     ) -> Result<(), RowLost>
         requires blocks { length blocks.now ≡ self.now.file.shape.n }
-        requires sizes { (j : ℕ) → j < length blocks.now → length (slice_index_or blocks.now j []) ≡ self.now.file.profile.size }
+        requires sizes { (j : ℕ) → j < length blocks.now
+            → length (slice_index_or blocks.now j []) ≡ self.now.file.profile.size }
         requires rows { length rows.old ≡ self.now.file.shape.l * self.now.file.profile.keep }
         requires room { 16 ≤ work.old.size }
         ensures ok { OnOk result ((place : ℕ) → place < self.now.file.profile.keep →
-            HasRow (object_of self.now.master.0 self.now.file) (opened_of marks.now blocks.now self.now.file.shape.n) place rows.new) }
-        ensures err { IfErr result (λ lost. LosesPlace (object_of self.now.master.0 self.now.file)
+            HasRow (shaped_object self.now.master.0 self.now.file)
+            (opened_of marks.now blocks.now self.now.file.shape.n) place rows.new) }
+        ensures err { IfErr result (λ lost. LosesPlace (shaped_object self.now.master.0 self.now.file)
             (opened_of marks.now blocks.now self.now.file.shape.n) stripe lost.row) }
         ensures zeros { OnErr result (rows.new ≡ replicate (length rows.old) 0) }
         ensures room { work.new.size ≡ work.old.size }
@@ -262,14 +271,16 @@ impl ObjectKeys {
         scratch: &mut [Block],
         work: &mut Work,
     ) -> Result<(), RowLost>
-        requires code { profile_of code.now ≡ self.now.file.profile }
+        requires code { code_profile code.now ≡ self.now.file.profile }
         requires seen { length seen.now ≡ self.now.file.shape.n }
         requires rows { length rows.old ≡ self.now.file.shape.l * self.now.file.profile.keep }
         requires scratch { length scratch.old ≡ self.now.file.shape.n }
         requires blocks { All (λ block. length block ≡ self.now.file.profile.size) scratch.old }
         requires room { 128 ≤ work.old.size }
-        ensures ok { OnOk result (GivesSymbols (object_of self.now.master.0 self.now.file) stripe seen.now rows.new) }
-        ensures lost { IfErr result (λ lost. LosesRow (object_of self.now.master.0 self.now.file) stripe seen.now lost.row) }
+        ensures ok { OnOk result (GivesSymbols (shaped_object self.now.master.0 self.now.file) stripe
+            seen.now rows.new) }
+        ensures lost { IfErr result (λ lost. LosesRow (shaped_object self.now.master.0 self.now.file) stripe
+            seen.now lost.row) }
         ensures zeros { OnErr result (rows.new ≡ replicate (length rows.old) 0) }
         ensures blocks { All (λ block. length block ≡ self.now.file.profile.size) scratch.new }
         ensures room { work.new.size ≡ work.old.size }
@@ -293,14 +304,15 @@ pub fn open_stripe(
     scratch: &mut [Block],
     work: &mut Work,
 ) -> Result<(), RowLost>
-    requires code { profile_of code.now ≡ file.now.profile }
+    requires code { code_profile code.now ≡ file.now.profile }
     requires seen { length seen.now ≡ file.now.shape.n }
     requires rows { length rows.old ≡ file.now.shape.l * file.now.profile.keep }
     requires scratch { length scratch.old ≡ file.now.shape.n }
     requires blocks { All (λ block. length block ≡ file.now.profile.size) scratch.old }
     requires room { 128 ≤ work.old.size }
-    ensures ok { OnOk result (GivesSymbols (object_of master.now.0 file.now) stripe seen.now rows.new) }
-    ensures lost { IfErr result (λ lost. LosesRow (object_of master.now.0 file.now) stripe seen.now lost.row) }
+    ensures ok { OnOk result (GivesSymbols (shaped_object master.now.0 file.now) stripe seen.now rows.new) }
+    ensures lost { IfErr result (λ lost. LosesRow (shaped_object master.now.0 file.now) stripe seen.now
+        lost.row) }
     ensures zeros { OnErr result (rows.new ≡ replicate (length rows.old) 0) }
     ensures blocks { All (λ block. length block ≡ file.now.profile.size) scratch.new }
     ensures room { work.new.size ≡ work.old.size }

@@ -10,8 +10,8 @@ impl ObjectKeys {
     ghost use Rattle.std.specs.Prelude.{◌≡◌, ◌≤◌, ◌<◌, ◌*◌, ℕ, [], None, length, All, replicate, slice_index_or, OnOk, OnErr, IfErr};
     ghost use Rattle.std.specs.Bool.{OnTrue, OnFalse};
     ghost use Rattle.hail_columns.specs.Opened.{AllOpen, OpensTo, GivesSymbols, LosesRow};
-    ghost use Rattle.file_layout.specs.Files.{object_of};
-    ghost use Rattle.server_code.specs.Any.{profile_of};
+    ghost use Rattle.file_layout.specs.Files.{shaped_object};
+    ghost use Rattle.server_code.specs.Any.{code_profile};
     ghost use Rattle.column_codec.specs.OpenedBlocks.{opened_of};
     ghost use Rattle.column_codec.specs.PresentBlocks.{present_blocks};
 
@@ -27,15 +27,17 @@ impl ObjectKeys {
         work: &mut Work,
     ) -> bool
         requires provider { provider < self.now.file.shape.n }
-        requires code { profile_of code.now ≡ self.now.file.profile }
+        requires code { code_profile code.now ≡ self.now.file.profile }
         requires seen { length seen.now ≡ self.now.file.shape.n * self.now.file.profile.size }
         requires present { length present.now ≡ self.now.file.shape.n }
         requires out { length out.old ≡ self.now.file.profile.size }
         requires room { 128 ≤ work.old.size }
-        ensures yes { OnTrue result (OpensTo (object_of self.now.master.0 self.now.file) provider stripe
-            (slice_index_or (present_blocks self.now.file.profile.size present.now seen.now) provider None) (Some out.new)) }
-        ensures no { OnFalse result (OpensTo (object_of self.now.master.0 self.now.file) provider stripe
-            (slice_index_or (present_blocks self.now.file.profile.size present.now seen.now) provider None) None) }
+        ensures yes { OnTrue result (OpensTo (shaped_object self.now.master.0 self.now.file) provider stripe
+            (slice_index_or (present_blocks self.now.file.profile.size present.now seen.now) provider None)
+            (Some out.new)) }
+        ensures no { OnFalse result (OpensTo (shaped_object self.now.master.0 self.now.file) provider stripe
+            (slice_index_or (present_blocks self.now.file.profile.size present.now seen.now) provider None)
+            None) }
         ensures room { work.new.size ≡ work.old.size }
     {
         if !present[provider] {
@@ -63,15 +65,17 @@ impl ObjectKeys {
         out: &mut [Block],
         work: &mut Work,
     ) -> [bool; 16]
-        requires code { profile_of code.now ≡ self.now.file.profile }
+        requires code { code_profile code.now ≡ self.now.file.profile }
         requires seen { length seen.now ≡ self.now.file.shape.n * self.now.file.profile.size }
         requires present { length present.now ≡ self.now.file.shape.n }
         requires out { length out.old ≡ self.now.file.shape.n }
         requires blocks { All (λ block. length block ≡ self.now.file.profile.size) out.old }
         requires room { 128 ≤ work.old.size }
-        ensures opens { AllOpen (object_of self.now.master.0 self.now.file) stripe 0
-            (present_blocks self.now.file.profile.size present.now seen.now) (opened_of result out.new self.now.file.shape.n) }
-        ensures sizes { (j : ℕ) → j < length out.new → length (slice_index_or out.new j []) ≡ self.now.file.profile.size }
+        ensures opens { AllOpen (shaped_object self.now.master.0 self.now.file) stripe 0
+            (present_blocks self.now.file.profile.size present.now seen.now)
+            (opened_of result out.new self.now.file.shape.n) }
+        ensures sizes { (j : ℕ) → j < length out.new
+            → length (slice_index_or out.new j []) ≡ self.now.file.profile.size }
         ensures room { work.new.size ≡ work.old.size }
     {
         let mut marks = [false; 16];
@@ -102,16 +106,16 @@ impl ObjectKeys {
         scratch: &mut [Block],
         work: &mut Work,
     ) -> Result<(), RowLost>
-        requires code { profile_of code.now ≡ self.now.file.profile }
+        requires code { code_profile code.now ≡ self.now.file.profile }
         requires seen { length seen.now ≡ self.now.file.shape.n * self.now.file.profile.size }
         requires present { length present.now ≡ self.now.file.shape.n }
         requires rows { length rows.old ≡ self.now.file.shape.l * self.now.file.profile.keep }
         requires scratch { length scratch.old ≡ self.now.file.shape.n }
         requires blocks { All (λ block. length block ≡ self.now.file.profile.size) scratch.old }
         requires room { 128 ≤ work.old.size }
-        ensures ok { OnOk result (GivesSymbols (object_of self.now.master.0 self.now.file) stripe
+        ensures ok { OnOk result (GivesSymbols (shaped_object self.now.master.0 self.now.file) stripe
             (present_blocks self.now.file.profile.size present.now seen.now) rows.new) }
-        ensures lost { IfErr result (λ lost. LosesRow (object_of self.now.master.0 self.now.file) stripe
+        ensures lost { IfErr result (λ lost. LosesRow (shaped_object self.now.master.0 self.now.file) stripe
             (present_blocks self.now.file.profile.size present.now seen.now) lost.row) }
         ensures zeros { OnErr result (rows.new ≡ replicate (length rows.old) 0) }
         ensures blocks { All (λ block. length block ≡ self.now.file.profile.size) scratch.new }
@@ -141,16 +145,16 @@ impl ObjectKeys {
         scratch: &mut [Block],
         work: &mut Work,
     ) -> Result<(), RowLost>
-        requires code { profile_of code.now ≡ self.now.file.profile }
+        requires code { code_profile code.now ≡ self.now.file.profile }
         requires seen { length seen.now ≡ self.now.file.shape.n * self.now.file.profile.size }
         requires present { length present.now ≡ self.now.file.shape.n }
         requires rows { length rows.old ≡ self.now.file.shape.l * self.now.file.profile.keep }
         requires scratch { length scratch.old ≡ self.now.file.shape.n }
         requires blocks { All (λ block. length block ≡ self.now.file.profile.size) scratch.old }
         requires room { 128 ≤ work.old.size }
-        ensures ok { OnOk result (GivesSymbols (object_of self.now.master.0 self.now.file) stripe
+        ensures ok { OnOk result (GivesSymbols (shaped_object self.now.master.0 self.now.file) stripe
             (present_blocks self.now.file.profile.size present.now seen.now) rows.new) }
-        ensures lost { IfErr result (λ lost. LosesRow (object_of self.now.master.0 self.now.file) stripe
+        ensures lost { IfErr result (λ lost. LosesRow (shaped_object self.now.master.0 self.now.file) stripe
             (present_blocks self.now.file.profile.size present.now seen.now) lost.row) }
         ensures zeros { OnErr result (rows.new ≡ replicate (length rows.old) 0) }
         ensures blocks { All (λ block. length block ≡ self.now.file.profile.size) scratch.new }

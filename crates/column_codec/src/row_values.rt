@@ -10,7 +10,8 @@ fn add_differences(weight: Symbol, from: &[Symbol], first: &[Symbol], out: &mut 
     requires from { length from.now ≡ length out.old }
     requires first { length first.now ≡ length out.old }
     ensures { (i : ℕ) → i < length out.old → slice_index out.new i
-        ≡ nim_add (slice_index out.old i) (nim_mul weight (nim_add (slice_index from.now i) (slice_index first.now i))) }
+        ≡ nim_add (slice_index out.old i)
+        (nim_mul weight (nim_add (slice_index from.now i) (slice_index first.now i))) }
 {
     for i in 0..out.len() {
         out[i] = out[i].add(weight.mul(from[i].add(first[i])));
@@ -22,7 +23,8 @@ fn add_differences_by(table: &ConstantTable, from: &[Symbol], first: &[Symbol], 
     requires from { length from.now ≡ length out.old }
     requires first { length first.now ≡ length out.old }
     ensures { (i : ℕ) → i < length out.old → slice_index out.new i
-        ≡ nim_add (slice_index out.old i) (nim_mul table.now (nim_add (slice_index from.now i) (slice_index first.now i))) }
+        ≡ nim_add (slice_index out.old i)
+        (nim_mul table.now (nim_add (slice_index from.now i) (slice_index first.now i))) }
 {
     for i in 0..out.len() {
         out[i] = out[i].add(table.times(from[i].add(first[i])));
@@ -32,7 +34,7 @@ fn add_differences_by(table: &ConstantTable, from: &[Symbol], first: &[Symbol], 
 impl ObjectKeys {
     ghost use Rattle.std.specs.Prelude.{◌≡◌, ◌≤◌, ◌<◌, ◌*◌, [], length, map, slice_index_or};
     ghost use Rattle.hail_codes.specs.Points.{upto};
-    ghost use Rattle.file_layout.specs.Files.{object_of};
+    ghost use Rattle.file_layout.specs.Files.{shaped_object};
     ghost use Rattle.column_codec.specs.Rows.{row_value};
 
     /// Adds to each symbol the weight of a primary provider at a secondary one's point times the difference of the two at
@@ -52,7 +54,8 @@ impl ObjectKeys {
         requires from { length from.now ≡ length out.old }
         requires first { length first.now ≡ length out.old }
         ensures { (i : ℕ) → i < length out.old → slice_index out.new i
-            ≡ nim_add (slice_index out.old i) (nim_mul (slice_index (slice_index_or self.now.weights provider []) primary)
+            ≡ nim_add (slice_index out.old i)
+            (nim_mul (slice_index (slice_index_or self.now.weights provider []) primary)
             (nim_add (slice_index from.now i) (slice_index first.now i))) }
     {
         match &self.tables {
@@ -71,7 +74,8 @@ impl ObjectKeys {
         requires provider { provider < self.now.file.shape.n }
         requires symbols { length symbols.now ≡ self.now.file.shape.l * self.now.file.profile.keep }
         requires kept { length kept.old ≡ self.now.file.profile.keep }
-        ensures { kept.new ≡ map (row_value (object_of self.now.master.0 self.now.file) symbols.now provider)
+        ensures { kept.new ≡ map (row_value (shaped_object self.now.master.0 self.now.file) symbols.now
+            provider)
             (upto self.now.file.profile.keep) }
     {
         let keep = kept.len();
@@ -88,7 +92,8 @@ impl ObjectKeys {
         requires provider { provider < self.now.file.shape.n }
         requires symbols { length symbols.now ≡ self.now.file.shape.l * self.now.file.profile.keep }
         requires out { length out.old ≡ self.now.file.profile.keep }
-        ensures { out.new ≡ map (row_value (object_of self.now.master.0 self.now.file) symbols.now provider)
+        ensures { out.new ≡ map (row_value (shaped_object self.now.master.0 self.now.file) symbols.now
+            provider)
             (upto self.now.file.profile.keep) }
     {
         if provider < usize::from(self.file.shape.l) {

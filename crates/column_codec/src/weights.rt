@@ -32,7 +32,8 @@ fn product_of_gaps(x: Symbol, l: u8) -> Symbol
 /// Lagrange's formula.
 fn weight(whole: Symbol, x: Symbol, point: Symbol, l: u8) -> Symbol
     requires { x ≢ point }
-    ensures { result ≡ nim_mul whole (nim_mul (nim_inv (nim_add x point)) (nim_inv (others_product point (upto l)))) }
+    ensures { result ≡ nim_mul whole
+        (nim_mul (nim_inv (nim_add x point)) (nim_inv (others_product point (upto l)))) }
 {
     let gaps = x.add(point).mul(product_of_gaps(point, l));
     whole.mul(gaps.inv().unwrap())

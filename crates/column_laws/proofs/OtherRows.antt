@@ -3,6 +3,7 @@ use Rattle.std.specs.Prelude.{◌≡◌, ◌≢◌, ℕ, zero, suc, ◌+◌, ◌
 use Rattle.std.proofs.Common.{arith, ap, sym, refl, ◌∙◌}
 use Rattle.std.specs.List.{range_with_len}
 use Rattle.std.proofs.lemmas.List.FromFn.{length-map-range_with_len}
+use Rattle.std.proofs.lemmas.Bool.{not-true}
 use Rattle.hail_field.specs.Shape.{IsShape}
 use Rattle.poly_laws.specs.Poly.{agree as agree_over}
 use Rattle.hail_codes.specs.Polynomials.{value, agree, is_seen}
@@ -64,10 +65,6 @@ and-right : (a b : Bool) → a && b ≡ true → b ≡ true
 and-right true b e = e
 and-right false b e = absurd (cc e)
 
-is-false : (b : Bool) → not b ≡ true → b ≡ false
-is-false true e = absurd (cc e)
-is-false false e = refl
-
 pub forgery-of_other : (o : Object) (bytes : List ℕ) (number : ℕ) (seen : ℕ → List SeenBlock) (stripe place : ℕ) (opened : List SeenBlock) (p : List ℕ) →
     o.profile ≡ profile_of number → IsShape o.shape.n o.shape.l o.shape.b → IsRow o bytes stripe place →
     AllOpen o stripe 0 (seen stripe) opened → AcceptsRow o opened place p →
@@ -84,7 +81,7 @@ forgery-of_other o bytes number seen stripe place opened p is shape row_in all a
     let right : count_of (λ j. agrees j && not (wrong j)) js ≤ count_of (λ j. is_seen (value p (point o j)) (Some (value row (point o j)))) js =
     count_of-within (λ j. agrees j && not (wrong j)) (λ j. is_seen (value p (point o j)) (Some (value row (point o j)))) 0 o.shape.n
     (λ j below both. ap (is_seen (value p (point o j)))
-    (sym (symbol-at o bytes number stripe place j (seen stripe) opened is all within (omega (arith, below, shape.1)) (is-false (wrong j) (and-right (agrees j) (not (wrong j)) both))))
+    (sym (symbol-at o bytes number stripe place j (seen stripe) opened is all within (omega (arith, below, shape.1)) (not-true (wrong j) (and-right (agrees j) (not (wrong j)) both))))
     ∙ and-left (agrees j) (not (wrong j)) both) in
     record {
       row_in = row_in;

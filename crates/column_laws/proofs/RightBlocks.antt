@@ -2,20 +2,19 @@
 use Rattle.std.specs.Prelude.{◌≡◌, ℕ, suc, ◌+◌, ◌*◌, ◌<◌, ◌≤◌, ◌||◌, ◌==◌, Bool, true, false, not, List, [], ◌∷◌, length, map, nat_lt, nat_eq, slice_get, None, Some, cond, if◌then◌else◌}
 use Rattle.std.proofs.Common.{arith, ap, sym, refl, ◌∙◌}
 use Rattle.std.proofs.lemmas.List.FromFn.{length-range_with_len, length-map-range_with_len}
-use Rattle.hail_field.specs.Nim.{nim_add}
-use Rattle.hail_field.proofs.AllNumbers.{nim_laws, nim_ring}
 use Rattle.poly_laws.specs.Poly.{agree as agree_over, is_seen as is_seen_over}
 use Rattle.hail_codes.specs.Polynomials.{value, agree}
 use Rattle.hail_codes.specs.Points.{upto, values_at}
 use Rattle.hail_codes.specs.Profiles.{profile_of}
 use Rattle.hail_codes.specs.ServerCode.{differences, IsCodeword}
-use Rattle.hail_codes.proofs.Points.{nat_eq-differ}
+use Rattle.hail_codes.proofs.Values.{equal-added}
 use Rattle.hail_columns.specs.Keys.{mask, secret_point}
 use Rattle.hail_columns.specs.Objects.{Object, stripe_symbols, symbol_of, symbols_in, row_number, is_primary, point}
 use Rattle.hail_columns.specs.Columns.{row_polynomial, column_of_symbols, columns, is_wrong_block}
 use Rattle.hail_columns.specs.Opened.{SeenBlock, masked, bare, OpensTo, symbol_in}
 use Rattle.hail_columns.proofs.ColumnLaws.{slice_get-upto, primary-symbol}
 use Rattle.hail_columns.proofs.SecondaryLaws.{column_polynomial, value-column_polynomial, point-outside, bare-secondary, IsCodeword-bare_column}
+use Rattle.hail_columns.proofs.MaskLengths.{length-bare}
 use Rattle.column_laws.proofs.UniqueLaws.{opens-unique}
 
 -- a polynomial agrees with a block where the block does not differ from its values
@@ -31,43 +30,18 @@ agree-differences p (x ∷ xs) (y ∷ ys) even = go (nat_eq y (value p x)) (agre
     go true h = omega (arith, h)
     go false h = omega (arith, h)
 
--- a mask put on both sides changes no equality
-same-masked : (x y m : ℕ) → nat_eq (nim_add x m) (nim_add y m) ≡ nat_eq x y
-same-masked x y m = go (nat_eq x y) refl
-  where
-    off : (z : ℕ) → nim_add (nim_add z m) m ≡ z
-    off z = nim_ring.add_assoc z m m ∙ ap (λ u. nim_add z u) (nim_ring.add_self m) ∙ nim_ring.add_zero z
-
-    go : (b : Bool) → nat_eq x y ≡ b → nat_eq (nim_add x m) (nim_add y m) ≡ b
-    go true is = ap (λ z. nat_eq (nim_add x m) (nim_add z m)) (sym (nim_laws.eq_true x y is)) ∙ nim_laws.eq_refl (nim_add x m)
-    go false is = nat_eq-differ (nim_add x m) (nim_add y m) (λ e. differ (sym (off y) ∙ ap (λ z. nim_add z m) e ∙ off x))
-      where
-        differ : y ≡ x → ⊥
-        differ e = absurd (cc (is, ap (λ z. nat_eq x z) e, nim_laws.eq_refl x))
-
 -- masks change no place at which two blocks differ
 differences-masked : (o : Object) (j row : ℕ) (xs ys : List ℕ) → differences (masked o j row xs) (masked o j row ys) ≡ differences xs ys
 differences-masked o j row [] ys = refl
 differences-masked o j row (x ∷ xs) [] = refl
 differences-masked o j row (x ∷ xs) (y ∷ ys) =
-    (λ i. if same-masked x y (mask o.master o.id j row) i then differences-masked o j (row + 1) xs ys i else suc (differences-masked o j (row + 1) xs ys i))
-
-length-masked : (o : Object) (j row : ℕ) (xs : List ℕ) → length (masked o j row xs) ≡ length xs
-length-masked o j row [] = refl
-length-masked o j row (x ∷ xs) = ap suc (length-masked o j (row + 1) xs)
+    (λ i. if equal-added x y (mask o.master o.id j row) i then differences-masked o j (row + 1) xs ys i else suc (differences-masked o j (row + 1) xs ys i))
 
 differences-bare : (o : Object) (j stripe : ℕ) (xs ys : List ℕ) → differences (bare o j stripe xs) (bare o j stripe ys) ≡ differences xs ys
 differences-bare o j stripe xs ys =
     elim (is_primary o j) as (λ b. differences (if b then xs else masked o j (row_number o stripe 0) xs) (if b then ys else masked o j (row_number o stripe 0) ys) ≡ differences xs ys) [
       | true ↦ refl
       | false ↦ differences-masked o j (row_number o stripe 0) xs ys
-    ]
-
-length-bare : (o : Object) (j stripe : ℕ) (xs : List ℕ) → length (bare o j stripe xs) ≡ length xs
-length-bare o j stripe xs =
-    elim (is_primary o j) as (λ b. length (if b then xs else masked o j (row_number o stripe 0) xs) ≡ length xs) [
-      | true ↦ refl
-      | false ↦ length-masked o j (row_number o stripe 0) xs
     ]
 
 -- a stripe has its number of symbols

@@ -1,9 +1,10 @@
 -- Where few blocks of a stripe are wrong, rows are accepted with the file's own polynomials.
-use Rattle.std.specs.Prelude.{◌≡◌, ℕ, zero, suc, ◌+◌, ◌-◌, ◌*◌, ◌<◌, ◌≤◌, Bool, true, false, List, map, drop, nat_lt, get_or, slice_get, Option, Some}
-use Rattle.std.proofs.Common.{arith, ap, sym, refl, ◌∙◌, get_or-take, get_or-drop, subst}
+use Rattle.std.specs.Prelude.{◌≡◌, ℕ, suc, ◌+◌, ◌-◌, ◌*◌, ◌<◌, ◌≤◌, true, false, List, map, drop, get_or, slice_get, Option, Some}
+use Rattle.std.proofs.Common.{arith, ap, sym, ◌∙◌, get_or-take, get_or-drop, subst}
 use Rattle.std.proofs.Math.Nat.{mul-le-mul_right}
 use Rattle.std.proofs.lemmas.List.FromFn.{length-map-range_with_len, get_or-map-range_with_len, fill_by_all}
 use Rattle.std.proofs.lemmas.Option.{get_or_from_slice_get}
+use Rattle.plain_facts.proofs.Places.{IsPlace, place-of}
 use Rattle.hail_field.specs.Shape.{IsShape}
 use Rattle.hail_field.proofs.AllNumbers.{nim_laws}
 use Rattle.poly_laws.specs.Poly.{is_seen as is_seen_over}
@@ -66,29 +67,6 @@ row-symbol o bytes stripe place j kept within below =
     ∙ get_or-map-range_with_len (value (interpolate (upto o.profile.keep) mine)) 0 o.profile.size place place 0 within (omega arith)
     ∙ ap (λ ks. value (interpolate (upto o.profile.keep) ks) place) same
     ∙ value-interpolate_upto own o.profile.keep place kept
-
--- each number below l * keep is a place of one of l blocks
-record IsPlace (l keep i : ℕ) : Type 0 where
-  block : ℕ
-  place : ℕ
-  block_in : block < l
-  place_in : place < keep
-  sum : i ≡ block * keep + place
-
-place-of : (l keep i : ℕ) → i < l * keep → IsPlace l keep i
-place-of zero keep i below = absurd (omega (arith, below))
-place-of (suc l) keep i below = go (nat_lt i (l * keep)) refl (place-of l keep i)
-  where
-    split : suc l * keep ≡ l * keep + keep
-    split = grind arith
-
-    go : (b : Bool) → nat_lt i (l * keep) ≡ b → (i < l * keep → IsPlace l keep i) → IsPlace (suc l) keep i
-    go true is before =
-        let h = before (grind (arith, is)) in
-        record { block = h.block; place = h.place; block_in = omega (arith, h.block_in); place_in = h.place_in; sum = h.sum }
-    go false is before =
-        let out : l * keep ≤ i = grind (arith, is) in
-        record { block = l; place = i - l * keep; block_in = omega arith; place_in = omega (arith, out, below, split); sum = omega (arith, out) }
 
 pub symbols-right : (o : Object) (bytes : List ℕ) (number stripe : ℕ) (seen : List SeenBlock) (symbols : List ℕ) → o.profile ≡ profile_of number →
     IsShape o.shape.n o.shape.l o.shape.b → count_of (λ j. is_wrong_block o bytes j stripe (block_at seen j)) (upto o.shape.n) ≤ o.shape.b →

@@ -13,7 +13,8 @@ ghost use Rattle.column_laws.specs.Example.{example, three_seen, three_opened};
 
 /// In each profile a block has the kept symbols and two more for each wrong one that is corrected, and the points 0 to size - 1 differ.
 pub fn profiles_are_sound()
-    ensures size { (number : ℕ) → (profile_of number).size ≡ (profile_of number).keep + 2 * (profile_of number).fix }
+    ensures size { (number : ℕ) → (profile_of number).size ≡ (profile_of number).keep + 2 *
+        (profile_of number).fix }
     ensures points { (number : ℕ) → Apart (upto (profile_of number).size) }
 {}
 
@@ -25,7 +26,8 @@ pub fn seen_block_opens_to_one_thing()
 
 /// Two polynomials with which a row is accepted have one value everywhere.
 pub fn accepted_row_is_unique()
-    ensures { (o : Object) (opened : List SeenBlock) (place : ℕ) (p q : List ℕ) → IsShape o.shape.n o.shape.l o.shape.b →
+    ensures { (o : Object) (opened : List SeenBlock) (place : ℕ) (p q : List ℕ)
+        → IsShape o.shape.n o.shape.l o.shape.b →
         AcceptsRow o opened place p → AcceptsRow o opened place q → (x : ℕ) → value p x ≡ value q x }
 {}
 
@@ -33,35 +35,44 @@ pub fn accepted_row_is_unique()
 /// provider's point, of the row's polynomial.
 pub fn right_block_opens_to_column()
     ensures opens { (o : Object) (bytes : List ℕ) (j stripe : ℕ) (seen : SeenBlock) → j < 256 →
-        is_wrong_block o bytes j stripe seen ≡ false → OpensTo o j stripe seen (Some (bare o j stripe (columns o bytes j stripe))) }
-    ensures symbols { (o : Object) (bytes : List ℕ) (number j stripe place : ℕ) (seen opened : SeenBlock) → o.profile ≡ profile_of number →
-        j < 256 → is_wrong_block o bytes j stripe seen ≡ false → OpensTo o j stripe seen opened → place < o.profile.size →
-        symbol_in place opened ≡ Some (value (row_polynomial o (symbols_in o bytes stripe) place) (point o j)) }
+        is_wrong_block o bytes j stripe seen ≡ false
+        → OpensTo o j stripe seen (Some (bare o j stripe (columns o bytes j stripe))) }
+    ensures symbols { (o : Object) (bytes : List ℕ) (number j stripe place : ℕ) (seen opened : SeenBlock)
+        → o.profile ≡ profile_of number →
+        j < 256 → is_wrong_block o bytes j stripe seen ≡ false → OpensTo o j stripe seen opened
+        → place < o.profile.size →
+        symbol_in place opened ≡ Some (value (row_polynomial o (symbols_in o bytes stripe) place)
+        (point o j)) }
 {}
 
 /// A stripe that gives symbols loses no row: of what opening answers at most one holds.
 pub fn stripe_gives_or_loses()
-    ensures { (o : Object) (number stripe row : ℕ) (seen : List SeenBlock) (symbols : List ℕ) → o.profile ≡ profile_of number →
+    ensures { (o : Object) (number stripe row : ℕ) (seen : List SeenBlock) (symbols : List ℕ)
+        → o.profile ≡ profile_of number →
         GivesSymbols o stripe seen symbols → LosesRow o stripe seen row → ⊥ }
 {}
 
 /// Where at most `b` providers' blocks of a stripe are wrong, each row is accepted with the file's own polynomial, so no row is lost,
 /// and the blocks give the file's symbols and no others.
 pub fn few_wrong_leave_rows_right()
-    ensures rows { (o : Object) (bytes : List ℕ) (number stripe place : ℕ) (seen opened : List SeenBlock) → o.profile ≡ profile_of number →
+    ensures rows { (o : Object) (bytes : List ℕ) (number stripe place : ℕ) (seen opened : List SeenBlock)
+        → o.profile ≡ profile_of number →
         IsShape o.shape.n o.shape.l o.shape.b →
         count_of (λ j. is_wrong_block o bytes j stripe (block_at seen j)) (upto o.shape.n) ≤ o.shape.b →
         AllOpen o stripe 0 seen opened → place < o.profile.size →
         AcceptsRow o opened place (row_polynomial o (symbols_in o bytes stripe) place) }
-    ensures symbols { (o : Object) (bytes : List ℕ) (number stripe : ℕ) (seen : List SeenBlock) (symbols : List ℕ) →
+    ensures symbols { (o : Object) (bytes : List ℕ) (number stripe : ℕ) (seen : List SeenBlock)
+        (symbols : List ℕ) →
         o.profile ≡ profile_of number → IsShape o.shape.n o.shape.l o.shape.b →
         count_of (λ j. is_wrong_block o bytes j stripe (block_at seen j)) (upto o.shape.n) ≤ o.shape.b →
         GivesSymbols o stripe seen symbols → symbols ≡ symbols_in o bytes stripe }
-    ensures given { (o : Object) (bytes : List ℕ) (number stripe : ℕ) (seen opened : List SeenBlock) → o.profile ≡ profile_of number →
+    ensures given { (o : Object) (bytes : List ℕ) (number stripe : ℕ) (seen opened : List SeenBlock)
+        → o.profile ≡ profile_of number →
         IsShape o.shape.n o.shape.l o.shape.b →
         count_of (λ j. is_wrong_block o bytes j stripe (block_at seen j)) (upto o.shape.n) ≤ o.shape.b →
         AllOpen o stripe 0 seen opened → GivesSymbols o stripe seen (symbols_in o bytes stripe) }
-    ensures none_lost { (o : Object) (bytes : List ℕ) (number stripe row : ℕ) (seen : List SeenBlock) → o.profile ≡ profile_of number →
+    ensures none_lost { (o : Object) (bytes : List ℕ) (number stripe row : ℕ) (seen : List SeenBlock)
+        → o.profile ≡ profile_of number →
         IsShape o.shape.n o.shape.l o.shape.b →
         count_of (λ j. is_wrong_block o bytes j stripe (block_at seen j)) (upto o.shape.n) ≤ o.shape.b →
         LosesRow o stripe seen row → ⊥ }
@@ -69,7 +80,8 @@ pub fn few_wrong_leave_rows_right()
 
 /// Wherever a row is accepted with another polynomial than the file's own, the seen blocks hold a forgery against the file at that row.
 pub fn other_accepted_row_is_forgery()
-    ensures { (o : Object) (bytes : List ℕ) (number : ℕ) (seen : ℕ → List SeenBlock) (stripe place : ℕ) (opened : List SeenBlock) (p : List ℕ) →
+    ensures { (o : Object) (bytes : List ℕ) (number : ℕ) (seen : ℕ → List SeenBlock) (stripe place : ℕ)
+        (opened : List SeenBlock) (p : List ℕ) →
         o.profile ≡ profile_of number → IsShape o.shape.n o.shape.l o.shape.b → IsRow o bytes stripe place →
         AllOpen o stripe 0 (seen stripe) opened → AcceptsRow o opened place p →
         values_at (upto o.shape.l) p ≢ primary_row o (symbols_in o bytes stripe) place →
@@ -83,13 +95,17 @@ pub fn three_of_four_give_the_file()
     ensures right { (master bytes : List ℕ) →
         is_wrong_block (example master) bytes 0 0 (Some (columns (example master) bytes 0 0)) ≡ false }
     ensures wrong { (master bytes : List ℕ) →
-        count_of (λ j. is_wrong_block (example master) bytes j 0 (block_at (three_seen (example master) bytes) j)) (upto 4) ≡ 1 }
+        count_of (λ j. is_wrong_block (example master) bytes j 0
+        (block_at (three_seen (example master) bytes) j)) (upto 4) ≡ 1 }
     ensures opens { (master bytes : List ℕ) →
-        AllOpen (example master) 0 0 (three_seen (example master) bytes) (three_opened (example master) bytes) }
-    ensures accepted { (master bytes : List ℕ) → AcceptsRow (example master) (three_opened (example master) bytes) 0
+        AllOpen (example master) 0 0 (three_seen (example master) bytes)
+        (three_opened (example master) bytes) }
+    ensures accepted { (master bytes : List ℕ)
+        → AcceptsRow (example master) (three_opened (example master) bytes) 0
         (row_polynomial (example master) (symbols_in (example master) bytes 0) 0) }
     ensures gives { (master bytes : List ℕ) →
-        GivesSymbols (example master) 0 (three_seen (example master) bytes) (symbols_in (example master) bytes 0) }
+        GivesSymbols (example master) 0 (three_seen (example master) bytes)
+        (symbols_in (example master) bytes 0) }
 {}
 
 /// An instance: of no blocks at all row 0 is lost.
@@ -101,7 +117,8 @@ pub fn no_blocks_lose_a_row()
 /// and so they hold a forgery against the latter.
 pub fn another_file_is_a_forgery()
     ensures row { (master : List ℕ) → IsRow (example master) (7 ∷ []) 0 0 }
-    ensures accepted { (master : List ℕ) → AcceptsRow (example master) (three_opened (example master) (8 ∷ [])) 0
+    ensures accepted { (master : List ℕ)
+        → AcceptsRow (example master) (three_opened (example master) (8 ∷ [])) 0
         (row_polynomial (example master) (symbols_in (example master) (8 ∷ []) 0) 0) }
     ensures other { (master : List ℕ) →
         values_at (upto 1) (row_polynomial (example master) (symbols_in (example master) (8 ∷ []) 0) 0)

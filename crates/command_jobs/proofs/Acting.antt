@@ -1,6 +1,7 @@
 -- What a step of the only job of a state does: it makes an action, and what is in effect or in flight grows.
 use Rattle.std.proofs.Common.{◌≡◌, ℕ, ◌+◌, ◌≤◌, ◌==◌, ◌⊎◌, List, [], ◌∷◌, Option, Some, None, refl, ap, sym, subst, ◌∙◌, inl, inr, arith}
 use Rattle.std.proofs.lemmas.Bool.{cases_Bool}
+use Rattle.plain_facts.proofs.Options.{some-not-none}
 use Rattle.hail_records.specs.Records.{Record}
 use Rattle.hail_records.specs.Journal.{text_size}
 use Rattle.hail_machine.specs.Jobs.{Kind, Job, job_of}
@@ -15,7 +16,6 @@ use Rattle.hail_machine.specs.Machine.{Happens}
 use Rattle.hail_machine.proofs.JobLists.{cond_true, cond_false, same_value}
 use Rattle.sound_states.specs.Orders.{moves_before}
 use Rattle.sound_states.proofs.Given.{holder}
-use Rattle.sound_states.proofs.Records.{some-none}
 use Rattle.hail_openings.specs.Opened.{IsOpenAtRest}
 use Rattle.lone_laws.specs.Walked.{Walked}
 use Rattle.lone_laws.proofs.Walk.{found}
@@ -25,7 +25,7 @@ use Rattle.vault.specs.Devices.{records_in_flight}
 pub one-found : (job other : Job) (number : ℕ) → job_of (job ∷ []) number ≡ Some other → other ≡ job
 one-found job other number h = elim (cases_Bool (job.number == number)) [
   | inl t ↦ same_value _ other job h (cond_true (job.number == number) (Some job) None t)
-  | inr f ↦ absurd (some-none _ other h (cond_false (job.number == number) (Some job) None f))
+  | inr f ↦ absurd (some-not-none _ other h (cond_false (job.number == number) (Some job) None f))
 ]
 
 -- moves of an append go on, or end in one of two ways
@@ -87,7 +87,7 @@ sizes-grow w new old now rs a b r h = subst (λ (o : Option Append). text_size (
 moves-grow : (w : State) (job : Job) (action : Action) (flight : Option Append) (new : State) → w.append ≡ flight → holder_of flight action ≡ None → Moves w job action flight More new → Grows w new
 moves-grow w job WriteBody None new flight free (entry, writes, (faults, low, is)) =
     sizes-grow w new None (Some (record { job = job.number; entry = entry; moves = 1 })) w.records flight (ap (λ (v : State). v.append) is) (ap (λ (v : State). v.records) is) (omega arith)
-moves-grow w job WriteBody (Some a) new flight free h = absurd (some-none (Some a.job) a.job refl free)
+moves-grow w job WriteBody (Some a) new flight free h = absurd (some-not-none (Some a.job) a.job refl free)
 moves-grow w job SyncBody (Some a) new flight free (at, (faults, low, is)) =
     sizes-grow w new (Some a) (Some (record a { moves = a.moves + 1 })) w.records flight (ap (λ (v : State). v.append) is) (ap (λ (v : State). v.records) is) (omega arith)
 moves-grow w job WriteGate (Some a) new flight free (at, (faults, low, is)) =

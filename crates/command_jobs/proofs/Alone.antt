@@ -18,7 +18,7 @@ use Rattle.hail_machine.specs.States.{State}
 use Rattle.hail_machine.specs.Stands.{StandsForState}
 use Rattle.hail_commands.specs.Seen.{Seen, nobody}
 use Rattle.hail_commands.specs.Opens as opens
-use Rattle.hail_commands.specs.Opens.{setup_at}
+use Rattle.hail_commands.specs.Opens.{setup_in_effect}
 use Rattle.hail_commands.specs.Refusals as commands
 use Rattle.hail_openings.specs.Opened.{AreHanded, IsOpenedOver, IsOpenAtRest}
 use Rattle.hail_commands.specs.JobRuns.{GoesOnTo}
@@ -30,12 +30,12 @@ use Rattle.vault_core.specs.Carried.{refusal_of}
 use Rattle.vault.specs.declared.turn.Ended.{Ended}
 use Rattle.vault.specs.declared.vault.Vault.{Vault}
 use Rattle.vault.specs.Devices.{Devices, devices}
-use Rattle.vault.specs.Outcomes.{answer_of}
+use Rattle.vault.specs.Outcomes.{machine_answer}
 use Rattle.vault.specs.Stands.{Stands, MakesBegin}
 use Rattle.command_jobs.specs.Opened.{IsFreshOver}
 use Rattle.command_jobs.specs.Going.{IsOnly, IsUnderWay, GoesToEnd}
 use Rattle.command_jobs.specs.Ends.{IsSeenBefore, IsSeenAfter, IsRefusedOver, EndsOver}
-use Rattle.command_laws.proofs.BeginRefusals.{refusal-of}
+use Rattle.job_laws.proofs.BeginRefusals.{refusal-of}
 use Rattle.command_jobs.proofs.Begins.{spelled-begun}
 use Rattle.command_jobs.proofs.Fresh.{OpensAll, ThereIsOne, over-opened, just-opened}
 
@@ -106,15 +106,15 @@ module _ (law : OpensAll) (there : ThereIsOne) (v : Vault) (records : List Recor
     opened : IsOpenAtRest w 1
     stands : Stands v (devices holds faults providers) w
 
-  opened-at : (providers : List Provider) (w : State) → (setup_at records).n ≤ length providers → IsOpenedOver w records faults providers → Opened providers w
+  opened-at : (providers : List Provider) (w : State) → (setup_in_effect records).n ≤ length providers → IsOpenedOver w records faults providers → Opened providers w
   opened-at providers w enough over =
       (let O = over-opened law w records faults providers F.read enough over in
       record { over = over; opened = O; stands = F.stands w providers (just-opened w records faults providers O over) })
 
-  opened-one : (providers : List Provider) → (setup_at records).n ≤ length providers → (w : State) × Opened providers w
+  opened-one : (providers : List Provider) → (setup_in_effect records).n ≤ length providers → (w : State) × Opened providers w
   opened-one providers enough = (let x = there records faults providers F.read.accepted in (x.0, opened-at providers x.0 enough x.1))
 
-  pub under-way : (next : Vault) (kind : Kind) (number : ℕ) (providers : List Provider) → (setup_at records).n ≤ length providers → BeginsAs v kind number next → (number ≡ 1) × IsUnderWay next (devices holds faults providers)
+  pub under-way : (next : Vault) (kind : Kind) (number : ℕ) (providers : List Provider) → (setup_in_effect records).n ≤ length providers → BeginsAs v kind number next → (number ≡ 1) × IsUnderWay next (devices holds faults providers)
   under-way next kind number providers enough begins =
       (let x = opened-one providers enough in
       let h = has-begun x.0 1 kind number v next (devices holds faults providers) x.1.opened x.1.stands begins in
@@ -134,8 +134,8 @@ module _ (law : OpensAll) (there : ThereIsOne) (v : Vault) (records : List Recor
 
   pub refused-over : (next : Vault) (kind : Kind) (why : BeginFault) → RefusesAs v kind why next → IsRefusedOver records kind why
   refused-over next kind why refuses =
-      (let ps : List Provider = replicate (setup_at records).n nobody in
-      let few : (setup_at records).n ≤ length ps = (let e = length-replicate (setup_at records).n nobody in omega (arith, e)) in
+      (let ps : List Provider = replicate (setup_in_effect records).n nobody in
+      let few : (setup_in_effect records).n ≤ length ps = (let e = length-replicate (setup_in_effect records).n nobody in omega (arith, e)) in
       let x = opened-one ps few in
       let O = x.1.opened in
       let M = refuses x.0 (devices holds faults ps) 1 x.1.stands in
@@ -148,10 +148,10 @@ module _ (law : OpensAll) (there : ThereIsOne) (v : Vault) (records : List Recor
       (goes : (start w : State) (kind : Kind) (moment : ℕ) → IsOnly start kind w → Stands next (devices holds faults providers) w → GoesToEnd start kind w moment ended last (devices holds faults providers) (devices new_holds new_faults after))
       (same : length after ≡ length providers)
       (old new : Seen) (R : opens.IsOpened old records) (B : IsSeenBefore old (devices holds faults providers)) (A : IsSeenAfter new (devices new_holds new_faults after)) where
-    enough : (setup_at records).n ≤ length providers
-    enough = subst (λ (ps : List Provider). (setup_at records).n ≤ length ps) B.providers R.enough
+    enough : (setup_in_effect records).n ≤ length providers
+    enough = subst (λ (ps : List Provider). (setup_in_effect records).n ≤ length ps) B.providers R.enough
 
-    ran-alone : (w : State) (moment : ℕ) → IsOpenedOver w records faults providers → RanAlone records kind (answer_of ended.answer) old new ended.heard faults w moment
+    ran-alone : (w : State) (moment : ℕ) → IsOpenedOver w records faults providers → RanAlone records kind (machine_answer ended.answer) old new ended.heard faults w moment
     ran-alone w moment over =
         (let x = opened-at providers w enough over in
         let h = has-begun w moment kind number v next (devices holds faults providers) x.opened x.stands begins in
@@ -162,17 +162,17 @@ module _ (law : OpensAll) (there : ThereIsOne) (v : Vault) (records : List Recor
             begun = h.made.state;
             job = number;
             begins = h.made.begins;
-            goes_on = subst (λ n. GoesOnTo h.made.state (moment + 1) n (answer_of ended.answer) ended.heard G.last) (sym h.first) G.goes;
+            goes_on = subst (λ n. GoesOnTo h.made.state (moment + 1) n (machine_answer ended.answer) ended.heard G.last) (sym h.first) G.goes;
           };
           images = subst (λ told. StandsForState told G.last) (sym A.disk) G.stands.devices.images;
           faults_are = G.stands.devices.faults ∙ sym A.faults;
           handed = subst (λ (ps : List Provider). AreHanded ps G.last) (sym A.providers) G.stands.devices.providers;
-          past_text = subst (λ told. SamePast kind (answer_of ended.answer) records G.last.records old.disk told) (sym A.disk)
-              (past-before kind (answer_of ended.answer) records G.last.records old.disk holds new_holds B.reads
-              (subst (λ rs. SamePast kind (answer_of ended.answer) rs G.last.records holds new_holds) over.records G.past_text));
+          past_text = subst (λ told. SamePast kind (machine_answer ended.answer) records G.last.records old.disk told) (sym A.disk)
+              (past-before kind (machine_answer ended.answer) records G.last.records old.disk holds new_holds B.reads
+              (subst (λ rs. SamePast kind (machine_answer ended.answer) rs G.last.records holds new_holds) over.records G.past_text));
         })
 
-    runs-alone : RunsAlone records kind (answer_of ended.answer) old new ended.heard
+    runs-alone : RunsAlone records kind (machine_answer ended.answer) old new ended.heard
     runs-alone = record {
       faults = faults;
       before = B.faults;
@@ -182,8 +182,8 @@ module _ (law : OpensAll) (there : ThereIsOne) (v : Vault) (records : List Recor
     begun-one : (w : State) × (HasBegun w 1 kind number next (devices holds faults providers) × (w.records ≡ records))
     begun-one = (let x = opened-one providers enough in (x.0, (has-begun x.0 1 kind number v next (devices holds faults providers) x.1.opened x.1.stands begins, x.1.over.records)))
 
-    left-alone : LeftAlone records kind (answer_of ended.answer) old new ended.heard
-    left-alone = leaves records kind (answer_of ended.answer) old new ended.heard R begun-one.1.0.spelled (ap length A.providers ∙ (same ∙ sym (ap length B.providers))) runs-alone
+    left-alone : LeftAlone records kind (machine_answer ended.answer) old new ended.heard
+    left-alone = leaves records kind (machine_answer ended.answer) old new ended.heard R begun-one.1.0.spelled (ap length A.providers ∙ (same ∙ sym (ap length B.providers))) runs-alone
 
     pub ends-over : EndsOver records kind ended old new
     ends-over = record {

@@ -14,7 +14,7 @@ use Rattle.hail_machine.specs.Appends.{Writes, Moves}
 use Rattle.hail_machine.specs.Steps.{next_action, Acts}
 use Rattle.hail_machine.specs.Machine.{Happens}
 use Rattle.hail_machine.proofs.JobLists.{same_value}
-use Rattle.hail_commands.specs.Opens.{setup_at}
+use Rattle.hail_commands.specs.Opens.{setup_in_effect}
 use Rattle.hail_commands.specs.Jobs.{IsNext}
 use Rattle.sound_states.specs.Orders.{moves_made, moves_before}
 use Rattle.sound_states.proofs.Events.{moves-next}
@@ -96,17 +96,17 @@ module _ (start : State) (O : IsOpenAtRest start 1) (kind : Kind) (w : State) (j
   next-first entry (DropJob name) e h same is = record { done = []; rest = []; parts = ap (λ (r : Record). r ∷ []) (sym is); after_is = same }
   next-first entry AuditJob e h same is = (
     0,
-    replicate (setup_at start.records).n 0,
-    length-replicate (setup_at start.records).n 0,
-    record { done = []; rest = AuditDone (next_audit start.records) 0 (replicate (setup_at start.records).n 0) ∷ []; parts = ap (λ (r : Record). r ∷ AuditDone (next_audit start.records) 0 (replicate (setup_at start.records).n 0) ∷ []) (sym is); after_is = same },
+    replicate (setup_in_effect start.records).n 0,
+    length-replicate (setup_in_effect start.records).n 0,
+    record { done = []; rest = AuditDone (next_audit start.records) 0 (replicate (setup_in_effect start.records).n 0) ∷ []; parts = ap (λ (r : Record). r ∷ AuditDone (next_audit start.records) 0 (replicate (setup_in_effect start.records).n 0) ∷ []) (sym is); after_is = same },
   )
   next-first entry RepairJob e h same is = record { done = []; rest = []; parts = ap (λ (r : Record). r ∷ []) (sym is); after_is = same }
 
-  setup-at : setup_in start ≡ setup_at start.records
+  setup-at : setup_in start ≡ setup_in_effect start.records
   unfolding setup_in
   setup-at = refl
 
-  many-counts : (sums : Sums) → HasSums (setup_in start) job sums → length sums.counts ≡ (setup_at start.records).n
+  many-counts : (sums : Sums) → HasSums (setup_in start) job sums → length sums.counts ≡ (setup_in_effect start.records).n
   many-counts sums has =
       (let a = (small-sums 8 w W.sound 1 job sums (found start O kind w job W) (subst (λ (s : Setup). HasSums s job sums) (sym W.setup) has)).size in
       a ∙ ap (λ (s : Setup). s.n) (W.setup ∙ setup-at))

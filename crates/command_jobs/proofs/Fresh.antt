@@ -8,14 +8,14 @@ use Rattle.hail_records.specs.Acceptance.{AreAccepted}
 use Rattle.hail_machine.specs.States.{State, setup_in}
 use Rattle.hail_commands.specs.Seen.{Seen, nobody}
 use Rattle.hail_commands.specs.Opens as opens
-use Rattle.hail_commands.specs.Opens.{setup_at}
+use Rattle.hail_commands.specs.Opens.{setup_in_effect}
 use Rattle.hail_openings.specs.Journals.{IsRead}
 use Rattle.hail_openings.specs.Opened.{IsOpenedOver, IsOpenAtRest, IsJustOpened}
 use Rattle.record_codec.specs.Entries.{with_master}
 use Rattle.vault_table.specs.Values.{IsFoldOf}
 use Rattle.vault.specs.declared.vault.Vault.{Vault}
 use Rattle.vault.specs.Devices.{Devices, devices}
-use Rattle.vault.specs.Seen.{setup_of, master_of, table_of, next_job_of, provider_count}
+use Rattle.vault.specs.Seen.{vault_setup, master_of, table_of, next_job_of, provider_count}
 use Rattle.vault.specs.Stands.{Stands}
 use Rattle.command_jobs.specs.Opened.{AreRecords, IsFreshOver}
 use Rattle.command_jobs.proofs.Readings.{read-records}
@@ -31,7 +31,7 @@ ThereIsOne = (records : List Record) (faults : ℕ) (providers : List Provider) 
 abbrev seen_of : List Provider → Seen
 seen_of providers = record { disk = None; disk_faults = 0; providers = providers; source = None; source_faults = 0; sink = None; sink_faults = 0 }
 
-pub over-opened : OpensAll → (w : State) (records : List Record) (faults : ℕ) (providers : List Provider) → AreRecords records → (setup_at records).n ≤ length providers → IsOpenedOver w records faults providers → IsOpenAtRest w 1
+pub over-opened : OpensAll → (w : State) (records : List Record) (faults : ℕ) (providers : List Provider) → AreRecords records → (setup_in_effect records).n ≤ length providers → IsOpenedOver w records faults providers → IsOpenAtRest w 1
 over-opened law w records faults providers R enough over =
     law w (seen_of providers) records faults (record { read = record { some = R.some; in_grammar = R.in_grammar; accepted = R.accepted; room = R.room; reads_are = tt }; enough = enough }) over
 
@@ -45,15 +45,15 @@ just-opened w records faults providers O over = record {
 
 -- the setup of a vault that was just opened
 fresh-setup : (v : Vault) (records : List Record) (holds : Option Cells) (faults : ℕ) (w : State) (providers : List Provider) → w.records ≡ records → Stands v (devices holds faults providers) w →
-    (with_master (setup_of v) (master_of v) ≡ setup_at records) × IsFoldOf records (table_of v)
+    (with_master (vault_setup v) (master_of v) ≡ setup_in_effect records) × IsFoldOf records (table_of v)
 unfolding setup_in
-fresh-setup v records holds faults w providers e S = (sym S.setup ∙ ap setup_at e, subst (λ rs. IsFoldOf rs (table_of v)) e S.core.table)
+fresh-setup v records holds faults w providers e S = (sym S.setup ∙ ap setup_in_effect e, subst (λ rs. IsFoldOf rs (table_of v)) e S.core.table)
 
 pub fresh-vault : OpensAll → ThereIsOne → (v : Vault) (records : List Record) (told holds : Option Cells) (faults : ℕ) → IsRead told records →
     ((w : State) (providers : List Provider) → IsJustOpened w records 1 faults providers → Stands v (devices holds faults providers) w) → next_job_of v ≡ 1 → IsFreshOver v records holds faults
 fresh-vault law there v records told holds faults r stands first =
-    (let ps : List Provider = replicate (setup_at records).n nobody in
-    let few : (setup_at records).n ≤ length ps = (let e = length-replicate (setup_at records).n nobody in omega (arith, e)) in
+    (let ps : List Provider = replicate (setup_in_effect records).n nobody in
+    let few : (setup_in_effect records).n ≤ length ps = (let e = length-replicate (setup_in_effect records).n nobody in omega (arith, e)) in
     let R = read-records told records r in
     let x = there records faults ps R.accepted in
     let J = just-opened x.0 records faults ps (over-opened law x.0 records faults ps R few x.1) x.1 in

@@ -26,7 +26,7 @@ use Rattle.vault.specs.declared.turn.Turn.{Turn}
 use Rattle.vault.specs.declared.turn.Turn.TheVariants as turn
 use Rattle.vault.specs.declared.vault.Vault.{Vault}
 use Rattle.vault.specs.Devices.{Devices, records_in_flight, IsSameBeyond}
-use Rattle.vault.specs.Outcomes.{answer_of, outcome_of}
+use Rattle.vault.specs.Outcomes.{machine_answer, outcome_of}
 use Rattle.vault.specs.Stands.{Stands, MakesStep}
 use Rattle.command_jobs.specs.Going.{IsOnly, GoesToEnd}
 use Rattle.command_jobs.proofs.Acting.{step-turn, step-grows, step-ends}
@@ -131,28 +131,28 @@ module _ (start : State) (kind : Kind) (w : State) (moment number : ℕ) (first 
     last = M.state;
     goes = record { steps = way.steps; are_steps = way.are_steps; ends = happens; heard_is = subst (λ n. ended.heard ≡ heard_by (job_of here.jobs n)) first M.heard };
     stands = M.stands;
-    past_text = same-past kind (answer_of ended.answer) start.records M.state.records old.holds new.holds past_end past_fault past_memory;
+    past_text = same-past kind (machine_answer ended.answer) start.records M.state.records old.holds new.holds past_end past_fault past_memory;
   }
     where
-      happens : Happens 8 (moment + length way.steps) here (Step 1) (Ended (answer_of ended.answer)) M.state
-      happens = subst (λ n. Happens 8 (moment + length way.steps) here (Step n) (Ended (answer_of ended.answer)) M.state) first M.happens
+      happens : Happens 8 (moment + length way.steps) here (Step 1) (Ended (machine_answer ended.answer)) M.state
+      happens = subst (λ n. Happens 8 (moment + length way.steps) here (Step n) (Ended (machine_answer ended.answer)) M.state) first M.happens
 
-      past_end : (answer_of ended.answer ≡ answer.DiskFault → ⊥) → (answer_of ended.answer ≡ answer.Memory → ⊥) → option_map (past M.state.records) new.holds ≡ option_map (past M.state.records) old.holds
+      past_end : (machine_answer ended.answer ≡ answer.DiskFault → ⊥) → (machine_answer ended.answer ≡ answer.Memory → ⊥) → option_map (past M.state.records) new.holds ≡ option_map (past M.state.records) old.holds
       past_end d m =
-          (let s = step-ends start way.only.opened kind here way.only.job way.only.walked (moment + length way.steps) (answer_of ended.answer) M.state d m happens in
+          (let s = step-ends start way.only.opened kind here way.only.job way.only.walked (moment + length way.steps) (machine_answer ended.answer) M.state d m happens in
           let before : Goes (SameFrom (text_size M.state.records)) old.holds mid.holds =
           subst (λ rs. Goes (SameFrom (text_size rs)) old.holds mid.holds) (sym s.2) (subst (λ (o : Option Append). Goes (SameFrom (text_size (records_in_flight here.records o))) old.holds mid.holds) s.0 way.beyond) in
           let after : Goes (SameFrom (text_size M.state.records)) mid.holds new.holds =
-          subst (λ (o : Option Append). Goes (SameFrom (text_size (records_in_flight M.state.records o))) mid.holds new.holds) s.1 (M.beyond (λ e. d (same-answer (answer_of ended.answer) answer.DiskFault e))) in
+          subst (λ (o : Option Append). Goes (SameFrom (text_size (records_in_flight M.state.records o))) mid.holds new.holds) s.1 (M.beyond (λ e. d (same-answer (machine_answer ended.answer) answer.DiskFault e))) in
           past-same M.state.records old.holds new.holds (goes-on-same (text_size M.state.records) (text_size M.state.records) old.holds mid.holds new.holds (omega arith) before after))
         where
           same-answer : (a b : Answer) → Ended a ≡ Ended b → a ≡ b
           same-answer a b e = cc
 
-      one_end : (how : Answer) → answer_of ended.answer ≡ how → Happens 8 (moment + length way.steps) here (Step 1) (Ended how) M.state
+      one_end : (how : Answer) → machine_answer ended.answer ≡ how → Happens 8 (moment + length way.steps) here (Step 1) (Ended how) M.state
       one_end how e = subst (λ (x : Answer). Happens 8 (moment + length way.steps) here (Step 1) (Ended x) M.state) e happens
 
-      past_fault : answer_of ended.answer ≡ answer.DiskFault → SameBehind kind start.records M.state.records old.holds new.holds
+      past_fault : machine_answer ended.answer ≡ answer.DiskFault → SameBehind kind start.records M.state.records old.holds new.holds
       past_fault e =
           (let T = M.torn (ap Ended e) in
           let same = fault-records start way.only.opened kind here way.only.job way.only.walked (moment + length way.steps) M.state (one_end answer.DiskFault e) in
@@ -161,12 +161,12 @@ module _ (start : State) (kind : Kind) (w : State) (moment number : ℕ) (first 
           subst (λ rs. SameBehind kind start.records rs old.holds new.holds) (sym same)
           (record { next = Some T.entry; is_next = next; same = past-same (T.entry ∷ here.records) old.holds new.holds both }))
 
-      past_memory : answer_of ended.answer ≡ answer.Memory → SameBehind kind start.records M.state.records old.holds new.holds
+      past_memory : machine_answer ended.answer ≡ answer.Memory → SameBehind kind start.records M.state.records old.holds new.holds
       past_memory e =
           (let c = memory-clears start way.only.opened kind here way.only.job way.only.walked (moment + length way.steps) M.state (one_end answer.Memory e) in
           let last : Goes (SameFrom (text_size here.records)) mid.holds new.holds =
           subst (λ rs. Goes (SameFrom (text_size rs)) mid.holds new.holds) c.0
-          (subst (λ (o : Option Append). Goes (SameFrom (text_size (records_in_flight M.state.records o))) mid.holds new.holds) c.1 (M.beyond (λ f. no_fault (answer_of ended.answer) e f))) in
+          (subst (λ (o : Option Append). Goes (SameFrom (text_size (records_in_flight M.state.records o))) mid.holds new.holds) c.1 (M.beyond (λ f. no_fault (machine_answer ended.answer) e f))) in
           subst (λ rs. SameBehind kind start.records rs old.holds new.holds) (sym c.0) (by_flight here.append refl last))
         where
           no_fault : (a : Answer) → a ≡ answer.Memory → Ended a ≡ Ended answer.DiskFault → ⊥

@@ -5,9 +5,9 @@ use Rattle.std.specs.Result.{IsErrAnd}
 use Rattle.std.specs.Option.{option_map}
 use Rattle.hail_devices.specs.Cells.{Cells, reads}
 use Rattle.hail_devices.specs.Told.{Goes}
+use Rattle.hail_devices.proofs.Lasting.{reads-firm}
 use Rattle.hail_records.specs.Records.{Record}
 use Rattle.hail_openings.specs.Journals.{journal_read, IsRead, IsResynced}
-use Rattle.journal_core.proofs.CellLemmas.{reads-firm}
 use Rattle.vault.specs.declared.fault.StartFault.{StartFault}
 use Rattle.vault.specs.declared.fault.StartFault.TheVariants as start_fault
 use Rattle.vault.specs.Causes.{IsStartFault}

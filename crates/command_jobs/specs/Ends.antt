@@ -1,10 +1,14 @@
--- How the one job of a command is refused or ends, as it is seen of the devices. Records have the newest first.
+-- How the one job of a command is refused or ends, as it is seen of the devices. Records have the newest
+-- first.
 --
---   IsSeenBefore seen d      == what was seen of disk and providers before a vault was opened, where they are these once it is
+--   IsSeenBefore seen d      == what was seen of disk and providers before a vault was opened, where they
+--                               are these once it is
 --   IsSeenAfter seen d       == what is seen of disk and providers once the job ended
 --   IsRefusedOver records kind why  == the begin is refused with its cause, or found no memory
---   NoFaultUndone old new    == no count of faults of the disk or of a provider fell, and no provider came or went
---   EndsOver records kind ended old new  == the job was not refused, and ran to this end, as a run of the machine and by what it left
+--   NoFaultUndone old new    == no count of faults of the disk or of a provider fell, and no provider came
+--                               or went
+--   EndsOver records kind ended old new  == the job was not refused, and ran to this end, as a run of the
+--                                          machine and by what it left
 use Rattle.std.specs.Prelude.{◌≡◌, ◌⊎◌, ℕ, ◌≤◌, List, length, None, Some}
 use Rattle.std.specs.Option.{option_map}
 use Rattle.hail_devices.specs.Cells.{reads}
@@ -18,7 +22,7 @@ use Rattle.vault_core.specs.declared.wish.BeginFault.TheVariants as begin_fault
 use Rattle.vault_core.specs.Carried.{refusal_of}
 use Rattle.vault.specs.declared.turn.Ended.{Ended}
 use Rattle.vault.specs.Devices.{Devices}
-use Rattle.vault.specs.Outcomes.{answer_of}
+use Rattle.vault.specs.Outcomes.{machine_answer}
 
 -- what was seen before a vault was opened, which may sync the disk and count faults of it
 pub record IsSeenBefore (seen : Seen) (d : Devices) : Type 0 where
@@ -34,18 +38,21 @@ pub record IsSeenAfter (seen : Seen) (d : Devices) : Type 0 where
 
 -- the begin is refused with its cause, or found no memory
 abbrev pub IsRefusedOver : List Record → Kind → BeginFault → Type 0
-IsRefusedOver records kind why = (why ≡ begin_fault.Memory) ⊎ (commands.refusal_over records kind ≡ Some (refusal_of why))
+IsRefusedOver records kind why =
+    (why ≡ begin_fault.Memory) ⊎ (commands.refusal_over records kind ≡ Some (refusal_of why))
 
 -- no count of faults of the disk or of a provider fell
 pub record NoFaultUndone (old new : Seen) : Type 0 where
   pub disk : old.disk_faults ≤ new.disk_faults
   pub handed : length new.providers ≡ length old.providers
-  pub stores : (j : ℕ) → (provider_at old.providers j).store_faults ≤ (provider_at new.providers j).store_faults
-  pub others : (j : ℕ) → (provider_at old.providers j).other_faults ≤ (provider_at new.providers j).other_faults
+  pub stores : (j : ℕ) → (provider_at old.providers j).store_faults
+      ≤ (provider_at new.providers j).store_faults
+  pub others : (j : ℕ) → (provider_at old.providers j).other_faults
+      ≤ (provider_at new.providers j).other_faults
 
 -- the job was not refused, and ran to this end
 pub record EndsOver (records : List Record) (kind : Kind) (ended : Ended) (old new : Seen) : Type 0 where
   pub unrefused : commands.refusal_over records kind ≡ None
-  pub runs : RunsAlone records kind (answer_of ended.answer) old new ended.heard
-  pub left : LeftAlone records kind (answer_of ended.answer) old new ended.heard
+  pub runs : RunsAlone records kind (machine_answer ended.answer) old new ended.heard
+  pub left : LeftAlone records kind (machine_answer ended.answer) old new ended.heard
   pub counts : NoFaultUndone old new

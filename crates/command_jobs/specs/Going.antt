@@ -1,10 +1,12 @@
 -- The only job of a vault on its way to the end.
 --
---   IsOnly start kind w            == the only job of a state is of this kind, and has gone on since it began in `start`
+--   IsOnly start kind w            == the only job of a state is of this kind, and has gone on since it
+--                                     began in `start`
 --   IsUnderWay v d                 == vault and devices stand for such a state
---   GoesToEnd start kind w moment ended v old new  == the job goes on from a state, after so many events, to this end, and vault and
---                                     devices stand for the last state; past the text, with the record that was being appended where the
---                                     job was cut short, the disk reads as before
+--   GoesToEnd start kind w moment ended v old new  == the job goes on from a state, after so many events,
+--                                     to this end, and vault and devices stand for the last state; past the
+--                                     text, with the record that was being appended where the job was cut
+--                                     short, the disk reads as before
 use Rattle.std.specs.Prelude.{ℕ}
 use Rattle.hail_machine.specs.Jobs.{Kind, Job}
 use Rattle.hail_machine.specs.States.{State}
@@ -15,7 +17,7 @@ use Rattle.lone_laws.specs.Walked.{Walked}
 use Rattle.vault.specs.declared.turn.Ended.{Ended}
 use Rattle.vault.specs.declared.vault.Vault.{Vault}
 use Rattle.vault.specs.Devices.{Devices}
-use Rattle.vault.specs.Outcomes.{answer_of}
+use Rattle.vault.specs.Outcomes.{machine_answer}
 use Rattle.vault.specs.Stands.{Stands}
 
 -- the only job of a state, since it began in another one
@@ -33,8 +35,9 @@ pub record IsUnderWay (v : Vault) (d : Devices) : Type 0 where
   pub stands : Stands v d state
 
 -- the job goes on to this end
-pub record GoesToEnd (start : State) (kind : Kind) (w : State) (moment : ℕ) (ended : Ended) (v : Vault) (old new : Devices) : Type 0 where
+pub record GoesToEnd (start : State) (kind : Kind) (w : State) (moment : ℕ) (ended : Ended) (v : Vault)
+    (old new : Devices) : Type 0 where
   pub last : State
-  pub goes : GoesOnTo w moment 1 (answer_of ended.answer) ended.heard last
+  pub goes : GoesOnTo w moment 1 (machine_answer ended.answer) ended.heard last
   pub stands : Stands v new last
-  pub past_text : SamePast kind (answer_of ended.answer) start.records last.records old.holds new.holds
+  pub past_text : SamePast kind (machine_answer ended.answer) start.records last.records old.holds new.holds

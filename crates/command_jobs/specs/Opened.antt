@@ -1,9 +1,11 @@
 -- What it means that a vault was just opened, and why none is. Records have the newest first.
 --
---   AreRecords records        == records that a start reads: there is one, the journal may hold them, and each may follow those before it
---   IsReadFor told records handed  == the disk, where it tells, reads these records, and enough providers are handed in
---   IsFreshOver v records holds faults == a vault that was just opened over these records and this disk: it stands for each state that was,
---                                     whatever providers are handed in
+--   AreRecords records        == records that a start reads: there is one, the journal may hold them, and
+--                                each may follow those before it
+--   IsReadFor told records handed  == the disk, where it tells, reads these records, and enough providers
+--                                     are handed in
+--   IsFreshOver v records holds faults == a vault that was just opened over these records and this disk: it
+--                                     stands for each state that was, whatever providers are handed in
 --   IsFreshFor v holds faults handed  == the same over some records, with enough providers
 --   unopened_of fault         == why no vault is opened, where a start gave this fault
 --   IsUnopened told handed why     == the cause for which no vault is opened
@@ -14,16 +16,16 @@ use Rattle.hail_devices.specs.Providers.{Provider}
 use Rattle.hail_records.specs.Records.{Record, is_in_grammar, largest_journal}
 use Rattle.hail_records.specs.Journal.{text_size}
 use Rattle.hail_records.specs.Acceptance.{AreAccepted}
-use Rattle.hail_records.specs.Reading.{IsNotSetUp}
+use Rattle.hail_records.specs.Reading.{HasNoSetup}
 use Rattle.hail_machine.specs.States.{State}
 use Rattle.hail_openings.specs.Journals.{journal_read, IsRead, IsBadStart}
-use Rattle.hail_commands.specs.Opens.{setup_at}
+use Rattle.hail_commands.specs.Opens.{setup_in_effect}
 use Rattle.vault_table.specs.Values.{IsFoldOf}
 use Rattle.vault.specs.declared.fault.StartFault.{StartFault}
 use Rattle.vault.specs.declared.fault.StartFault.TheVariants as start_fault
 use Rattle.vault.specs.declared.vault.Vault.{Vault}
 use Rattle.vault.specs.Devices.{devices}
-use Rattle.vault.specs.Seen.{setup_of, table_of, next_job_of, provider_count}
+use Rattle.vault.specs.Seen.{vault_setup, table_of, next_job_of, provider_count}
 use Rattle.vault.specs.Stands.{Stands}
 use Rattle.hail_openings.specs.Opened.{IsJustOpened}
 use Rattle.command_jobs.specs.declared.open.Unopened.{Unopened}
@@ -39,14 +41,15 @@ pub record AreRecords (records : List Record) : Type 0 where
 -- the disk reads these records, and enough providers are handed in
 pub record IsReadFor (told : Option Cells) (records : List Record) (handed : ℕ) : Type 0 where
   pub read : IsRead told records
-  pub enough : (setup_at records).n ≤ handed
+  pub enough : (setup_in_effect records).n ≤ handed
 
 -- a vault that was just opened over these records and this disk
 pub record IsFreshOver (v : Vault) (records : List Record) (holds : Option Cells) (faults : ℕ) : Type 0 where
   pub read : AreRecords records
-  pub stands : (w : State) (providers : List Provider) → IsJustOpened w records 1 faults providers → Stands v (devices holds faults providers) w
-  pub providers : provider_count v ≡ (setup_at records).n
-  pub tolerance : (setup_of v).tolerance ≡ (setup_at records).tolerance
+  pub stands : (w : State) (providers : List Provider) → IsJustOpened w records 1 faults providers
+      → Stands v (devices holds faults providers) w
+  pub providers : provider_count v ≡ (setup_in_effect records).n
+  pub tolerance : (vault_setup v).tolerance ≡ (setup_in_effect records).tolerance
   pub table : IsFoldOf records (table_of v)
   pub next_job : next_job_of v ≡ 1
 
@@ -54,7 +57,7 @@ pub record IsFreshOver (v : Vault) (records : List Record) (holds : Option Cells
 pub record IsFreshFor (v : Vault) (holds : Option Cells) (faults handed : ℕ) : Type 0 where
   pub records : List Record
   pub fresh : IsFreshOver v records holds faults
-  pub enough : (setup_at records).n ≤ handed
+  pub enough : (setup_in_effect records).n ≤ handed
 
 -- why no vault is opened, where a start gave this fault
 abbrev pub unopened_of : StartFault → Unopened
@@ -65,8 +68,10 @@ unopened_of start_fault.Memory = unopened.Memory
 
 -- the cause for which no vault is opened; that of a fault of the disk is its count
 abbrev pub IsUnopened : Option Cells → ℕ → Unopened → Type 0
-IsUnopened told handed unopened.NotSetUp = IfSome told (λ cells. IsNotSetUp (journal_read cells))
-IsUnopened told handed (unopened.BadJournal at) = IfSome told (λ cells. (9 < length (journal_read cells)) × IsBadStart (journal_read cells) at)
-IsUnopened told handed unopened.TooFewProviders = (records : List Record) × IsRead told records × (handed < (setup_at records).n)
+IsUnopened told handed unopened.NotSetUp = IfSome told (λ cells. HasNoSetup (journal_read cells))
+IsUnopened told handed (unopened.BadJournal at) =
+    IfSome told (λ cells. (9 < length (journal_read cells)) × IsBadStart (journal_read cells) at)
+IsUnopened told handed unopened.TooFewProviders =
+    (records : List Record) × IsRead told records × (handed < (setup_in_effect records).n)
 IsUnopened told handed unopened.DiskFault = Unit {0}
 IsUnopened told handed unopened.Memory = Unit {0}

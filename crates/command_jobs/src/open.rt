@@ -9,8 +9,8 @@ ghost use Rattle.hail_openings.specs.Journals.{IsResynced};
 ghost use Rattle.command_jobs.specs.declared.open.Unopened.TheVariants as unopened;
 ghost use Rattle.command_jobs.specs.Opened.{IsFreshOver, IsReadFor, IsFreshFor, IsUnopened, unopened_of};
 
-use command_laws::alone::opened_states;
 use disk_model::Disk;
+use job_laws::alone::opened_states;
 use std::alloc::Global;
 use vault::{StartFault, Vault};
 
@@ -47,14 +47,16 @@ impl From<StartFault> for Unopened {
 
 /// Opens the vault over what a disk reads, where so many providers are handed in.
 pub fn open_vault<D: Disk>(alloc: Global, disk: &mut D, handed: usize) -> Result<Vault, Unopened>
-    ensures opened { IfOk result (λ vault. (records : List Record) × IsReadFor (D.holds disk.old) records handed
+    ensures opened { IfOk result (λ vault. (records : List Record) × IsReadFor (D.holds disk.old) records
+        handed
         × IsFreshOver vault records (D.holds disk.new) (D.faults disk.new)) }
     ensures ready { IfOk result (λ vault. IsFreshFor vault (D.holds disk.new) (D.faults disk.new) handed) }
     ensures refused { IfErr result (IsUnopened (D.holds disk.old) handed) }
     ensures reads { option_map reads (D.holds disk.new) ≡ option_map reads (D.holds disk.old) }
     ensures disk { Goes IsResynced (D.holds disk.old) (D.holds disk.new) }
     ensures synced { OnOk result (D.holds disk.new ≡ option_map synced (D.holds disk.old)) }
-    ensures few { IsErrOf result unopened.TooFewProviders → D.holds disk.new ≡ option_map synced (D.holds disk.old) }
+    ensures few { IsErrOf result unopened.TooFewProviders
+        → D.holds disk.new ≡ option_map synced (D.holds disk.old) }
     ensures cause { HasCause (D.faults disk.old) (D.faults disk.new) (IsErrOf result unopened.DiskFault) }
 {
     opened_states();

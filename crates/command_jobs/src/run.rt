@@ -4,7 +4,7 @@ ghost use Rattle.hail_machine.specs.States.{State};
 ghost use Rattle.hail_records.specs.Records.{Record};
 ghost use Rattle.hail_commands.specs.Seen.{Seen};
 ghost use Rattle.hail_commands.specs.Opens as opens;
-ghost use Rattle.vault.specs.Devices.{Devices, as_seen, devices};
+ghost use Rattle.vault.specs.Devices.{Devices, devices_seen};
 ghost use Rattle.vault.specs.Outcomes.{HasPaddedCounts};
 ghost use Rattle.vault.specs.Seen.{next_job_of};
 ghost use Rattle.vault.specs.Stands.{Stands, MakesBegin};
@@ -14,8 +14,8 @@ ghost use Rattle.command_jobs.specs.Going.{IsOnly, IsUnderWay, GoesToEnd};
 ghost use Rattle.command_jobs.specs.Ends.{IsSeenBefore, IsSeenAfter, IsRefusedOver, EndsOver};
 
 use crate::job::Job;
-use command_laws::alone::{opened_states, told_jobs_leave};
 use disk_model::Disk;
+use job_laws::alone::{opened_states, told_jobs_leave};
 use provider_model::Provider;
 use vault::{BeginFault, Ended, Turn, Vault};
 
@@ -30,12 +30,13 @@ pub fn run_job<D: Disk, P: Provider>(
     requires ready { IsFreshFor vault (D.holds disk.old) (D.faults disk.old) (length providers.old) }
     ensures ended { IfOk result (λ ended. (records : List Record) (old new : Seen)
         → IsFreshOver vault records (D.holds disk.old) (D.faults disk.old) → opens.IsOpened old records
-        → IsSeenBefore old (devices (D.holds disk.old) (D.faults disk.old) (map (as_seen P.held P.store_faults P.other_faults P.fetches) providers.old))
-        → IsSeenAfter new (devices (D.holds disk.new) (D.faults disk.new) (map (as_seen P.held P.store_faults P.other_faults P.fetches) providers.new))
+        → IsSeenBefore old (devices_seen D.Disk P.Provider disk.old providers.old)
+        → IsSeenAfter new (devices_seen D.Disk P.Provider disk.new providers.new)
         → EndsOver records (kind_of job.entry) ended old new) }
     ensures padded { IfOk result (λ ended. HasPaddedCounts ended.answer) }
     ensures refused { IfErr result (λ why. (records : List Record)
-        → IsFreshOver vault records (D.holds disk.old) (D.faults disk.old) → IsRefusedOver records (kind_of job.entry) why) }
+        → IsFreshOver vault records (D.holds disk.old) (D.faults disk.old)
+        → IsRefusedOver records (kind_of job.entry) why) }
     ensures tells { is_some (D.holds disk.new) ≡ is_some (D.holds disk.old) }
     ensures untouched { OnErr result ((disk.new ≡ disk.old) × (providers.new ≡ providers.old)) }
 {
@@ -68,12 +69,12 @@ fn finish<D: Disk, P: Provider>(
     providers: &mut [P],
 ) -> Ended
     requires first { number ≡ 1 }
-    requires under_way { IsUnderWay vault.old (devices (D.holds disk.old) (D.faults disk.old) (map (as_seen P.held P.store_faults P.other_faults P.fetches) providers.old)) }
+    requires under_way { IsUnderWay vault.old (devices_seen D.Disk P.Provider disk.old providers.old) }
     ensures ended { (start w : State) (kind : Kind) (moment : ℕ) → IsOnly start kind w
-        → Stands vault.old (devices (D.holds disk.old) (D.faults disk.old) (map (as_seen P.held P.store_faults P.other_faults P.fetches) providers.old)) w
+        → Stands vault.old (devices_seen D.Disk P.Provider disk.old providers.old) w
         → GoesToEnd start kind w moment result vault.new
-        (devices (D.holds disk.old) (D.faults disk.old) (map (as_seen P.held P.store_faults P.other_faults P.fetches) providers.old))
-        (devices (D.holds disk.new) (D.faults disk.new) (map (as_seen P.held P.store_faults P.other_faults P.fetches) providers.new)) }
+        (devices_seen D.Disk P.Provider disk.old providers.old)
+        (devices_seen D.Disk P.Provider disk.new providers.new) }
     ensures tells { is_some (D.holds disk.new) ≡ is_some (D.holds disk.old) }
     ensures padded { HasPaddedCounts result.answer }
 {

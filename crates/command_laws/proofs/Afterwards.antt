@@ -1,5 +1,5 @@
 -- A store is known again after a command, and the next one finds it so.
-use Rattle.std.proofs.Common.{◌≡◌, ℕ, ◌<◌, ◌≤◌, true, false, List, [], ◌∷◌, length, take, Option, None, Some, refl, ap, sym, subst, ◌∙◌, inl, inr, arith}
+use Rattle.std.proofs.Common.{◌≡◌, ℕ, ◌<◌, ◌≤◌, true, false, List, [], length, take, Option, None, Some, refl, ap, sym, subst, ◌∙◌, inl, inr, arith}
 use Rattle.std.specs.Prelude.{is_some, IfSome}
 use Rattle.std.proofs.lemmas.Bool.{false≢true}
 use Rattle.hail_field.specs.Shape.{IsShape}
@@ -7,6 +7,8 @@ use Rattle.hail_devices.specs.Cells.{Cells, reads, firm}
 use Rattle.hail_devices.specs.Disks.{synced, Stopped}
 use Rattle.hail_devices.specs.Images.{IsImage, EachImage}
 use Rattle.hail_devices.specs.Told.{Goes}
+use Rattle.hail_devices.proofs.Lasting.{reads-firm, image-firm}
+use Rattle.hail_devices.proofs.PickLaws.{IsImage-reads}
 use Rattle.hail_records.specs.Records.{Record, Setup, largest_journal}
 use Rattle.hail_records.specs.Journal.{StandsFor}
 use Rattle.hail_machine.specs.Jobs.{Kind, PutJob, GetJob, DropJob, AuditJob, RepairJob}
@@ -14,23 +16,20 @@ use Rattle.hail_commands.specs.Forms.{Command, Numbers, RowOf, InitWith, PutUnde
 use Rattle.hail_commands.specs.Sinking.{WritesLine, TellsLine}
 use Rattle.hail_openings.specs.Journals.{IsResynced, IsRead}
 use Rattle.hail_commands.specs.Seen.{Seen, Ending, IsRefused, sinking}
-use Rattle.hail_commands.specs.Opens.{Unstarted, setup_at}
+use Rattle.hail_commands.specs.Opens.{Unstarted, setup_in_effect}
 use Rattle.hail_commands.specs.Inits.{setup_with, AnswersInit, InitsDisk}
 use Rattle.hail_commands.specs.Jobs.{AnswersJob}
 use Rattle.hail_commands.specs.Commands.{AnswersPut, AnswersAlone, AnswersList, Answers}
 use Rattle.sound_states.proofs.Records.{is_some-at}
+use Rattle.hail_openings.proofs.Resyncs.{resynced-equal}
 use Rattle.command_laws.specs.Ends.{IsKnown}
 use Rattle.command_laws.specs.After.{IsSure, Follows, is_refusal}
 use Rattle.command_laws.proofs.Known.{EndStatus, status-ended}
 use Rattle.command_laws.proofs.JobEnds.{unstarted-refused}
-use Rattle.command_laws.proofs.Images.{init-kept, reads-image, image-firm, refused-keeps}
+use Rattle.command_laws.proofs.Images.{init-kept, refused-keeps}
 use Rattle.command_laws.proofs.Knowing.{known-good}
 
 -- ---- refusals
-
-pub reads-firm : (bytes : List ℕ) → reads (firm bytes) ≡ bytes
-reads-firm [] = refl
-reads-firm (b ∷ bytes) = ap (λ l. b ∷ l) (reads-firm bytes)
 
 reads-resynced : (old new : Cells) → IsResynced old new → reads new ≡ reads old
 reads-resynced old new (inl same) = ap reads same
@@ -53,7 +52,7 @@ read-kept (Some a) (Some b) records g tells R = (
 pub known-refused : (status at : ℕ) (records : List Record) (old new : Seen) (end : Ending) → IsRefused status at old new end → IsKnown old records → IsKnown new records
 known-refused status at records old new end r K = (let kept = read-kept old.disk new.disk records r.disk K.tells K.opened.read in record {
   tells = kept.0;
-  opened = record { read = kept.1; enough = subst (λ ps. (setup_at records).n ≤ length ps) (sym r.providers) K.opened.enough };
+  opened = record { read = kept.1; enough = subst (λ ps. (setup_in_effect records).n ≤ length ps) (sym r.providers) K.opened.enough };
 })
 
 images-kept : (a b : Option Cells) (records : List Record) → IfSome a (λ cells. EachImage b (IsImage cells)) → is_some a ≡ true → EachImage a (λ image. StandsFor image records) → EachImage b (λ image. StandsFor image records)
@@ -131,18 +130,12 @@ init-told numbers old new end (AnswersInit.bad_key bytes good enough read bad r)
 init-told numbers old new end (AnswersInit.no_memory taken r) refuses = as-told 70 0 old new end r
 init-told numbers old new end (AnswersInit.keyed bytes key good enough read form D) refuses = disk-told (setup_with numbers key) old new end D refuses
 
-disk-same : (old new : Option Cells) → new ≡ old → Goes IsResynced old new
-disk-same None None same = tt
-disk-same (Some a) (Some b) same = inl (let e : Some b ≡ Some a = same in let f : b ≡ a = cc in f)
-disk-same None (Some b) same = absurd (let e : Some b ≡ None = same in cc)
-disk-same (Some a) None same = absurd (let e : None ≡ Some a = same in cc)
-
 row-told : (n l b : ℕ) (seen : List (Option ℕ)) (old new : Seen) (end : Ending) → Answers (RowOf n l b seen) old new end → is_refusal end.status ≡ true → IsRefused end.status end.at old new end
 row-told n l b seen old new end (A, T) refuses = record {
   status_is = refl;
   place = refl;
   heard = T.heard;
-  disk = disk-same old.disk new.disk T.disk;
+  disk = resynced-equal old.disk new.disk T.disk;
   providers = T.providers;
   sink = (A.no_shape no-shape).1;
 }
@@ -164,7 +157,7 @@ refusal-told RepairDue old new end A refuses = alone-told RepairJob old new end 
 
 known-sure : (s : Seen) (records : List Record) (cells : Cells) (told : Seen) → IsSure s records → told.disk ≡ Some cells → StandsFor (reads cells) records → length told.providers ≡ length s.providers → IsKnown told records
 known-sure s records cells told S is stands handed = (let R = S.known.opened.read in
-    known-good (setup_at records) told cells records is
+    known-good (setup_in_effect records) told cells records is
     (record { some = R.some; accepted = R.accepted; room = R.room; setup = refl; stands = stands })
     (let e = S.known.opened.enough in omega (arith, e, handed)))
 
@@ -172,7 +165,7 @@ pub sure-next : (records : List Record) (new next : Seen) → IsSure new records
 sure-next records new next S N = elim N.disk [
   | inl same ↦ (let c = is_some-at new.disk S.known.tells in record {
     known = known-sure new records c.0 next S (same ∙ c.1)
-        (subst (λ d. EachImage d (λ image. StandsFor image records)) c.1 S.images (reads c.0) (reads-image c.0)) N.handed;
+        (subst (λ d. EachImage d (λ image. StandsFor image records)) c.1 S.images (reads c.0) (IsImage-reads c.0)) N.handed;
     images = subst (λ d. EachImage d (λ image. StandsFor image records)) (sym same) S.images;
   })
   | inr stopped ↦ (let c = stopped-at new.disk next.disk S.known.tells S.images stopped in record {
@@ -192,7 +185,7 @@ pub sure-same : (records : List Record) (old new : Seen) → new.disk ≡ old.di
 sure-same records old new same providers S = record {
   known = record {
     tells = ap is_some same ∙ S.known.tells;
-    opened = record { read = subst (λ d. IsRead d records) (sym same) S.known.opened.read; enough = subst (λ ps. (setup_at records).n ≤ length ps) (sym providers) S.known.opened.enough };
+    opened = record { read = subst (λ d. IsRead d records) (sym same) S.known.opened.read; enough = subst (λ ps. (setup_in_effect records).n ≤ length ps) (sym providers) S.known.opened.enough };
   };
   images = subst (λ d. EachImage d (λ image. StandsFor image records)) (sym same) S.images;
 }
@@ -214,5 +207,5 @@ pub sure-init : (numbers : Numbers) (records : List Record) (old new : Seen) (en
 sure-init numbers records old new end A S tells =
     (let images = images-kept old.disk new.disk records (init-kept numbers records old new end A S.known.opened.read.some S.images) S.known.tells S.images in
     let c = is_some-at new.disk (tells ∙ S.known.tells) in
-    let stands : StandsFor (reads c.0) records = subst (λ d. EachImage d (λ image. StandsFor image records)) c.1 images (reads c.0) (reads-image c.0) in
+    let stands : StandsFor (reads c.0) records = subst (λ d. EachImage d (λ image. StandsFor image records)) c.1 images (reads c.0) (IsImage-reads c.0) in
     record { known = known-sure old records c.0 new S c.1 stands (ap length (init-providers numbers old new end A)); images = images })

@@ -2,7 +2,8 @@
 use Rattle.std.proofs.Common.{◌≡◌, ℕ, zero, suc, ◌+◌, ◌<◌, ◌≤◌, ◌&&◌, ◌⊎◌, Bool, true, false, cond, List, [], ◌∷◌, ◌++◌, length, map, get_or, Option, None, Some, refl, ap, sym, subst, ◌∙◌, inl, inr, arith, All}
 use Rattle.std.specs.Prelude.{IfSome, nat_lt, is_some, is_none}
 use Rattle.std.specs.List.{flat_map, range_with_len}
-use Rattle.std.proofs.lemmas.Bool.{cases_Bool, cases_eq, false≢true}
+use Rattle.std.proofs.lemmas.Bool.{cases_Bool, cases_eq, false≢true, or_parts}
+use Rattle.plain_facts.specs.Lists.{In}
 use Rattle.hail_field.specs.Shape.{IsShape}
 use Rattle.hail_codes.specs.Points.{upto}
 use Rattle.hail_columns.specs.Objects.{Object, stripes, symbols_in}
@@ -19,17 +20,16 @@ use Rattle.hail_records.proofs.FilesLaws.{find-files_of}
 use Rattle.hail_machine.specs.Setups.{object_of, stripes_of}
 use Rattle.hail_machine.specs.Jobs.{RepairJob}
 use Rattle.hail_machine.proofs.JobLists.{cond_true, cond_false, same_value}
-use Rattle.hail_machine.proofs.RecordFacts.{In}
 use Rattle.hail_commands.specs.Seen.{Seen, Ending}
-use Rattle.hail_commands.specs.Opens.{setup_at}
+use Rattle.hail_commands.specs.Opens.{setup_in_effect}
 use Rattle.hail_commands.specs.Audits.{with_number, files_by_number}
 use Rattle.hail_commands.specs.Ran.{Ran, setup_at_begin}
 use Rattle.hail_commands.specs.Repairs.{Place, places_of, blocks_at, held_at, flags, IfFlagged, GivesPlace, RewrittenOn, RewritesAll}
 use Rattle.hail_commands.specs.Truthful.{missing, IsTruthful}
 use Rattle.hail_commands.specs.Commands.{AnswersAlone}
-use Rattle.command_laws.specs.Failing.{has_risen, is_bad_with, is_bad, bad_count, bad_seen}
+use Rattle.job_laws.specs.Failing.{has_risen, is_bad_with, is_bad, bad_count, bad_seen}
 use Rattle.command_laws.specs.Ends.{IsDone, IsKnown, HoldsFile, IsRepaired, ran_to, after_repair}
-use Rattle.command_laws.proofs.Complete.{block_at-map, wrong-sized, not-wrong-each, not-risen, or-left}
+use Rattle.job_laws.proofs.Complete.{block_at-map, wrong-sized, not-wrong-each, not-risen}
 use Rattle.command_laws.proofs.Known.{known-once}
 use Rattle.command_laws.proofs.GetEnds.{shape-at}
 use Rattle.command_laws.proofs.JobEnds.{repair-done}
@@ -138,7 +138,7 @@ module _ (x : Ran) (shape : IsShape (setup_at_begin x).n (setup_at_begin x).l (s
           is_wrong_block o bytes j stripe (block_at (blocks_at x W.gave place) j) ≡ false
       by_held None g T = absurd (false≢true (sym g))
       by_held (Some held) g T =
-          (let p = or-left (is_wrong o bytes j (held file.id)) (has_risen (x.old j).other_faults (x.new j).other_faults) g in
+          (let p = or_parts (is_wrong o bytes j (held file.id)) (has_risen (x.old j).other_faults (x.new j).other_faults) g in
           let same = held-in (W.gave j) (held_at x held) (places_of x) place (x.old j).other_faults (x.new j).other_faults T p.1 asked in
           ap (is_wrong_block o bytes j stripe) (block_at-map (λ i. W.gave i place) (setup_at_begin x).n j below ∙ same)
           ∙ (wrong-sized o bytes j stripe (held file.id stripe) ∙ not-wrong-each o bytes j (held file.id) p.0 stripe inside))
@@ -167,17 +167,17 @@ module _ (x : Ran) (shape : IsShape (setup_at_begin x).n (setup_at_begin x).l (s
 -- ---- the repair of a command
 
 pub repair-right : (name bytes : List ℕ) (records : List Record) (file : File) (due : Due) (j : ℕ) (old new : Seen) (end : Ending) → AnswersAlone RepairJob old new end → IsKnown old records → IsDone end →
-    due_of records ≡ Some due → file_of records name ≡ Some file → length bytes ≡ file.size → bad_seen records old new file.id bytes ≤ (setup_at records).b → j < (setup_at records).n →
-    is_flagged (setup_at records).tolerance due.counts j ≡ true → HoldsFile records new bytes file j
+    due_of records ≡ Some due → file_of records name ≡ Some file → length bytes ≡ file.size → bad_seen records old new file.id bytes ≤ (setup_in_effect records).b → j < (setup_in_effect records).n →
+    is_flagged (setup_in_effect records).tolerance due.counts j ≡ true → HoldsFile records new bytes file j
 repair-right name bytes records file due j old new end A K done is_due in_effect size few below flagged =
     (let R = repair-done old new end A done in
     let same : R.records ≡ records = known-once old records R.records K R.opened.read in
-    subst (λ rs. due_of rs ≡ Some due → file_of rs name ≡ Some file → bad_seen rs old new file.id bytes ≤ (setup_at rs).b → j < (setup_at rs).n →
-    is_flagged (setup_at rs).tolerance due.counts j ≡ true → HoldsFile rs new bytes file j) same (by-records R) is_due in_effect few below flagged)
+    subst (λ rs. due_of rs ≡ Some due → file_of rs name ≡ Some file → bad_seen rs old new file.id bytes ≤ (setup_in_effect rs).b → j < (setup_in_effect rs).n →
+    is_flagged (setup_in_effect rs).tolerance due.counts j ≡ true → HoldsFile rs new bytes file j) same (by-records R) is_due in_effect few below flagged)
   where
-    by-records : (R : IsRepaired old new end) → due_of R.records ≡ Some due → file_of R.records name ≡ Some file → bad_seen R.records old new file.id bytes ≤ (setup_at R.records).b → j < (setup_at R.records).n →
-        is_flagged (setup_at R.records).tolerance due.counts j ≡ true → HoldsFile R.records new bytes file j
+    by-records : (R : IsRepaired old new end) → due_of R.records ≡ Some due → file_of R.records name ≡ Some file → bad_seen R.records old new file.id bytes ≤ (setup_in_effect R.records).b → j < (setup_in_effect R.records).n →
+        is_flagged (setup_in_effect R.records).tolerance due.counts j ≡ true → HoldsFile R.records new bytes file j
     by-records R is in_effect few below flagged stripe within =
         (let due_is : R.due ≡ due = same_value (due_of R.records) R.due due R.is_due is in
         holds-right (ran_to (after_repair R.records R.due) R.records old new end.heard) (shape-at old R.records R.opened) R.due R.rewritten name file bytes in_effect size few stripe within j below
-        (subst (λ (d : Due). is_flagged (setup_at R.records).tolerance d.counts j ≡ true) (sym due_is) flagged))
+        (subst (λ (d : Due). is_flagged (setup_in_effect R.records).tolerance d.counts j ≡ true) (sym due_is) flagged))

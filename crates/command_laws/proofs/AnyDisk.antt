@@ -7,7 +7,7 @@ use Rattle.hail_machine.specs.Answers as answer
 use Rattle.hail_machine.specs.Answers.{Answer}
 use Rattle.hail_commands.specs.Forms.{GetOf, ListAll, RepairDue}
 use Rattle.hail_commands.specs.Seen.{Seen, Ending, provider_at}
-use Rattle.hail_commands.specs.Opens.{setup_at}
+use Rattle.hail_commands.specs.Opens.{setup_in_effect}
 use Rattle.hail_commands.specs.Lines.{text_of}
 use Rattle.hail_commands.specs.Gets.{GetLeaves}
 use Rattle.hail_commands.specs.Repairs.{RepairGives}
@@ -26,7 +26,7 @@ Comes end = ((end.status ≡ 0) ⊎ (end.status ≡ 70)) ⊎ (end.status ≡ 4)
 
 get-comes : (name : List ℕ) (records : List Record) (old new : Seen) (end : Ending) (how : Answer) (left : LeftAlone records (GetJob name) how old new end.heard) →
     GetLeaves (ran_left records (GetJob name) how old new end.heard left) name how → (Rose old.sink_faults new.sink_faults → ⊥) →
-    EndsByAnswer (text_of (setup_at records).tolerance (GetJob name) how) how old new end → Comes end
+    EndsByAnswer (text_of (setup_in_effect records).tolerance (GetJob name) how) how old new end → Comes end
 get-comes name records old new end (answer.Got bytes) left L sink by = inl (zero-or-memory _ old new end (written-well _ old new end by.written sink))
 get-comes name records old new end (answer.Lost stripe row) left L sink by = inr by.status_is
 get-comes name records old new end how left L sink by = absurd L.gives
@@ -49,7 +49,7 @@ list-order old new end (AnswersList.listed records opened L) sink = in-order Lis
 module _ (records : List Record) (old new : Seen) (end : Ending) (disk : Rose old.disk_faults new.disk_faults → ⊥)
     (stores : (j : ℕ) → Rose (provider_at old.providers j).store_faults (provider_at new.providers j).store_faults → ⊥) (sink : Rose old.sink_faults new.sink_faults → ⊥) where
   repair-comes : (how : Answer) (left : LeftAlone records RepairJob how old new end.heard) → RepairGives (ran_left records RepairJob how old new end.heard left) left.leaves.by_kind.0.due how →
-      EndsByAnswer (text_of (setup_at records).tolerance RepairJob how) how old new end → Comes end
+      EndsByAnswer (text_of (setup_in_effect records).tolerance RepairJob how) how old new end → Comes end
   repair-comes (answer.Repaired number) left L by = inl (zero-or-memory _ old new end (written-well _ old new end by.written sink))
   repair-comes (answer.Lost stripe row) left L by = inr by.status_is
   repair-comes (answer.ProviderFault j) left L by = absurd (stores j L.2)

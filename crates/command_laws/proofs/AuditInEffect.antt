@@ -7,6 +7,7 @@ use Rattle.hail_devices.specs.Images.{EachImage}
 use Rattle.hail_records.specs.Records.{Record, AuditDone, largest_journal}
 use Rattle.hail_records.specs.Journal.{StandsFor, StandsOrIsEmpty}
 use Rattle.hail_records.specs.Table.{next_audit}
+use Rattle.hail_records.proofs.Standing.{stands-front}
 use Rattle.journal_core.proofs.Meanings.{one_meaning}
 use Rattle.hail_machine.specs.Jobs.{AuditJob}
 use Rattle.hail_machine.specs.Answers as answer
@@ -23,7 +24,6 @@ use Rattle.command_laws.specs.After.{IsSure, Follows}
 use Rattle.command_laws.proofs.Known.{known-once}
 use Rattle.command_laws.proofs.GetEnds.{ran_left}
 use Rattle.command_laws.proofs.JobEnds.{unstarted-refused}
-use Rattle.command_laws.proofs.Images.{stands-front}
 use Rattle.command_laws.proofs.Afterwards.{sure-refused}
 use Rattle.command_laws.proofs.DoneStores.{next-image}
 use Rattle.command_laws.proofs.PutInEffect.{tells-back}

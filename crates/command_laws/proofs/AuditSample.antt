@@ -20,8 +20,8 @@ use Rattle.hail_commands.specs.Commands.{AnswersAlone, Answers}
 use Rattle.command_laws.specs.After.{IsSure}
 use Rattle.command_laws.specs.Pieces.{moment}
 use Rattle.command_laws.specs.Instances.{store, idle_providers, no_counts, set_up_records, audited_records, audited_store, ends}
-use Rattle.command_laws.proofs.Telling.{left-alone, jobs-leave}
-use Rattle.command_laws.proofs.BeginRefusals.{refusal-of}
+use Rattle.job_laws.proofs.Telling.{left-alone, jobs-leave}
+use Rattle.job_laws.proofs.BeginRefusals.{refusal-of}
 use Rattle.command_laws.proofs.Samples.{store-sure, set_up-sure}
 use Rattle.command_laws.proofs.PutSample.{formed, form-is}
 

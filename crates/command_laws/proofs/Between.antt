@@ -1,14 +1,16 @@
 -- Stops and replacements between commands go on with a run, and so do commands one after the other.
-use Rattle.std.proofs.Common.{◌≡◌, ◌≢◌, ℕ, zero, suc, ◌<◌, ◌==◌, ◌⊎◌, Bool, true, false, List, [], ◌∷◌, ◌++◌, length, Option, None, Some, refl, ap, sym, subst, ◌∙◌, inl, inr, arith, append_assoc}
+use Rattle.std.proofs.Common.{◌≡◌, ◌≢◌, ℕ, ◌<◌, ◌==◌, ◌⊎◌, Bool, true, false, List, [], ◌∷◌, ◌++◌, length, Option, None, Some, refl, ap, sym, subst, ◌∙◌, inl, inr, arith, append_assoc}
 use Rattle.std.specs.Prelude.{is_some, nat_lt, slice_get, slice_set, IsSome}
-use Rattle.std.proofs.lemmas.Bool.{cases_Bool, false≢true, eq-eqb, eqb-true}
-use Rattle.std.proofs.lemmas.Bool.Decides.{nat_tests}
+use Rattle.std.proofs.lemmas.Bool.{cases_Bool, false≢true, eq-eqb, eqb-true, lt-ltb}
+use Rattle.std.proofs.lemmas.List.{length-set}
+use Rattle.plain_facts.proofs.Lists.{get-set_other, get-set_same}
 use Rattle.hail_devices.specs.Cells.{Cells, firm}
 use Rattle.hail_devices.specs.Disks.{Stopped}
 use Rattle.hail_devices.specs.Images.{EachImage}
 use Rattle.hail_devices.specs.Providers.{Held, Provider, with_symbol, without_block, HasPlace}
 use Rattle.hail_devices.specs.ProviderCalls.{Replaces}
 use Rattle.hail_devices.specs.Told.{Goes}
+use Rattle.hail_devices.proofs.Lasting.{image-firm, each_image-mono}
 use Rattle.hail_records.specs.Records.{Record}
 use Rattle.hail_records.specs.Journal.{StandsFor, StandsOrIsEmpty}
 use Rattle.hail_machine.specs.Events.{Event, Alter, Lose, Stop, Outcome, Replaced, NothingHeld, Stopped as HasStopped}
@@ -24,31 +26,10 @@ use Rattle.hail_commands.specs.Seen.{Seen}
 use Rattle.hail_openings.specs.Opened.{AreHanded}
 use Rattle.command_laws.specs.After.{IsSure}
 use Rattle.command_laws.specs.Pieces.{IsStore, IsCall, moment, ReplacesHeld, AreReplaced, IsLater, AreBetween, Call, last_seen, IsChain, AreCalls}
-use Rattle.command_laws.proofs.Images.{image-firm}
-use Rattle.command_laws.proofs.Telling.{opened_state, state-over, over-opened}
-use Rattle.command_laws.proofs.GoingOn.{now-more, run-sound, settled, settled-by, command-on, each-more}
+use Rattle.job_laws.proofs.Telling.{opened_state, state-over, over-opened}
+use Rattle.command_laws.proofs.GoingOn.{now-more, run-sound, settled, settled-by, command-on}
 
 -- ---- lists with an element replaced
-
-length-set : {X : Type 0} (xs : List X) (j : ℕ) (x : X) → length (slice_set xs j x) ≡ length xs
-length-set [] j x = refl
-length-set (y ∷ xs) zero x = refl
-length-set (y ∷ xs) (suc j) x = ap suc (length-set xs j x)
-
-get-same : {X : Type 0} (xs : List X) (j : ℕ) (x : X) → j < length xs → slice_get (slice_set xs j x) j ≡ Some x
-get-same [] j x l = absurd (omega (arith, l))
-get-same (y ∷ xs) zero x l = refl
-get-same (y ∷ xs) (suc j) x l = get-same xs j x (omega (arith, l))
-
-get-other : {X : Type 0} (xs : List X) (j k : ℕ) (x : X) → k ≢ j → slice_get (slice_set xs j x) k ≡ slice_get xs k
-get-other [] j k x differ = refl
-get-other (y ∷ xs) zero zero x differ = absurd (differ refl)
-get-other (y ∷ xs) zero (suc k) x differ = refl
-get-other (y ∷ xs) (suc j) zero x differ = refl
-get-other (y ∷ xs) (suc j) (suc k) x differ = get-other xs j k x (λ e. differ (ap suc e))
-
-less-true : (a b : ℕ) → a < b → nat_lt a b ≡ true
-less-true a b l = grind (arith, nat_tests, l)
 
 -- ---- one replacement
 
@@ -72,8 +53,8 @@ handed-set w ps j q H below = record { count = H.count ∙ sym (length-set ps j 
   where
     each : (k : ℕ) → k < length (slice_set ps j q) → slice_get (slice_set ps j q) k ≡ Some (with_provider w.providers j q k)
     each k l = elim (cases_Bool (k == j)) [
-      | inl t ↦ (let e : k ≡ j = eqb-true k j t in ap (slice_get (slice_set ps j q)) e ∙ (get-same ps j q below ∙ ap Some (sym (cond_true (k == j) q (w.providers k) t))))
-      | inr f ↦ get-other ps j k q (λ e. false≢true (sym f ∙ eq-eqb k j e)) ∙ (H.each k (let m = length-set ps j q in omega (arith, m, l)) ∙ ap Some (sym (cond_false (k == j) q (w.providers k) f)))
+      | inl t ↦ (let e : k ≡ j = eqb-true k j t in ap (slice_get (slice_set ps j q)) e ∙ (get-set_same ps j q below ∙ ap Some (sym (cond_true (k == j) q (w.providers k) t))))
+      | inr f ↦ get-set_other ps j k q (λ e. false≢true (sym f ∙ eq-eqb k j e)) ∙ (H.each k (let m = length-set ps j q in omega (arith, m, l)) ∙ ap Some (sym (cond_false (k == j) q (w.providers k) f)))
     ]
 
 given-at : (w : State) (ps : List Provider) (j : ℕ) (p : Provider) → AreHanded ps w → j < length ps → slice_get ps j ≡ Some p → p ≡ w.providers j
@@ -94,7 +75,7 @@ one-goes w (Alter j object stripe place symbol) ps next H (p, q, below, at, (fou
   q = q;
   outcome = outcome_for found;
   between = (tt, tt);
-  happens = λ n. replaces-at w j (λ held. HasPlace (held object stripe) place) (with_symbol object stripe place symbol) (nat_lt j w.handed) (less-true j w.handed (let c = H.count in omega (arith, c, below))) found q
+  happens = λ n. replaces-at w j (λ held. HasPlace (held object stripe) place) (with_symbol object stripe place symbol) (nat_lt j w.handed) (lt-ltb j w.handed (let c = H.count in omega (arith, c, below))) found q
       (subst (λ o. Replaces (λ held. HasPlace (held object stripe) place) (with_symbol object stripe place symbol) found o q) (given-at w ps j p H below at) call);
   handed = subst (λ l. AreHanded l (replaced_in w j q)) (sym is) (handed-set w ps j q H below);
 }
@@ -103,7 +84,7 @@ one-goes w (Lose j object stripe) ps next H (p, q, below, at, (found, call), is)
   q = q;
   outcome = outcome_for found;
   between = (tt, tt);
-  happens = λ n. replaces-at w j (λ held. IsSome (held object stripe)) (without_block object stripe) (nat_lt j w.handed) (less-true j w.handed (let c = H.count in omega (arith, c, below))) found q
+  happens = λ n. replaces-at w j (λ held. IsSome (held object stripe)) (without_block object stripe) (nat_lt j w.handed) (lt-ltb j w.handed (let c = H.count in omega (arith, c, below))) found q
       (subst (λ o. Replaces (λ held. IsSome (held object stripe)) (without_block object stripe) found o q) (given-at w ps j p H below at) call);
   handed = subst (λ l. AreHanded l (replaced_in w j q)) (sym is) (handed-set w ps j q H below);
 }
@@ -126,7 +107,7 @@ store-replaced w s next j q S sound disk faults handed = record {
   sound = sound;
   set_up = S.set_up;
   tells = ap is_some disk ∙ S.tells;
-  images = subst (λ d. StandsForState d (replaced_in w j q)) (sym disk) (each-more s.disk _ _ again S.images);
+  images = subst (λ d. StandsForState d (replaced_in w j q)) (sym disk) (each_image-mono s.disk _ _ again S.images);
   faults_are = S.faults_are ∙ sym faults;
   handed = handed;
 }
@@ -229,7 +210,7 @@ sure-store s records K =
         sound = rest-sound 8 w O.rest;
         set_up = O.rest.set_up refl;
         tells = K.known.tells;
-        images = each-more s.disk _ _ (λ image stands. inl (inl stands)) K.images;
+        images = each_image-mono s.disk _ _ (λ image stands. inl (inl stands)) K.images;
         faults_are = refl;
         handed = V.handed;
       },

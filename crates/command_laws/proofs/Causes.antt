@@ -3,6 +3,7 @@ use Rattle.std.proofs.Common.{◌≡◌, ℕ, ◌==◌, Bool, true, false, List,
 use Rattle.std.specs.Prelude.{if◌then◌else◌}
 use Rattle.std.proofs.lemmas.Bool.{false≢true}
 use Rattle.hail_devices.specs.Faults.{Rose}
+use Rattle.hail_devices.proofs.Lasting.{rose-before}
 use Rattle.hail_records.specs.Records.{Record}
 use Rattle.hail_machine.specs.Jobs.{Kind, PutJob, GetJob, DropJob, AuditJob, RepairJob}
 use Rattle.hail_machine.specs.Answers as answer
@@ -19,7 +20,6 @@ use Rattle.hail_commands.specs.Jobs.{AnswersJob, EndsByAnswer, LeavesBy, LeftAlo
 use Rattle.hail_commands.specs.Inits.{AnswersInit, InitsDisk}
 use Rattle.hail_commands.specs.Commands.{AnswersPut, AnswersAlone, AnswersList, Answers}
 use Rattle.command_laws.specs.Ends.{FaultsHaveCauses, opens_store}
-use Rattle.command_laws.proofs.JobEnds.{rose-before}
 use Rattle.command_laws.proofs.GetEnds.{ran_left}
 
 -- a status of a fault

@@ -1,7 +1,7 @@
 -- Commands one after the other.
 use Rattle.std.proofs.Common.{◌≡◌, ◌≢◌, ℕ, ◌+◌, ◌<◌, ◌≤◌, ◌⊎◌, Bool, true, false, cond, not, List, [], ◌∷◌, length, Option, None, Some, refl, ap, sym, subst, ◌∙◌, inl, inr, arith}
 use Rattle.std.specs.Prelude.{is_some, nat_lt, ◌&&◌, ◌||◌}
-use Rattle.std.proofs.lemmas.Bool.{cases_Bool, false≢true}
+use Rattle.std.proofs.lemmas.Bool.{cases_Bool, false≢true, le-ltb}
 use Rattle.std.proofs.lemmas.Bool.Decides.{nat_tests}
 use Rattle.hail_columns.specs.Verdicts.{is_flagged}
 use Rattle.hail_devices.specs.Cells.{Cells}
@@ -10,16 +10,16 @@ use Rattle.hail_devices.specs.Told.{told_then}
 use Rattle.hail_records.specs.Records.{Record, Setup, SetUp, AuditStart, is_name, largest_file, largest_journal}
 use Rattle.hail_records.specs.Table.{Due, next_audit, setup_of, file_of, due_of, exceeds}
 use Rattle.hail_records.specs.Acceptance.{refused}
+use Rattle.hail_records.proofs.FilesLaws.{same-refl}
+use Rattle.record_codec.proofs.NameLemmas.{is_name-short}
 use Rattle.hail_machine.specs.Jobs.{PutJob, GetJob, DropJob, AuditJob, RepairJob}
 use Rattle.hail_machine.specs.Refusals as refusal
-use Rattle.hail_machine.specs.Refusals.{Refusal}
 use Rattle.hail_machine.proofs.JobLists.{cond_true, cond_false}
-use Rattle.hail_machine.proofs.RecordFacts.{same_name-refl}
 use Rattle.hail_commands.specs.Forms.{Numbers, AuditAll}
 use Rattle.hail_commands.specs.Keys.{IsKeyForm}
 use Rattle.hail_commands.specs.Seen.{Seen, Ending, provider_at}
 use Rattle.hail_openings.specs.Journals.{IsFree}
-use Rattle.hail_commands.specs.Opens.{setup_at}
+use Rattle.hail_commands.specs.Opens.{setup_in_effect}
 use Rattle.hail_commands.specs.Lines.{ready_line, stored_line, audit_lines}
 use Rattle.hail_commands.specs.Audits.{audit_records}
 use Rattle.hail_commands.specs.Jobs.{IsTold}
@@ -42,12 +42,12 @@ use Rattle.command_laws.proofs.FilesKept.{reads-have, repair-has}
 -- ---- gets
 
 pub get-complete : (name bytes : List ℕ) (records : List Record) (spoilt : ℕ → Bool) (old new : Seen) (end : Ending) → AnswersAlone (GetJob name) old new end → IsKnown old records → HasRightFile old records name bytes spoilt →
-    IsSteady (setup_at records).n spoilt old new → spoilt_below (setup_at records).n spoilt ≤ (setup_at records).b → (Rose old.disk_faults new.disk_faults → ⊥) → (Rose old.sink_faults new.sink_faults → ⊥) → GivesUnlessMemory bytes old new end
+    IsSteady (setup_in_effect records).n spoilt old new → spoilt_below (setup_in_effect records).n spoilt ≤ (setup_in_effect records).b → (Rose old.disk_faults new.disk_faults → ⊥) → (Rose old.sink_faults new.sink_faults → ⊥) → GivesUnlessMemory bytes old new end
 get-complete name bytes records spoilt old new end A K H steady few disk sink =
     seen-complete name bytes records H.file old new end K H.in_effect H.are_bytes H.size A (let b = bad-few name bytes records spoilt old new H steady in omega (arith, b, few)) disk sink
 
 pub get-right : (name bytes : List ℕ) (records : List Record) (spoilt : ℕ → Bool) (old new : Seen) (end : Ending) → AnswersAlone (GetJob name) old new end → IsKnown old records → HasRightFile old records name bytes spoilt →
-    IsSteady (setup_at records).n spoilt old new → spoilt_below (setup_at records).n spoilt ≤ (setup_at records).b + 1 → end.status ≡ 0 → new.sink ≡ told_then old.sink bytes
+    IsSteady (setup_in_effect records).n spoilt old new → spoilt_below (setup_in_effect records).n spoilt ≤ (setup_in_effect records).b + 1 → end.status ≡ 0 → new.sink ≡ told_then old.sink bytes
 get-right name bytes records spoilt old new end A K H steady few zero =
     (seen-right name bytes records H.file old new end K H.in_effect H.are_bytes H.size A (let b = bad-few name bytes records spoilt old new H steady in omega (arith, b, few))).1 zero
 
@@ -64,8 +64,8 @@ get-missing name records old new end A K named none disk = elim (known-always (G
 -- ---- a get after a put
 
 pub put-get : (name bytes : List ℕ) (records : List Record) (spoilt : ℕ → Bool) (c d e f : Seen) (second last : Ending) → AnswersPut name c d second → AnswersAlone (GetJob name) e f last → Follows d e → IsKnown c records →
-    c.source ≡ Some bytes → IsDone second → ((j : ℕ) → j < (setup_at records).n → spoilt j ≡ false → is_some (provider_at c.providers j).held ≡ true) → IsUntouched (setup_at records).n spoilt d e → IsSteady (setup_at records).n spoilt e f →
-    spoilt_below (setup_at records).n spoilt ≤ (setup_at records).b → (Rose e.disk_faults f.disk_faults → ⊥) → (Rose e.sink_faults f.sink_faults → ⊥) → GivesUnlessMemory bytes e f last
+    c.source ≡ Some bytes → IsDone second → ((j : ℕ) → j < (setup_in_effect records).n → spoilt j ≡ false → is_some (provider_at c.providers j).held ≡ true) → IsUntouched (setup_in_effect records).n spoilt d e → IsSteady (setup_in_effect records).n spoilt e f →
+    spoilt_below (setup_in_effect records).n spoilt ≤ (setup_in_effect records).b → (Rose e.disk_faults f.disk_faults → ⊥) → (Rose e.sink_faults f.sink_faults → ⊥) → GivesUnlessMemory bytes e f last
 put-get name bytes records spoilt c d e f second last P G N K source done tells untouched steady few disk sink =
     (let after : List Record = after_put records name (length bytes) in
     let sure = sure-next after d e (put-sure name bytes records c d second P done K source) N in
@@ -87,17 +87,11 @@ ends-zero : (text : List ℕ) (old new : Seen) (end : Ending) → GivesUnlessMem
 ends-zero text old new end (inl gives) some = gives
 ends-zero text old new end (inr (memory, front)) some = absurd (some memory)
 
-short-name : (name : List ℕ) → is_name name ≡ true → length name ≤ 64
-short-name name h = grind (arith, nat_tests, h)
-
-not-less : (a b : ℕ) → b ≤ a → nat_lt a b ≡ false
-not-less a b l = grind (arith, nat_tests, l)
-
 -- over a store that was just set up a put is not refused
 pub put-begins : (s : Setup) (name bytes : List ℕ) → is_name name ≡ true → length bytes ≤ largest_file → refusal_over (SetUp s ∷ []) (PutJob name bytes) ≡ None
 put-begins s name bytes named short =
-    (let long : nat_lt largest_file (length bytes) ≡ false = not-less largest_file (length bytes) short in
-    let full : nat_lt largest_journal (51 + (11 + (length name + 14))) ≡ false = not-less largest_journal (51 + (11 + (length name + 14))) (let l = short-name name named in omega (arith, l)) in
+    (let long : nat_lt largest_file (length bytes) ≡ false = le-ltb largest_file (length bytes) short in
+    let full : nat_lt largest_journal (51 + (11 + (length name + 14))) ≡ false = le-ltb largest_journal (51 + (11 + (length name + 14))) (let l = is_name-short name named in omega (arith, l)) in
     let room : takes_too_much (SetUp s ∷ []) (PutJob name bytes) ≡ false = ap (nat_lt largest_journal) (omega arith) ∙ full in
     (λ i. cond (not (named i)) (Some refusal.BadName) (cond (long i) (Some refusal.TooLong) (cond (room i || false) (Some refusal.JournalFull) None))))
 
@@ -117,7 +111,7 @@ all-whole numbers key name bytes spoilt cells a b c d e f first second last I P 
 -- ---- a get after a drop
 
 dropped-none : (records : List Record) (name : List ℕ) → file_of (after_drop records name) name ≡ None
-dropped-none records name = cond_true _ None (file_of records name) (same_name-refl name)
+dropped-none records name = cond_true _ None (file_of records name) (same-refl name)
 
 pub drop-get : (name : List ℕ) (records : List Record) (c d e f : Seen) (second last : Ending) → AnswersAlone (DropJob name) c d second → AnswersAlone (GetJob name) e f last → Follows d e → IsKnown c records → IsDone second →
     (Rose e.disk_faults f.disk_faults → ⊥) → (last.status ≡ 3) ⊎ (last.status ≡ 70)
@@ -139,10 +133,10 @@ fewer name bytes records s spoilt later H less = record {
 }
 
 pub repair-get : (name bytes : List ℕ) (records : List Record) (spoilt later : ℕ → Bool) (due : Due) (c d e f : Seen) (second last : Ending) → AnswersAlone RepairJob c d second → AnswersAlone (GetJob name) e f last → Follows d e →
-    IsKnown c records → due_of records ≡ Some due → HasRightFile c records name bytes spoilt → IsDone second → IsSteady (setup_at records).n spoilt c d → spoilt_below (setup_at records).n spoilt ≤ (setup_at records).b →
-    ((j : ℕ) → j < (setup_at records).n → is_flagged (setup_at records).tolerance due.counts j ≡ true → is_some (provider_at c.providers j).held ≡ true) →
-    ((j : ℕ) → later j ≡ false → (spoilt j && not (is_flagged (setup_at records).tolerance due.counts j)) ≡ false) →
-    IsUntouched (setup_at records).n later d e → IsSteady (setup_at records).n later e f → spoilt_below (setup_at records).n later ≤ (setup_at records).b →
+    IsKnown c records → due_of records ≡ Some due → HasRightFile c records name bytes spoilt → IsDone second → IsSteady (setup_in_effect records).n spoilt c d → spoilt_below (setup_in_effect records).n spoilt ≤ (setup_in_effect records).b →
+    ((j : ℕ) → j < (setup_in_effect records).n → is_flagged (setup_in_effect records).tolerance due.counts j ≡ true → is_some (provider_at c.providers j).held ≡ true) →
+    ((j : ℕ) → later j ≡ false → (spoilt j && not (is_flagged (setup_in_effect records).tolerance due.counts j)) ≡ false) →
+    IsUntouched (setup_in_effect records).n later d e → IsSteady (setup_in_effect records).n later e f → spoilt_below (setup_in_effect records).n later ≤ (setup_in_effect records).b →
     (Rose e.disk_faults f.disk_faults → ⊥) → (Rose e.sink_faults f.sink_faults → ⊥) → GivesUnlessMemory bytes e f last
 repair-get name bytes records spoilt later due c d e f second last R G N K is_due H done steady few tells less untouched calm also disk sink =
     (let after : List Record = after_repair records due in
@@ -174,11 +168,11 @@ audit-then records undecided counts c d = inr (record { kind = AuditJob; of_comm
 
 pub put-audit-repair-get : (name bytes : List ℕ) (records : List Record) (spoilt : ℕ → Bool) (a b c d e f g h : Seen) (first second third last : Ending) → AnswersPut name a b first → Answers AuditAll c d second →
     AnswersAlone RepairJob e f third → AnswersAlone (GetJob name) g h last → Follows b c → Follows d e → Follows f g → IsKnown a records → a.source ≡ Some bytes → IsDone first → IsDone second → IsDone third →
-    ((j : ℕ) → j < (setup_at records).n → spoilt j ≡ false → is_some (provider_at a.providers j).held ≡ true) →
-    IsUntouched (setup_at records).n spoilt b c → IsUntouched (setup_at records).n spoilt d e → IsSteady (setup_at records).n spoilt e f → spoilt_below (setup_at records).n spoilt ≤ (setup_at records).b →
-    (undecided : ℕ) × (counts : List ℕ) × IsTold (audit_lines (setup_at records).tolerance (next_audit records) undecided counts) c d second
-    × (((j : ℕ) → j < (setup_at records).n → is_flagged (setup_at records).tolerance counts j ≡ true → is_some (provider_at e.providers j).held ≡ true) → (later : ℕ → Bool) → ((j : ℕ) → later j ≡ false → (spoilt j && not (is_flagged (setup_at records).tolerance counts j)) ≡ false) → IsUntouched (setup_at records).n later f g → IsSteady (setup_at records).n later g h →
-    spoilt_below (setup_at records).n later ≤ (setup_at records).b → (Rose g.disk_faults h.disk_faults → ⊥) → (Rose g.sink_faults h.sink_faults → ⊥) → GivesUnlessMemory bytes g h last)
+    ((j : ℕ) → j < (setup_in_effect records).n → spoilt j ≡ false → is_some (provider_at a.providers j).held ≡ true) →
+    IsUntouched (setup_in_effect records).n spoilt b c → IsUntouched (setup_in_effect records).n spoilt d e → IsSteady (setup_in_effect records).n spoilt e f → spoilt_below (setup_in_effect records).n spoilt ≤ (setup_in_effect records).b →
+    (undecided : ℕ) × (counts : List ℕ) × IsTold (audit_lines (setup_in_effect records).tolerance (next_audit records) undecided counts) c d second
+    × (((j : ℕ) → j < (setup_in_effect records).n → is_flagged (setup_in_effect records).tolerance counts j ≡ true → is_some (provider_at e.providers j).held ≡ true) → (later : ℕ → Bool) → ((j : ℕ) → later j ≡ false → (spoilt j && not (is_flagged (setup_in_effect records).tolerance counts j)) ≡ false) → IsUntouched (setup_in_effect records).n later f g → IsSteady (setup_in_effect records).n later g h →
+    spoilt_below (setup_in_effect records).n later ≤ (setup_in_effect records).b → (Rose g.disk_faults h.disk_faults → ⊥) → (Rose g.sink_faults h.sink_faults → ⊥) → GivesUnlessMemory bytes g h last)
 put-audit-repair-get name bytes records spoilt a b c d e f g h first second third last P A R G N M L K source put audited repaired told one two steady few =
     (let stored : List Record = after_put records name (length bytes) in
     let sure-c = sure-next stored b c (put-sure name bytes records a b first P put K source) N in
@@ -193,6 +187,6 @@ put-audit-repair-get name bytes records spoilt a b c d e f g h first second thir
       audit.0,
       audit.1,
       audit.3,
-      λ tells later less untouched calm also disk sink. repair-get name bytes counted spoilt later repair.due e f g h third last R G L sure-e.known is_due file-e repaired steady few (λ j below flagged. tells j below (subst (λ (ks : List ℕ). is_flagged (setup_at records).tolerance ks j ≡ true) same flagged))
-          (subst (λ (ks : List ℕ). (j : ℕ) → later j ≡ false → (spoilt j && not (is_flagged (setup_at records).tolerance ks j)) ≡ false) (sym same) less) untouched calm also disk sink,
+      λ tells later less untouched calm also disk sink. repair-get name bytes counted spoilt later repair.due e f g h third last R G L sure-e.known is_due file-e repaired steady few (λ j below flagged. tells j below (subst (λ (ks : List ℕ). is_flagged (setup_in_effect records).tolerance ks j ≡ true) same flagged))
+          (subst (λ (ks : List ℕ). (j : ℕ) → later j ≡ false → (spoilt j && not (is_flagged (setup_in_effect records).tolerance ks j)) ≡ false) (sym same) less) untouched calm also disk sink,
     ))

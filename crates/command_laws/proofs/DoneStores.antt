@@ -1,20 +1,23 @@
 -- The records of a store after a command that is done, and after any command.
-use Rattle.std.proofs.Common.{◌≡◌, ◌≢◌, ℕ, suc, ◌+◌, ◌<◌, ◌≤◌, ◌⊎◌, true, List, [], ◌∷◌, ◌++◌, length, Option, None, Some, refl, ap, sym, subst, ◌∙◌, inl, inr, arith, append_assoc}
+use Rattle.std.proofs.Common.{◌≡◌, ◌≢◌, ℕ, ◌+◌, ◌<◌, ◌≤◌, ◌⊎◌, true, List, [], ◌∷◌, ◌++◌, length, Option, None, Some, refl, ap, sym, subst, ◌∙◌, inl, inr, arith, append_assoc}
 use Rattle.std.specs.Prelude.{is_some, IfSome}
-use Rattle.std.specs.List.{list_all}
 use Rattle.std.specs.Option.{option_map}
 use Rattle.std.proofs.lemmas.Bool.{and_from, false≢true}
 use Rattle.std.proofs.lemmas.Bool.Decides.{nat_tests}
 use Rattle.std.proofs.lemmas.List.{append-nil}
-use Rattle.hex.specs.Hex.{IsBytes}
 use Rattle.hex.proofs.HexLemmas.{decode_of-ok}
+use Rattle.plain_facts.proofs.Options.{is_some-option_map}
 use Rattle.hail_devices.specs.Cells.{Cells, reads, firm}
 use Rattle.hail_devices.specs.Disks.{synced, Stopped}
 use Rattle.hail_devices.specs.Images.{EachImage}
 use Rattle.hail_devices.specs.Told.{Goes}
-use Rattle.hail_records.specs.Records.{Record, Setup, SetUp, is_byte, is_master, is_setup, largest_file, largest_journal}
+use Rattle.hail_devices.proofs.Lasting.{reads-firm, image-firm}
+use Rattle.hail_devices.proofs.PickLaws.{IsImage-reads}
+use Rattle.hail_records.specs.Records.{Record, Setup, SetUp, is_master, is_setup, largest_file, largest_journal}
 use Rattle.hail_records.specs.Journal.{text, before_gate, StandsFor}
 use Rattle.hail_records.specs.Table.{Due, next_audit, due_of}
+use Rattle.hail_records.proofs.Standing.{stands-front}
+use Rattle.record_codec.proofs.Takes.{IsBytes-all}
 use Rattle.journal_core.proofs.Meanings.{one_meaning}
 use Rattle.hail_machine.specs.Jobs.{Kind, PutJob, GetJob, DropJob, AuditJob, RepairJob}
 use Rattle.hail_machine.specs.Answers as answer
@@ -25,7 +28,7 @@ use Rattle.hail_commands.specs.Forms.{Command, Numbers, RowOf, InitWith, PutUnde
 use Rattle.hail_commands.specs.Keys.{IsKeyForm}
 use Rattle.hail_commands.specs.Seen.{Seen, Ending, IsRefused, ReadsUpTo}
 use Rattle.hail_openings.specs.Journals.{journal_read, IsSetUpOn}
-use Rattle.hail_commands.specs.Opens.{IsOpened, Unstarted, setup_at}
+use Rattle.hail_commands.specs.Opens.{IsOpened, Unstarted, setup_in_effect}
 use Rattle.hail_commands.specs.Refusals.{status_of}
 use Rattle.hail_commands.specs.Lines.{audit_lines}
 use Rattle.hail_commands.specs.Inits.{setup_with, AnswersInit}
@@ -33,17 +36,18 @@ use Rattle.hail_commands.specs.Gets.{GetLeaves}
 use Rattle.hail_commands.specs.Jobs.{AnswersJob, SamePast, past, with_next, IsTold}
 use Rattle.hail_commands.specs.Commands.{AnswersPut, AnswersAlone, AnswersList, Answers}
 use Rattle.sound_states.proofs.Records.{is_some-at}
+use Rattle.hail_commands.proofs.Keys.{IsKeyForm-once}
 use Rattle.command_laws.specs.Ends.{IsDone, IsKnown, RunsKind, DiskHas, opens_store, after_put, after_drop, after_audit, after_repair}
 use Rattle.command_laws.specs.Kept.{IsAfter, after_start}
 use Rattle.command_laws.specs.After.{IsSure, Follows, IsThen}
 use Rattle.command_laws.proofs.Known.{known-once, alone-known, unstarted-known, refused-not}
 use Rattle.command_laws.proofs.JobEnds.{put-done, drop-done, audit-done, repair-done}
 use Rattle.command_laws.proofs.GetEnds.{ran_left}
-use Rattle.command_laws.proofs.InitEnds.{key-once, form-all, init-done, list-done}
-use Rattle.command_laws.proofs.Images.{reads-image, image-firm, stands-front, known-images}
+use Rattle.command_laws.proofs.InitEnds.{form-all, init-done, list-done}
+use Rattle.command_laws.proofs.Images.{known-images}
 use Rattle.command_laws.proofs.Failed.{images-same, put-fails, repair-fails, repair-loses}
 use Rattle.command_laws.proofs.Knowing.{IsGood, sure-good, known-good, LeavesGood, HasBytes, ran-good, spelled-kind}
-use Rattle.command_laws.proofs.Afterwards.{sure-refused, sure-next, reads-firm}
+use Rattle.command_laws.proofs.Afterwards.{sure-refused, sure-next}
 
 -- ---- statuses of a job that came to its end by itself
 
@@ -71,20 +75,16 @@ over-refused why status is (inr (inr e)) = refused-not why 13 refl (λ k. omega 
 
 -- ---- a disk that told tells on
 
-is_some-map : {A B : Type 0} (f : A → B) (o : Option A) → is_some (option_map f o) ≡ is_some o
-is_some-map f None = refl
-is_some-map f (Some x) = refl
-
 pub tells-past : (kind : Kind) (how : Answer) (before rs : List Record) (a b : Option Cells) → SamePast kind how before rs a b → is_some b ≡ is_some a
-tells-past kind answer.Put before rs a b h = sym (is_some-map (past rs) b) ∙ (ap is_some h ∙ is_some-map (past rs) a)
-tells-past kind (answer.Got bytes) before rs a b h = sym (is_some-map (past rs) b) ∙ (ap is_some h ∙ is_some-map (past rs) a)
-tells-past kind answer.Dropped before rs a b h = sym (is_some-map (past rs) b) ∙ (ap is_some h ∙ is_some-map (past rs) a)
-tells-past kind (answer.Audited number undecided counts) before rs a b h = sym (is_some-map (past rs) b) ∙ (ap is_some h ∙ is_some-map (past rs) a)
-tells-past kind (answer.Repaired number) before rs a b h = sym (is_some-map (past rs) b) ∙ (ap is_some h ∙ is_some-map (past rs) a)
-tells-past kind (answer.Lost stripe row) before rs a b h = sym (is_some-map (past rs) b) ∙ (ap is_some h ∙ is_some-map (past rs) a)
-tells-past kind (answer.ProviderFault j) before rs a b h = sym (is_some-map (past rs) b) ∙ (ap is_some h ∙ is_some-map (past rs) a)
-tells-past kind answer.DiskFault before rs a b h = (let all = with_next h.next rs in sym (is_some-map (past all) b) ∙ (ap is_some h.same ∙ is_some-map (past all) a))
-tells-past kind answer.Memory before rs a b h = (let all = with_next h.next rs in sym (is_some-map (past all) b) ∙ (ap is_some h.same ∙ is_some-map (past all) a))
+tells-past kind answer.Put before rs a b h = sym (is_some-option_map (past rs) b) ∙ (ap is_some h ∙ is_some-option_map (past rs) a)
+tells-past kind (answer.Got bytes) before rs a b h = sym (is_some-option_map (past rs) b) ∙ (ap is_some h ∙ is_some-option_map (past rs) a)
+tells-past kind answer.Dropped before rs a b h = sym (is_some-option_map (past rs) b) ∙ (ap is_some h ∙ is_some-option_map (past rs) a)
+tells-past kind (answer.Audited number undecided counts) before rs a b h = sym (is_some-option_map (past rs) b) ∙ (ap is_some h ∙ is_some-option_map (past rs) a)
+tells-past kind (answer.Repaired number) before rs a b h = sym (is_some-option_map (past rs) b) ∙ (ap is_some h ∙ is_some-option_map (past rs) a)
+tells-past kind (answer.Lost stripe row) before rs a b h = sym (is_some-option_map (past rs) b) ∙ (ap is_some h ∙ is_some-option_map (past rs) a)
+tells-past kind (answer.ProviderFault j) before rs a b h = sym (is_some-option_map (past rs) b) ∙ (ap is_some h ∙ is_some-option_map (past rs) a)
+tells-past kind answer.DiskFault before rs a b h = (let all = with_next h.next rs in sym (is_some-option_map (past all) b) ∙ (ap is_some h.same ∙ is_some-option_map (past all) a))
+tells-past kind answer.Memory before rs a b h = (let all = with_next h.next rs in sym (is_some-option_map (past all) b) ∙ (ap is_some h.same ∙ is_some-option_map (past all) a))
 
 -- ---- what a job leaves that came to its end
 
@@ -117,7 +117,7 @@ put-over name records old new end K (AnswersPut.begun other bytes opened read A)
     subst (λ rs. Left rs old new) (known-once old records other K opened.read) (left-over (PutJob name bytes) other old new end opened read.are_bytes A over)
 
 sure-left : (records after : List Record) (old new : Seen) → IsKnown old records → Left records old new → DiskHas after new → IsSure new after
-sure-left records after old new K L has = (let c = is_some-at new.disk (L.1 ∙ K.tells) in sure-good (setup_at records) new c.0 after c.1 L.0.0 L.0.1 has)
+sure-left records after old new K L has = (let c = is_some-at new.disk (L.1 ∙ K.tells) in sure-good (setup_in_effect records) new c.0 after c.1 L.0.0 L.0.1 has)
 
 -- ---- what was read of a source that tells
 
@@ -145,14 +145,14 @@ drop-sure name records old new end A done K =
     sure-left records (after_drop records name) old new K (alone-over (DropJob name) records old new end K tt A (inl done)) (subst (λ rs. DiskHas (after_drop rs name) new) same P.disk))
 
 pub audit-sure : (records : List Record) (old new : Seen) (end : Ending) → AnswersAlone AuditJob old new end → IsDone end → IsKnown old records → (undecided : ℕ) × (counts : List ℕ) × IsSure new (after_audit records undecided counts)
-    × IsTold (audit_lines (setup_at records).tolerance (next_audit records) undecided counts) old new end
+    × IsTold (audit_lines (setup_in_effect records).tolerance (next_audit records) undecided counts) old new end
 audit-sure records old new end A done K =
     (let P = audit-done old new end A done in
     let same = known-once old records P.records K P.opened.read in (
       P.undecided,
       P.counts,
       sure-left records (after_audit records P.undecided P.counts) old new K (alone-over AuditJob records old new end K tt A (inl done)) (subst (λ rs. DiskHas (after_audit rs P.undecided P.counts) new) same P.disk),
-      subst (λ rs. IsTold (audit_lines (setup_at rs).tolerance (next_audit rs) P.undecided P.counts) old new end) same P.told,
+      subst (λ rs. IsTold (audit_lines (setup_in_effect rs).tolerance (next_audit rs) P.undecided P.counts) old new end) same P.told,
     ))
 
 pub repair-sure : (records : List Record) (due : Due) (old new : Seen) (end : Ending) → AnswersAlone RepairJob old new end → IsDone end → IsKnown old records → due_of records ≡ Some due → IsSure new (after_repair records due)
@@ -202,9 +202,9 @@ synced-sure records old new K after same =
     let looked : (9 < length (reads c.0)) × StandsFor (journal_read c.0) records = subst (λ d. IfSome d (λ cells. (9 < length (reads cells)) × StandsFor (journal_read cells) records)) c.1 R.reads_are in
     let stands : StandsFor (reads c.0) records = stands-front largest_journal (reads c.0) records looked.1 in
     record {
-      known = known-good (setup_at records) new (firm (reads c.0)) records told
+      known = known-good (setup_in_effect records) new (firm (reads c.0)) records told
           (record { some = R.some; accepted = R.accepted; room = R.room; setup = refl; stands = subst (λ bytes. StandsFor bytes records) (sym (reads-firm (reads c.0))) stands })
-          (subst (λ ps. (setup_at records).n ≤ length ps) (sym same) K.opened.enough);
+          (subst (λ ps. (setup_in_effect records).n ≤ length ps) (sym same) K.opened.enough);
       images = subst (λ d. EachImage d (λ image. StandsFor image records)) (sym told) (λ image is. subst (λ bytes. StandsFor bytes records) (sym (image-firm (reads c.0) image is)) stands);
     })
 
@@ -213,14 +213,10 @@ list-sure records old new end A done K = (let P = list-done old new end A done i
 
 -- ---- init
 
-all-bytes : (bytes : List ℕ) → IsBytes bytes → list_all is_byte bytes ≡ true
-all-bytes [] fits = refl
-all-bytes (b ∷ bytes) fits = (let rest : list_all is_byte bytes ≡ true = all-bytes bytes (λ i. fits (suc i)) in let here = fits 0 in grind (arith, nat_tests, here, rest))
-
 key-master : (text key : List ℕ) → IsKeyForm text key → is_master key ≡ true
 key-master text key F = (let d = decode_of-ok F.digits key F.spelled in
     let long : length key ≡ 32 = (let a = d.2 in let b = F.size in omega (arith, a, b)) in
-    let fits = all-bytes key d.3 in grind (arith, nat_tests, long, fits))
+    let fits = IsBytes-all key d.3 in grind (arith, nat_tests, long, fits))
 
 init-good : (s : Setup) (rest : List ℕ) → is_setup s ≡ true → is_master s.master ≡ true → IsGood s (text (SetUp s ∷ []) ++ rest) (SetUp s ∷ [])
 init-good s rest good master = record {
@@ -252,7 +248,7 @@ pub init-sure : (numbers : Numbers) (key : List ℕ) (old new : Seen) (end : End
     ((bytes : List ℕ) × (old.source ≡ Some bytes) × IsKeyForm bytes key) → IsSure new (SetUp (setup_with numbers key) ∷ [])
 init-sure numbers key old new end A done tells (bytes, source, form) =
     (let I = init-done numbers old new end A done in
-    let same : I.key ≡ key = key-once bytes I.key key (form-all old.source new.source bytes I.bytes I.key source I.read I.form) form in
+    let same : I.key ≡ key = IsKeyForm-once bytes I.key key (form-all old.source new.source bytes I.bytes I.key source I.read I.form) form in
     let set_up = set_up-at (setup_with numbers key) old.disk new.disk tells (subst (λ k. Goes (IsSetUpOn (setup_with numbers k)) old.disk new.disk) same I.disk) in
     firm-sure (setup_with numbers key) new _ (SetUp (setup_with numbers key) ∷ []) set_up.1 (init-good (setup_with numbers key) set_up.0 I.good (key-master bytes key form))
     (subst (λ ps. numbers.n ≤ length ps) (sym I.providers) I.enough))
@@ -303,9 +299,9 @@ command-comes RepairDue records old new end K A opens = inr (alone-comes RepairJ
 
 -- what is told of each image: it is good, and stands for the records or for these with some of the job's
 abbrev Told : Command → List Record → Seen → Seen → List ℕ → Type 0
-Told command records old new image = (rs : List Record) × IsGood (setup_at records) image rs × IsThen command records old new rs
+Told command records old new image = (rs : List Record) × IsGood (setup_in_effect records) image rs × IsThen command records old new rs
 
-image-told : (command : Command) (records : List Record) (old new : Seen) (image : List ℕ) (rs : List Record) → IsGood (setup_at records) image rs →
+image-told : (command : Command) (records : List Record) (old new : Seen) (image : List ℕ) (rs : List Record) → IsGood (setup_in_effect records) image rs →
     StandsFor image records ⊎ ((kind : Kind) × RunsKind command old new kind × IsAfter records kind image) → Told command records old new image
 image-told command records old new image rs G (inl stands) = (rs, G, inl (one_meaning image rs records G.stands stands))
 image-told command records old new image rs G (inr (kind, is, after)) = (
@@ -324,7 +320,7 @@ image-told command records old new image rs G (inr (kind, is, after)) = (
 -- the next command finds an image of the disk
 pub next-image : (new next : Seen) → is_some new.disk ≡ true → Follows new next → (cells : Cells) × (next.disk ≡ Some cells) × ((P : List ℕ → Type 0) → EachImage new.disk P → P (reads cells))
 next-image new next tells N = elim N.disk [
-  | inl same ↦ (let c = is_some-at new.disk tells in (c.0, same ∙ c.1, λ P h. subst (λ d. EachImage d P) c.1 h (reads c.0) (reads-image c.0)))
+  | inl same ↦ (let c = is_some-at new.disk tells in (c.0, same ∙ c.1, λ P h. subst (λ d. EachImage d P) c.1 h (reads c.0) (IsImage-reads c.0)))
   | inr stopped ↦ stopped-at new.disk next.disk tells stopped
 ]
   where
@@ -339,8 +335,8 @@ known-always command records old new next end A opens S N = elim (command-comes 
   | inl sure ↦ (records, (sure-next records new next sure N).known, inl refl)
   | inr (inl (status, at, r)) ↦ (records, (sure-next records new next (sure-refused status at records old new end r S) N).known, inl refl)
   | inr (inr good) ↦ (let c = next-image new next (good.1 ∙ S.known.tells) N in
-      let g = c.2 (λ image. (rs : List Record) × IsGood (setup_at records) image rs) good.0.0 in
+      let g = c.2 (λ image. (rs : List Record) × IsGood (setup_in_effect records) image rs) good.0.0 in
       let stands = c.2 _ (known-images command records old new end A opens S.known S.images) in
       let told = image-told command records old new (reads c.0) g.0 g.1 stands in
-      (told.0, known-good (setup_at records) next c.0 told.0 c.1 told.1 (let e = good.0.1 in let h = N.handed in omega (arith, e, h)), told.2))
+      (told.0, known-good (setup_in_effect records) next c.0 told.0 c.1 told.1 (let e = good.0.1 in let h = N.handed in omega (arith, e, h)), told.2))
 ]

@@ -8,7 +8,7 @@ use Rattle.hail_machine.specs.Answers.{Answer}
 use Rattle.hail_machine.proofs.JobLists.{same_value}
 use Rattle.hail_commands.specs.Sinking.{WritesLine}
 use Rattle.hail_commands.specs.Seen.{Seen, Ending, sinking}
-use Rattle.hail_commands.specs.Opens.{setup_at}
+use Rattle.hail_commands.specs.Opens.{setup_in_effect}
 use Rattle.hail_commands.specs.Lines.{list_lines, text_of}
 use Rattle.hail_commands.specs.Gets.{GetLeaves}
 use Rattle.hail_commands.specs.Jobs.{AnswersJob, EndsByAnswer, LeftAlone}
@@ -48,7 +48,7 @@ list-empty records old new end (AnswersList.listed other opened L) K none sink =
 
 module _ (name : List ℕ) (records : List Record) (file : File) (old new : Seen) (end : Ending) (in_effect : file_of records name ≡ Some file) (none : file.size ≡ 0) where
   by-answer : (how : Answer) (left : LeftAlone records (GetJob name) how old new end.heard) → GetLeaves (ran_left records (GetJob name) how old new end.heard left) name how →
-      EndsByAnswer (text_of (setup_at records).tolerance (GetJob name) how) how old new end → end.status ≡ 15 → ⊥
+      EndsByAnswer (text_of (setup_in_effect records).tolerance (GetJob name) how) how old new end → end.status ≡ 15 → ⊥
   by-answer (answer.Got bytes) left L by sink =
       (let same : L.file ≡ file = same_value (file_of records name) L.file file L.in_effect in_effect in
       let zero : L.file.size ≡ 0 = ap (λ (f : File). f.size) same ∙ none in

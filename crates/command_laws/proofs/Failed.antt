@@ -2,6 +2,7 @@
 use Rattle.std.proofs.Common.{◌≡◌, ◌≢◌, ℕ, ◌+◌, ◌<◌, ◌⊎◌, true, List, [], ◌∷◌, Option, None, Some, refl, ap, sym, subst, ◌∙◌, inl, inr, arith}
 use Rattle.std.specs.Prelude.{IsSomeAnd}
 use Rattle.std.proofs.lemmas.Bool.{cases_lt}
+use Rattle.plain_facts.proofs.Numbers.{not_two}
 use Rattle.hail_columns.specs.Verdicts.{is_flagged}
 use Rattle.hail_devices.specs.Cells.{Cells}
 use Rattle.hail_devices.specs.Faults.{Rose}
@@ -18,7 +19,7 @@ use Rattle.hail_machine.specs.Refusals.{Refusal}
 use Rattle.hail_commands.specs.Forms.{Command, Numbers, RowOf, InitWith, PutUnder, GetOf, DropOf, ListAll, AuditAll, RepairDue}
 use Rattle.hail_commands.specs.Sinking.{WritesLine}
 use Rattle.hail_commands.specs.Seen.{Seen, Ending, IsRefused, ReadsUpTo, provider_at, sinking}
-use Rattle.hail_commands.specs.Opens.{IsOpened, Unstarted, setup_at}
+use Rattle.hail_commands.specs.Opens.{IsOpened, Unstarted, setup_in_effect}
 use Rattle.hail_commands.specs.Refusals.{status_of}
 use Rattle.hail_commands.specs.Ran.{Ran}
 use Rattle.hail_commands.specs.Lines.{text_of}
@@ -45,8 +46,8 @@ unstarted-fetches old new end u = (let r = unstarted-refused old new end u in re
 
 -- jobs of the kinds that fetch nothing
 left-fetches : (records : List Record) (kind : Kind) (how : Answer) (old new : Seen) (heard : List Entry) (left : LeftAlone records kind how old new heard) →
-    ((j : ℕ) → j < (setup_at records).n → (provider_at new.providers j).fetches ≡ (provider_at old.providers j).fetches) → SameFetches old new
-left-fetches records kind how old new heard left same j = elim (cases_lt j (setup_at records).n) [
+    ((j : ℕ) → j < (setup_in_effect records).n → (provider_at new.providers j).fetches ≡ (provider_at old.providers j).fetches) → SameFetches old new
+left-fetches records kind how old new heard left same j = elim (cases_lt j (setup_in_effect records).n) [
   | inl l ↦ same j l
   | inr l ↦ ap (λ (p : Provider). p.fetches) (left.leaves.others j l)
 ]
@@ -93,33 +94,30 @@ init-fetches numbers old new end (AnswersInit.keyed seen key good enough read fo
 
 -- ---- which answers end a command so
 
-differ : (status n m : ℕ) → status ≡ n → status ≡ m → n ≢ m → ⊥
-differ status n m is also other = other (sym is ∙ also)
-
 -- 13 and 4 are statuses of a job's end alone
 abbrev IsOwn : ℕ → Type 0
 IsOwn m = (m ≡ 13) ⊎ (m ≡ 4)
 
 unstarted-own : (m : ℕ) (old new : Seen) (end : Ending) → Unstarted old new end → end.status ≡ m → IsOwn m → ⊥
-unstarted-own m old new end (Unstarted.disk_fault rose r) is own = differ end.status 12 m r.status_is is (λ e. elim own [ inl k ↦ omega (arith, k, e) | inr k ↦ omega (arith, k, e) ])
-unstarted-own m old new end (Unstarted.not_set_up fresh r) is own = differ end.status 9 m r.status_is is (λ e. elim own [ inl k ↦ omega (arith, k, e) | inr k ↦ omega (arith, k, e) ])
-unstarted-own m old new end (Unstarted.bad_journal at bad r) is own = differ end.status 8 m r.status_is is (λ e. elim own [ inl k ↦ omega (arith, k, e) | inr k ↦ omega (arith, k, e) ])
-unstarted-own m old new end (Unstarted.too_few_providers records read few after r) is own = differ end.status 22 m r.status_is is (λ e. elim own [ inl k ↦ omega (arith, k, e) | inr k ↦ omega (arith, k, e) ])
-unstarted-own m old new end (Unstarted.no_memory r) is own = differ end.status 70 m r.status_is is (λ e. elim own [ inl k ↦ omega (arith, k, e) | inr k ↦ omega (arith, k, e) ])
+unstarted-own m old new end (Unstarted.disk_fault rose r) is own = not_two end.status 12 m r.status_is is (λ e. elim own [ inl k ↦ omega (arith, k, e) | inr k ↦ omega (arith, k, e) ])
+unstarted-own m old new end (Unstarted.not_set_up fresh r) is own = not_two end.status 9 m r.status_is is (λ e. elim own [ inl k ↦ omega (arith, k, e) | inr k ↦ omega (arith, k, e) ])
+unstarted-own m old new end (Unstarted.bad_journal at bad r) is own = not_two end.status 8 m r.status_is is (λ e. elim own [ inl k ↦ omega (arith, k, e) | inr k ↦ omega (arith, k, e) ])
+unstarted-own m old new end (Unstarted.too_few_providers records read few after r) is own = not_two end.status 22 m r.status_is is (λ e. elim own [ inl k ↦ omega (arith, k, e) | inr k ↦ omega (arith, k, e) ])
+unstarted-own m old new end (Unstarted.no_memory r) is own = not_two end.status 70 m r.status_is is (λ e. elim own [ inl k ↦ omega (arith, k, e) | inr k ↦ omega (arith, k, e) ])
 
 refused-own : (m : ℕ) (why : Refusal) (status : ℕ) → status ≡ status_of why → status ≡ m → IsOwn m → ⊥
 refused-own m why status at is (inl k) = refused-not why 13 refl (λ e. omega (arith, e)) (sym at ∙ (is ∙ k))
 refused-own m why status at is (inr k) = refused-not why 4 refl (λ e. omega (arith, e)) (sym at ∙ (is ∙ k))
 
 memory-own : (m status : ℕ) → status ≡ 70 → status ≡ m → IsOwn m → ⊥
-memory-own m status at is (inl k) = differ status 70 m at is (λ e. omega (arith, k, e))
-memory-own m status at is (inr k) = differ status 70 m at is (λ e. omega (arith, k, e))
+memory-own m status at is (inl k) = not_two status 70 m at is (λ e. omega (arith, k, e))
+memory-own m status at is (inr k) = not_two status 70 m at is (λ e. omega (arith, k, e))
 
 written-own : (m : ℕ) (text : List ℕ) (old new : Seen) (end : Ending) → WritesLine text end.status (sinking old new) → end.status ≡ m → IsOwn m → ⊥
-written-own m text old new end (inl w) is (inl k) = differ end.status 0 m w.0 is (λ e. omega (arith, k, e))
-written-own m text old new end (inl w) is (inr k) = differ end.status 0 m w.0 is (λ e. omega (arith, k, e))
-written-own m text old new end (inr (inl w)) is (inl k) = differ end.status 15 m w.1 is (λ e. omega (arith, k, e))
-written-own m text old new end (inr (inl w)) is (inr k) = differ end.status 15 m w.1 is (λ e. omega (arith, k, e))
+written-own m text old new end (inl w) is (inl k) = not_two end.status 0 m w.0 is (λ e. omega (arith, k, e))
+written-own m text old new end (inl w) is (inr k) = not_two end.status 0 m w.0 is (λ e. omega (arith, k, e))
+written-own m text old new end (inr (inl w)) is (inl k) = not_two end.status 15 m w.1 is (λ e. omega (arith, k, e))
+written-own m text old new end (inr (inl w)) is (inr k) = not_two end.status 15 m w.1 is (λ e. omega (arith, k, e))
 written-own m text old new end (inr (inr w)) is own = memory-own m end.status w.0 is own
 
 -- images of a disk that gained these records, of which none is in doubt
@@ -130,7 +128,7 @@ images-same told after (first ∷ rest) doubt some is sure h = images-have told 
 
 -- what a command ends with, by the answer of its job
 abbrev EndsWith : List Record → Kind → Answer → Seen → Seen → Ending → Type 0
-EndsWith records kind how old new end = EndsByAnswer (text_of (setup_at records).tolerance kind how) how old new end
+EndsWith records kind how old new end = EndsByAnswer (text_of (setup_in_effect records).tolerance kind how) how old new end
 
 -- ---- puts
 
@@ -143,7 +141,7 @@ put-by name bytes records old new end opened read (answer.ProviderFault j) left 
   opened = opened;
   are_bytes = read.are_bytes;
   read = read;
-  provider = subst (λ k. k < (setup_at records).n) (sym by.place) L.0;
+  provider = subst (λ k. k < (setup_in_effect records).n) (sym by.place) L.0;
   rose = subst (λ k. Rose (provider_at old.providers k).store_faults (provider_at new.providers k).store_faults) (sym by.place) L.1;
   sink = by.sink;
   disk = images-have new.disk left.after left.doubt _ _ L.2.after L.2.sure left.images;
@@ -152,13 +150,13 @@ put-by name bytes records old new end opened read (answer.ProviderFault j) left 
   stored = L.3;
 }
 put-by name bytes records old new end opened read answer.Put left L by is = absurd (written-own 13 _ old new end by.written is (inl refl))
-put-by name bytes records old new end opened read answer.DiskFault left L by is = absurd (differ end.status 12 13 by.status_is is (λ e. omega (arith, e)))
+put-by name bytes records old new end opened read answer.DiskFault left L by is = absurd (not_two end.status 12 13 by.status_is is (λ e. omega (arith, e)))
 put-by name bytes records old new end opened read answer.Memory left L by is = absurd (memory-own 13 end.status by.status_is is (inl refl))
 put-by name bytes records old new end opened read how left L by is = absurd L
 
 pub put-fails : (name : List ℕ) (old new : Seen) (end : Ending) → AnswersPut name old new end → end.status ≡ 13 → FailsToPut name old new end
 put-fails name old new end (AnswersPut.unstarted u same) is = absurd (unstarted-own 13 old new end u is (inl refl))
-put-fails name old new end (AnswersPut.source_fault records opened rose after taken r) is = absurd (differ end.status 14 13 r.status_is is (λ e. omega (arith, e)))
+put-fails name old new end (AnswersPut.source_fault records opened rose after taken r) is = absurd (not_two end.status 14 13 r.status_is is (λ e. omega (arith, e)))
 put-fails name old new end (AnswersPut.no_memory taken r) is = absurd (memory-own 13 end.status r.status_is is (inl refl))
 put-fails name old new end (AnswersPut.begun records bytes opened read (AnswersJob.refused why applies after r)) is = absurd (refused-own 13 why end.status r.status_is is (inl refl))
 put-fails name old new end (AnswersPut.begun records bytes opened read (AnswersJob.no_memory after r)) is = absurd (memory-own 13 end.status r.status_is is (inl refl))
@@ -206,16 +204,16 @@ repair-by records old new end opened (answer.ProviderFault j) left due is_due L 
       due = due;
       opened = opened;
       is_due = is_due;
-      provider = subst (λ k. k < (setup_at records).n) (sym by.place) L.0;
-      flagged = subst (λ k. is_flagged (setup_at records).tolerance due.counts k ≡ true) (sym by.place) L.1;
+      provider = subst (λ k. k < (setup_in_effect records).n) (sym by.place) L.0;
+      flagged = subst (λ k. is_flagged (setup_in_effect records).tolerance due.counts k ≡ true) (sym by.place) L.1;
       rose = subst (λ k. Rose (provider_at old.providers k).store_faults (provider_at new.providers k).store_faults) (sym by.place) L.2;
       sink = by.sink;
       disk = images-same new.disk left.after records left.doubt opened.read.some L.3.after L.3.sure left.images;
       part = record { done = S.done; rest = S.rest; gave = S.gave; symbols = S.symbols; part = record { parts = P.parts; truth = P.truth; gives = P.gives; held = P.held } };
     })
 repair-by records old new end opened (answer.Repaired number) left due is_due L by is = absurd (written-own 13 _ old new end by.written is (inl refl))
-repair-by records old new end opened (answer.Lost stripe row) left due is_due L by is = absurd (differ end.status 4 13 by.status_is is (λ e. omega (arith, e)))
-repair-by records old new end opened answer.DiskFault left due is_due L by is = absurd (differ end.status 12 13 by.status_is is (λ e. omega (arith, e)))
+repair-by records old new end opened (answer.Lost stripe row) left due is_due L by is = absurd (not_two end.status 4 13 by.status_is is (λ e. omega (arith, e)))
+repair-by records old new end opened answer.DiskFault left due is_due L by is = absurd (not_two end.status 12 13 by.status_is is (λ e. omega (arith, e)))
 repair-by records old new end opened answer.Memory left due is_due L by is = absurd (memory-own 13 end.status by.status_is is (inl refl))
 repair-by records old new end opened how left due is_due L by is = absurd L
 
@@ -244,8 +242,8 @@ lost-by records old new end opened (answer.Lost stripe row) left due is_due L by
       disk = images-same new.disk left.after records left.doubt opened.read.some L.0.after L.0.sure left.images;
     })
 lost-by records old new end opened (answer.Repaired number) left due is_due L by is = absurd (written-own 4 _ old new end by.written is (inr refl))
-lost-by records old new end opened (answer.ProviderFault j) left due is_due L by is = absurd (differ end.status 13 4 by.status_is is (λ e. omega (arith, e)))
-lost-by records old new end opened answer.DiskFault left due is_due L by is = absurd (differ end.status 12 4 by.status_is is (λ e. omega (arith, e)))
+lost-by records old new end opened (answer.ProviderFault j) left due is_due L by is = absurd (not_two end.status 13 4 by.status_is is (λ e. omega (arith, e)))
+lost-by records old new end opened answer.DiskFault left due is_due L by is = absurd (not_two end.status 12 4 by.status_is is (λ e. omega (arith, e)))
 lost-by records old new end opened answer.Memory left due is_due L by is = absurd (memory-own 4 end.status by.status_is is (inr refl))
 lost-by records old new end opened how left due is_due L by is = absurd L
 
@@ -273,8 +271,8 @@ data OwnEnd (how : Answer) : Type 0 where
 own-end : (m : ℕ) (text : List ℕ) (how : Answer) (old new : Seen) (end : Ending) → EndsByAnswer text how old new end → end.status ≡ m → IsOwn m → OwnEnd how
 own-end m text (answer.Lost stripe row) old new end by is own = OwnEnd.lost stripe row refl
 own-end m text (answer.ProviderFault j) old new end by is own = OwnEnd.store j refl
-own-end m text answer.DiskFault old new end by is (inl k) = absurd (differ end.status 12 m by.status_is is (λ e. omega (arith, k, e)))
-own-end m text answer.DiskFault old new end by is (inr k) = absurd (differ end.status 12 m by.status_is is (λ e. omega (arith, k, e)))
+own-end m text answer.DiskFault old new end by is (inl k) = absurd (not_two end.status 12 m by.status_is is (λ e. omega (arith, k, e)))
+own-end m text answer.DiskFault old new end by is (inr k) = absurd (not_two end.status 12 m by.status_is is (λ e. omega (arith, k, e)))
 own-end m text answer.Memory old new end by is own = absurd (memory-own m end.status by.status_is is own)
 own-end m text answer.Put old new end by is own = absurd (written-own m text old new end by.written is own)
 own-end m text (answer.Got bytes) old new end by is own = absurd (written-own m text old new end by.written is own)
@@ -312,14 +310,14 @@ ended-13 kind text how x old new end L by is = go (own-end 13 text how old new e
   where
     go : OwnEnd how → Ends13 kind
     go (OwnEnd.store j same) = store-kind x kind j (subst (LeavesBy x kind) same L)
-    go (OwnEnd.lost stripe row same) = absurd (let told = subst (λ h. EndsByAnswer text h old new end) same by in differ end.status 4 13 told.status_is is (λ e. omega (arith, e)))
+    go (OwnEnd.lost stripe row same) = absurd (let told = subst (λ h. EndsByAnswer text h old new end) same by in not_two end.status 4 13 told.status_is is (λ e. omega (arith, e)))
 
 ended-4 : (kind : Kind) (text : List ℕ) (how : Answer) (x : Ran) (old new : Seen) (end : Ending) → LeavesBy x kind how → EndsByAnswer text how old new end → end.status ≡ 4 → Ends4 kind
 ended-4 kind text how x old new end L by is = go (own-end 4 text how old new end by is (inr refl))
   where
     go : OwnEnd how → Ends4 kind
     go (OwnEnd.lost stripe row same) = lost-kind x kind stripe row (subst (LeavesBy x kind) same L)
-    go (OwnEnd.store j same) = absurd (let told = subst (λ h. EndsByAnswer text h old new end) same by in differ end.status 13 4 told.status_is is (λ e. omega (arith, e)))
+    go (OwnEnd.store j same) = absurd (let told = subst (λ h. EndsByAnswer text h old new end) same by in not_two end.status 13 4 told.status_is is (λ e. omega (arith, e)))
 
 alone-13 : (kind : Kind) (old new : Seen) (end : Ending) → AnswersAlone kind old new end → end.status ≡ 13 → Ends13 kind
 alone-13 kind old new end (AnswersAlone.unstarted u) is = absurd (unstarted-own 13 old new end u is (inl refl))
@@ -338,7 +336,7 @@ alone-4 kind old new end (AnswersAlone.begun records opened A) is = job-4 kind r
 
 put-4 : (name : List ℕ) (old new : Seen) (end : Ending) → AnswersPut name old new end → end.status ≡ 4 → ⊥
 put-4 name old new end (AnswersPut.unstarted u same) is = unstarted-own 4 old new end u is (inr refl)
-put-4 name old new end (AnswersPut.source_fault records opened rose after taken r) is = differ end.status 14 4 r.status_is is (λ e. omega (arith, e))
+put-4 name old new end (AnswersPut.source_fault records opened rose after taken r) is = not_two end.status 14 4 r.status_is is (λ e. omega (arith, e))
 put-4 name old new end (AnswersPut.no_memory taken r) is = memory-own 4 end.status r.status_is is (inr refl)
 put-4 name old new end (AnswersPut.begun records bytes opened read A) is = job-4 (PutJob name bytes) records old new end A is
 
@@ -351,13 +349,13 @@ init-own : (m : ℕ) (numbers : Numbers) (old new : Seen) (end : Ending) → Ans
 init-own m numbers old new end (AnswersInit.no_memory taken r) is own = memory-own m end.status r.status_is is own
 init-own m numbers old new end (AnswersInit.keyed seen key good enough read form (InitsDisk.no_memory F)) is own = memory-own m end.status F.status_is is own
 init-own m numbers old new end (AnswersInit.keyed seen key good enough read form (InitsDisk.ready R)) is own = written-own m _ old new end R.written is own
-init-own m numbers old new end (AnswersInit.bad_setup bad same r) is own = differ end.status 20 m r.status_is is (λ e. elim own [ inl k ↦ omega (arith, k, e) | inr k ↦ omega (arith, k, e) ])
-init-own m numbers old new end (AnswersInit.too_few_providers good few same r) is own = differ end.status 22 m r.status_is is (λ e. elim own [ inl k ↦ omega (arith, k, e) | inr k ↦ omega (arith, k, e) ])
-init-own m numbers old new end (AnswersInit.source_fault good enough rose taken r) is own = differ end.status 14 m r.status_is is (λ e. elim own [ inl k ↦ omega (arith, k, e) | inr k ↦ omega (arith, k, e) ])
-init-own m numbers old new end (AnswersInit.bad_key seen good enough read none r) is own = differ end.status 18 m r.status_is is (λ e. elim own [ inl k ↦ omega (arith, k, e) | inr k ↦ omega (arith, k, e) ])
-init-own m numbers old new end (AnswersInit.keyed seen key good enough read form (InitsDisk.disk_fault rose F)) is own = differ end.status 12 m F.status_is is (λ e. elim own [ inl k ↦ omega (arith, k, e) | inr k ↦ omega (arith, k, e) ])
-init-own m numbers old new end (AnswersInit.keyed seen key good enough read form (InitsDisk.bad_journal at cause r)) is own = differ end.status 8 m r.status_is is (λ e. elim own [ inl k ↦ omega (arith, k, e) | inr k ↦ omega (arith, k, e) ])
-init-own m numbers old new end (AnswersInit.keyed seen key good enough read form (InitsDisk.already cause r)) is own = differ end.status 10 m r.status_is is (λ e. elim own [ inl k ↦ omega (arith, k, e) | inr k ↦ omega (arith, k, e) ])
+init-own m numbers old new end (AnswersInit.bad_setup bad same r) is own = not_two end.status 20 m r.status_is is (λ e. elim own [ inl k ↦ omega (arith, k, e) | inr k ↦ omega (arith, k, e) ])
+init-own m numbers old new end (AnswersInit.too_few_providers good few same r) is own = not_two end.status 22 m r.status_is is (λ e. elim own [ inl k ↦ omega (arith, k, e) | inr k ↦ omega (arith, k, e) ])
+init-own m numbers old new end (AnswersInit.source_fault good enough rose taken r) is own = not_two end.status 14 m r.status_is is (λ e. elim own [ inl k ↦ omega (arith, k, e) | inr k ↦ omega (arith, k, e) ])
+init-own m numbers old new end (AnswersInit.bad_key seen good enough read none r) is own = not_two end.status 18 m r.status_is is (λ e. elim own [ inl k ↦ omega (arith, k, e) | inr k ↦ omega (arith, k, e) ])
+init-own m numbers old new end (AnswersInit.keyed seen key good enough read form (InitsDisk.disk_fault rose F)) is own = not_two end.status 12 m F.status_is is (λ e. elim own [ inl k ↦ omega (arith, k, e) | inr k ↦ omega (arith, k, e) ])
+init-own m numbers old new end (AnswersInit.keyed seen key good enough read form (InitsDisk.bad_journal at cause r)) is own = not_two end.status 8 m r.status_is is (λ e. elim own [ inl k ↦ omega (arith, k, e) | inr k ↦ omega (arith, k, e) ])
+init-own m numbers old new end (AnswersInit.keyed seen key good enough read form (InitsDisk.already cause r)) is own = not_two end.status 10 m r.status_is is (λ e. elim own [ inl k ↦ omega (arith, k, e) | inr k ↦ omega (arith, k, e) ])
 
 pub stores-only : (command : Command) (old new : Seen) (end : Ending) → Answers command old new end → end.status ≡ 13 → stores_blocks command ≡ true
 stores-only (RowOf n l b seen) old new end A is = absurd (none-at n l b seen old new end A.0 13 is (λ e. omega (arith, e)) (λ e. omega (arith, e)) (λ e. omega (arith, e)) (λ e. omega (arith, e)) (λ e. omega (arith, e)))

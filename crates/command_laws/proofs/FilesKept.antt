@@ -7,6 +7,7 @@ use Rattle.hail_columns.specs.Columns.{columns, is_wrong_block}
 use Rattle.hail_columns.specs.Verdicts.{is_flagged}
 use Rattle.hail_devices.specs.Providers.{Held}
 use Rattle.hail_devices.specs.Told.{Goes}
+use Rattle.column_laws.proofs.Worked.{column-right}
 use Rattle.hail_records.specs.Records.{Record, Setup, PutStart, PutDone, Drop, AuditStart, AuditDone}
 use Rattle.hail_records.specs.Table.{File, Due, next_id, next_audit, file_of, due_of, started_as, is_start_of}
 use Rattle.hail_machine.specs.Setups.{object_of, stripes_of}
@@ -17,7 +18,7 @@ use Rattle.hail_machine.proofs.JobLists.{cond_true, cond_false, same_value}
 use Rattle.hail_machine.proofs.RecordFacts.{AreSound, other_name}
 use Rattle.hail_commands.specs.Forms.{Command, RowOf, InitWith, PutUnder, GetOf, DropOf, ListAll, AuditAll, RepairDue}
 use Rattle.hail_commands.specs.Seen.{Seen, Ending, IsRefused, provider_at}
-use Rattle.hail_commands.specs.Opens.{setup_at}
+use Rattle.hail_commands.specs.Opens.{setup_in_effect}
 use Rattle.hail_commands.specs.Blocks.{StoredOn, PartlyStored, DroppedFrom}
 use Rattle.hail_commands.specs.Puts.{PutIsCut, PutLeaves}
 use Rattle.hail_commands.specs.Drops.{DropLeaves}
@@ -28,12 +29,12 @@ use Rattle.sound_states.proofs.Records.{sound-accepted}
 use Rattle.command_laws.specs.Ends.{IsDone, IsKnown, SameHolds, after_repair, IsRepaired}
 use Rattle.command_laws.specs.Kept.{AreAppended}
 use Rattle.command_laws.specs.After.{is_wrong_or_untold, HasRightFile, IsThen, HasGrown, IsSteady, spoilt_below, keeps_blocks, IsOfAnother}
-use Rattle.command_laws.proofs.Complete.{each-not-wrong, not-wrong-each}
+use Rattle.job_laws.proofs.Complete.{each-not-wrong, not-wrong-each}
 use Rattle.command_laws.proofs.Known.{known-once}
 use Rattle.command_laws.proofs.GetEnds.{ran_left}
 use Rattle.command_laws.proofs.JobEnds.{unstarted-refused, get-holds, list-holds, audit-holds, repair-done}
 use Rattle.command_laws.proofs.Anew.{repair-right}
-use Rattle.command_laws.proofs.FilesStay.{own-right, bad-few}
+use Rattle.command_laws.proofs.FilesStay.{bad-few}
 
 -- ---- what is held of one object
 
@@ -58,16 +59,16 @@ wrong-same o bytes j None (Some b) same right = absurd same
 wrong-same o bytes j (Some a) None same right = absurd same
 wrong-same o bytes j (Some a) (Some b) same right = each-not-wrong o bytes j (b o.id) (λ t l. ap (is_wrong_block o bytes j t) (same t) ∙ not-wrong-each o bytes j (a o.id) right t l)
 
-has-same : (name bytes : List ℕ) (records after : List Record) (spoilt : ℕ → Bool) (old new : Seen) (H : HasRightFile old records name bytes spoilt) → file_of after name ≡ file_of records name → setup_at after ≡ setup_at records →
-    ((j : ℕ) → j < (setup_at records).n → SameAt H.file.id (provider_at old.providers j).held (provider_at new.providers j).held) → HasRightFile new after name bytes spoilt
+has-same : (name bytes : List ℕ) (records after : List Record) (spoilt : ℕ → Bool) (old new : Seen) (H : HasRightFile old records name bytes spoilt) → file_of after name ≡ file_of records name → setup_in_effect after ≡ setup_in_effect records →
+    ((j : ℕ) → j < (setup_in_effect records).n → SameAt H.file.id (provider_at old.providers j).held (provider_at new.providers j).held) → HasRightFile new after name bytes spoilt
 has-same name bytes records after spoilt old new H file setup same = record {
   file = H.file;
   in_effect = file ∙ H.in_effect;
   are_bytes = H.are_bytes;
   size = H.size;
-  right = λ j below clean. (let l : j < (setup_at records).n = subst (λ (s : Setup). j < s.n) setup below in
+  right = λ j below clean. (let l : j < (setup_in_effect records).n = subst (λ (s : Setup). j < s.n) setup below in
       subst (λ s. is_wrong_or_untold (object_of s H.file.id) bytes j (provider_at new.providers j).held ≡ false) (sym setup)
-      (wrong-same (object_of (setup_at records) H.file.id) bytes j (provider_at old.providers j).held (provider_at new.providers j).held (same j l) (H.right j l clean)));
+      (wrong-same (object_of (setup_in_effect records) H.file.id) bytes j (provider_at old.providers j).held (provider_at new.providers j).held (same j l) (H.right j l clean)));
 }
 
 -- ---- the records after a command
@@ -88,7 +89,7 @@ first-one P a rs p q (suc count) = subst (λ l. P (reverse (a ∷ l) ++ rs)) (sy
 
 -- a name has the file that it had, and the setup is the same
 abbrev Stays : List ℕ → List Record → List Record → Type 0
-Stays name records after = (file_of after name ≡ file_of records name) × (setup_at after ≡ setup_at records)
+Stays name records after = (file_of after name ≡ file_of records name) × (setup_in_effect after ≡ setup_in_effect records)
 
 grown-by : (P : List Record → Type 0) (records after : List Record) (own : List Record) (count : ℕ) → after ≡ reverse (take count own) ++ records → (known : List Record) → own ≡ known → P (reverse (take count known) ++ records) → P after
 grown-by P records after own count is known own_is p = subst P (sym (is ∙ ap (λ l. reverse (take count l) ++ records) own_is)) p
@@ -124,7 +125,7 @@ drop-grown name other records after old new differ G =
     (first-one (Stays name records) (Drop other) records (refl, refl) (cond_false _ None (file_of records name) (other_name other name differ), refl) G.count))
 
 then-by : (command : Command) (name : List ℕ) (records after : List Record) (old new : Seen) → (HasGrown command records old new after → Stays name records after) → IsThen command records old new after → Stays name records after
-then-by command name records after old new grown (inl same) = (ap (λ rs. file_of rs name) same, ap setup_at same)
+then-by command name records after old new grown (inl same) = (ap (λ rs. file_of rs name) same, ap setup_in_effect same)
 then-by command name records after old new grown (inr G) = grown G
 
 -- ---- commands that keep all blocks
@@ -151,7 +152,7 @@ refused-has status at name bytes records spoilt old new end r H = has-same name 
 
 -- each provider of the setup holds an object as it did
 abbrev KeepsObject : List Record → ℕ → Seen → Seen → Type 0
-KeepsObject records id old new = (j : ℕ) → j < (setup_at records).n → SameAt id (provider_at old.providers j).held (provider_at new.providers j).held
+KeepsObject records id old new = (j : ℕ) → j < (setup_in_effect records).n → SameAt id (provider_at old.providers j).held (provider_at new.providers j).held
 
 refused-keeps : (status at : ℕ) (records : List Record) (id : ℕ) (old new : Seen) (end : Ending) → IsRefused status at old new end → KeepsObject records id old new
 refused-keeps status at records id old new end r = λ j below. same-told id (provider_at old.providers j).held (provider_at new.providers j).held (ap (λ ps. (provider_at ps j).held) r.providers)
@@ -178,17 +179,17 @@ module _ (name other : List ℕ) (records : List Record) (file : File) (sound : 
       PutLeaves (ran_left records (PutJob other bytes) how old new end.heard left) other bytes how → KeepsObject records file.id old new
   put-keeps bytes how old new end left = by_answer how
     where
-      stored : (rose : Type 0) (j : ℕ) (a b : Held) → StoredOn (object_of (setup_at records) (next_id records)) bytes (file_of records other) rose j a b → SameOf file.id a b
+      stored : (rose : Type 0) (j : ℕ) (a b : Held) → StoredOn (object_of (setup_in_effect records) (next_id records)) bytes (file_of records other) rose j a b → SameOf file.id a b
       stored rose j a b S stripe = S.others file.id stripe (record { stored = λ e. absurd (not-next e); removed = not-older })
 
-      all : (j : ℕ) (a b : Held) → StoredOn (object_of (setup_at records) (next_id records)) bytes None ⊥ j a b → SameOf file.id a b
+      all : (j : ℕ) (a b : Held) → StoredOn (object_of (setup_in_effect records) (next_id records)) bytes None ⊥ j a b → SameOf file.id a b
       all j a b S stripe = S.others file.id stripe (record { stored = λ e. absurd (not-next e); removed = tt })
 
       cut : PutIsCut (ran_left records (PutJob other bytes) how old new end.heard left) other bytes → KeepsObject records file.id old new
       cut (PutIsCut.at_start after doubt held) = λ j below. same-told file.id (provider_at old.providers j).held (provider_at new.providers j).held (held j below)
       cut (PutIsCut.at_done after doubt stored) = λ j below. same-goes file.id _ (all j) (provider_at old.providers j).held (provider_at new.providers j).held (stored j below)
 
-      partly : (j : ℕ) (a b : Held) → PartlyStored (object_of (setup_at records) (next_id records)) bytes j a b → SameOf file.id a b
+      partly : (j : ℕ) (a b : Held) → PartlyStored (object_of (setup_in_effect records) (next_id records)) bytes j a b → SameOf file.id a b
       partly j a b S stripe = S.others file.id stripe not-next
 
       by_answer : (h : Answer) → PutLeaves (ran_left records (PutJob other bytes) how old new end.heard left) other bytes h → KeepsObject records file.id old new
@@ -266,7 +267,7 @@ pub columns-right : (s : Setup) (file : File) (bytes : List ℕ) (j : ℕ) (told
     ((stripe : ℕ) → stripe < stripes_of s file.size → IfSome told (λ held. held file.id stripe ≡ Some (columns (object_of s file.id) bytes j stripe))) → is_wrong_or_untold (object_of s file.id) bytes j told ≡ false
 columns-right s file bytes j None size tells h = absurd (false≢true tells)
 columns-right s file bytes j (Some held) size tells h =
-    each-not-wrong (object_of s file.id) bytes j (held file.id) (λ t l. ap (is_wrong_block (object_of s file.id) bytes j t) (h t (subst (λ n. t < stripes_of s n) size l)) ∙ own-right (object_of s file.id) bytes j t)
+    each-not-wrong (object_of s file.id) bytes j (held file.id) (λ t l. ap (is_wrong_block (object_of s file.id) bytes j t) (h t (subst (λ n. t < stripes_of s n) size l)) ∙ column-right (object_of s file.id) bytes j t)
 
 pub and-off : (b c : Bool) → (b && not c) ≡ false → c ≡ false → b ≡ false
 and-off true true h off = absurd (false≢true (sym off))
@@ -276,19 +277,19 @@ and-off false c h off = refl
 -- a provider that is not flagged holds an object as it did, and each tells on that told
 abbrev GoesFlagged : ℕ → List Record → Due → Seen → Seen → ℕ → Type 0
 GoesFlagged id records due old new j =
-    (is_flagged (setup_at records).tolerance due.counts j ≡ false → SameAt id (provider_at old.providers j).held (provider_at new.providers j).held)
+    (is_flagged (setup_in_effect records).tolerance due.counts j ≡ false → SameAt id (provider_at old.providers j).held (provider_at new.providers j).held)
     × (is_some (provider_at old.providers j).held ≡ true → is_some (provider_at new.providers j).held ≡ true)
 
-repaired-goes : (id : ℕ) (old new : Seen) (end : Ending) (P : IsRepaired old new end) (j : ℕ) → j < (setup_at P.records).n → GoesFlagged id P.records P.due old new j
+repaired-goes : (id : ℕ) (old new : Seen) (end : Ending) (P : IsRepaired old new end) (j : ℕ) → j < (setup_in_effect P.records).n → GoesFlagged id P.records P.due old new j
 repaired-goes id old new end P j below = (
-  λ off. flag-off id (is_flagged (setup_at P.records).tolerance P.due.counts j) _ (provider_at old.providers j).held (provider_at new.providers j).held off (P.rewritten.held j below),
+  λ off. flag-off id (is_flagged (setup_in_effect P.records).tolerance P.due.counts j) _ (provider_at old.providers j).held (provider_at new.providers j).held off (P.rewritten.held j below),
   λ tells. goes-tells _ (provider_at old.providers j).held (provider_at new.providers j).held tells (P.rewritten.held j below),
 )
 
 pub repair-has : (name bytes : List ℕ) (records : List Record) (due : Due) (spoilt : ℕ → Bool) (old new : Seen) (end : Ending) → AnswersAlone RepairJob old new end → IsDone end → IsKnown old records → due_of records ≡ Some due →
-    HasRightFile old records name bytes spoilt → IsSteady (setup_at records).n spoilt old new → spoilt_below (setup_at records).n spoilt ≤ (setup_at records).b →
-    ((j : ℕ) → j < (setup_at records).n → is_flagged (setup_at records).tolerance due.counts j ≡ true → is_some (provider_at old.providers j).held ≡ true) →
-    HasRightFile new (after_repair records due) name bytes (λ j. spoilt j && not (is_flagged (setup_at records).tolerance due.counts j))
+    HasRightFile old records name bytes spoilt → IsSteady (setup_in_effect records).n spoilt old new → spoilt_below (setup_in_effect records).n spoilt ≤ (setup_in_effect records).b →
+    ((j : ℕ) → j < (setup_in_effect records).n → is_flagged (setup_in_effect records).tolerance due.counts j ≡ true → is_some (provider_at old.providers j).held ≡ true) →
+    HasRightFile new (after_repair records due) name bytes (λ j. spoilt j && not (is_flagged (setup_in_effect records).tolerance due.counts j))
 repair-has name bytes records due spoilt old new end A done K is_due H steady few tells = record {
   file = H.file;
   in_effect = H.in_effect;
@@ -297,18 +298,18 @@ repair-has name bytes records due spoilt old new end A done K is_due H steady fe
   right = right;
 }
   where
-    goes : (j : ℕ) → j < (setup_at records).n → GoesFlagged H.file.id records due old new j
+    goes : (j : ℕ) → j < (setup_in_effect records).n → GoesFlagged H.file.id records due old new j
     goes j below = (let P = repair-done old new end A done in
         let same = known-once old records P.records K P.opened.read in
         let due_is : P.due ≡ due = same_value (due_of records) P.due due (ap due_of (sym same) ∙ P.is_due) is_due in
-        subst (λ (d : Due). GoesFlagged H.file.id records d old new j) due_is (subst (λ rs. GoesFlagged H.file.id rs P.due old new j) same (repaired-goes H.file.id old new end P j (subst (λ rs. j < (setup_at rs).n) (sym same) below))))
+        subst (λ (d : Due). GoesFlagged H.file.id records d old new j) due_is (subst (λ rs. GoesFlagged H.file.id rs P.due old new j) same (repaired-goes H.file.id old new end P j (subst (λ rs. j < (setup_in_effect rs).n) (sym same) below))))
 
-    right : (j : ℕ) → j < (setup_at records).n → (spoilt j && not (is_flagged (setup_at records).tolerance due.counts j)) ≡ false →
-        is_wrong_or_untold (object_of (setup_at records) H.file.id) bytes j (provider_at new.providers j).held ≡ false
-    right j below clean = (let g = goes j below in elim (cases_Bool (is_flagged (setup_at records).tolerance due.counts j)) [
-      | inl flagged ↦ columns-right (setup_at records) H.file bytes j (provider_at new.providers j).held H.size (g.1 (tells j below flagged))
+    right : (j : ℕ) → j < (setup_in_effect records).n → (spoilt j && not (is_flagged (setup_in_effect records).tolerance due.counts j)) ≡ false →
+        is_wrong_or_untold (object_of (setup_in_effect records) H.file.id) bytes j (provider_at new.providers j).held ≡ false
+    right j below clean = (let g = goes j below in elim (cases_Bool (is_flagged (setup_in_effect records).tolerance due.counts j)) [
+      | inl flagged ↦ columns-right (setup_in_effect records) H.file bytes j (provider_at new.providers j).held H.size (g.1 (tells j below flagged))
           (repair-right name bytes records H.file due j old new end A K done is_due H.in_effect H.size (let b = bad-few name bytes records spoilt old new H steady in omega (arith, b, few)) below flagged)
-      | inr free ↦ wrong-same (object_of (setup_at records) H.file.id) bytes j (provider_at old.providers j).held (provider_at new.providers j).held
+      | inr free ↦ wrong-same (object_of (setup_in_effect records) H.file.id) bytes j (provider_at old.providers j).held (provider_at new.providers j).held
           (g.0 free)
-          (H.right j below (and-off (spoilt j) (is_flagged (setup_at records).tolerance due.counts j) clean free))
+          (H.right j below (and-off (spoilt j) (is_flagged (setup_in_effect records).tolerance due.counts j) clean free))
     ])

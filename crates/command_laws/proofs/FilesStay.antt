@@ -1,77 +1,68 @@
 -- A file that is in effect and right on most providers, between two commands.
-use Rattle.std.proofs.Common.{◌≡◌, ℕ, ◌+◌, ◌<◌, ◌≤◌, ◌==◌, ◌||◌, Bool, true, false, not, List, length, Option, None, Some, refl, ap, sym, subst, ◌∙◌, inl, inr, arith}
+use Rattle.std.proofs.Common.{◌≡◌, ℕ, ◌+◌, ◌<◌, ◌≤◌, ◌||◌, Bool, true, false, List, length, Option, None, Some, refl, ap, sym, subst, ◌∙◌, inl, inr, arith}
 use Rattle.std.specs.Prelude.{is_some, nat_lt, nat_le}
 use Rattle.std.proofs.lemmas.Bool.{cases_Bool, cases_lt, false≢true}
 use Rattle.std.proofs.lemmas.Bool.Decides.{nat_tests}
-use Rattle.hail_codes.specs.ServerCode.{differences}
-use Rattle.hail_codes.proofs.Codewords.{differences-same}
-use Rattle.hail_columns.specs.Objects.{Object, symbols_in}
-use Rattle.hail_columns.specs.Columns.{columns, is_wrong_block}
-use Rattle.hail_columns.proofs.ColumnLaws.{length-column_of_symbols}
+use Rattle.hail_columns.specs.Objects.{Object}
+use Rattle.hail_columns.specs.Columns.{is_wrong_block}
 use Rattle.column_laws.proofs.Counts.{count_of-within}
 use Rattle.hail_devices.specs.Faults.{Rose, last_count}
 use Rattle.hail_devices.specs.Providers.{Held, Provider}
 use Rattle.hail_devices.specs.Told.{Goes}
+use Rattle.column_laws.proofs.Worked.{column-right}
 use Rattle.hail_records.specs.Records.{Record, largest_file}
-use Rattle.hail_records.specs.Table.{File, next_id, file_of}
+use Rattle.hail_records.specs.Table.{File, file_as, profile_in, setup_of, next_id, file_of}
 use Rattle.hail_machine.specs.Setups.{object_of}
 use Rattle.hail_commands.specs.Seen.{Seen, Ending, provider_at}
-use Rattle.hail_commands.specs.Opens.{setup_at}
+use Rattle.hail_commands.specs.Opens.{setup_in_effect}
 use Rattle.hail_commands.specs.Blocks.{StoredOn}
 use Rattle.hail_commands.specs.Commands.{AnswersPut}
-use Rattle.command_laws.specs.Failing.{has_risen, is_bad_with, is_bad_for, bad_seen}
-use Rattle.command_laws.specs.Ends.{IsDone, IsKnown, after_put, IsPut}
+use Rattle.job_laws.specs.Failing.{has_risen, is_bad_with, is_bad_for, bad_seen}
+use Rattle.command_laws.specs.Ends.{IsDone, IsKnown, after_put, IsWholePut}
 use Rattle.command_laws.specs.After.{is_wrong_or_untold, HasRightFile, IsUntouched, IsSteady, spoilt_below}
-use Rattle.command_laws.proofs.Complete.{each-not-wrong}
+use Rattle.job_laws.proofs.Complete.{each-not-wrong}
 use Rattle.command_laws.proofs.Known.{known-once}
 use Rattle.command_laws.proofs.JobEnds.{put-done}
 use Rattle.command_laws.proofs.DoneStores.{whole-read}
 
 -- ---- a provider's own blocks are not wrong
 
-pub own-right : (o : Object) (bytes : List ℕ) (j stripe : ℕ) → is_wrong_block o bytes j stripe (Some (columns o bytes j stripe)) ≡ false
-own-right o bytes j stripe = not-wrong (length (columns o bytes j stripe)) o.profile.size o.profile.fix (differences (columns o bytes j stripe) (columns o bytes j stripe))
-    (length-column_of_symbols o (symbols_in o bytes stripe) j stripe) (differences-same (columns o bytes j stripe))
-  where
-    not-wrong : (n size fix d : ℕ) → n ≡ size → d ≡ 0 → not (n == size) || nat_lt fix d ≡ false
-    not-wrong n size fix d a b = grind (arith, a, b)
-
 pub stored-right : (o : Object) (bytes : List ℕ) (older : Option File) (rose : Type 0) (j : ℕ) (a b : Option Held) → is_some a ≡ true → Goes (StoredOn o bytes older rose j) a b → is_wrong_or_untold o bytes j b ≡ false
 stored-right o bytes older rose j None b tells g = absurd (false≢true tells)
 stored-right o bytes older rose j (Some a) None tells g = absurd g
-stored-right o bytes older rose j (Some a) (Some b) tells g = each-not-wrong o bytes j (b o.id) (λ t l. ap (is_wrong_block o bytes j t) (g.stored t l) ∙ own-right o bytes j t)
+stored-right o bytes older rose j (Some a) (Some b) tells g = each-not-wrong o bytes j (b o.id) (λ t l. ap (is_wrong_block o bytes j t) (g.stored t l) ∙ column-right o bytes j t)
 
 -- ---- a put that is done
 
-put-file : (name : List ℕ) (spoilt : ℕ → Bool) (old new : Seen) (end : Ending) (P : IsPut name old new end) → ((j : ℕ) → j < (setup_at P.records).n → spoilt j ≡ false → is_some (provider_at old.providers j).held ≡ true) →
+put-file : (name : List ℕ) (spoilt : ℕ → Bool) (old new : Seen) (end : Ending) (P : IsWholePut name old new end) → ((j : ℕ) → j < (setup_in_effect P.records).n → spoilt j ≡ false → is_some (provider_at old.providers j).held ≡ true) →
     HasRightFile new (after_put P.records name (length P.bytes)) name P.bytes spoilt
 put-file name spoilt old new end P tells = record {
-  file = record { name = name; id = next_id P.records; size = length P.bytes };
+  file = file_as name (next_id P.records) (length P.bytes) (profile_in (setup_of P.records));
   in_effect = P.in_effect;
   are_bytes = P.are_bytes;
   size = refl;
-  right = λ j below clean. stored-right (object_of (setup_at P.records) (next_id P.records)) P.bytes (file_of P.records name) _ j (provider_at old.providers j).held (provider_at new.providers j).held (tells j below clean) (P.stored j below);
+  right = λ j below clean. stored-right (object_of (setup_in_effect P.records) (next_id P.records)) P.bytes (file_of P.records name) _ j (provider_at old.providers j).held (provider_at new.providers j).held (tells j below clean) (P.stored j below);
 }
 
 pub put-has : (name bytes : List ℕ) (records : List Record) (spoilt : ℕ → Bool) (old new : Seen) (end : Ending) → AnswersPut name old new end → IsDone end → IsKnown old records → old.source ≡ Some bytes →
-    ((j : ℕ) → j < (setup_at records).n → spoilt j ≡ false → is_some (provider_at old.providers j).held ≡ true) → HasRightFile new (after_put records name (length bytes)) name bytes spoilt
+    ((j : ℕ) → j < (setup_in_effect records).n → spoilt j ≡ false → is_some (provider_at old.providers j).held ≡ true) → HasRightFile new (after_put records name (length bytes)) name bytes spoilt
 put-has name bytes records spoilt old new end A done K source tells =
     (let P = put-done name old new end A done in
     let same = known-once old records P.records K P.opened.read in
     let read = whole-read (largest_file + 1) old.source new.source bytes P.bytes source P.read P.whole in
     subst (λ rs. HasRightFile new (after_put rs name (length bytes)) name bytes spoilt) same
     (subst (λ bs. HasRightFile new (after_put P.records name (length bs)) name bs spoilt) read (put-file name spoilt old new end P
-    (subst (λ rs. (j : ℕ) → j < (setup_at rs).n → spoilt j ≡ false → is_some (provider_at old.providers j).held ≡ true) (sym same) tells))))
+    (subst (λ rs. (j : ℕ) → j < (setup_in_effect rs).n → spoilt j ≡ false → is_some (provider_at old.providers j).held ≡ true) (sym same) tells))))
 
 -- ---- between two commands
 
-pub next-has : (name bytes : List ℕ) (records : List Record) (spoilt : ℕ → Bool) (new next : Seen) → HasRightFile new records name bytes spoilt → IsUntouched (setup_at records).n spoilt new next → HasRightFile next records name bytes spoilt
+pub next-has : (name bytes : List ℕ) (records : List Record) (spoilt : ℕ → Bool) (new next : Seen) → HasRightFile new records name bytes spoilt → IsUntouched (setup_in_effect records).n spoilt new next → HasRightFile next records name bytes spoilt
 next-has name bytes records spoilt new next H U = record {
   file = H.file;
   in_effect = H.in_effect;
   are_bytes = H.are_bytes;
   size = H.size;
-  right = λ j below clean. ap (is_wrong_or_untold (object_of (setup_at records) H.file.id) bytes j) (U j below clean) ∙ H.right j below clean;
+  right = λ j below clean. ap (is_wrong_or_untold (object_of (setup_in_effect records) H.file.id) bytes j) (U j below clean) ∙ H.right j below clean;
 }
 
 -- ---- how many providers are bad at a get
@@ -98,15 +89,15 @@ bad-off : (o : Object) (bytes : List ℕ) (j : ℕ) (p q : Provider) (told : Opt
 bad-off o bytes j p q None right calm = absurd (false≢true (sym right))
 bad-off o bytes j p q (Some held) right calm = (λ i. right i || calm i)
 
-pub bad-few : (name bytes : List ℕ) (records : List Record) (spoilt : ℕ → Bool) (old new : Seen) (H : HasRightFile old records name bytes spoilt) → IsSteady (setup_at records).n spoilt old new →
-    bad_seen records old new H.file.id bytes ≤ spoilt_below (setup_at records).n spoilt
+pub bad-few : (name bytes : List ℕ) (records : List Record) (spoilt : ℕ → Bool) (old new : Seen) (H : HasRightFile old records name bytes spoilt) → IsSteady (setup_in_effect records).n spoilt old new →
+    bad_seen records old new H.file.id bytes ≤ spoilt_below (setup_in_effect records).n spoilt
 bad-few name bytes records spoilt old new H steady =
-    count_of-within (λ j. is_bad_for (object_of (setup_at records) H.file.id) bytes j (provider_at old.providers j) (provider_at new.providers j)) spoilt 0 (setup_at records).n within
+    count_of-within (λ j. is_bad_for (object_of (setup_in_effect records) H.file.id) bytes j (provider_at old.providers j) (provider_at new.providers j)) spoilt 0 (setup_in_effect records).n within
   where
-    within : (j : ℕ) → j < 0 + (setup_at records).n → is_bad_for (object_of (setup_at records) H.file.id) bytes j (provider_at old.providers j) (provider_at new.providers j) ≡ true → spoilt j ≡ true
+    within : (j : ℕ) → j < 0 + (setup_in_effect records).n → is_bad_for (object_of (setup_in_effect records) H.file.id) bytes j (provider_at old.providers j) (provider_at new.providers j) ≡ true → spoilt j ≡ true
     within j below bad = elim (cases_Bool (spoilt j)) [
       | inl t ↦ t
-      | inr f ↦ (let l : j < (setup_at records).n = omega (arith, below) in
-          absurd (false≢true (sym (bad-off (object_of (setup_at records) H.file.id) bytes j (provider_at old.providers j) (provider_at new.providers j) (provider_at old.providers j).held (H.right j l f)
+      | inr f ↦ (let l : j < (setup_in_effect records).n = omega (arith, below) in
+          absurd (false≢true (sym (bad-off (object_of (setup_in_effect records) H.file.id) bytes j (provider_at old.providers j) (provider_at new.providers j) (provider_at old.providers j).held (H.right j l f)
           (calm-risen _ _ (steady j l f))) ∙ bad)))
     ]

@@ -16,7 +16,7 @@ use Rattle.hail_machine.specs.Refusals as refusal
 use Rattle.hail_machine.specs.Refusals.{Refusal}
 use Rattle.hail_commands.specs.Sinking.{WritesLine}
 use Rattle.hail_commands.specs.Seen.{Seen, Ending, IsRefused, sinking}
-use Rattle.hail_commands.specs.Opens.{IsOpened, setup_at}
+use Rattle.hail_commands.specs.Opens.{IsOpened, setup_in_effect}
 use Rattle.hail_commands.specs.Refusals.{refusal_over}
 use Rattle.hail_commands.specs.Ran.{Ran, ran_alone, job_number}
 use Rattle.hail_commands.specs.Lines.{text_of}
@@ -24,14 +24,14 @@ use Rattle.hail_commands.specs.Gets.{GetLeaves}
 use Rattle.hail_commands.specs.Jobs.{AnswersJob, EndsByAnswer, LeftAlone}
 use Rattle.hail_commands.specs.Commands.{AnswersAlone}
 use Rattle.sound_states.proofs.Records.{file-spelled}
-use Rattle.command_laws.specs.Failing.{bad_seen}
+use Rattle.job_laws.specs.Failing.{bad_seen}
 use Rattle.command_laws.specs.Ends.{IsKnown, GivesUnlessMemory}
-use Rattle.command_laws.proofs.Complete.{shape-of, get-complete, get-right, get-forged}
-use Rattle.command_laws.proofs.Telling.{over-opened, opened_state, state-over}
+use Rattle.job_laws.proofs.Complete.{shape-of, get-complete, get-right, get-forged}
+use Rattle.job_laws.proofs.Telling.{over-opened, opened_state, state-over}
 use Rattle.command_laws.proofs.Known.{none-written, written-well, written-zero, written-front, alone-known}
 
 -- the setup of records that are read is of a shape
-pub shape-at : (old : Seen) (records : List Record) → IsOpened old records → IsShape (setup_at records).n (setup_at records).l (setup_at records).b
+pub shape-at : (old : Seen) (records : List Record) → IsOpened old records → IsShape (setup_in_effect records).n (setup_in_effect records).l (setup_in_effect records).b
 shape-at old records R =
     shape-of (opened_state records 0 old.providers) (opened_state records 0 old.providers) [] (over-opened (opened_state records 0 old.providers) old records 0 R (state-over records 0 old.providers R.read.accepted))
 
@@ -40,7 +40,7 @@ abbrev pub ran_left : (records : List Record) (kind : Kind) (how : Answer) (old 
 ran_left records kind how old new heard left = ran_alone records old new heard left.faults left.after left.doubt
 
 module _ (name bytes : List ℕ) (records : List Record) (file : File) (old new : Seen) (end : Ending) (K : IsKnown old records) (in_effect : file_of records name ≡ Some file) (fits : AreBytes bytes) (size : length bytes ≡ file.size) where
-  shape : IsShape (setup_at records).n (setup_at records).l (setup_at records).b
+  shape : IsShape (setup_in_effect records).n (setup_in_effect records).l (setup_in_effect records).b
   shape = shape-at old records K.opened
 
   begins : refusal_over records (GetJob name) ≡ None
@@ -52,9 +52,9 @@ module _ (name bytes : List ℕ) (records : List Record) (file : File) (old new 
 
   -- what a get ends with, by its answer
   abbrev EndsWith : Answer → Type 0
-  EndsWith how = EndsByAnswer (text_of (setup_at records).tolerance (GetJob name) how) how old new end
+  EndsWith how = EndsByAnswer (text_of (setup_in_effect records).tolerance (GetJob name) how) how old new end
 
-  job-complete : AnswersJob (GetJob name) records old new end → bad_seen records old new file.id bytes ≤ (setup_at records).b → WritesLine bytes end.status (sinking old new)
+  job-complete : AnswersJob (GetJob name) records old new end → bad_seen records old new file.id bytes ≤ (setup_in_effect records).b → WritesLine bytes end.status (sinking old new)
   job-complete (AnswersJob.refused why is synced r) few = absurd (no-refusal why is)
   job-complete (AnswersJob.no_memory synced r) few = inr (inr (r.status_is, none-written bytes old.sink new.sink r.sink))
   job-complete (AnswersJob.ended how none runs left by) few =
@@ -70,7 +70,7 @@ module _ (name bytes : List ℕ) (records : List Record) (file : File) (old new 
   refused-right : (status at : ℕ) → IsRefused status at old new end → (status ≡ 0 → ⊥) → TakesFront old.sink new.sink bytes × (end.status ≡ 0 → new.sink ≡ told_then old.sink bytes)
   refused-right status at r other = (none-written bytes old.sink new.sink r.sink, λ zero. absurd (other (sym r.status_is ∙ zero)))
 
-  job-right : AnswersJob (GetJob name) records old new end → bad_seen records old new file.id bytes ≤ (setup_at records).b + 1 → TakesFront old.sink new.sink bytes × (end.status ≡ 0 → new.sink ≡ told_then old.sink bytes)
+  job-right : AnswersJob (GetJob name) records old new end → bad_seen records old new file.id bytes ≤ (setup_in_effect records).b + 1 → TakesFront old.sink new.sink bytes × (end.status ≡ 0 → new.sink ≡ told_then old.sink bytes)
   job-right (AnswersJob.refused why is synced r) few = absurd (no-refusal why is)
   job-right (AnswersJob.no_memory synced r) few = refused-right 70 0 r (λ e. omega (arith, e))
   job-right (AnswersJob.ended how none runs left by) few =
@@ -80,7 +80,7 @@ module _ (name bytes : List ℕ) (records : List Record) (file : File) (old new 
 
   -- what was heard holds a forgery
   abbrev Forged : Type 0
-  Forged = HoldsForgery (object_of (setup_at records) file.id) bytes job_number end.heard
+  Forged = HoldsForgery (object_of (setup_in_effect records) file.id) bytes job_number end.heard
 
   forged-by : (x : Ran) (how : Answer) → ((got : List ℕ) → how ≡ answer.Got got → (got ≡ bytes) ⊎ Forged) → GetLeaves x name how → EndsWith how → (TakesFront old.sink new.sink bytes × (end.status ≡ 0 → new.sink ≡ told_then old.sink bytes)) ⊎ Forged
   forged-by x (answer.Got got) right L by = elim (right got refl) [
@@ -99,7 +99,7 @@ module _ (name bytes : List ℕ) (records : List Record) (file : File) (old new 
       (λ got is. get-forged (ran_left records (GetJob name) how old new end.heard left) name bytes file shape in_effect fits size got (subst (λ h. GetLeaves (ran_left records (GetJob name) how old new end.heard left) name h) is left.leaves.by_kind))
       left.leaves.by_kind by
 
-  pub seen-complete : AnswersAlone (GetJob name) old new end → bad_seen records old new file.id bytes ≤ (setup_at records).b → (Rose old.disk_faults new.disk_faults → ⊥) → (Rose old.sink_faults new.sink_faults → ⊥) →
+  pub seen-complete : AnswersAlone (GetJob name) old new end → bad_seen records old new file.id bytes ≤ (setup_in_effect records).b → (Rose old.disk_faults new.disk_faults → ⊥) → (Rose old.sink_faults new.sink_faults → ⊥) →
       GivesUnlessMemory bytes old new end
   seen-complete A few disk sink = elim (alone-known (GetJob name) old new end records K A) [
     | inl (inl (rose, r)) ↦ absurd (disk rose)
@@ -107,7 +107,7 @@ module _ (name bytes : List ℕ) (records : List Record) (file : File) (old new 
     | inr job ↦ written-well bytes old new end (job-complete job few) sink
   ]
 
-  pub seen-right : AnswersAlone (GetJob name) old new end → bad_seen records old new file.id bytes ≤ (setup_at records).b + 1 → TakesFront old.sink new.sink bytes × (end.status ≡ 0 → new.sink ≡ told_then old.sink bytes)
+  pub seen-right : AnswersAlone (GetJob name) old new end → bad_seen records old new file.id bytes ≤ (setup_in_effect records).b + 1 → TakesFront old.sink new.sink bytes × (end.status ≡ 0 → new.sink ≡ told_then old.sink bytes)
   seen-right A few = elim (alone-known (GetJob name) old new end records K A) [
     | inl (inl (rose, r)) ↦ refused-right 12 0 r (λ e. omega (arith, e))
     | inl (inr r) ↦ refused-right 70 0 r (λ e. omega (arith, e))

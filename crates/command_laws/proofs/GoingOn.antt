@@ -8,9 +8,11 @@ use Rattle.hail_devices.specs.Disks.{synced}
 use Rattle.hail_devices.specs.Faults.{Rose}
 use Rattle.hail_devices.specs.Images.{IsImage, EachImage}
 use Rattle.hail_devices.specs.Providers.{Provider}
+use Rattle.hail_devices.proofs.Lasting.{image-firm, each_image-mono}
+use Rattle.hail_devices.proofs.PickLaws.{IsImage-reads}
 use Rattle.hail_records.specs.Records.{Record}
 use Rattle.hail_records.specs.Journal.{StandsFor, StandsOrIsEmpty}
-use Rattle.hail_records.specs.Reading.{IsNotSetUp}
+use Rattle.hail_records.specs.Reading.{HasNoSetup}
 use Rattle.hail_records.specs.Table.{setup_of, files_of}
 use Rattle.hail_machine.specs.Answers.{Answer}
 use Rattle.hail_machine.specs.Events.{Event, Begin, Step, Reopen, Names, Continue, Outcome, Refused, Opened, More, Begun, Ended, Listed, Continued, IsSpelled, IsSpelledKind}
@@ -30,7 +32,7 @@ use Rattle.sound_states.proofs.Records.{is_some-at, setup-more}
 use Rattle.hail_commands.specs.Forms.{Command, RowOf, InitWith, PutUnder, GetOf, DropOf, ListAll, AuditAll, RepairDue}
 use Rattle.hail_commands.specs.Seen.{Seen, Ending, NoCountFalls, IsRefused, IsSynced}
 use Rattle.hail_openings.specs.Journals.{journal_read, IsRead, IsBadStart}
-use Rattle.hail_commands.specs.Opens.{IsOpened, Unstarted, setup_at}
+use Rattle.hail_commands.specs.Opens.{IsOpened, Unstarted, setup_in_effect}
 use Rattle.hail_openings.specs.Opened.{AreHanded, IsOpenedOver}
 use Rattle.hail_commands.specs.JobRuns.{AreSteps, GoesOnTo}
 use Rattle.hail_commands.specs.Jobs.{AnswersJob, EndsByAnswer, RunsAlone, RanAlone}
@@ -40,13 +42,13 @@ use Rattle.hail_commands.specs.Commands.{AnswersPut, AnswersAlone, AnswersList, 
 use Rattle.command_laws.specs.Ends.{RunsKind, opens_store}
 use Rattle.command_laws.specs.Pieces.{IsStore, IsSpelledCommand, IsCall, moment}
 use Rattle.hail_openings.proofs.Readings.{read-once, read-set_up, read-good as read-never-bad}
-use Rattle.command_laws.proofs.Telling.{over-opened}
-use Rattle.command_laws.proofs.Images.{reads-image, image-firm, refused-keeps}
+use Rattle.job_laws.proofs.Telling.{over-opened}
+use Rattle.command_laws.proofs.Images.{refused-keeps}
 use Rattle.command_laws.proofs.LastStates.{last-state}
 use Rattle.command_laws.proofs.Knowing.{IsGood, read-good, none-up}
 use Rattle.command_laws.proofs.Afterwards.{read-kept}
 use Rattle.command_laws.proofs.DoneStores.{tells-past}
-use Rattle.command_laws.proofs.BeginRefusals.{refusal-of}
+use Rattle.job_laws.proofs.BeginRefusals.{refusal-of}
 
 -- ---- runs
 
@@ -97,10 +99,6 @@ each-kept None b P kept tells h = absurd (false≢true tells)
 each-kept (Some a) None P kept tells h = tt
 each-kept (Some a) (Some b) P kept tells h = λ image is. h image (kept image is)
 
-pub each-more : (told : Option Cells) (P Q : List ℕ → Type 0) → ((image : List ℕ) → P image → Q image) → EachImage told P → EachImage told Q
-each-more None P Q more h = tt
-each-more (Some cells) P Q more h = λ image is. more image (h image is)
-
 -- ---- a store that a run left
 
 -- the state in which jobs are given up and these records are settled
@@ -143,7 +141,7 @@ module _ (start : State) (ms : List Moment) (R : IsRun 8 start ms) (old : Seen) 
 
   found : (rs : List Record) × Settled w (reads told.0) rs
   found = settled-by w S.sound S.set_up (reads told.0)
-      (subst (λ d. EachImage d (λ image. StandsOrIsEmpty image w.records ⊎ StandsWithDoubt w image)) told.1 S.images (reads told.0) (reads-image told.0))
+      (subst (λ d. EachImage d (λ image. StandsOrIsEmpty image w.records ⊎ StandsWithDoubt w image)) told.1 S.images (reads told.0) (IsImage-reads told.0))
 
   abbrev rs : List Record
   rs = found.0
@@ -174,7 +172,7 @@ module _ (start : State) (ms : List Moment) (R : IsRun 8 start ms) (old : Seen) 
   abbrev opened_at : ℕ → State
   opened_at faults = record (settled (continued w) rs) { is_open = true; disk_faults = faults }
 
-  run-opened : (faults : ℕ) → old.disk_faults ≤ faults → (setup_at rs).n ≤ length old.providers → IsRun 8 start (moment Reopen Opened (opened_at faults) ∷ later ∷ ms)
+  run-opened : (faults : ℕ) → old.disk_faults ≤ faults → (setup_in_effect rs).n ≤ length old.providers → IsRun 8 start (moment Reopen Opened (opened_at faults) ∷ later ∷ ms)
   unfolding setup_in
   run-opened faults l enough = (
     tt,
@@ -186,10 +184,10 @@ module _ (start : State) (ms : List Moment) (R : IsRun 8 start ms) (old : Seen) 
   stands-synced d v is records = image-of-synced told.0 d (λ image. StandsOrIsEmpty image v.records ⊎ StandsWithDoubt v image) (is ∙ ap (option_map synced) told.1)
       (inl (inl (subst (λ l. StandsFor (reads told.0) l) (sym records) found.1.good.stands)))
 
-  sound-opened : (faults : ℕ) → old.disk_faults ≤ faults → (setup_at rs).n ≤ length old.providers → IsSound 8 (opened_at faults)
+  sound-opened : (faults : ℕ) → old.disk_faults ≤ faults → (setup_in_effect rs).n ≤ length old.providers → IsSound 8 (opened_at faults)
   sound-opened faults l enough = run-sound start (moment Reopen Opened (opened_at faults) ∷ later ∷ []) ms S.sound (run-opened faults l enough)
 
-  over : (faults : ℕ) → old.disk_faults ≤ faults → (setup_at rs).n ≤ length old.providers → IsOpenedOver (opened_at faults) rs faults old.providers
+  over : (faults : ℕ) → old.disk_faults ≤ faults → (setup_in_effect rs).n ≤ length old.providers → IsOpenedOver (opened_at faults) rs faults old.providers
   over faults l enough = record {
     records = refl;
     jobs = refl;
@@ -218,7 +216,7 @@ module _ (start : State) (ms : List Moment) (R : IsRun 8 start ms) (old : Seen) 
     closed_at faults = record (given_up (continued w)) { disk_faults = faults }
 
     stands-kept : (status at : ℕ) → IsRefused status at old new end → StandsForState new.disk (closed_at new.disk_faults)
-    stands-kept status at r = each-kept old.disk new.disk _ (refused-keeps status at old new end r) S.tells (each-more old.disk _ _ again S.images)
+    stands-kept status at r = each-kept old.disk new.disk _ (refused-keeps status at old new end r) S.tells (each_image-mono old.disk _ _ again S.images)
       where
         again : (image : List ℕ) → StandsOrIsEmpty image w.records ⊎ StandsWithDoubt w image → StandsOrIsEmpty image w.records ⊎ StandsWithDoubt (closed_at new.disk_faults) image
         again image (inl h) = inl h
@@ -244,12 +242,12 @@ module _ (start : State) (ms : List Moment) (R : IsRun 8 start ms) (old : Seen) 
     memory-on at r = closed-on 70 at refusal.Memory r (new.disk_faults, faults-at new.disk_faults counts.disk, refl)
 
     -- too few providers are handed in
-    few-on : (other : List Record) → IsRead old.disk other → length old.providers < (setup_at other).n → IsSynced old new → IsRefused 22 0 old new end → GoesOn
+    few-on : (other : List Record) → IsRead old.disk other → length old.providers < (setup_in_effect other).n → IsSynced old new → IsRefused 22 0 old new end → GoesOn
     unfolding setup_in
     few-on other read few sync r =
         (let v : State = record (settled (continued w) rs) { disk_faults = new.disk_faults } in
         let m : Moment = moment Reopen (Refused refusal.TooFewProviders) v in
-        let fewer : length old.providers < (setup_at rs).n = subst (λ l. length old.providers < (setup_at l).n) (once other read) few in
+        let fewer : length old.providers < (setup_in_effect rs).n = subst (λ l. length old.providers < (setup_in_effect l).n) (once other read) few in
         let run : IsRun 8 start (m ∷ later ∷ ms) = (
           tt,
           (settled (continued w) rs, found.1.settles (given_up (continued w)) refl refl, found.1.up, (let e = S.handed.count in omega (arith, e, fewer)), (new.disk_faults, faults-at new.disk_faults counts.disk, refl)),
@@ -271,7 +269,7 @@ module _ (start : State) (ms : List Moment) (R : IsRun 8 start ms) (old : Seen) 
     unstarted-on : Unstarted old new end → GoesOn
     unstarted-on (Unstarted.disk_fault rose r) = closed-on 12 0 refusal.DiskFault r
         (new.disk_faults, faults-at new.disk_faults counts.disk, subst (λ n. Rose n new.disk_faults) (sym S.faults_are) rose, refl)
-    unstarted-on (Unstarted.not_set_up is r) = absurd (read-set_up told.0 rs (subst (λ d. IsRead d rs) told.1 is-read) (subst (λ d. IfSome d (λ cells. IsNotSetUp (journal_read cells))) told.1 is))
+    unstarted-on (Unstarted.not_set_up is r) = absurd (read-set_up told.0 rs (subst (λ d. IsRead d rs) told.1 is-read) (subst (λ d. IfSome d (λ cells. HasNoSetup (journal_read cells))) told.1 is))
     unstarted-on (Unstarted.bad_journal at is r) = absurd (let bad : (9 < length (journal_read told.0)) × IsBadStart (journal_read told.0) at =
         subst (λ d. IfSome d (λ cells. (9 < length (journal_read cells)) × IsBadStart (journal_read cells) at)) told.1 is in
         read-never-bad told.0 at rs (subst (λ d. IsRead d rs) told.1 is-read) bad.1)
@@ -280,7 +278,7 @@ module _ (start : State) (ms : List Moment) (R : IsRun 8 start ms) (old : Seen) 
 
     -- ---- a vault that was opened
 
-    module _ (enough : (setup_at rs).n ≤ length old.providers) where
+    module _ (enough : (setup_in_effect rs).n ≤ length old.providers) where
       abbrev opened : State
       opened = opened_at new.disk_faults
 
@@ -326,7 +324,7 @@ module _ (start : State) (ms : List Moment) (R : IsRun 8 start ms) (old : Seen) 
             by_cause (inl e) = inl (refusal-of opened kind refl refl ∙ e)
             by_cause (inr e) = inr e
 
-        ended-on : (how : Answer) → IsSpelledKind kind → RunsAlone rs kind how old new end.heard → EndsByAnswer (text_of (setup_at rs).tolerance kind how) how old new end → GoesOn
+        ended-on : (how : Answer) → IsSpelledKind kind → RunsAlone rs kind how old new end.heard → EndsByAnswer (text_of (setup_in_effect rs).tolerance kind how) how old new end → GoesOn
         unfolding setup_in
         ended-on how spelled A by =
             (let v : State = opened_at A.faults in
@@ -368,8 +366,8 @@ module _ (start : State) (ms : List Moment) (R : IsRun 8 start ms) (old : Seen) 
         job-on spelled (AnswersJob.no_memory sync r) = refused-on 70 0 refusal.Memory spelled (inr refl) r.status_is sync r
         job-on spelled (AnswersJob.ended how none runs left by) = ended-on how spelled runs by
 
-    enough-of : (other : List Record) → IsOpened old other → (setup_at rs).n ≤ length old.providers
-    enough-of other O = subst (λ l. (setup_at l).n ≤ length old.providers) (once other O.read) O.enough
+    enough-of : (other : List Record) → IsOpened old other → (setup_in_effect rs).n ≤ length old.providers
+    enough-of other O = subst (λ l. (setup_in_effect l).n ≤ length old.providers) (once other O.read) O.enough
 
     alone-on : (kind : Kind) → RunsKind command old new kind → IsSpelledKind kind → AnswersAlone kind old new end → GoesOn
     alone-on kind is spelled (AnswersAlone.unstarted u) = unstarted-on u

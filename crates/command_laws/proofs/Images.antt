@@ -1,24 +1,27 @@
 -- What the images of the disk stand for after a command.
-use Rattle.std.proofs.Common.{◌≡◌, ◌≢◌, ℕ, suc, ◌+◌, ◌<◌, ◌≤◌, ◌⊎◌, true, false, List, [], ◌∷◌, ◌++◌, length, take, drop, reverse, Option, None, Some, refl, ap, sym, subst, ◌∙◌, inl, inr, arith, append_assoc, length-append}
+use Rattle.std.proofs.Common.{◌≡◌, ◌≢◌, ℕ, suc, ◌+◌, ◌⊎◌, true, false, List, [], ◌∷◌, ◌++◌, length, take, reverse, Option, None, Some, refl, ap, sym, subst, ◌∙◌, inl, inr, arith}
 use Rattle.std.specs.Prelude.{IfSome, IsSomeAnd, is_some}
 use Rattle.std.specs.Option.{option_map}
 use Rattle.std.proofs.Math.Seq.{take-append_seam, take-append-add, take-length}
 use Rattle.std.proofs.lemmas.Bool.{false≢true}
-use Rattle.std.proofs.lemmas.List.{reverse-append, take-append-drop}
-use Rattle.hail_devices.specs.Cells.{Cells, reads, firm}
+use Rattle.std.proofs.lemmas.List.{reverse-append}
+use Rattle.hail_devices.specs.Cells.{Cells, reads}
 use Rattle.hail_devices.specs.Disks.{synced}
 use Rattle.hail_devices.specs.Images.{IsImage, EachImage}
 use Rattle.hail_devices.specs.Told.{Goes}
+use Rattle.hail_devices.proofs.Lasting.{image-firm}
+use Rattle.hail_devices.proofs.PickLaws.{IsImage-reads}
 use Rattle.hail_records.specs.Records.{Record, PutStart, PutDone, AuditStart, AuditDone, largest_journal}
-use Rattle.hail_records.specs.Spellings.{spelling}
-use Rattle.hail_records.specs.Journal.{before_gate, StandsFor, StandsOrIsEmpty}
+use Rattle.hail_records.specs.Journal.{StandsFor, StandsOrIsEmpty}
 use Rattle.hail_records.specs.Table.{next_id, next_audit}
+use Rattle.hail_records.proofs.Standing.{stands-front, stands-long}
 use Rattle.journal_core.proofs.Meanings.{one_meaning}
 use Rattle.hail_machine.specs.Jobs.{Kind, PutJob, GetJob, DropJob, AuditJob, RepairJob}
 use Rattle.hail_machine.specs.Answers as answer
 use Rattle.hail_machine.specs.Answers.{Answer}
 use Rattle.hail_commands.specs.Forms.{Command, Numbers, RowOf, InitWith, PutUnder, GetOf, DropOf, ListAll, AuditAll, RepairDue}
 use Rattle.hail_openings.specs.Journals.{IsResynced, IsFree, IsSetUpOn, MayBeLeft}
+use Rattle.hail_openings.proofs.Resyncs.{image-resynced}
 use Rattle.hail_commands.specs.Seen.{Seen, Ending, IsRefused}
 use Rattle.hail_commands.specs.Opens.{IsOpened, Unstarted}
 use Rattle.hail_commands.specs.Ran.{Ran, IsWhole, IsCut, IsCutInDoubt}
@@ -35,24 +38,8 @@ use Rattle.command_laws.proofs.JobEnds.{unstarted-refused}
 
 -- ---- images of a disk that was synced
 
--- what is read is an image
-pub reads-image : (cells : Cells) → IsImage cells (reads cells)
-reads-image [] = tt
-reads-image (c ∷ cells) = ((λ e. refl), reads-image cells)
-
--- where no byte is loose there is one image
-pub image-firm : (bytes image : List ℕ) → IsImage (firm bytes) image → image ≡ bytes
-image-firm [] [] is = refl
-image-firm [] (b ∷ image) is = absurd is
-image-firm (b ∷ bytes) [] is = absurd is
-image-firm (b ∷ bytes) (i ∷ image) is = (λ k. is.0 refl k ∷ image-firm bytes image is.1 k)
-
 image-synced : (cells : Cells) (image : List ℕ) → IsImage (synced cells) image → IsImage cells image
-image-synced cells image is = subst (IsImage cells) (sym (image-firm (reads cells) image is)) (reads-image cells)
-
-image-resynced : (old new : Cells) → IsResynced old new → (image : List ℕ) → IsImage new image → IsImage old image
-image-resynced old new (inl same) image is = subst (λ (c : Cells). IsImage c image) same is
-image-resynced old new (inr after) image is = image-synced old image (subst (λ (c : Cells). IsImage c image) after is)
+image-synced cells image is = subst (IsImage cells) (sym (image-firm (reads cells) image is)) (IsImage-reads cells)
 
 -- each image was one before
 abbrev Keeps : Option Cells → Option Cells → Type 0
@@ -255,29 +242,6 @@ known-images command records old new end A opens K stand = go (store-images comm
 
 -- ---- init
 
-length-before : (rs : List Record) → 8 ≤ length (before_gate rs)
-length-before [] = omega arith
-length-before (r ∷ rs) = (let h = length-before rs in let e = length-append (before_gate rs) (1 ∷ spelling r) in omega (arith, h, e))
-
--- bytes that stand for a record are longer than those of an empty disk
-stands-long : (bytes : List ℕ) (rs : List Record) → rs ≢ [] → StandsFor bytes rs → 9 < length bytes
-stands-long bytes [] some S = absurd (some refl)
-stands-long bytes (r ∷ rs) some S =
-    (let h = length-before rs in
-    let a = length-append (before_gate rs) (1 ∷ spelling r) in
-    let b = length-append (before_gate (r ∷ rs)) (S.gate ∷ S.rest) in
-    let e = ap length S.bytes_are in omega (arith, h, a, b, e))
-
--- what stands at the front of bytes stands in them
-pub stands-front : (n : ℕ) (bytes : List ℕ) (rs : List Record) → StandsFor (take n bytes) rs → StandsFor bytes rs
-stands-front n bytes rs S = record {
-  in_grammar = S.in_grammar;
-  gate = S.gate;
-  rest = S.rest ++ drop n bytes;
-  closed = S.closed;
-  bytes_are = sym (take-append-drop n bytes) ∙ (ap (λ l. l ++ drop n bytes) S.bytes_are ∙ append_assoc (before_gate rs) (S.gate ∷ S.rest) (drop n bytes));
-}
-
 not-free : (cells : Cells) (rs : List Record) → rs ≢ [] → StandsFor (reads cells) rs → IsFree cells → ⊥
 not-free cells rs some S (inl short) = (let long = stands-long (reads cells) rs some S in omega (arith, long, short))
 not-free cells rs some S (inr none) = some (one_meaning (reads cells) rs [] S (stands-front largest_journal (reads cells) [] none))
@@ -314,5 +278,5 @@ init-kept numbers records old new end A some stand = go old.disk new.disk stand 
         IfSome before (λ cells. EachImage after (IsImage cells))
     go None after stand h = tt
     go (Some cells) None stand (key, inl g) = absurd g
-    go (Some cells) (Some now) stand (key, inl g) = absurd (not-free cells records some (stand (reads cells) (reads-image cells)) g.free)
-    go (Some cells) after stand (key, inr left) = left-kept cells numbers key (not-free cells records some (stand (reads cells) (reads-image cells))) after left
+    go (Some cells) (Some now) stand (key, inl g) = absurd (not-free cells records some (stand (reads cells) (IsImage-reads cells)) g.free)
+    go (Some cells) after stand (key, inr left) = left-kept cells numbers key (not-free cells records some (stand (reads cells) (IsImage-reads cells))) after left

@@ -1,16 +1,15 @@
 -- How `init` and `list` end, and what they have done where they are done.
-use Rattle.std.proofs.Common.{◌≡◌, ◌≢◌, ℕ, ◌<◌, ◌≤◌, ◌⊎◌, true, false, List, [], ◌∷◌, ◌++◌, length, take, Option, None, Some, ap, sym, subst, ◌∙◌, inl, inr, arith, length-append, length-take}
-use Rattle.std.specs.Prelude.{IfSome, Ok}
-use Rattle.std.proofs.Math.Seq.{take-append_seam}
+use Rattle.std.proofs.Common.{◌≡◌, ◌≢◌, ℕ, ◌<◌, ◌≤◌, ◌⊎◌, true, false, List, [], ◌∷◌, ◌++◌, length, Option, None, Some, ap, sym, subst, ◌∙◌, inl, inr, arith, length-append, length-take}
+use Rattle.std.specs.Prelude.{IfSome}
 use Rattle.std.proofs.lemmas.Bool.{false≢true}
 use Rattle.std.proofs.lemmas.List.{append-nil}
 use Rattle.hail_devices.specs.Cells.{Cells, reads}
 use Rattle.hail_devices.specs.Faults.{Rose}
 use Rattle.hail_devices.specs.Told.{Goes}
-use Rattle.hail_records.specs.Records.{Record, Setup, SetUp, PutStart, PutDone, Drop, AuditStart, AuditDone, RepairDone, is_setup, largest_journal}
+use Rattle.hail_records.specs.Records.{Record, Setup, SetUp, PutStart, PutDone, Drop, AuditStart, AuditDone, RepairDone, PutDoneIn, Version, Resume, InEffect, RepairDue, is_setup, largest_journal}
 use Rattle.hail_records.specs.Table.{files_of}
 use Rattle.journal_core.proofs.Meanings.{one_meaning, bad_is_none, one_place}
-use Rattle.hex.specs.Hex.{decode_of}
+use Rattle.plain_facts.proofs.Numbers.{not_two}
 use Rattle.hail_commands.specs.Forms.{Numbers}
 use Rattle.hail_commands.specs.Keys.{IsKeyForm, longest_key}
 use Rattle.hail_commands.specs.Sinking.{WritesLine}
@@ -19,6 +18,7 @@ use Rattle.hail_openings.specs.Journals.{journal_read, BeginsWithSetup, BeginsOt
 use Rattle.hail_commands.specs.Inits.{setup_with, AnswersInit, InitsDisk}
 use Rattle.hail_commands.specs.Lines.{ready_line, list_lines}
 use Rattle.hail_commands.specs.Commands.{AnswersList}
+use Rattle.hail_commands.proofs.Keys.{IsKeyForm-once}
 use Rattle.command_laws.specs.Ends.{IsDone, IsKnown, GivesUnlessMemory}
 use Rattle.command_laws.specs.Opened.{IsKeyed, IsInit, IsListed}
 use Rattle.command_laws.proofs.Known.{none-written, written-well, known-once, unstarted-known}
@@ -33,14 +33,6 @@ form-length text key F = elim F.line_end [
   | inr (inl line) ↦ (let a = ap length F.text_is in let b = length-append F.digits F.behind in let c = F.size in let d = ap length line in omega (arith, a, b, c, d))
   | inr (inr line) ↦ (let a = ap length F.text_is in let b = length-append F.digits F.behind in let c = F.size in let d = ap length line in omega (arith, a, b, c, d))
 ]
-
-digits-front : (text key : List ℕ) (F : IsKeyForm text key) → F.digits ≡ take 64 text
-digits-front text key F = subst (λ (t : List ℕ). F.digits ≡ take 64 t) (sym F.text_is) (subst (λ (n : ℕ). F.digits ≡ take n (F.digits ++ F.behind)) F.size (sym (take-append_seam F.digits F.behind)))
-
--- a text spells one key
-pub key-once : (text a b : List ℕ) → IsKeyForm text a → IsKeyForm text b → a ≡ b
-key-once text a b A B = (let same : A.digits ≡ B.digits = digits-front text a A ∙ sym (digits-front text b B) in
-    let both : Ok a ≡ Ok b = sym A.spelled ∙ (ap (λ (ds : List ℕ). decode_of ds) same ∙ B.spelled) in cc)
 
 -- what is read of a source is all of it, where one of the two is short
 short-read : (old new : Option (List ℕ)) (bytes seen : List ℕ) → old ≡ Some bytes → length seen < longest_key → ReadsUpTo longest_key old new seen → bytes ≡ seen
@@ -75,6 +67,11 @@ one-begin (Drop name ∷ []) other first = first
 one-begin (AuditStart number ∷ []) other first = first
 one-begin (AuditDone number undecided counts ∷ []) other first = first
 one-begin (RepairDone number ∷ []) other first = first
+one-begin (PutDoneIn id size profile ∷ []) other first = first
+one-begin (Version ∷ []) other first = first
+one-begin (Resume next audit ∷ []) other first = first
+one-begin (InEffect id size profile kept ∷ []) other first = first
+one-begin (RepairDue number counts ∷ []) other first = first
 one-begin (SetUp s ∷ q ∷ rs) other first = one-begin (q ∷ rs) other first
 one-begin (PutStart id name ∷ q ∷ rs) other first = one-begin (q ∷ rs) other first
 one-begin (PutDone id size ∷ q ∷ rs) other first = one-begin (q ∷ rs) other first
@@ -82,6 +79,11 @@ one-begin (Drop name ∷ q ∷ rs) other first = one-begin (q ∷ rs) other firs
 one-begin (AuditStart number ∷ q ∷ rs) other first = one-begin (q ∷ rs) other first
 one-begin (AuditDone number undecided counts ∷ q ∷ rs) other first = one-begin (q ∷ rs) other first
 one-begin (RepairDone number ∷ q ∷ rs) other first = one-begin (q ∷ rs) other first
+one-begin (PutDoneIn id size profile ∷ q ∷ rs) other first = one-begin (q ∷ rs) other first
+one-begin (Version ∷ q ∷ rs) other first = one-begin (q ∷ rs) other first
+one-begin (Resume next audit ∷ q ∷ rs) other first = one-begin (q ∷ rs) other first
+one-begin (InEffect id size profile kept ∷ q ∷ rs) other first = one-begin (q ∷ rs) other first
+one-begin (RepairDue number counts ∷ q ∷ rs) other first = one-begin (q ∷ rs) other first
 
 bad-once : (bytes : List ℕ) (at other : ℕ) → IsBadInit bytes at → IsBadInit bytes other → at ≡ other
 bad-once bytes at other (inl a) (inl b) = one_place bytes at other a b
@@ -132,9 +134,6 @@ init-done numbers old new end (AnswersInit.keyed seen key good enough read form 
 
 -- ---- statuses only with their causes
 
-status-not : (status n m : ℕ) → status ≡ n → status ≡ m → n ≢ m → ⊥
-status-not status n m is also differ = differ (sym is ∙ also)
-
 written-not : (text : List ℕ) (old new : Seen) (end : Ending) (m : ℕ) → WritesLine text end.status (sinking old new) → end.status ≡ m → 0 ≢ m → 15 ≢ m → 70 ≢ m → ⊥
 written-not text old new end m (inl w) is zero sink memory = zero (sym w.0 ∙ is)
 written-not text old new end m (inr (inl w)) is zero sink memory = sink (sym w.1 ∙ is)
@@ -142,62 +141,62 @@ written-not text old new end m (inr (inr w)) is zero sink memory = memory (sym w
 
 pub setup-only : (numbers : Numbers) (old new : Seen) (end : Ending) → AnswersInit numbers old new end → end.status ≡ 20 → is_setup (setup_with numbers []) ≡ false
 setup-only numbers old new end (AnswersInit.bad_setup bad same r) is_20 = bad
-setup-only numbers old new end (AnswersInit.too_few_providers good few same r) is_20 = absurd (status-not end.status 22 20 r.status_is is_20 (λ e. omega (arith, e)))
-setup-only numbers old new end (AnswersInit.source_fault good enough rose taken r) is_20 = absurd (status-not end.status 14 20 r.status_is is_20 (λ e. omega (arith, e)))
-setup-only numbers old new end (AnswersInit.bad_key seen good enough read none r) is_20 = absurd (status-not end.status 18 20 r.status_is is_20 (λ e. omega (arith, e)))
-setup-only numbers old new end (AnswersInit.no_memory taken r) is_20 = absurd (status-not end.status 70 20 r.status_is is_20 (λ e. omega (arith, e)))
-setup-only numbers old new end (AnswersInit.keyed seen key good enough read form (InitsDisk.disk_fault rose F)) is_20 = absurd (status-not end.status 12 20 F.status_is is_20 (λ e. omega (arith, e)))
-setup-only numbers old new end (AnswersInit.keyed seen key good enough read form (InitsDisk.bad_journal at is r)) is_20 = absurd (status-not end.status 8 20 r.status_is is_20 (λ e. omega (arith, e)))
-setup-only numbers old new end (AnswersInit.keyed seen key good enough read form (InitsDisk.already is r)) is_20 = absurd (status-not end.status 10 20 r.status_is is_20 (λ e. omega (arith, e)))
-setup-only numbers old new end (AnswersInit.keyed seen key good enough read form (InitsDisk.no_memory F)) is_20 = absurd (status-not end.status 70 20 F.status_is is_20 (λ e. omega (arith, e)))
+setup-only numbers old new end (AnswersInit.too_few_providers good few same r) is_20 = absurd (not_two end.status 22 20 r.status_is is_20 (λ e. omega (arith, e)))
+setup-only numbers old new end (AnswersInit.source_fault good enough rose taken r) is_20 = absurd (not_two end.status 14 20 r.status_is is_20 (λ e. omega (arith, e)))
+setup-only numbers old new end (AnswersInit.bad_key seen good enough read none r) is_20 = absurd (not_two end.status 18 20 r.status_is is_20 (λ e. omega (arith, e)))
+setup-only numbers old new end (AnswersInit.no_memory taken r) is_20 = absurd (not_two end.status 70 20 r.status_is is_20 (λ e. omega (arith, e)))
+setup-only numbers old new end (AnswersInit.keyed seen key good enough read form (InitsDisk.disk_fault rose F)) is_20 = absurd (not_two end.status 12 20 F.status_is is_20 (λ e. omega (arith, e)))
+setup-only numbers old new end (AnswersInit.keyed seen key good enough read form (InitsDisk.bad_journal at is r)) is_20 = absurd (not_two end.status 8 20 r.status_is is_20 (λ e. omega (arith, e)))
+setup-only numbers old new end (AnswersInit.keyed seen key good enough read form (InitsDisk.already is r)) is_20 = absurd (not_two end.status 10 20 r.status_is is_20 (λ e. omega (arith, e)))
+setup-only numbers old new end (AnswersInit.keyed seen key good enough read form (InitsDisk.no_memory F)) is_20 = absurd (not_two end.status 70 20 F.status_is is_20 (λ e. omega (arith, e)))
 setup-only numbers old new end (AnswersInit.keyed seen key good enough read form (InitsDisk.ready R)) is_20 = absurd (written-not ready_line old new end 20 R.written is_20 (λ e. omega (arith, e)) (λ e. omega (arith, e)) (λ e. omega (arith, e)))
 
 pub few-only : (numbers : Numbers) (old new : Seen) (end : Ending) → AnswersInit numbers old new end → end.status ≡ 22 → (is_setup (setup_with numbers []) ≡ true) × (length old.providers < numbers.n)
-few-only numbers old new end (AnswersInit.bad_setup bad same r) is_22 = absurd (status-not end.status 20 22 r.status_is is_22 (λ e. omega (arith, e)))
+few-only numbers old new end (AnswersInit.bad_setup bad same r) is_22 = absurd (not_two end.status 20 22 r.status_is is_22 (λ e. omega (arith, e)))
 few-only numbers old new end (AnswersInit.too_few_providers good few same r) is_22 = (good, few)
-few-only numbers old new end (AnswersInit.source_fault good enough rose taken r) is_22 = absurd (status-not end.status 14 22 r.status_is is_22 (λ e. omega (arith, e)))
-few-only numbers old new end (AnswersInit.bad_key seen good enough read none r) is_22 = absurd (status-not end.status 18 22 r.status_is is_22 (λ e. omega (arith, e)))
-few-only numbers old new end (AnswersInit.no_memory taken r) is_22 = absurd (status-not end.status 70 22 r.status_is is_22 (λ e. omega (arith, e)))
-few-only numbers old new end (AnswersInit.keyed seen key good enough read form (InitsDisk.disk_fault rose F)) is_22 = absurd (status-not end.status 12 22 F.status_is is_22 (λ e. omega (arith, e)))
-few-only numbers old new end (AnswersInit.keyed seen key good enough read form (InitsDisk.bad_journal at is r)) is_22 = absurd (status-not end.status 8 22 r.status_is is_22 (λ e. omega (arith, e)))
-few-only numbers old new end (AnswersInit.keyed seen key good enough read form (InitsDisk.already is r)) is_22 = absurd (status-not end.status 10 22 r.status_is is_22 (λ e. omega (arith, e)))
-few-only numbers old new end (AnswersInit.keyed seen key good enough read form (InitsDisk.no_memory F)) is_22 = absurd (status-not end.status 70 22 F.status_is is_22 (λ e. omega (arith, e)))
+few-only numbers old new end (AnswersInit.source_fault good enough rose taken r) is_22 = absurd (not_two end.status 14 22 r.status_is is_22 (λ e. omega (arith, e)))
+few-only numbers old new end (AnswersInit.bad_key seen good enough read none r) is_22 = absurd (not_two end.status 18 22 r.status_is is_22 (λ e. omega (arith, e)))
+few-only numbers old new end (AnswersInit.no_memory taken r) is_22 = absurd (not_two end.status 70 22 r.status_is is_22 (λ e. omega (arith, e)))
+few-only numbers old new end (AnswersInit.keyed seen key good enough read form (InitsDisk.disk_fault rose F)) is_22 = absurd (not_two end.status 12 22 F.status_is is_22 (λ e. omega (arith, e)))
+few-only numbers old new end (AnswersInit.keyed seen key good enough read form (InitsDisk.bad_journal at is r)) is_22 = absurd (not_two end.status 8 22 r.status_is is_22 (λ e. omega (arith, e)))
+few-only numbers old new end (AnswersInit.keyed seen key good enough read form (InitsDisk.already is r)) is_22 = absurd (not_two end.status 10 22 r.status_is is_22 (λ e. omega (arith, e)))
+few-only numbers old new end (AnswersInit.keyed seen key good enough read form (InitsDisk.no_memory F)) is_22 = absurd (not_two end.status 70 22 F.status_is is_22 (λ e. omega (arith, e)))
 few-only numbers old new end (AnswersInit.keyed seen key good enough read form (InitsDisk.ready R)) is_22 = absurd (written-not ready_line old new end 22 R.written is_22 (λ e. omega (arith, e)) (λ e. omega (arith, e)) (λ e. omega (arith, e)))
 
 pub key-only : (numbers : Numbers) (bytes spelled : List ℕ) (old new : Seen) (end : Ending) → old.source ≡ Some bytes → IsKeyForm bytes spelled → AnswersInit numbers old new end → end.status ≡ 18 → ⊥
-key-only numbers bytes spelled old new end told spells (AnswersInit.bad_setup bad same r) is_18 = absurd (status-not end.status 20 18 r.status_is is_18 (λ e. omega (arith, e)))
-key-only numbers bytes spelled old new end told spells (AnswersInit.too_few_providers good few same r) is_18 = absurd (status-not end.status 22 18 r.status_is is_18 (λ e. omega (arith, e)))
-key-only numbers bytes spelled old new end told spells (AnswersInit.source_fault good enough rose taken r) is_18 = absurd (status-not end.status 14 18 r.status_is is_18 (λ e. omega (arith, e)))
+key-only numbers bytes spelled old new end told spells (AnswersInit.bad_setup bad same r) is_18 = absurd (not_two end.status 20 18 r.status_is is_18 (λ e. omega (arith, e)))
+key-only numbers bytes spelled old new end told spells (AnswersInit.too_few_providers good few same r) is_18 = absurd (not_two end.status 22 18 r.status_is is_18 (λ e. omega (arith, e)))
+key-only numbers bytes spelled old new end told spells (AnswersInit.source_fault good enough rose taken r) is_18 = absurd (not_two end.status 14 18 r.status_is is_18 (λ e. omega (arith, e)))
 key-only numbers bytes spelled old new end told spells (AnswersInit.bad_key seen good enough read none r) is_18 = none spelled (form-seen old.source new.source bytes seen spelled told read spells)
-key-only numbers bytes spelled old new end told spells (AnswersInit.no_memory taken r) is_18 = absurd (status-not end.status 70 18 r.status_is is_18 (λ e. omega (arith, e)))
-key-only numbers bytes spelled old new end told spells (AnswersInit.keyed seen key good enough read form (InitsDisk.disk_fault rose F)) is_18 = absurd (status-not end.status 12 18 F.status_is is_18 (λ e. omega (arith, e)))
-key-only numbers bytes spelled old new end told spells (AnswersInit.keyed seen key good enough read form (InitsDisk.bad_journal at is r)) is_18 = absurd (status-not end.status 8 18 r.status_is is_18 (λ e. omega (arith, e)))
-key-only numbers bytes spelled old new end told spells (AnswersInit.keyed seen key good enough read form (InitsDisk.already is r)) is_18 = absurd (status-not end.status 10 18 r.status_is is_18 (λ e. omega (arith, e)))
-key-only numbers bytes spelled old new end told spells (AnswersInit.keyed seen key good enough read form (InitsDisk.no_memory F)) is_18 = absurd (status-not end.status 70 18 F.status_is is_18 (λ e. omega (arith, e)))
+key-only numbers bytes spelled old new end told spells (AnswersInit.no_memory taken r) is_18 = absurd (not_two end.status 70 18 r.status_is is_18 (λ e. omega (arith, e)))
+key-only numbers bytes spelled old new end told spells (AnswersInit.keyed seen key good enough read form (InitsDisk.disk_fault rose F)) is_18 = absurd (not_two end.status 12 18 F.status_is is_18 (λ e. omega (arith, e)))
+key-only numbers bytes spelled old new end told spells (AnswersInit.keyed seen key good enough read form (InitsDisk.bad_journal at is r)) is_18 = absurd (not_two end.status 8 18 r.status_is is_18 (λ e. omega (arith, e)))
+key-only numbers bytes spelled old new end told spells (AnswersInit.keyed seen key good enough read form (InitsDisk.already is r)) is_18 = absurd (not_two end.status 10 18 r.status_is is_18 (λ e. omega (arith, e)))
+key-only numbers bytes spelled old new end told spells (AnswersInit.keyed seen key good enough read form (InitsDisk.no_memory F)) is_18 = absurd (not_two end.status 70 18 F.status_is is_18 (λ e. omega (arith, e)))
 key-only numbers bytes spelled old new end told spells (AnswersInit.keyed seen key good enough read form (InitsDisk.ready R)) is_18 = absurd (written-not ready_line old new end 18 R.written is_18 (λ e. omega (arith, e)) (λ e. omega (arith, e)) (λ e. omega (arith, e)))
 
 pub journal-only : (numbers : Numbers) (cells : Cells) (old new : Seen) (end : Ending) → old.disk ≡ Some cells → AnswersInit numbers old new end → end.status ≡ 8 → (9 < length (journal_read cells)) × IsBadInit (journal_read cells) end.at
-journal-only numbers cells old new end tells (AnswersInit.bad_setup bad same r) is_8 = absurd (status-not end.status 20 8 r.status_is is_8 (λ e. omega (arith, e)))
-journal-only numbers cells old new end tells (AnswersInit.too_few_providers good few same r) is_8 = absurd (status-not end.status 22 8 r.status_is is_8 (λ e. omega (arith, e)))
-journal-only numbers cells old new end tells (AnswersInit.source_fault good enough rose taken r) is_8 = absurd (status-not end.status 14 8 r.status_is is_8 (λ e. omega (arith, e)))
-journal-only numbers cells old new end tells (AnswersInit.bad_key seen good enough read none r) is_8 = absurd (status-not end.status 18 8 r.status_is is_8 (λ e. omega (arith, e)))
-journal-only numbers cells old new end tells (AnswersInit.no_memory taken r) is_8 = absurd (status-not end.status 70 8 r.status_is is_8 (λ e. omega (arith, e)))
-journal-only numbers cells old new end tells (AnswersInit.keyed seen key good enough read form (InitsDisk.disk_fault rose F)) is_8 = absurd (status-not end.status 12 8 F.status_is is_8 (λ e. omega (arith, e)))
+journal-only numbers cells old new end tells (AnswersInit.bad_setup bad same r) is_8 = absurd (not_two end.status 20 8 r.status_is is_8 (λ e. omega (arith, e)))
+journal-only numbers cells old new end tells (AnswersInit.too_few_providers good few same r) is_8 = absurd (not_two end.status 22 8 r.status_is is_8 (λ e. omega (arith, e)))
+journal-only numbers cells old new end tells (AnswersInit.source_fault good enough rose taken r) is_8 = absurd (not_two end.status 14 8 r.status_is is_8 (λ e. omega (arith, e)))
+journal-only numbers cells old new end tells (AnswersInit.bad_key seen good enough read none r) is_8 = absurd (not_two end.status 18 8 r.status_is is_8 (λ e. omega (arith, e)))
+journal-only numbers cells old new end tells (AnswersInit.no_memory taken r) is_8 = absurd (not_two end.status 70 8 r.status_is is_8 (λ e. omega (arith, e)))
+journal-only numbers cells old new end tells (AnswersInit.keyed seen key good enough read form (InitsDisk.disk_fault rose F)) is_8 = absurd (not_two end.status 12 8 F.status_is is_8 (λ e. omega (arith, e)))
 journal-only numbers cells old new end tells (AnswersInit.keyed seen key good enough read form (InitsDisk.bad_journal at is r)) is_8 = subst (λ k. (9 < length (journal_read cells)) × IsBadInit (journal_read cells) k) (sym r.place) (subst (λ d. IfSome d (λ c. (9 < length (journal_read c)) × IsBadInit (journal_read c) at)) tells is)
-journal-only numbers cells old new end tells (AnswersInit.keyed seen key good enough read form (InitsDisk.already is r)) is_8 = absurd (status-not end.status 10 8 r.status_is is_8 (λ e. omega (arith, e)))
-journal-only numbers cells old new end tells (AnswersInit.keyed seen key good enough read form (InitsDisk.no_memory F)) is_8 = absurd (status-not end.status 70 8 F.status_is is_8 (λ e. omega (arith, e)))
+journal-only numbers cells old new end tells (AnswersInit.keyed seen key good enough read form (InitsDisk.already is r)) is_8 = absurd (not_two end.status 10 8 r.status_is is_8 (λ e. omega (arith, e)))
+journal-only numbers cells old new end tells (AnswersInit.keyed seen key good enough read form (InitsDisk.no_memory F)) is_8 = absurd (not_two end.status 70 8 F.status_is is_8 (λ e. omega (arith, e)))
 journal-only numbers cells old new end tells (AnswersInit.keyed seen key good enough read form (InitsDisk.ready R)) is_8 = absurd (written-not ready_line old new end 8 R.written is_8 (λ e. omega (arith, e)) (λ e. omega (arith, e)) (λ e. omega (arith, e)))
 
 pub already-only : (numbers : Numbers) (cells : Cells) (old new : Seen) (end : Ending) → old.disk ≡ Some cells → AnswersInit numbers old new end → end.status ≡ 10 → (9 < length (journal_read cells)) × IsSetUpAlready (journal_read cells)
-already-only numbers cells old new end tells (AnswersInit.bad_setup bad same r) is_10 = absurd (status-not end.status 20 10 r.status_is is_10 (λ e. omega (arith, e)))
-already-only numbers cells old new end tells (AnswersInit.too_few_providers good few same r) is_10 = absurd (status-not end.status 22 10 r.status_is is_10 (λ e. omega (arith, e)))
-already-only numbers cells old new end tells (AnswersInit.source_fault good enough rose taken r) is_10 = absurd (status-not end.status 14 10 r.status_is is_10 (λ e. omega (arith, e)))
-already-only numbers cells old new end tells (AnswersInit.bad_key seen good enough read none r) is_10 = absurd (status-not end.status 18 10 r.status_is is_10 (λ e. omega (arith, e)))
-already-only numbers cells old new end tells (AnswersInit.no_memory taken r) is_10 = absurd (status-not end.status 70 10 r.status_is is_10 (λ e. omega (arith, e)))
-already-only numbers cells old new end tells (AnswersInit.keyed seen key good enough read form (InitsDisk.disk_fault rose F)) is_10 = absurd (status-not end.status 12 10 F.status_is is_10 (λ e. omega (arith, e)))
-already-only numbers cells old new end tells (AnswersInit.keyed seen key good enough read form (InitsDisk.bad_journal at is r)) is_10 = absurd (status-not end.status 8 10 r.status_is is_10 (λ e. omega (arith, e)))
+already-only numbers cells old new end tells (AnswersInit.bad_setup bad same r) is_10 = absurd (not_two end.status 20 10 r.status_is is_10 (λ e. omega (arith, e)))
+already-only numbers cells old new end tells (AnswersInit.too_few_providers good few same r) is_10 = absurd (not_two end.status 22 10 r.status_is is_10 (λ e. omega (arith, e)))
+already-only numbers cells old new end tells (AnswersInit.source_fault good enough rose taken r) is_10 = absurd (not_two end.status 14 10 r.status_is is_10 (λ e. omega (arith, e)))
+already-only numbers cells old new end tells (AnswersInit.bad_key seen good enough read none r) is_10 = absurd (not_two end.status 18 10 r.status_is is_10 (λ e. omega (arith, e)))
+already-only numbers cells old new end tells (AnswersInit.no_memory taken r) is_10 = absurd (not_two end.status 70 10 r.status_is is_10 (λ e. omega (arith, e)))
+already-only numbers cells old new end tells (AnswersInit.keyed seen key good enough read form (InitsDisk.disk_fault rose F)) is_10 = absurd (not_two end.status 12 10 F.status_is is_10 (λ e. omega (arith, e)))
+already-only numbers cells old new end tells (AnswersInit.keyed seen key good enough read form (InitsDisk.bad_journal at is r)) is_10 = absurd (not_two end.status 8 10 r.status_is is_10 (λ e. omega (arith, e)))
 already-only numbers cells old new end tells (AnswersInit.keyed seen key good enough read form (InitsDisk.already is r)) is_10 = subst (λ d. IfSome d (λ c. (9 < length (journal_read c)) × IsSetUpAlready (journal_read c))) tells is
-already-only numbers cells old new end tells (AnswersInit.keyed seen key good enough read form (InitsDisk.no_memory F)) is_10 = absurd (status-not end.status 70 10 F.status_is is_10 (λ e. omega (arith, e)))
+already-only numbers cells old new end tells (AnswersInit.keyed seen key good enough read form (InitsDisk.no_memory F)) is_10 = absurd (not_two end.status 70 10 F.status_is is_10 (λ e. omega (arith, e)))
 already-only numbers cells old new end tells (AnswersInit.keyed seen key good enough read form (InitsDisk.ready R)) is_10 = absurd (written-not ready_line old new end 10 R.written is_10 (λ e. omega (arith, e)) (λ e. omega (arith, e)) (λ e. omega (arith, e)))
 
 -- ---- and always with them
@@ -236,7 +235,7 @@ keyed-disk numbers key old new end (AnswersInit.too_few_providers fine few same 
 keyed-disk numbers key old new end (AnswersInit.source_fault fine also rose taken r) K calm = absurd (calm rose)
 keyed-disk numbers key old new end (AnswersInit.bad_key seen fine also read lacks r) K calm = absurd (lacks key (form-seen old.source new.source K.bytes seen key K.source read K.form))
 keyed-disk numbers key old new end (AnswersInit.keyed seen other fine also read form D) K calm =
-    inl (subst (λ k. InitsDisk (setup_with numbers k) old new end) (key-once K.bytes other key (form-all old.source new.source K.bytes seen other K.source read form) K.form) D)
+    inl (subst (λ k. InitsDisk (setup_with numbers k) old new end) (IsKeyForm-once K.bytes other key (form-all old.source new.source K.bytes seen other K.source read form) K.form) D)
 keyed-disk numbers key old new end (AnswersInit.no_memory taken r) K calm = inr r
 
 -- one that is done set it up on a free disk

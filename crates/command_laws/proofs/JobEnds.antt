@@ -4,22 +4,23 @@ use Rattle.std.specs.Prelude.{IsSomeAnd, nat_lt}
 use Rattle.std.proofs.lemmas.Bool.{cases_lt, eq-eqb, lt-ltb}
 use Rattle.std.proofs.lemmas.List.{append-nil}
 use Rattle.hail_devices.specs.Cells.{Cells}
-use Rattle.hail_devices.specs.Faults.{Rose, last_count}
+use Rattle.hail_devices.specs.Faults.{Rose}
 use Rattle.hail_devices.specs.Images.{EachImage}
 use Rattle.hail_devices.specs.Providers.{Provider}
+use Rattle.hail_devices.proofs.Lasting.{rose-before}
 use Rattle.hail_records.specs.Records.{Record, PutStart, largest_file}
 use Rattle.hail_records.specs.Journal.{StandsFor, StandsOrIsEmpty}
-use Rattle.hail_records.specs.Table.{File, Due, next_id, file_of, due_of, started_as, is_start_of, is_same_name}
+use Rattle.hail_records.specs.Table.{File, Due, next_id, file_of, due_of, started_as, is_start_of, is_same_name, file_as, profile_in, setup_of}
+use Rattle.hail_records.proofs.FilesLaws.{same-refl}
 use Rattle.hail_machine.specs.Jobs.{Kind, PutJob, GetJob, DropJob, AuditJob, RepairJob}
 use Rattle.hail_machine.specs.Answers as answer
 use Rattle.hail_machine.specs.Answers.{Answer}
 use Rattle.hail_machine.specs.Heard.{Entry}
 use Rattle.hail_machine.specs.Refusals.{Refusal}
 use Rattle.hail_machine.proofs.JobLists.{cond_true}
-use Rattle.hail_machine.proofs.RecordFacts.{same_name-refl}
 use Rattle.hail_commands.specs.Forms.{Command, PutUnder, DropOf, AuditAll}
 use Rattle.hail_commands.specs.Seen.{Seen, Ending, IsRefused, ReadsUpTo, provider_at}
-use Rattle.hail_commands.specs.Opens.{IsOpened, Unstarted, setup_at}
+use Rattle.hail_commands.specs.Opens.{IsOpened, Unstarted, setup_in_effect}
 use Rattle.hail_commands.specs.Refusals.{refusal_over, status_of}
 use Rattle.hail_commands.specs.Lines.{text_of, stored_line, dropped_line, audit_lines, repaired_line}
 use Rattle.hail_commands.specs.Puts.{PutLeaves}
@@ -28,10 +29,10 @@ use Rattle.hail_commands.specs.Audits.{AuditGives, HearsRounds, CountsHeard}
 use Rattle.hail_commands.specs.Repairs.{RepairGives}
 use Rattle.hail_commands.specs.Jobs.{AnswersJob, EndsByAnswer, LeftAlone, IsTold}
 use Rattle.hail_commands.specs.Commands.{AnswersPut, AnswersAlone, AnswersList}
-use Rattle.command_laws.specs.Failing.{bad_seen}
-use Rattle.command_laws.specs.Ends.{IsDone, IsKnown, GivesUnlessMemory, EndsInOrder, SameHolds, after_put, IsPut, IsDropped, IsAudited, IsRepaired}
-use Rattle.command_laws.proofs.Complete.{put-end, drop-end, audit-end}
-use Rattle.command_laws.proofs.Mended.{repair-end}
+use Rattle.job_laws.specs.Failing.{bad_seen}
+use Rattle.command_laws.specs.Ends.{IsDone, IsKnown, GivesUnlessMemory, EndsInOrder, SameHolds, after_put, IsWholePut, IsDropped, IsAudited, IsRepaired}
+use Rattle.job_laws.proofs.Complete.{put-end, drop-end, audit-end}
+use Rattle.job_laws.proofs.Mended.{repair-end}
 use Rattle.command_laws.proofs.Known.{none-written, written-well, known-once, unstarted-known, alone-known, refused-not, refused-only, refused-always, own-status}
 use Rattle.command_laws.proofs.GetEnds.{shape-at, ran_left}
 
@@ -47,13 +48,6 @@ unstarted-refused old new end (Unstarted.no_memory r) = (70, 0, ((λ e. omega (a
 pub unstarted-done : (old new : Seen) (end : Ending) → Unstarted old new end → IsDone end → ⊥
 unstarted-done old new end u done = (let r = unstarted-refused old new end u in elim done [ inl zero ↦ r.2.0 (sym r.3.status_is ∙ zero) | inr sink ↦ r.2.1 (sym r.3.status_is ∙ sink) ])
 
--- a fault that was counted once a vault was opened was counted in the command
-pub rose-before : (before opened now : ℕ) → before ≤ opened → opened ≤ now → Rose opened now → Rose before now
-rose-before before opened now a b rose small = elim (cases_lt opened last_count) [
-  | inl l ↦ (let h = rose l in omega (arith, a, h))
-  | inr l ↦ omega (arith, l, b, small)
-]
-
 -- images of a disk with nothing in doubt stand for the records
 pub image-has : (image : List ℕ) (after : List Record) (doubt : Option Record) (first : Record) (rest : List Record) → after ≡ first ∷ rest → doubt ≡ None →
     StandsOrIsEmpty image after ⊎ IsSomeAnd doubt (λ entry. StandsFor image (entry ∷ after)) → StandsFor image (first ∷ rest)
@@ -68,7 +62,7 @@ images-have (Some cells) after doubt first rest is sure h = λ image of. image-h
 
 -- what a command ends with, by the answer of its job
 abbrev EndsWith : List Record → Kind → Answer → Seen → Seen → Ending → Type 0
-EndsWith records kind how old new end = EndsByAnswer (text_of (setup_at records).tolerance kind how) how old new end
+EndsWith records kind how old new end = EndsByAnswer (text_of (setup_in_effect records).tolerance kind how) how old new end
 
 -- a job that found no memory, or wrote its text
 pub memory-well : (text : List ℕ) (old new : Seen) (end : Ending) → IsRefused 70 0 old new end → GivesUnlessMemory text old new end
@@ -100,13 +94,15 @@ not-long records name bytes none = at-most largest_file (length bytes) (second-o
     at-most : (a b : ℕ) → nat_lt a b ≡ false → b ≤ a
     at-most a b e = grind (arith, e)
 
-pub put-in_effect : (records : List Record) (name : List ℕ) (size : ℕ) → file_of (after_put records name size) name ≡ Some (record { name = name; id = next_id records; size = size })
+pub put-in_effect : (records : List Record) (name : List ℕ) (size : ℕ) →
+    file_of (after_put records name size) name
+    ≡ Some (file_as name (next_id records) size (profile_in (setup_of records)))
 put-in_effect records name size = cond_true (is_start_of name (started_as (PutStart (next_id records) name ∷ records) (next_id records))) _ _
-    (ap (is_start_of name) (cond_true (next_id records == next_id records) (Some name) (started_as records (next_id records)) (eq-eqb (next_id records) (next_id records) refl)) ∙ same_name-refl name)
+    (ap (is_start_of name) (cond_true (next_id records == next_id records) (Some name) (started_as records (next_id records)) (eq-eqb (next_id records) (next_id records) refl)) ∙ same-refl name)
 
 put-by : (name bytes : List ℕ) (records : List Record) (old new : Seen) (end : Ending) → IsOpened old records → ReadsUpTo (largest_file + 1) old.source new.source bytes →
     refusal_over records (PutJob name bytes) ≡ None → (how : Answer) (left : LeftAlone records (PutJob name bytes) how old new end.heard) →
-    PutLeaves (ran_left records (PutJob name bytes) how old new end.heard left) name bytes how → EndsWith records (PutJob name bytes) how old new end → IsDone end → IsPut name old new end
+    PutLeaves (ran_left records (PutJob name bytes) how old new end.heard left) name bytes how → EndsWith records (PutJob name bytes) how old new end → IsDone end → IsWholePut name old new end
 put-by name bytes records old new end opened read begins answer.Put left L by done = record {
   records = records;
   bytes = bytes;
@@ -124,7 +120,7 @@ put-by name bytes records old new end opened read begins answer.DiskFault left L
 put-by name bytes records old new end opened read begins answer.Memory left L by done = absurd (not-done end.status 70 by.status_is (λ e. omega (arith, e)) (λ e. omega (arith, e)) done)
 put-by name bytes records old new end opened read begins how left L by done = absurd L
 
-pub put-done : (name : List ℕ) (old new : Seen) (end : Ending) → AnswersPut name old new end → IsDone end → IsPut name old new end
+pub put-done : (name : List ℕ) (old new : Seen) (end : Ending) → AnswersPut name old new end → IsDone end → IsWholePut name old new end
 put-done name old new end (AnswersPut.unstarted u same) done = absurd (unstarted-done old new end u done)
 put-done name old new end (AnswersPut.source_fault records opened rose synced taken r) done = absurd (not-done end.status 14 r.status_is (λ e. omega (arith, e)) (λ e. omega (arith, e)) done)
 put-done name old new end (AnswersPut.no_memory taken r) done = absurd (not-done end.status 70 r.status_is (λ e. omega (arith, e)) (λ e. omega (arith, e)) done)
@@ -144,7 +140,7 @@ read-all old (Some left) bytes seen is small R =
     sym (f ∙ (ap (λ l. seen ++ l) none ∙ append-nil seen)))
 
 put-job-well : (name bytes : List ℕ) (records : List Record) (old new : Seen) (end : Ending) → refusal_over records (PutJob name bytes) ≡ None → (Rose old.disk_faults new.disk_faults → ⊥) →
-    ((j : ℕ) → j < (setup_at records).n → Rose (provider_at old.providers j).store_faults (provider_at new.providers j).store_faults → ⊥) → (Rose old.sink_faults new.sink_faults → ⊥) →
+    ((j : ℕ) → j < (setup_in_effect records).n → Rose (provider_at old.providers j).store_faults (provider_at new.providers j).store_faults → ⊥) → (Rose old.sink_faults new.sink_faults → ⊥) →
     AnswersJob (PutJob name bytes) records old new end → GivesUnlessMemory (stored_line name (length bytes)) old new end
 put-job-well name bytes records old new end begins disk stores sink (AnswersJob.refused why is synced r) = absurd (let e : None ≡ Some why = sym begins ∙ is in cc)
 put-job-well name bytes records old new end begins disk stores sink (AnswersJob.no_memory synced r) = memory-well (stored_line name (length bytes)) old new end r
@@ -158,7 +154,7 @@ put-job-well name bytes records old new end begins disk stores sink (AnswersJob.
 
 pub put-well : (name bytes : List ℕ) (records : List Record) (old new : Seen) (end : Ending) → AnswersPut name old new end → IsKnown old records → old.source ≡ Some bytes →
     refusal_over records (PutJob name bytes) ≡ None → (Rose old.disk_faults new.disk_faults → ⊥) →
-    ((j : ℕ) → j < (setup_at records).n → Rose (provider_at old.providers j).store_faults (provider_at new.providers j).store_faults → ⊥) →
+    ((j : ℕ) → j < (setup_in_effect records).n → Rose (provider_at old.providers j).store_faults (provider_at new.providers j).store_faults → ⊥) →
     (Rose old.source_faults new.source_faults → ⊥) → (Rose old.sink_faults new.sink_faults → ⊥) → GivesUnlessMemory (stored_line name (length bytes)) old new end
 put-well name bytes records old new end (AnswersPut.unstarted u same) K is begins disk stores source sink = elim (unstarted-known old new end records K u) [
   | inl (rose, r) ↦ absurd (disk rose)
@@ -234,7 +230,7 @@ drop-by name records old new end opened answer.Dropped left L by done = record {
   was_in_effect = L.1.in_effect;
   told = by;
   disk = images-have new.disk left.after left.doubt _ _ L.0.after L.0.sure left.images;
-  out_of_effect = cond_true (is_same_name name name) None (file_of records name) (same_name-refl name);
+  out_of_effect = cond_true (is_same_name name name) None (file_of records name) (same-refl name);
   gone = L.1.held;
 }
 drop-by name records old new end opened answer.DiskFault left L by done = absurd (not-done end.status 12 by.status_is (λ e. omega (arith, e)) (λ e. omega (arith, e)) done)
@@ -277,7 +273,7 @@ audit-by records old new end opened (answer.Audited number undecided counts) lef
       undecided = undecided;
       counts = counts;
       opened = opened;
-      told = subst (λ n. IsTold (audit_lines (setup_at records).tolerance n undecided counts) old new end) L.0 by;
+      told = subst (λ n. IsTold (audit_lines (setup_in_effect records).tolerance n undecided counts) old new end) L.0 by;
       disk = images-have new.disk left.after left.doubt _ _ L.1.after L.1.sure left.images;
       heard = record { heard = heard.heard; truthful = heard.truthful };
       counted = subst (λ n. CountsHeard (ran_left records AuditJob (answer.Audited number undecided counts) old new end.heard left) n undecided counts) L.0 L.3;
@@ -347,8 +343,8 @@ repair-done old new end (AnswersAlone.begun records opened (AnswersJob.ended how
     (let L = left.leaves.by_kind.0 in repair-by records old new end opened how left L.due L.is_due L.gives by done)
 
 repair-job-well : (records : List Record) (old new : Seen) (end : Ending) (bytes : ℕ → List ℕ) → IsOpened old records → refusal_over records RepairJob ≡ None → (Rose old.disk_faults new.disk_faults → ⊥) →
-    ((j : ℕ) → j < (setup_at records).n → Rose (provider_at old.providers j).store_faults (provider_at new.providers j).store_faults → ⊥) → (Rose old.sink_faults new.sink_faults → ⊥) →
-    ((name : List ℕ) (file : File) → file_of records name ≡ Some file → (length (bytes file.id) ≡ file.size) × (bad_seen records old new file.id (bytes file.id) ≤ (setup_at records).b)) →
+    ((j : ℕ) → j < (setup_in_effect records).n → Rose (provider_at old.providers j).store_faults (provider_at new.providers j).store_faults → ⊥) → (Rose old.sink_faults new.sink_faults → ⊥) →
+    ((name : List ℕ) (file : File) → file_of records name ≡ Some file → (length (bytes file.id) ≡ file.size) × (bad_seen records old new file.id (bytes file.id) ≤ (setup_in_effect records).b)) →
     AnswersJob RepairJob records old new end → (end.status ≡ 0) ⊎ (end.status ≡ 70)
 repair-job-well records old new end bytes opened begins disk stores sink safe (AnswersJob.refused why is synced r) = absurd (let e : None ≡ Some why = sym begins ∙ is in cc)
 repair-job-well records old new end bytes opened begins disk stores sink safe (AnswersJob.no_memory synced r) = inr r.status_is
@@ -361,8 +357,8 @@ repair-job-well records old new end bytes opened begins disk stores sink safe (A
 
 pub repair-well : (records : List Record) (old new : Seen) (end : Ending) (bytes : ℕ → List ℕ) → AnswersAlone RepairJob old new end → IsKnown old records →
     refusal_over records RepairJob ≡ None → (Rose old.disk_faults new.disk_faults → ⊥) →
-    ((j : ℕ) → j < (setup_at records).n → Rose (provider_at old.providers j).store_faults (provider_at new.providers j).store_faults → ⊥) → (Rose old.sink_faults new.sink_faults → ⊥) →
-    ((name : List ℕ) (file : File) → file_of records name ≡ Some file → (length (bytes file.id) ≡ file.size) × (bad_seen records old new file.id (bytes file.id) ≤ (setup_at records).b)) →
+    ((j : ℕ) → j < (setup_in_effect records).n → Rose (provider_at old.providers j).store_faults (provider_at new.providers j).store_faults → ⊥) → (Rose old.sink_faults new.sink_faults → ⊥) →
+    ((name : List ℕ) (file : File) → file_of records name ≡ Some file → (length (bytes file.id) ≡ file.size) × (bad_seen records old new file.id (bytes file.id) ≤ (setup_in_effect records).b)) →
     (end.status ≡ 0) ⊎ (end.status ≡ 70)
 repair-well records old new end bytes A K begins disk stores sink safe = elim (alone-known RepairJob old new end records K A) [
   | inl (inl (rose, r)) ↦ absurd (disk rose)
@@ -408,8 +404,8 @@ unstarted-holds : (old new : Seen) (end : Ending) → Unstarted old new end → 
 unstarted-holds old new end u = (let r = unstarted-refused old new end u in refused-holds r.0 r.1 old new end r.3)
 
 left-holds : (records : List Record) (kind : Kind) (how : Answer) (old new : Seen) (heard : List Entry) (left : LeftAlone records kind how old new heard) →
-    ((j : ℕ) → j < (setup_at records).n → (provider_at new.providers j).held ≡ (provider_at old.providers j).held) → SameHolds old new
-left-holds records kind how old new heard left same j = elim (cases_lt j (setup_at records).n) [
+    ((j : ℕ) → j < (setup_in_effect records).n → (provider_at new.providers j).held ≡ (provider_at old.providers j).held) → SameHolds old new
+left-holds records kind how old new heard left same j = elim (cases_lt j (setup_in_effect records).n) [
   | inl l ↦ same j l
   | inr l ↦ ap (λ (p : Provider). p.held) (left.leaves.others j l)
 ]

@@ -1,17 +1,17 @@
 -- Which records a disk reads, and its images stand for, after a job that ran over known records.
-use Rattle.std.proofs.Common.{◌≡◌, ◌≢◌, ℕ, suc, ◌+◌, ◌-◌, ◌<◌, ◌≤◌, ◌⊎◌, Bool, true, false, cond, not, List, [], ◌∷◌, ◌++◌, length, take, Option, None, Some, refl, ap, sym, subst, ◌∙◌, inl, inr, arith, length-append}
-use Rattle.std.specs.Prelude.{IsTrue, is_some, IfSome}
+use Rattle.std.proofs.Common.{◌≡◌, ◌≢◌, ℕ, ◌-◌, ◌<◌, ◌≤◌, ◌⊎◌, Bool, true, false, cond, not, List, [], ◌∷◌, length, Option, None, Some, refl, ap, sym, subst, ◌∙◌, inl, inr, arith}
+use Rattle.std.specs.Prelude.{is_some, IfSome}
 use Rattle.std.specs.List.{list_all}
-use Rattle.std.proofs.Math.Seq.{take-append-add}
 use Rattle.std.proofs.lemmas.Bool.{false≢true}
 use Rattle.std.proofs.lemmas.Bool.Decides.{nat_tests}
 use Rattle.hail_devices.specs.Cells.{Cells, reads}
 use Rattle.hail_devices.specs.Images.{EachImage}
-use Rattle.hail_records.specs.Records.{Record, Setup, is_byte, is_name_byte, is_name, is_in_grammar, largest_journal}
-use Rattle.hail_records.specs.Journal.{before_gate, text_size, StandsFor, StandsOrIsEmpty}
+use Rattle.hail_devices.proofs.PickLaws.{IsImage-reads}
+use Rattle.hail_records.specs.Records.{Record, Setup, is_byte, is_name_byte, is_name, largest_journal}
+use Rattle.hail_records.specs.Journal.{text_size, StandsFor, StandsOrIsEmpty}
 use Rattle.hail_records.specs.Table.{setup_of}
 use Rattle.hail_records.specs.Acceptance.{AreAccepted}
-use Rattle.hail_records.proofs.Sizes.{length-text}
+use Rattle.hail_records.proofs.Standing.{stands-take, stands-long}
 use Rattle.journal_core.proofs.Meanings.{one_meaning}
 use Rattle.hail_machine.specs.Jobs.{Kind, PutJob, GetJob, DropJob, AuditJob, RepairJob}
 use Rattle.hail_machine.specs.Answers.{Answer}
@@ -23,48 +23,16 @@ use Rattle.hail_machine.specs.States.{State, setup_in}
 use Rattle.hail_machine.specs.Stands.{StandsWithDoubt, StandsForState}
 use Rattle.hail_commands.specs.Seen.{Seen}
 use Rattle.hail_openings.specs.Journals.{journal_read, IsRead}
-use Rattle.hail_commands.specs.Opens.{IsOpened, setup_at}
+use Rattle.hail_commands.specs.Opens.{IsOpened, setup_in_effect}
 use Rattle.hail_commands.specs.Refusals.{refusal_over}
 use Rattle.hail_commands.specs.Jobs.{RunsAlone}
 use Rattle.sound_states.proofs.Records.{setup-more}
 use Rattle.command_laws.specs.Ends.{IsKnown, DiskHas}
 use Rattle.command_laws.specs.After.{IsSure}
-use Rattle.command_laws.proofs.Telling.{over-opened, opened_state, state-over}
-use Rattle.command_laws.proofs.Images.{reads-image}
+use Rattle.job_laws.proofs.Telling.{over-opened, opened_state, state-over}
 use Rattle.command_laws.proofs.LastStates.{IsLast, last-state}
 
 -- ---- a text that fits is looked at
-
-size-before : (rs : List Record) → IsTrue (list_all is_in_grammar rs) → length (before_gate rs) + 1 ≡ text_size rs
-size-before rs all = omega (arith, length-text rs all, length-append (before_gate rs) (0 ∷ []))
-
--- a text that fits stands at the front
-stands-take : (n : ℕ) (bytes : List ℕ) (rs : List Record) → StandsFor bytes rs → text_size rs ≤ n → StandsFor (take n bytes) rs
-stands-take n bytes rs is fits =
-    (let front = before_gate rs in
-    let size : length front + 1 ≡ text_size rs = size-before rs is.in_grammar in
-    let m : ℕ = n - (length front + 1) in
-    let n_is : n ≡ length front + suc m = omega (arith, size, fits) in
-    record {
-      in_grammar = is.in_grammar;
-      gate = is.gate;
-      rest = take m is.rest;
-      closed = is.closed;
-      bytes_are = ap (take n) is.bytes_are ∙ (ap (λ (k : ℕ). take k (front ++ is.gate ∷ is.rest)) n_is ∙ take-append-add front (is.gate ∷ is.rest) (suc m));
-    })
-
-least-size : (rs : List Record) → 9 ≤ text_size rs
-least-size [] = omega arith
-least-size (r ∷ rs) = (let h = least-size rs in omega (arith, h))
-
--- bytes that stand for a record are longer than those of an empty disk
-stands-longer : (bytes : List ℕ) (rs : List Record) → rs ≢ [] → StandsFor bytes rs → 9 < length bytes
-stands-longer bytes [] some is = absurd (some refl)
-stands-longer bytes (r ∷ rs) some is =
-    (let size = size-before (r ∷ rs) is.in_grammar in
-    let long = least-size rs in
-    let sum = length-append (before_gate (r ∷ rs)) (is.gate ∷ is.rest) in
-    let e = ap length is.bytes_are in omega (arith, size, long, sum, e))
 
 -- ---- images of a store
 
@@ -73,7 +41,7 @@ pub record IsGood (s : Setup) (image : List ℕ) (rs : List Record) : Type 0 whe
   pub some : rs ≢ []
   pub accepted : AreAccepted rs
   pub room : text_size rs ≤ largest_journal
-  pub setup : setup_at rs ≡ s
+  pub setup : setup_in_effect rs ≡ s
   pub stands : StandsFor image rs
 
 -- what each image of a disk is so
@@ -87,7 +55,7 @@ read-good s told cells rs is G = record {
   accepted = G.accepted;
   room = G.room;
   reads_are = subst (λ d. IfSome d (λ c. (9 < length (reads c)) × StandsFor (journal_read c) rs)) (sym is)
-      (stands-longer (reads cells) rs G.some G.stands, stands-take largest_journal (reads cells) rs G.stands G.room);
+      (stands-long (reads cells) rs G.some G.stands, stands-take largest_journal (reads cells) rs G.stands G.room);
 }
 
 pub known-good : (s : Setup) (d : Seen) (cells : Cells) (rs : List Record) → d.disk ≡ Some cells → IsGood s (reads cells) rs → s.n ≤ length d.providers → IsKnown d rs
@@ -106,8 +74,8 @@ sure-good s d cells rs is good enough has = record { known = known-good s d cell
     here : IsGood s (reads cells) rs
     here = (let g : EachImage (Some cells) (λ image. (rs : List Record) × IsGood s image rs) = subst (AreGood s) is good in
         let h : EachImage (Some cells) (λ image. StandsFor image rs) = subst (λ t. EachImage t (λ image. StandsFor image rs)) is has in
-        let a = g (reads cells) (reads-image cells) in
-        same-good s (reads cells) a.0 rs a.1 (h (reads cells) (reads-image cells)))
+        let a = g (reads cells) (IsImage-reads cells) in
+        same-good s (reads cells) a.0 rs a.1 (h (reads cells) (IsImage-reads cells)))
 
 -- ---- the last state of a job
 
@@ -176,7 +144,7 @@ spelled-kind records RepairJob are none = tt
 
 -- each image is good, and as many providers are handed in
 abbrev pub LeavesGood : List Record → Seen → Seen → Type 0
-LeavesGood records old new = AreGood (setup_at records) new.disk × ((setup_at records).n ≤ length new.providers)
+LeavesGood records old new = AreGood (setup_in_effect records) new.disk × ((setup_in_effect records).n ≤ length new.providers)
 
 pub ran-good : (records : List Record) (kind : Kind) (how : Answer) (old new : Seen) (heard : List Entry) → IsOpened old records → IsSpelledKind kind → RunsAlone records kind how old new heard → LeavesGood records old new
 unfolding setup_in

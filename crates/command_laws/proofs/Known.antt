@@ -5,7 +5,7 @@ use Rattle.std.proofs.lemmas.List.{append-nil}
 use Rattle.hail_devices.specs.Faults.{Rose}
 use Rattle.hail_devices.specs.Told.{told_then, TakesFront}
 use Rattle.hail_records.specs.Records.{Record}
-use Rattle.hail_records.specs.Reading.{IsNotSetUp}
+use Rattle.hail_records.specs.Reading.{HasNoSetup}
 use Rattle.hail_machine.specs.Jobs.{Kind}
 use Rattle.hail_machine.specs.Answers as answer
 use Rattle.hail_machine.specs.Answers.{Answer}
@@ -15,7 +15,7 @@ use Rattle.hail_machine.proofs.JobLists.{same_value}
 use Rattle.hail_commands.specs.Sinking.{WritesLine}
 use Rattle.hail_commands.specs.Seen.{Seen, Ending, IsRefused, sinking}
 use Rattle.hail_openings.specs.Journals.{journal_read, IsRead, IsBadStart}
-use Rattle.hail_commands.specs.Opens.{Unstarted, setup_at}
+use Rattle.hail_commands.specs.Opens.{Unstarted, setup_in_effect}
 use Rattle.hail_commands.specs.Refusals.{refusal_over, status_of}
 use Rattle.hail_commands.specs.Jobs.{AnswersJob, EndsByAnswer}
 use Rattle.hail_commands.specs.Commands.{AnswersAlone}
@@ -61,12 +61,12 @@ pub unstarted-known : (old new : Seen) (end : Ending) (records : List Record) �
     (Rose old.disk_faults new.disk_faults × IsRefused 12 0 old new end) ⊎ IsRefused 70 0 old new end
 unstarted-known old new end records K (Unstarted.disk_fault rose r) = inl (rose, r)
 unstarted-known old new end records K (Unstarted.not_set_up is r) = absurd (let c = is_some-at old.disk K.tells in
-    read-set_up c.0 records (subst (λ d. IsRead d records) c.1 K.opened.read) (subst (λ d. IfSome d (λ cells. IsNotSetUp (journal_read cells))) c.1 is))
+    read-set_up c.0 records (subst (λ d. IsRead d records) c.1 K.opened.read) (subst (λ d. IfSome d (λ cells. HasNoSetup (journal_read cells))) c.1 is))
 unstarted-known old new end records K (Unstarted.bad_journal at is r) = absurd (let c = is_some-at old.disk K.tells in
     let bad : (9 < length (journal_read c.0)) × IsBadStart (journal_read c.0) at = subst (λ d. IfSome d (λ cells. (9 < length (journal_read cells)) × IsBadStart (journal_read cells) at)) c.1 is in
     read-good c.0 at records (subst (λ d. IsRead d records) c.1 K.opened.read) bad.1)
 unstarted-known old new end records K (Unstarted.too_few_providers other read few synced r) = absurd (let e = known-once old records other K read in
-    let enough = subst (λ rs. (setup_at rs).n ≤ length old.providers) (sym e) K.opened.enough in omega (arith, few, enough))
+    let enough = subst (λ rs. (setup_in_effect rs).n ≤ length old.providers) (sym e) K.opened.enough in omega (arith, few, enough))
 unstarted-known old new end records K (Unstarted.no_memory r) = inr r
 
 -- so a command that runs a job runs it over these records, or ended before

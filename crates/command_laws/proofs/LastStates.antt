@@ -1,5 +1,5 @@
 -- The state in which a job ended is sound, and has the setup and the providers that it began with.
-use Rattle.std.proofs.Common.{◌≡◌, ℕ, ◌+◌, true, List, [], ◌∷◌, length, Option, Some, refl, ap, subst, ◌∙◌, arith}
+use Rattle.std.proofs.Common.{◌≡◌, ℕ, ◌+◌, true, List, [], length, Option, Some, refl, ap, subst, ◌∙◌, arith}
 use Rattle.std.specs.Prelude.{is_some}
 use Rattle.hail_records.specs.Table.{setup_of}
 use Rattle.hail_machine.specs.Jobs.{Kind, Job}
@@ -13,13 +13,14 @@ use Rattle.hail_machine.specs.Setups.{setup_or_none}
 use Rattle.hail_machine.specs.Begins.{new_job}
 use Rattle.hail_machine.specs.Appends.{Moves}
 use Rattle.hail_machine.specs.Steps.{Acts}
-use Rattle.hail_machine.specs.Runs.{Moment, now}
-use Rattle.hail_commands.specs.JobRuns.{AreSteps, GoesOnTo, RunsJob}
+use Rattle.hail_machine.specs.Runs.{now}
+use Rattle.hail_commands.specs.JobRuns.{GoesOnTo, RunsJob}
 use Rattle.sound_states.specs.Sound.{IsSound}
 use Rattle.sound_states.proofs.Events.{events-sound}
 use Rattle.hail_openings.specs.Opened.{IsOpenAtRest}
 use Rattle.lone_laws.specs.Walked.{Walked}
-use Rattle.lone_laws.proofs.Walk.{walk-begin, walk-step, walk-last}
+use Rattle.lone_laws.proofs.Walk.{walk-begin, walk-last}
+use Rattle.job_laws.proofs.Runs.{walk-steps}
 
 -- the last state of a job that ran alone
 pub record IsLast (start new : State) : Type 0 where
@@ -51,11 +52,6 @@ module _ (w : State) (job : Job) (new : State) where
   acts-stay (Work o s) (answer.Lost t row) (same, loses, is) = by-state w new _ is refl refl
   acts-stay End how (so, is) = by-state w new _ is refl refl
   acts-stay action how h = moves-stay action w.append how h
-
-walk-steps : (start w : State) (kind : Kind) (job : Job) (moment : ℕ) (ms : List Moment) → IsOpenAtRest start 1 → Walked start kind w job → AreSteps w moment 1 ms → (next : Job) × Walked start kind (now w ms) next
-walk-steps start w kind job moment [] O W h = (job, W)
-walk-steps start w kind job moment (m ∷ ms) O W (event, outcome, happens, rest) =
-    (let r = walk-steps start w kind job moment ms O W rest in walk-step start O kind (now w ms) r.0 r.1 (moment + length ms) m.state happens)
 
 last-of : (start w : State) (kind : Kind) (job : Job) (new : State) → Walked start kind w job → IsSound 8 new → Stays w new → IsLast start new
 unfolding setup_in

@@ -9,7 +9,8 @@ use Rattle.hail_devices.specs.Images.{EachImage}
 use Rattle.hail_devices.specs.Told.{Goes}
 use Rattle.hail_records.specs.Records.{Record, PutStart, largest_file, largest_journal}
 use Rattle.hail_records.specs.Journal.{StandsFor, StandsOrIsEmpty}
-use Rattle.hail_records.specs.Table.{File, next_id}
+use Rattle.hail_records.specs.Table.{File, next_id, file_as, profile_in, setup_of}
+use Rattle.hail_records.proofs.Standing.{stands-front}
 use Rattle.journal_core.proofs.Meanings.{one_meaning}
 use Rattle.hail_machine.specs.Setups.{object_of}
 use Rattle.hail_machine.specs.Events.{AreBytes}
@@ -18,7 +19,7 @@ use Rattle.hail_machine.specs.Answers as answer
 use Rattle.hail_machine.specs.Answers.{Answer}
 use Rattle.hail_commands.specs.Seen.{Seen, Ending, IsRefused, provider_at}
 use Rattle.hail_openings.specs.Journals.{journal_read}
-use Rattle.hail_commands.specs.Opens.{setup_at}
+use Rattle.hail_commands.specs.Opens.{setup_in_effect}
 use Rattle.hail_commands.specs.Ran.{Ran}
 use Rattle.hail_commands.specs.Blocks.{StoredOn}
 use Rattle.hail_commands.specs.Puts.{put_records, PutIsCut, PutLeaves}
@@ -29,7 +30,6 @@ use Rattle.command_laws.specs.After.{IsSure, Follows, HasRightFile}
 use Rattle.command_laws.proofs.Known.{known-once}
 use Rattle.command_laws.proofs.GetEnds.{ran_left}
 use Rattle.command_laws.proofs.JobEnds.{unstarted-refused, not-long, put-in_effect}
-use Rattle.command_laws.proofs.Images.{stands-front}
 use Rattle.command_laws.proofs.Afterwards.{sure-refused}
 use Rattle.command_laws.proofs.DoneStores.{next-image, whole-read}
 use Rattle.command_laws.proofs.FilesStay.{stored-right}
@@ -47,7 +47,7 @@ tells-back new next N tells = elim N.disk [
     stopped-at (Some a) b told g = refl
 
 module _ (name bytes : List ℕ) (records : List Record) (spoilt : ℕ → Bool) (old new next : Seen) (end : Ending) (S : IsSure old records) (N : Follows new next)
-    (F : IsKnown next (after_put records name (length bytes))) (tells : (j : ℕ) → j < (setup_at records).n → spoilt j ≡ false → is_some (provider_at old.providers j).held ≡ true) where
+    (F : IsKnown next (after_put records name (length bytes))) (tells : (j : ℕ) → j < (setup_in_effect records).n → spoilt j ≡ false → is_some (provider_at old.providers j).held ≡ true) where
   -- an image stands for fewer records than those with both of the put
   abbrev Fewer : List ℕ → Type 0
   Fewer image = (rs : List Record) × StandsFor image rs × (length rs ≤ length records + 1)
@@ -84,14 +84,14 @@ module _ (name bytes : List ℕ) (records : List Record) (spoilt : ℕ → Bool)
 
   -- where each provider holds the file, it is the one that is in effect
   has-stored : AreBytes bytes → (older : Option File) (rose : ℕ → Type 0) →
-      ((j : ℕ) → j < (setup_at records).n → Goes (StoredOn (object_of (setup_at records) (next_id records)) bytes older (rose j) j) (provider_at old.providers j).held (provider_at new.providers j).held) →
+      ((j : ℕ) → j < (setup_in_effect records).n → Goes (StoredOn (object_of (setup_in_effect records) (next_id records)) bytes older (rose j) j) (provider_at old.providers j).held (provider_at new.providers j).held) →
       HasRightFile new (after_put records name (length bytes)) name bytes spoilt
   has-stored are older rose stored = record {
-    file = record { name = name; id = next_id records; size = length bytes };
+    file = file_as name (next_id records) (length bytes) (profile_in (setup_of records));
     in_effect = put-in_effect records name (length bytes);
     are_bytes = are;
     size = refl;
-    right = λ j below clean. stored-right (object_of (setup_at records) (next_id records)) bytes older (rose j) j (provider_at old.providers j).held (provider_at new.providers j).held (tells j below clean) (stored j below);
+    right = λ j below clean. stored-right (object_of (setup_in_effect records) (next_id records)) bytes older (rose j) j (provider_at old.providers j).held (provider_at new.providers j).held (tells j below clean) (stored j below);
   }
 
   module _ (are : AreBytes bytes) (how : Answer) (left : LeftAlone records (PutJob name bytes) how old new end.heard) where
@@ -129,7 +129,7 @@ module _ (name bytes : List ℕ) (records : List Record) (spoilt : ℕ → Bool)
 -- ---- the command
 
 pub put-in-effect : (name bytes : List ℕ) (records : List Record) (spoilt : ℕ → Bool) (old new next : Seen) (end : Ending) → AnswersPut name old new end → IsSure old records → old.source ≡ Some bytes →
-    Follows new next → IsKnown next (after_put records name (length bytes)) → ((j : ℕ) → j < (setup_at records).n → spoilt j ≡ false → is_some (provider_at old.providers j).held ≡ true) → HasRightFile new (after_put records name (length bytes)) name bytes spoilt
+    Follows new next → IsKnown next (after_put records name (length bytes)) → ((j : ℕ) → j < (setup_in_effect records).n → spoilt j ≡ false → is_some (provider_at old.providers j).held ≡ true) → HasRightFile new (after_put records name (length bytes)) name bytes spoilt
 put-in-effect name bytes records spoilt old new next end (AnswersPut.unstarted u same) S source N F tells = absurd (let r = unstarted-refused old new end u in refused-not name bytes records spoilt old new next end S N F tells r.0 r.1 r.3)
 put-in-effect name bytes records spoilt old new next end (AnswersPut.source_fault rs opened rose synced taken r) S source N F tells = absurd (refused-not name bytes records spoilt old new next end S N F tells 14 0 r)
 put-in-effect name bytes records spoilt old new next end (AnswersPut.no_memory taken r) S source N F tells = absurd (refused-not name bytes records spoilt old new next end S N F tells 70 0 r)

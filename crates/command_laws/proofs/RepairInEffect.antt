@@ -8,6 +8,7 @@ use Rattle.hail_devices.specs.Images.{EachImage}
 use Rattle.hail_records.specs.Records.{Record, RepairDone, largest_journal}
 use Rattle.hail_records.specs.Journal.{StandsFor, StandsOrIsEmpty}
 use Rattle.hail_records.specs.Table.{Due, due_of}
+use Rattle.hail_records.proofs.Standing.{stands-front}
 use Rattle.journal_core.proofs.Meanings.{one_meaning}
 use Rattle.hail_machine.specs.Setups.{object_of}
 use Rattle.hail_machine.specs.Jobs.{RepairJob}
@@ -16,19 +17,18 @@ use Rattle.hail_machine.specs.Answers.{Answer}
 use Rattle.hail_machine.proofs.JobLists.{same_value}
 use Rattle.hail_commands.specs.Seen.{Seen, Ending, IsRefused, provider_at}
 use Rattle.hail_openings.specs.Journals.{journal_read}
-use Rattle.hail_commands.specs.Opens.{setup_at}
+use Rattle.hail_commands.specs.Opens.{setup_in_effect}
 use Rattle.hail_commands.specs.Ran.{Ran}
 use Rattle.hail_commands.specs.Repairs.{RewritesAll, RepairGives}
 use Rattle.hail_commands.specs.Jobs.{AnswersJob, LeftAlone}
 use Rattle.hail_commands.specs.Commands.{AnswersAlone}
-use Rattle.command_laws.specs.Failing.{bad_seen}
+use Rattle.job_laws.specs.Failing.{bad_seen}
 use Rattle.command_laws.specs.Ends.{IsKnown, after_repair}
 use Rattle.command_laws.specs.After.{is_wrong_or_untold, IsSure, Follows, HasRightFile, IsSteady, spoilt_below}
 use Rattle.command_laws.proofs.Known.{known-once}
 use Rattle.command_laws.proofs.GetEnds.{shape-at, ran_left}
 use Rattle.command_laws.proofs.JobEnds.{unstarted-refused}
 use Rattle.command_laws.proofs.Anew.{holds-right}
-use Rattle.command_laws.proofs.Images.{stands-front}
 use Rattle.command_laws.proofs.Afterwards.{sure-refused}
 use Rattle.command_laws.proofs.DoneStores.{next-image}
 use Rattle.command_laws.proofs.FilesStay.{bad-few}
@@ -36,11 +36,11 @@ use Rattle.command_laws.proofs.FilesKept.{wrong-same, flag-off, goes-tells, colu
 use Rattle.command_laws.proofs.PutInEffect.{tells-back}
 
 module _ (name bytes : List ℕ) (records : List Record) (due : Due) (spoilt : ℕ → Bool) (old new next : Seen) (end : Ending) (S : IsSure old records) (is_due : due_of records ≡ Some due) (N : Follows new next)
-    (F : IsKnown next (after_repair records due)) (H : HasRightFile old records name bytes spoilt) (steady : IsSteady (setup_at records).n spoilt old new) (few : spoilt_below (setup_at records).n spoilt ≤ (setup_at records).b)
-    (tells : (j : ℕ) → j < (setup_at records).n → is_flagged (setup_at records).tolerance due.counts j ≡ true → is_some (provider_at old.providers j).held ≡ true) where
+    (F : IsKnown next (after_repair records due)) (H : HasRightFile old records name bytes spoilt) (steady : IsSteady (setup_in_effect records).n spoilt old new) (few : spoilt_below (setup_in_effect records).n spoilt ≤ (setup_in_effect records).b)
+    (tells : (j : ℕ) → j < (setup_in_effect records).n → is_flagged (setup_in_effect records).tolerance due.counts j ≡ true → is_some (provider_at old.providers j).held ≡ true) where
   -- the file, right also on each flagged provider
   abbrev Mended : Type 0
-  Mended = HasRightFile new (after_repair records due) name bytes (λ j. spoilt j && not (is_flagged (setup_at records).tolerance due.counts j))
+  Mended = HasRightFile new (after_repair records due) name bytes (λ j. spoilt j && not (is_flagged (setup_in_effect records).tolerance due.counts j))
 
   -- an image stands for the records before
   abbrev Before : List ℕ → Type 0
@@ -86,17 +86,17 @@ module _ (name bytes : List ℕ) (records : List Record) (due : Due) (spoilt : �
       right = right;
     }
       where
-        fewer : bad_seen records old new H.file.id bytes ≤ (setup_at records).b
+        fewer : bad_seen records old new H.file.id bytes ≤ (setup_in_effect records).b
         fewer = (let b = bad-few name bytes records spoilt old new H steady in omega (arith, b, few))
 
-        right : (j : ℕ) → j < (setup_at records).n → (spoilt j && not (is_flagged (setup_at records).tolerance due.counts j)) ≡ false →
-            is_wrong_or_untold (object_of (setup_at records) H.file.id) bytes j (provider_at new.providers j).held ≡ false
-        right j below clean = elim (cases_Bool (is_flagged (setup_at records).tolerance due.counts j)) [
-          | inl flagged ↦ columns-right (setup_at records) H.file bytes j (provider_at new.providers j).held H.size (goes-tells _ (provider_at old.providers j).held (provider_at new.providers j).held (tells j below flagged) (W.held j below))
+        right : (j : ℕ) → j < (setup_in_effect records).n → (spoilt j && not (is_flagged (setup_in_effect records).tolerance due.counts j)) ≡ false →
+            is_wrong_or_untold (object_of (setup_in_effect records) H.file.id) bytes j (provider_at new.providers j).held ≡ false
+        right j below clean = elim (cases_Bool (is_flagged (setup_in_effect records).tolerance due.counts j)) [
+          | inl flagged ↦ columns-right (setup_in_effect records) H.file bytes j (provider_at new.providers j).held H.size (goes-tells _ (provider_at old.providers j).held (provider_at new.providers j).held (tells j below flagged) (W.held j below))
               (λ stripe within. holds-right x (shape-at old records S.known.opened) due W name H.file bytes H.in_effect H.size fewer stripe within j below flagged)
-          | inr free ↦ wrong-same (object_of (setup_at records) H.file.id) bytes j (provider_at old.providers j).held (provider_at new.providers j).held
-              (flag-off H.file.id (is_flagged (setup_at records).tolerance due.counts j) _ (provider_at old.providers j).held (provider_at new.providers j).held free (W.held j below))
-              (H.right j below (and-off (spoilt j) (is_flagged (setup_at records).tolerance due.counts j) clean free))
+          | inr free ↦ wrong-same (object_of (setup_in_effect records) H.file.id) bytes j (provider_at old.providers j).held (provider_at new.providers j).held
+              (flag-off H.file.id (is_flagged (setup_in_effect records).tolerance due.counts j) _ (provider_at old.providers j).held (provider_at new.providers j).held free (W.held j below))
+              (H.right j below (and-off (spoilt j) (is_flagged (setup_in_effect records).tolerance due.counts j) clean free))
         ]
 
     none-done : (done : List Record) (entry : Record) (rest : List Record) → RepairDone due.number ∷ [] ≡ done ++ entry ∷ rest → x.after ≡ reverse done ++ records → x.after ≡ records

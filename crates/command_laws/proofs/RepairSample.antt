@@ -19,8 +19,8 @@ use Rattle.hail_commands.specs.Commands.{AnswersAlone, Answers}
 use Rattle.command_laws.specs.After.{IsSure}
 use Rattle.command_laws.specs.Pieces.{moment}
 use Rattle.command_laws.specs.Instances.{store, idle_providers, due_records, repaired_records, repaired_store, ends}
-use Rattle.command_laws.proofs.Telling.{left-alone, jobs-leave}
-use Rattle.command_laws.proofs.BeginRefusals.{refusal-of}
+use Rattle.job_laws.proofs.Telling.{left-alone, jobs-leave}
+use Rattle.job_laws.proofs.BeginRefusals.{refusal-of}
 use Rattle.command_laws.proofs.Samples.{store-sure}
 
 pub due-sure : IsSure (store due_records) due_records

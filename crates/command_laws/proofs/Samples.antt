@@ -7,10 +7,12 @@ use Rattle.hail_columns.specs.Objects.{stripes}
 use Rattle.hail_devices.specs.Cells.{reads, firm}
 use Rattle.hail_devices.specs.Disks.{synced}
 use Rattle.hail_devices.specs.Faults.{Rose, last_count}
+use Rattle.hail_devices.proofs.Lasting.{reads-firm, image-firm}
 use Rattle.hail_records.specs.Records.{Record, is_in_grammar, largest_journal}
 use Rattle.hail_records.specs.Journal.{text, text_size, StandsFor}
-use Rattle.hail_records.specs.Table.{files_of}
+use Rattle.hail_records.specs.Table.{files_of, file_as}
 use Rattle.hail_records.specs.Acceptance.{AreAccepted}
+use Rattle.hail_records.proofs.Standing.{stands-text}
 use Rattle.hail_machine.specs.Actions.{Action, End, open_actions, actions_of}
 use Rattle.hail_machine.specs.Answers.{Got}
 use Rattle.hail_machine.specs.Begins.{new_job}
@@ -23,7 +25,7 @@ use Rattle.hail_machine.specs.States.{State, setup_in, ended}
 use Rattle.hail_machine.specs.Steps.{StepsOn}
 use Rattle.hail_commands.specs.Forms.{GetOf, ListAll}
 use Rattle.hail_commands.specs.Lines.{list_lines}
-use Rattle.hail_commands.specs.Opens.{IsOpened, setup_at}
+use Rattle.hail_commands.specs.Opens.{IsOpened, setup_in_effect}
 use Rattle.hail_commands.specs.Seen.{IsRefused, NoCountFalls, provider_at}
 use Rattle.hail_openings.specs.Opened.{AreHanded, IsOpenedOver}
 use Rattle.hail_commands.specs.Jobs.{RanAlone, RunsAlone, AnswersJob}
@@ -31,23 +33,18 @@ use Rattle.hail_commands.specs.Commands.{AnswersAlone, AnswersList, Answers}
 use Rattle.command_laws.specs.After.{IsSure, HasRightFile, is_wrong_at}
 use Rattle.command_laws.specs.Instances.{store, small_setup, idle_providers, held_name, other_name, set_up_records, held_records, with_sink, ends, get_held, get_other}
 use Rattle.command_laws.specs.Pieces.{IsLater, IsChain}
-use Rattle.command_laws.specs.Failing.{bad_seen}
+use Rattle.job_laws.specs.Failing.{bad_seen}
 use Rattle.command_laws.proofs.FilesStay.{bad-few}
-use Rattle.command_laws.proofs.Complete.{each-not-wrong}
-use Rattle.command_laws.proofs.Images.{image-firm}
-use Rattle.command_laws.proofs.Afterwards.{reads-firm}
+use Rattle.job_laws.proofs.Complete.{each-not-wrong}
 use Rattle.command_laws.proofs.Knowing.{known-good}
-use Rattle.command_laws.proofs.Telling.{left-alone, jobs-leave}
-use Rattle.command_laws.proofs.BeginRefusals.{refusal-of}
+use Rattle.job_laws.proofs.Telling.{left-alone, jobs-leave}
+use Rattle.job_laws.proofs.BeginRefusals.{refusal-of}
 
 -- ---- the store
 
-stands-text : (rs : List Record) → IsTrue (list_all is_in_grammar rs) → (image : List ℕ) → image ≡ text rs → StandsFor image rs
-stands-text rs all image is = record { in_grammar = all; gate = 0; rest = []; closed = λ e. omega (arith, e); bytes_are = is }
-
-pub store-sure : (rs : List Record) → rs ≢ [] → IsTrue (list_all is_in_grammar rs) → AreAccepted rs → text_size rs ≤ largest_journal → (setup_at rs).n ≤ 4 → IsSure (store rs) rs
+pub store-sure : (rs : List Record) → rs ≢ [] → IsTrue (list_all is_in_grammar rs) → AreAccepted rs → text_size rs ≤ largest_journal → (setup_in_effect rs).n ≤ 4 → IsSure (store rs) rs
 store-sure rs some all accepted room few = record {
-  known = known-good (setup_at rs) (store rs) (firm (text rs)) rs refl
+  known = known-good (setup_in_effect rs) (store rs) (firm (text rs)) rs refl
       (record { some = some; accepted = accepted; room = room; setup = refl; stands = stands-text rs all (reads (firm (text rs))) (reads-firm (text rs)) }) few;
   images = λ image is. stands-text rs all image (image-firm (text rs) image is);
 }
@@ -71,7 +68,7 @@ right-at (suc (suc (suc (suc j)))) l = absurd (omega (arith, l))
 
 pub held-file : HasRightFile (store held_records) held_records held_name [] (λ j. false)
 held-file = record {
-  file = record { name = held_name; id = 1; size = 0 };
+  file = file_as held_name 1 0 0;
   in_effect = refl;
   are_bytes = refl;
   size = refl;
@@ -79,7 +76,7 @@ held-file = record {
 }
 
 -- no provider is wrong or failed: each is right, and none failed
-pub none-bad : bad_seen held_records (store held_records) (store held_records) 1 [] ≤ (setup_at held_records).b
+pub none-bad : bad_seen held_records (store held_records) (store held_records) 1 [] ≤ (setup_in_effect held_records).b
 unfolding held-file
 none-bad = (let b = bad-few held_name [] held_records (λ j. false) (store held_records) (store held_records) held-file (λ j below clean rose. no-rise j below rose) in within _ _ b (omega arith))
   where
@@ -157,12 +154,13 @@ got-alone = record {
   faults = 0;
   before = omega arith;
   ran = λ w n V. subst (λ u. RanAlone held_records (GetJob held_name) (Got []) (store held_records) (store held_records) [] 0 u n) (form-is w V)
-      (ran-formed w n (subst (AreHanded idle_providers) (sym (form-is w V)) V.handed) (V.bytes held_name (record { name = held_name; id = 1; size = 0 }) refl).1);
+      (ran-formed w n (subst (AreHanded idle_providers) (sym (form-is w V)) V.handed)
+      (V.bytes held_name (file_as held_name 1 0 0) refl).1);
 }
 
 -- ---- commands over it
 
-same-disk : (rs : List Record) → Some (firm (text rs)) ≡ Some (synced (firm (text rs)))
+pub same-disk : (rs : List Record) → Some (firm (text rs)) ≡ Some (synced (firm (text rs)))
 same-disk rs = ap (λ bytes. Some (firm bytes)) (sym (reads-firm (text rs)))
 
 opened : IsOpened (store held_records) held_records

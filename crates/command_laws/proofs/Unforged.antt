@@ -2,6 +2,8 @@
 use Rattle.std.proofs.Common.{◌≡◌, ℕ, zero, suc, ◌+◌, ◌<◌, ◌≤◌, ◌==◌, ◌&&◌, Bool, true, false, List, [], ◌∷◌, ◌++◌, map, None, Some, refl, ap, sym, subst, ◌∙◌, inl, inr, arith}
 use Rattle.std.specs.List.{range_with_len, flat_map}
 use Rattle.std.proofs.lemmas.Bool.{cases_Bool, cases_lt, ne_eqb, and_parts, false≢true}
+use Rattle.plain_facts.specs.Lists.{Each}
+use Rattle.plain_facts.proofs.Each.{each_append, each_map}
 use Rattle.hail_field.specs.Shape.{IsShape}
 use Rattle.poly_laws.specs.Poly.{is_seen as is_seen_over}
 use Rattle.hail_codes.specs.Polynomials.{value, is_seen}
@@ -21,16 +23,15 @@ use Rattle.hail_machine.specs.Answers as answer
 use Rattle.hail_machine.specs.Answers.{Answer}
 use Rattle.hail_machine.specs.Heard.{Entry, given_to, HoldsForgery}
 use Rattle.hail_machine.proofs.JobLists.{cond_true, cond_false, same_value}
-use Rattle.hail_machine.proofs.ActionLists.{Each, each_append, each_map}
 use Rattle.hail_commands.specs.Seen.{Seen, Ending}
-use Rattle.hail_commands.specs.Opens.{setup_at}
+use Rattle.hail_commands.specs.Opens.{setup_in_effect}
 use Rattle.hail_commands.specs.Ran.{Ran, ran_alone, setup_at_begin, job_number}
 use Rattle.hail_commands.specs.Gets.{block_heard, HearsStripes, GetGives, GetLeaves}
 use Rattle.hail_commands.specs.Jobs.{AnswersJob}
 use Rattle.hail_commands.specs.Commands.{AnswersAlone}
-use Rattle.command_laws.specs.Failing.{is_bad, bad_count, bad_seen}
+use Rattle.job_laws.specs.Failing.{is_bad, bad_count, bad_seen}
 use Rattle.command_laws.specs.Ends.{IsKnown}
-use Rattle.command_laws.proofs.Complete.{block_at-map, bad-block}
+use Rattle.job_laws.proofs.Complete.{block_at-map, bad-block}
 use Rattle.command_laws.proofs.Known.{alone-known}
 use Rattle.command_laws.proofs.GetEnds.{shape-at, ran_left}
 
@@ -116,12 +117,12 @@ module _ (x : Ran) (file : File) (bytes : List ℕ) (shape : IsShape (setup_at_b
 -- ---- a get
 
 module _ (name bytes : List ℕ) (records : List Record) (file : File) (old new : Seen) (end : Ending) (K : IsKnown old records) (in_effect : file_of records name ≡ Some file)
-    (few : bad_seen records old new file.id bytes ≤ (setup_at records).b + 1) where
-  shape : IsShape (setup_at records).n (setup_at records).l (setup_at records).b
+    (few : bad_seen records old new file.id bytes ≤ (setup_in_effect records).b + 1) where
+  shape : IsShape (setup_in_effect records).n (setup_in_effect records).l (setup_in_effect records).b
   shape = shape-at old records K.opened
 
   abbrev Forged : Type 0
-  Forged = HoldsForgery (object_of (setup_at records) file.id) bytes job_number end.heard
+  Forged = HoldsForgery (object_of (setup_in_effect records) file.id) bytes job_number end.heard
 
   silent : end.heard ≡ [] → Forged → ⊥
   silent none F = nothing-right (ran_alone records old new end.heard 0 records None) file bytes shape few end.heard none F

@@ -5,13 +5,13 @@ use Rattle.std.proofs.lemmas.Bool.{false≢true}
 use Rattle.hail_devices.specs.Cells.{Cells}
 use Rattle.hail_devices.specs.Faults.{Rose}
 use Rattle.hail_records.specs.Records.{Record}
-use Rattle.hail_records.specs.Reading.{IsNotSetUp}
+use Rattle.hail_records.specs.Reading.{HasNoSetup}
 use Rattle.hail_machine.specs.Jobs.{Kind, GetJob, DropJob, AuditJob, RepairJob}
 use Rattle.hail_commands.specs.Forms.{Command, RowOf, InitWith, PutUnder, GetOf, DropOf, ListAll, AuditAll, RepairDue}
 use Rattle.hail_commands.specs.Sinking.{WritesLine}
 use Rattle.hail_commands.specs.Seen.{Seen, Ending, sinking}
 use Rattle.hail_openings.specs.Journals.{journal_read, IsRead, IsBadStart}
-use Rattle.hail_commands.specs.Opens.{IsOpened, Unstarted, setup_at}
+use Rattle.hail_commands.specs.Opens.{IsOpened, Unstarted, setup_in_effect}
 use Rattle.hail_commands.specs.Commands.{AnswersPut, AnswersAlone, AnswersList, Answers}
 use Rattle.command_laws.specs.Ends.{opens_store}
 use Rattle.hail_openings.proofs.Readings.{read-once, read-set_up, read-good, fresh-good, bad-once}
@@ -58,8 +58,8 @@ status-not status n m is also differ = differ (sym is ∙ also)
 
 -- ---- only with the cause
 
-unset-only : (cells : Cells) (old new : Seen) (end : Ending) → old.disk ≡ Some cells → Opening old new end → end.status ≡ 9 → IsNotSetUp (journal_read cells)
-unset-only cells old new end tells (Opening.before (Unstarted.not_set_up is r)) nine = subst (λ d. IfSome d (λ c. IsNotSetUp (journal_read c))) tells is
+unset-only : (cells : Cells) (old new : Seen) (end : Ending) → old.disk ≡ Some cells → Opening old new end → end.status ≡ 9 → HasNoSetup (journal_read cells)
+unset-only cells old new end tells (Opening.before (Unstarted.not_set_up is r)) nine = subst (λ d. IfSome d (λ c. HasNoSetup (journal_read c))) tells is
 unset-only cells old new end tells (Opening.before (Unstarted.disk_fault rose r)) nine = absurd (status-not end.status 12 9 r.status_is nine (λ e. omega (arith, e)))
 unset-only cells old new end tells (Opening.before (Unstarted.bad_journal at is r)) nine = absurd (status-not end.status 8 9 r.status_is nine (λ e. omega (arith, e)))
 unset-only cells old new end tells (Opening.before (Unstarted.too_few_providers records read few synced r)) nine = absurd (status-not end.status 22 9 r.status_is nine (λ e. omega (arith, e)))
@@ -77,7 +77,7 @@ bad-only cells old new end tells (Opening.before (Unstarted.no_memory r)) eight 
 bad-only cells old new end tells (Opening.no_room is) eight = absurd (status-not end.status 70 8 is eight (λ e. omega (arith, e)))
 bad-only cells old new end tells (Opening.over records opened other) eight = absurd (false≢true (sym other ∙ ap is_unopened eight))
 
-few-only : (old new : Seen) (end : Ending) → Opening old new end → end.status ≡ 22 → (records : List Record) × IsRead old.disk records × (length old.providers < (setup_at records).n)
+few-only : (old new : Seen) (end : Ending) → Opening old new end → end.status ≡ 22 → (records : List Record) × IsRead old.disk records × (length old.providers < (setup_in_effect records).n)
 few-only old new end (Opening.before (Unstarted.too_few_providers records read few synced r)) is = (records, read, few)
 few-only old new end (Opening.before (Unstarted.disk_fault rose r)) is = absurd (status-not end.status 12 22 r.status_is is (λ e. omega (arith, e)))
 few-only old new end (Opening.before (Unstarted.not_set_up fresh r)) is = absurd (status-not end.status 9 22 r.status_is is (λ e. omega (arith, e)))
@@ -92,7 +92,7 @@ module _ (cells : Cells) (old new : Seen) (end : Ending) (tells : old.disk ≡ S
   told-read : (records : List Record) → IsRead old.disk records → IsRead (Some cells) records
   told-read records R = subst (λ d. IsRead d records) tells R
 
-  unset-always : IsNotSetUp (journal_read cells) → Opening old new end → (end.status ≡ 9) ⊎ (end.status ≡ 70)
+  unset-always : HasNoSetup (journal_read cells) → Opening old new end → (end.status ≡ 9) ⊎ (end.status ≡ 70)
   unset-always fresh (Opening.before (Unstarted.disk_fault rose r)) = absurd (calm rose)
   unset-always fresh (Opening.before (Unstarted.not_set_up is r)) = inl r.status_is
   unset-always fresh (Opening.before (Unstarted.bad_journal at is r)) =
@@ -105,7 +105,7 @@ module _ (cells : Cells) (old new : Seen) (end : Ending) (tells : old.disk ≡ S
 
   bad-always : (at : ℕ) → 9 < length (journal_read cells) → IsBadStart (journal_read cells) at → Opening old new end → ((end.status ≡ 8) × (end.at ≡ at)) ⊎ (end.status ≡ 70)
   bad-always at long bad (Opening.before (Unstarted.disk_fault rose r)) = absurd (calm rose)
-  bad-always at long bad (Opening.before (Unstarted.not_set_up is r)) = absurd (fresh-good (journal_read cells) at long (subst (λ d. IfSome d (λ c. IsNotSetUp (journal_read c))) tells is) bad)
+  bad-always at long bad (Opening.before (Unstarted.not_set_up is r)) = absurd (fresh-good (journal_read cells) at long (subst (λ d. IfSome d (λ c. HasNoSetup (journal_read c))) tells is) bad)
   bad-always at long bad (Opening.before (Unstarted.bad_journal other is r)) =
       (let also : (9 < length (journal_read cells)) × IsBadStart (journal_read cells) other = subst (λ d. IfSome d (λ c. (9 < length (journal_read c)) × IsBadStart (journal_read c) other)) tells is in
       inl (r.status_is, r.place ∙ bad-once (journal_read cells) other at also.1 bad))
@@ -114,9 +114,9 @@ module _ (cells : Cells) (old new : Seen) (end : Ending) (tells : old.disk ≡ S
   bad-always at long bad (Opening.no_room is) = inr is
   bad-always at long bad (Opening.over records opened other) = absurd (read-good cells at records (told-read records opened.read) bad)
 
-  few-always : (records : List Record) → IsRead old.disk records → length old.providers < (setup_at records).n → Opening old new end → (end.status ≡ 22) ⊎ (end.status ≡ 70)
+  few-always : (records : List Record) → IsRead old.disk records → length old.providers < (setup_in_effect records).n → Opening old new end → (end.status ≡ 22) ⊎ (end.status ≡ 70)
   few-always records read few (Opening.before (Unstarted.disk_fault rose r)) = absurd (calm rose)
-  few-always records read few (Opening.before (Unstarted.not_set_up is r)) = absurd (read-set_up cells records (told-read records read) (subst (λ d. IfSome d (λ c. IsNotSetUp (journal_read c))) tells is))
+  few-always records read few (Opening.before (Unstarted.not_set_up is r)) = absurd (read-set_up cells records (told-read records read) (subst (λ d. IfSome d (λ c. HasNoSetup (journal_read c))) tells is))
   few-always records read few (Opening.before (Unstarted.bad_journal at is r)) =
       absurd (let bad : (9 < length (journal_read cells)) × IsBadStart (journal_read cells) at = subst (λ d. IfSome d (λ c. (9 < length (journal_read c)) × IsBadStart (journal_read c) at)) tells is in
       read-good cells at records (told-read records read) bad.1)
@@ -125,12 +125,12 @@ module _ (cells : Cells) (old new : Seen) (end : Ending) (tells : old.disk ≡ S
   few-always records read few (Opening.no_room is) = inr is
   few-always records read few (Opening.over other opened own) =
       absurd (let same = read-once cells other records (told-read other opened.read) (told-read records read) in
-      let enough = subst (λ rs. (setup_at rs).n ≤ length old.providers) same opened.enough in omega (arith, few, enough))
+      let enough = subst (λ rs. (setup_in_effect rs).n ≤ length old.providers) same opened.enough in omega (arith, few, enough))
 
-pub fresh-only : (command : Command) (cells : Cells) (old new : Seen) (end : Ending) → Answers command old new end → opens_store command ≡ true → old.disk ≡ Some cells → end.status ≡ 9 → IsNotSetUp (journal_read cells)
+pub fresh-only : (command : Command) (cells : Cells) (old new : Seen) (end : Ending) → Answers command old new end → opens_store command ≡ true → old.disk ≡ Some cells → end.status ≡ 9 → HasNoSetup (journal_read cells)
 fresh-only command cells old new end A opens tells nine = unset-only cells old new end tells (opening-of command old new end A opens) nine
 
-pub fresh-always : (command : Command) (cells : Cells) (old new : Seen) (end : Ending) → Answers command old new end → opens_store command ≡ true → old.disk ≡ Some cells → IsNotSetUp (journal_read cells) →
+pub fresh-always : (command : Command) (cells : Cells) (old new : Seen) (end : Ending) → Answers command old new end → opens_store command ≡ true → old.disk ≡ Some cells → HasNoSetup (journal_read cells) →
     (Rose old.disk_faults new.disk_faults → ⊥) → (end.status ≡ 9) ⊎ (end.status ≡ 70)
 fresh-always command cells old new end A opens tells fresh calm = unset-always cells old new end tells calm fresh (opening-of command old new end A opens)
 
@@ -143,9 +143,9 @@ pub broken-always : (command : Command) (cells : Cells) (old new : Seen) (end : 
 broken-always command cells old new end at A opens tells long bad calm = bad-always cells old new end tells calm at long bad (opening-of command old new end A opens)
 
 pub lacking-only : (command : Command) (old new : Seen) (end : Ending) → Answers command old new end → opens_store command ≡ true → end.status ≡ 22 →
-    (records : List Record) × IsRead old.disk records × (length old.providers < (setup_at records).n)
+    (records : List Record) × IsRead old.disk records × (length old.providers < (setup_in_effect records).n)
 lacking-only command old new end A opens is = few-only old new end (opening-of command old new end A opens) is
 
 pub lacking-always : (command : Command) (cells : Cells) (old new : Seen) (end : Ending) (records : List Record) → Answers command old new end → opens_store command ≡ true → old.disk ≡ Some cells → IsRead old.disk records →
-    length old.providers < (setup_at records).n → (Rose old.disk_faults new.disk_faults → ⊥) → (end.status ≡ 22) ⊎ (end.status ≡ 70)
+    length old.providers < (setup_in_effect records).n → (Rose old.disk_faults new.disk_faults → ⊥) → (end.status ≡ 22) ⊎ (end.status ≡ 70)
 lacking-always command cells old new end records A opens tells read few calm = few-always cells old new end tells calm records read few (opening-of command old new end A opens)

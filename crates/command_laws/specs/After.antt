@@ -1,16 +1,22 @@
 -- What stands between two commands: which records the store has, and which providers are right for a file.
 --
---   IsSure s records           == the store is known, and whatever a stop leaves of its disk stands for these records
---   Follows new next           == the next command finds the disk as the last one left it, or as a stop then left it, and as many providers
---   IsThen command records old new after == the records after a command: those before it, or these with the first few of its job's
+--   IsSure s records           == the store is known, and whatever a stop leaves of its disk stands for
+--                                 these records
+--   Follows new next           == the next command finds the disk as the last one left it, or as a stop
+--                                 then left it, and as many providers
+--   IsThen command records old new after == the records after a command: those before it, or these with the
+--                                          first few of its job's
 --   is_refusal status          == the status tells that a command was refused, or that its source failed
 --   is_ending status          == the status is one with which a command ends whose words have a form
---   is_wrong_at records s id bytes j == provider j is wrong for an object of these bytes, or does not tell what it holds
---   HasRightFile s records name bytes spoilt == a file of these bytes is in effect, and each provider that is not spoilt is right for it
+--   is_wrong_at records s id bytes j == provider j is wrong for an object of these bytes, or does not tell
+--                                       what it holds
+--   HasRightFile s records name bytes spoilt == a file of these bytes is in effect, and each provider that
+--                                          is not spoilt is right for it
 --   IsUntouched n spoilt new next == each of n providers that is not spoilt holds what it held
 --   IsSteady n spoilt old new  == of none of n providers that is not spoilt the count of failed calls rose
 --   spoilt_below n spoilt      == how many of n providers are spoilt
---   IsFaultless old new        == no count rose that could end a command: the disk's, of a provider's stores, the source's, the sink's
+--   IsFaultless old new        == no count rose that could end a command: the disk's, of a provider's
+--                                 stores, the source's, the sink's
 --   keeps_blocks command       == a get, a list and an audit
 --   IsOfAnother name command       == a put or a drop of another name
 use Rattle.std.specs.Prelude.{◌≡◌, ◌≢◌, ◌⊎◌, ℕ, ◌<◌, ◌==◌, ◌||◌, Bool, true, false, List, ◌++◌, length, reverse, take, Option, None, Some}
@@ -29,7 +35,7 @@ use Rattle.hail_machine.specs.Jobs.{Kind}
 use Rattle.hail_machine.specs.Events.{AreBytes}
 use Rattle.hail_commands.specs.Forms.{Command, PutUnder, GetOf, DropOf, ListAll, AuditAll}
 use Rattle.hail_commands.specs.Seen.{Seen, provider_at}
-use Rattle.hail_commands.specs.Opens.{setup_at}
+use Rattle.hail_commands.specs.Opens.{setup_in_effect}
 use Rattle.command_laws.specs.Ends.{IsKnown, RunsKind, DiskHas}
 use Rattle.command_laws.specs.Kept.{AreAppended}
 
@@ -44,7 +50,8 @@ pub record Follows (new next : Seen) : Type 0 where
   pub handed : length next.providers ≡ length new.providers
 
 -- these are records before a command with the first few of those that its job appends
-pub record HasGrown (command : Command) (records : List Record) (old new : Seen) (after : List Record) : Type 0 where
+pub record HasGrown (command : Command) (records : List Record) (old new : Seen)
+    (after : List Record) : Type 0 where
   pub kind : Kind
   pub of_command : RunsKind command old new kind
   pub own : List Record
@@ -59,13 +66,17 @@ IsThen command records old new after = (after ≡ records) ⊎ HasGrown command 
 -- the statuses of refusals, and that of a source that failed before a begin
 abbrev pub is_refusal : ℕ → Bool
 is_refusal status =
-    (status == 3) || (status == 6) || (status == 7) || (status == 8) || (status == 9) || (status == 10) || (status == 11)
-    || (status == 14) || (status == 16) || (status == 17) || (status == 18) || (status == 20) || (status == 21) || (status == 22)
+    (status == 3) || (status == 6) || (status == 7) || (status == 8) || (status == 9) || (status == 10)
+    || (status == 11)
+    || (status == 14) || (status == 16) || (status == 17) || (status == 18) || (status == 20)
+    || (status == 21) || (status == 22)
 
--- the statuses with which a command ends whose words have a form: done, a row lost, faults, want of memory, and refusals
+-- the statuses with which a command ends whose words have a form: done, a row lost, faults, want of memory,
+-- and refusals
 abbrev pub is_ending : ℕ → Bool
 is_ending status =
-    (status == 0) || (status == 4) || (status == 12) || (status == 13) || (status == 15) || (status == 70) || is_refusal status
+    (status == 0) || (status == 4) || (status == 12) || (status == 13) || (status == 15) || (status == 70)
+    || is_refusal status
 
 -- a provider with this content is wrong for an object of these bytes
 abbrev pub is_wrong_or_untold : Object → List ℕ → ℕ → Option Held → Bool
@@ -74,25 +85,30 @@ is_wrong_or_untold o bytes j (Some held) = is_wrong o bytes j (held o.id)
 
 -- so is a provider as it is seen
 abbrev pub is_wrong_at : List Record → Seen → ℕ → List ℕ → ℕ → Bool
-is_wrong_at records s id bytes j = is_wrong_or_untold (object_of (setup_at records) id) bytes j (provider_at s.providers j).held
+is_wrong_at records s id bytes j =
+    is_wrong_or_untold (object_of (setup_in_effect records) id) bytes j (provider_at s.providers j).held
 
 -- a file of these bytes is in effect under this name, and each provider that is not spoilt is right for it
-pub record HasRightFile (s : Seen) (records : List Record) (name bytes : List ℕ) (spoilt : ℕ → Bool) : Type 0 where
+pub record HasRightFile (s : Seen) (records : List Record) (name bytes : List ℕ)
+    (spoilt : ℕ → Bool) : Type 0 where
   pub file : File
   pub in_effect : file_of records name ≡ Some file
   pub are_bytes : AreBytes bytes
   pub size : length bytes ≡ file.size
-  pub right : (j : ℕ) → j < (setup_at records).n → spoilt j ≡ false → is_wrong_at records s file.id bytes j ≡ false
+  pub right : (j : ℕ) → j < (setup_in_effect records).n → spoilt j ≡ false
+      → is_wrong_at records s file.id bytes j ≡ false
 
 -- each of n providers that is not spoilt holds what it held
 abbrev pub IsUntouched : ℕ → (ℕ → Bool) → Seen → Seen → Type 0
 IsUntouched n spoilt new next =
-    (j : ℕ) → j < n → spoilt j ≡ false → (provider_at next.providers j).held ≡ (provider_at new.providers j).held
+    (j : ℕ) → j < n → spoilt j ≡ false
+    → (provider_at next.providers j).held ≡ (provider_at new.providers j).held
 
 -- of none of n providers that is not spoilt the count of failed calls rose
 abbrev pub IsSteady : ℕ → (ℕ → Bool) → Seen → Seen → Type 0
 IsSteady n spoilt old new =
-    (j : ℕ) → j < n → spoilt j ≡ false → Rose (provider_at old.providers j).other_faults (provider_at new.providers j).other_faults → ⊥
+    (j : ℕ) → j < n → spoilt j ≡ false
+    → Rose (provider_at old.providers j).other_faults (provider_at new.providers j).other_faults → ⊥
 
 -- how many of n providers are spoilt
 abbrev pub spoilt_below : ℕ → (ℕ → Bool) → ℕ
@@ -101,7 +117,8 @@ spoilt_below n spoilt = count_of spoilt (upto n)
 -- no count rose that could end a command
 pub record IsFaultless (old new : Seen) : Type 0 where
   pub disk : Rose old.disk_faults new.disk_faults → ⊥
-  pub stores : (j : ℕ) → Rose (provider_at old.providers j).store_faults (provider_at new.providers j).store_faults → ⊥
+  pub stores : (j : ℕ) → Rose (provider_at old.providers j).store_faults
+      (provider_at new.providers j).store_faults → ⊥
   pub source : Rose old.source_faults new.source_faults → ⊥
   pub sink : Rose old.sink_faults new.sink_faults → ⊥
 

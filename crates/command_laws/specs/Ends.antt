@@ -1,19 +1,23 @@
 -- What a command says by its status, where no run of its job and no state stands in the statement.
 --
---   IsKnown old records        == the disk tells what it holds and reads these records, and enough providers are handed in
+--   IsKnown old records        == the disk tells what it holds and reads these records, and enough
+--                                 providers are handed in
 --   IsDone end                 == status 0, or 15: it is done, and the sink took its text, or failed at it
 --   GivesText text old new end     == status 0, with the text behind what the sink held
 --   GivesUnlessMemory text old new end  == the same, or status 70, with a front of the text at most
 --   SameHolds old new          == each provider that was handed in holds what it held, where it tells it
 --   opens_store command        == the command looks at the records of a store
---   after_put records name size, after_drop, after_audit, after_repair  == the records that such a job that is done leaves
+--   after_put records name size, after_drop, after_audit, after_repair  == the records that such a job that
+--                                          is done leaves
 --   ran_to after records old new heard  == what a job left that was done, as it is seen
 --   RunsKind command old new kind  == the command runs a job of this kind: a put of what it read
 --   EndsInOrder command old new end  == status 0, or 70, or the command is refused, with its cause
 --   FaultsHaveCauses old new end  == a status of a fault comes only where the count of that device rose
---   AreSafe records old new bytes == for each file in effect at most b providers are wrong for its bytes, or failed
+--   AreSafe records old new bytes == for each file in effect at most b providers are wrong for its bytes,
+--                                    or failed
 --   HoldsFile records new bytes file j == what is told of provider j has each block of a file of these bytes
---   IsPut name old new end, IsDropped, IsAudited, IsRepaired  == what a command has done that is done; its text is told, or cut off
+--   IsWholePut name old new end, IsDropped, IsAudited, IsRepaired  == what a command has done that is done;
+--                                          its text is told, or cut off
 use Rattle.std.specs.Prelude.{◌≡◌, ◌⊎◌, ℕ, ◌+◌, ◌≤◌, ◌<◌, Bool, true, false, List, [], ◌∷◌, length, None, Some, IfSome, is_some}
 use Rattle.hail_columns.specs.Columns.{columns}
 use Rattle.hail_devices.specs.Faults.{Rose}
@@ -21,14 +25,14 @@ use Rattle.hail_devices.specs.Images.{EachImage}
 use Rattle.hail_devices.specs.Told.{told_then, TakesFront}
 use Rattle.hail_records.specs.Records.{Record, PutStart, PutDone, Drop, AuditStart, AuditDone, RepairDone, largest_file}
 use Rattle.hail_records.specs.Journal.{StandsFor}
-use Rattle.hail_records.specs.Table.{File, Due, next_id, next_audit, file_of, due_of}
+use Rattle.hail_records.specs.Table.{File, Due, file_as, profile_in, setup_of, next_id, next_audit, file_of, due_of}
 use Rattle.hail_machine.specs.Setups.{object_of, stripes_of}
 use Rattle.hail_machine.specs.Jobs.{Kind, PutJob, GetJob, DropJob, AuditJob, RepairJob}
 use Rattle.hail_machine.specs.Events.{AreBytes}
 use Rattle.hail_machine.specs.Refusals.{Refusal}
 use Rattle.hail_machine.specs.Heard.{Entry}
 use Rattle.hail_commands.specs.Seen.{Seen, Ending, ReadsUpTo, IsRefused, provider_at}
-use Rattle.hail_commands.specs.Opens.{IsOpened, Unstarted, setup_at}
+use Rattle.hail_commands.specs.Opens.{IsOpened, Unstarted, setup_in_effect}
 use Rattle.hail_commands.specs.Refusals.{refusal_over, status_of}
 use Rattle.hail_commands.specs.Ran.{Ran, ran_alone, EachHeldGoes}
 use Rattle.hail_commands.specs.Forms.{Command, RowOf, InitWith, PutUnder, GetOf, DropOf, AuditAll, RepairDue}
@@ -38,7 +42,7 @@ use Rattle.hail_commands.specs.Puts.{StoresFile}
 use Rattle.hail_commands.specs.Audits.{HearsRounds, CountsHeard}
 use Rattle.hail_commands.specs.Repairs.{RewritesAll}
 use Rattle.hail_commands.specs.Jobs.{IsTold}
-use Rattle.command_laws.specs.Failing.{bad_seen}
+use Rattle.job_laws.specs.Failing.{bad_seen}
 
 -- the disk tells that it reads these records, and enough providers are handed in
 pub record IsKnown (old : Seen) (records : List Record) : Type 0 where
@@ -55,7 +59,8 @@ GivesText text old new end = (end.status ≡ 0) × (new.sink ≡ told_then old.s
 
 -- the text was written, or no memory was found
 abbrev pub GivesUnlessMemory : List ℕ → Seen → Seen → Ending → Type 0
-GivesUnlessMemory text old new end = GivesText text old new end ⊎ ((end.status ≡ 70) × TakesFront old.sink new.sink text)
+GivesUnlessMemory text old new end =
+    GivesText text old new end ⊎ ((end.status ≡ 70) × TakesFront old.sink new.sink text)
 
 -- each provider holds what it held
 abbrev pub SameHolds : Seen → Seen → Type 0
@@ -69,37 +74,44 @@ opens_store command = true
 
 -- the kind of the job that a command runs
 abbrev pub RunsKind : Command → Seen → Seen → Kind → Type 0
-RunsKind (PutUnder name) old new kind = (bytes : List ℕ) × ReadsUpTo (largest_file + 1) old.source new.source bytes × (kind ≡ PutJob name bytes)
+RunsKind (PutUnder name) old new kind =
+    (bytes : List ℕ) × ReadsUpTo (largest_file + 1) old.source new.source bytes × (kind ≡ PutJob name bytes)
 RunsKind (GetOf name) old new kind = kind ≡ GetJob name
 RunsKind (DropOf name) old new kind = kind ≡ DropJob name
 RunsKind AuditAll old new kind = kind ≡ AuditJob
 RunsKind RepairDue old new kind = kind ≡ RepairJob
 RunsKind command old new kind = ⊥
 
--- a command is done, or found no memory, or is refused: before its begin, or for the first cause that applies over records that a start accepts
+-- a command is done, or found no memory, or is refused: before its begin, or for the first cause that
+-- applies over records that a start accepts
 pub data EndsInOrder (command : Command) (old new : Seen) (end : Ending) : Type 0 where
   done : end.status ≡ 0 → EndsInOrder command old new end
   no_memory : end.status ≡ 70 → EndsInOrder command old new end
   unstarted : Unstarted old new end → EndsInOrder command old new end
-  refused : (records : List Record) (kind : Kind) (why : Refusal) → IsOpened old records → RunsKind command old new kind → refusal_over records kind ≡ Some why →
+  refused : (records : List Record) (kind : Kind) (why : Refusal) → IsOpened old records
+      → RunsKind command old new kind → refusal_over records kind ≡ Some why →
       IsRefused (status_of why) 0 old new end → EndsInOrder command old new end
 
 -- a status of a fault comes only where the count of that device rose; that of a provider is told by its place
 pub record FaultsHaveCauses (old new : Seen) (end : Ending) : Type 0 where
   pub disk : end.status ≡ 12 → Rose old.disk_faults new.disk_faults
-  pub provider : end.status ≡ 13 → Rose (provider_at old.providers end.at).store_faults (provider_at new.providers end.at).store_faults
+  pub provider : end.status ≡ 13 → Rose (provider_at old.providers end.at).store_faults
+      (provider_at new.providers end.at).store_faults
   pub source : end.status ≡ 14 → Rose old.source_faults new.source_faults
   pub sink : end.status ≡ 15 → Rose old.sink_faults new.sink_faults
 
 -- for each file in effect at most b providers are wrong for its bytes, given by its number, or failed
 abbrev pub AreSafe : List Record → Seen → Seen → (ℕ → List ℕ) → Type 0
 AreSafe records old new bytes = (name : List ℕ) (file : File) → file_of records name ≡ Some file →
-    (length (bytes file.id) ≡ file.size) × (bad_seen records old new file.id (bytes file.id) ≤ (setup_at records).b)
+    (length (bytes file.id) ≡ file.size)
+    × (bad_seen records old new file.id (bytes file.id) ≤ (setup_in_effect records).b)
 
 -- what is told of provider j has each block of a file of these bytes
 abbrev pub HoldsFile : List Record → Seen → List ℕ → File → ℕ → Type 0
-HoldsFile records new bytes file j = (stripe : ℕ) → stripe < stripes_of (setup_at records) file.size →
-    IfSome (provider_at new.providers j).held (λ held. held file.id stripe ≡ Some (columns (object_of (setup_at records) file.id) bytes j stripe))
+HoldsFile records new bytes file j = (stripe : ℕ) → stripe < stripes_of (setup_in_effect records) file.size →
+    IfSome (provider_at new.providers j).held
+    (λ held. held file.id stripe
+    ≡ Some (columns (object_of (setup_in_effect records) file.id) bytes j stripe))
 
 -- the records after a put
 abbrev pub after_put : List Record → List ℕ → ℕ → List Record
@@ -111,7 +123,8 @@ after_drop records name = Drop name ∷ records
 
 -- the records after an audit
 abbrev pub after_audit : List Record → ℕ → List ℕ → List Record
-after_audit records undecided counts = AuditDone (next_audit records) undecided counts ∷ AuditStart (next_audit records) ∷ records
+after_audit records undecided counts =
+    AuditDone (next_audit records) undecided counts ∷ AuditStart (next_audit records) ∷ records
 
 -- the records after a repair
 abbrev pub after_repair : List Record → Due → List Record
@@ -126,7 +139,7 @@ abbrev pub DiskHas : List Record → Seen → Type 0
 DiskHas records new = EachImage new.disk (λ image. StandsFor image records)
 
 -- a put: the whole source is stored on every provider, and in effect
-pub record IsPut (name : List ℕ) (old new : Seen) (end : Ending) : Type 0 where
+pub record IsWholePut (name : List ℕ) (old new : Seen) (end : Ending) : Type 0 where
   pub records : List Record
   pub bytes : List ℕ
   pub opened : IsOpened old records
@@ -135,8 +148,10 @@ pub record IsPut (name : List ℕ) (old new : Seen) (end : Ending) : Type 0 wher
   pub whole : IfSome new.source (λ left. left ≡ [])
   pub told : IsTold (stored_line name (length bytes)) old new end
   pub disk : DiskHas (after_put records name (length bytes)) new
-  pub in_effect : file_of (after_put records name (length bytes)) name ≡ Some (record { name = name; id = next_id records; size = length bytes })
-  pub stored : StoresFile (ran_to (after_put records name (length bytes)) records old new end.heard) name bytes
+  pub in_effect : file_of (after_put records name (length bytes)) name
+      ≡ Some (file_as name (next_id records) (length bytes) (profile_in (setup_of records)))
+  pub stored : StoresFile (ran_to (after_put records name (length bytes)) records old new end.heard) name
+      bytes
 
 -- a drop: the file is no longer in effect, and its blocks are gone but where a count rose
 pub record IsDropped (name : List ℕ) (old new : Seen) (end : Ending) : Type 0 where
@@ -148,7 +163,8 @@ pub record IsDropped (name : List ℕ) (old new : Seen) (end : Ending) : Type 0 
   pub disk : DiskHas (after_drop records name) new
   pub out_of_effect : file_of (after_drop records name) name ≡ None
   pub gone : EachHeldGoes (ran_to (after_drop records name) records old new end.heard)
-      (λ j. DroppedFrom file.id (Rose (provider_at old.providers j).other_faults (provider_at new.providers j).other_faults))
+      (λ j. DroppedFrom file.id (Rose (provider_at old.providers j).other_faults
+      (provider_at new.providers j).other_faults))
 
 -- an audit: its counts are the verdicts on what it heard
 pub record IsAudited (old new : Seen) (end : Ending) : Type 0 where
@@ -156,10 +172,13 @@ pub record IsAudited (old new : Seen) (end : Ending) : Type 0 where
   pub undecided : ℕ
   pub counts : List ℕ
   pub opened : IsOpened old records
-  pub told : IsTold (audit_lines (setup_at records).tolerance (next_audit records) undecided counts) old new end
+  pub told : IsTold (audit_lines (setup_in_effect records).tolerance (next_audit records) undecided counts)
+      old new end
   pub disk : DiskHas (after_audit records undecided counts) new
-  pub heard : HearsRounds (ran_to (after_audit records undecided counts) records old new end.heard) (next_audit records)
-  pub counted : CountsHeard (ran_to (after_audit records undecided counts) records old new end.heard) (next_audit records) undecided counts
+  pub heard : HearsRounds (ran_to (after_audit records undecided counts) records old new end.heard)
+      (next_audit records)
+  pub counted : CountsHeard (ran_to (after_audit records undecided counts) records old new end.heard)
+      (next_audit records) undecided counts
 
 -- a repair: each flagged provider holds the columns of what the fetches gave, and no repair is due
 pub record IsRepaired (old new : Seen) (end : Ending) : Type 0 where

@@ -1,11 +1,14 @@
--- Concrete values that meet what the laws suppose: a store over four providers that tell what they hold, with one empty file.
+-- Concrete values that meet what the laws suppose: a store over four providers that tell what they hold,
+-- with one empty file.
 --
 --   store records             == what is seen of devices whose disk reads these records, with nothing loose
 --   held_name, other_name     == the name of the file, and another one
 --   set_up_records, held_records == the records of a store that was set up, and of one with the file
---   audited_records, due_records, repaired_records == of a store with no file after an audit, with a repair due, and after it
+--   audited_records, due_records, repaired_records == of a store with no file after an audit, with a repair
+--                                          due, and after it
 --   put_store, audited_store, repaired_store == what is seen after a put of the file, that audit, that repair
---   small_numbers, key_text, key_devices, ready_store == the numbers of an init, its key, devices before it and after it
+--   small_numbers, key_text, key_devices, ready_store == the numbers of an init, its key, devices before it
+--                                          and after it
 --   empty_devices             == devices whose disk reads nothing
 --   with_sink s bytes         == what is seen, with these bytes in the sink
 --   ends status               == an end that heard nothing
@@ -22,11 +25,22 @@ use Rattle.command_laws.specs.Pieces.{Call}
 
 -- four providers, one of them primary, of which one may be wrong
 abbrev pub small_setup : Setup
-small_setup = record { n = 4; l = 1; b = 1; profile = 0; rounds = 2; picks = 2; tolerance = 0; master = replicate 32 0 }
+small_setup =
+    record {
+      n = 4;
+      l = 1;
+      b = 1;
+      profile = 0;
+      rounds = 2;
+      picks = 2;
+      tolerance = 0;
+      master = replicate 32 0;
+    }
 
 -- a provider that holds nothing
 abbrev pub idle_provider : Provider
-idle_provider = record { held = Some (λ object stripe. None); store_faults = 0; other_faults = 0; fetches = 0 }
+idle_provider =
+    record { held = Some (λ object stripe. None); store_faults = 0; other_faults = 0; fetches = 0 }
 
 -- four of them
 abbrev pub idle_providers : List Provider
@@ -114,8 +128,10 @@ ends status = record { status = status; at = 0; heard = [] }
 
 -- a get of the file
 abbrev pub get_held : Call
-get_held = record { command = GetOf held_name; old = store held_records; new = store held_records; end = ends 0 }
+get_held =
+    record { command = GetOf held_name; old = store held_records; new = store held_records; end = ends 0 }
 
 -- a get of a name that has none
 abbrev pub get_other : Call
-get_other = record { command = GetOf other_name; old = store held_records; new = store held_records; end = ends 3 }
+get_other =
+    record { command = GetOf other_name; old = store held_records; new = store held_records; end = ends 3 }

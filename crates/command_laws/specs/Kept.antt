@@ -1,11 +1,14 @@
 -- What commands leave, however they end.
 --
 --   KeepsImages old new        == each image of the disk after a command is one that it had before
---   AreAppended records kind own  == these are the records that a job of this kind appends over these records, the oldest first
---   IsAfter records kind image == an image stands for these records, with the first few of those of a job of this kind
---   LeavesImages command old new  == the images are images as before, or a job was run over the records that were read, and each image
---                                 stands for these with some that it wrote
---   InitImages numbers old new == a store was set up with these numbers, or each image is one that a failed init may leave
+--   AreAppended records kind own  == these are the records that a job of this kind appends over these
+--                                    records, the oldest first
+--   IsAfter records kind image == an image stands for these records, with the first few of those of a job
+--                                 of this kind
+--   LeavesImages command old new  == the images are images as before, or a job was run over the records
+--                                 that were read, and each image stands for these with some that it wrote
+--   InitImages numbers old new == a store was set up with these numbers, or each image is one that a failed
+--                                 init may leave
 --   SameFetches old new        == no provider was fetched from
 --   stores_blocks command, opens_rows command  == a put and a repair; a get, a repair and a row
 --   FailsToPut name old new end, FailsToRepair  == what a put and a repair leave of which a store failed
@@ -23,7 +26,7 @@ use Rattle.hail_machine.specs.Jobs.{Kind, PutJob, GetJob, DropJob, AuditJob, Rep
 use Rattle.hail_commands.specs.Forms.{Command, Numbers, RowOf, PutUnder, GetOf, RepairDue}
 use Rattle.hail_commands.specs.Seen.{Seen, Ending, ReadsUpTo, provider_at}
 use Rattle.hail_openings.specs.Journals.{IsSetUpOn, MayBeLeft}
-use Rattle.hail_commands.specs.Opens.{IsOpened, setup_at}
+use Rattle.hail_commands.specs.Opens.{IsOpened, setup_in_effect}
 use Rattle.hail_commands.specs.Inits.{setup_with}
 use Rattle.hail_commands.specs.Puts.{put_records, StoresPart}
 use Rattle.hail_commands.specs.Gets.{LosesStripe}
@@ -40,8 +43,10 @@ abbrev pub AreAppended : List Record → Kind → List Record → Type 0
 AreAppended records (PutJob name bytes) own = own ≡ put_records records name (length bytes)
 AreAppended records (GetJob name) own = own ≡ []
 AreAppended records (DropJob name) own = own ≡ Drop name ∷ []
-AreAppended records AuditJob own = (undecided : ℕ) × (counts : List ℕ) × (own ≡ audit_records records undecided counts)
-AreAppended records RepairJob own = (due : Due) × (due_of records ≡ Some due) × (own ≡ RepairDone due.number ∷ [])
+AreAppended records AuditJob own =
+    (undecided : ℕ) × (counts : List ℕ) × (own ≡ audit_records records undecided counts)
+AreAppended records RepairJob own =
+    (due : Due) × (due_of records ≡ Some due) × (own ≡ RepairDone due.number ∷ [])
 
 -- an image stands for records, with the first few of those of a job
 pub record IsAfter (records : List Record) (kind : Kind) (image : List ℕ) : Type 0 where
@@ -53,7 +58,8 @@ pub record IsAfter (records : List Record) (kind : Kind) (image : List ℕ) : Ty
 -- the images are images as before, or those of records that were read, with some that the job wrote
 pub data LeavesImages (command : Command) (old new : Seen) : Type 0 where
   kept : KeepsImages old new → LeavesImages command old new
-  ran : (records : List Record) (kind : Kind) → IsOpened old records → RunsKind command old new kind → EachImage new.disk (IsAfter records kind) →
+  ran : (records : List Record) (kind : Kind) → IsOpened old records → RunsKind command old new kind
+      → EachImage new.disk (IsAfter records kind) →
       LeavesImages command old new
 
 -- a store was set up, or each image is one that a failed init may leave
@@ -82,30 +88,34 @@ opens_rows command = false
 abbrev pub after_start : List Record → List ℕ → List Record
 after_start records name = PutStart (next_id records) name ∷ records
 
--- a store of a put failed: its number is used, no file came into effect or went out of it, and no repair came due or went
+-- a store of a put failed: its number is used, no file came into effect or went out of it, and no repair
+-- came due or went
 pub record FailsToPut (name : List ℕ) (old new : Seen) (end : Ending) : Type 0 where
   pub records : List Record
   pub bytes : List ℕ
   pub opened : IsOpened old records
   pub are_bytes : AreBytes bytes
   pub read : ReadsUpTo (largest_file + 1) old.source new.source bytes
-  pub provider : end.at < (setup_at records).n
-  pub rose : Rose (provider_at old.providers end.at).store_faults (provider_at new.providers end.at).store_faults
+  pub provider : end.at < (setup_in_effect records).n
+  pub rose : Rose (provider_at old.providers end.at).store_faults
+      (provider_at new.providers end.at).store_faults
   pub sink : new.sink ≡ old.sink
   pub disk : DiskHas (after_start records name) new
   pub files : (other : List ℕ) → file_of (after_start records name) other ≡ file_of records other
   pub due : due_of (after_start records name) ≡ due_of records
   pub stored : StoresPart (ran_to (after_start records name) records old new end.heard) bytes
 
--- a store of a repair failed, of a flagged provider: the repair stays due, and some of its blocks may have been written anew
+-- a store of a repair failed, of a flagged provider: the repair stays due, and some of its blocks may have
+-- been written anew
 pub record FailsToRepair (old new : Seen) (end : Ending) : Type 0 where
   pub records : List Record
   pub due : Due
   pub opened : IsOpened old records
   pub is_due : due_of records ≡ Some due
-  pub provider : end.at < (setup_at records).n
-  pub flagged : is_flagged (setup_at records).tolerance due.counts end.at ≡ true
-  pub rose : Rose (provider_at old.providers end.at).store_faults (provider_at new.providers end.at).store_faults
+  pub provider : end.at < (setup_in_effect records).n
+  pub flagged : is_flagged (setup_in_effect records).tolerance due.counts end.at ≡ true
+  pub rose : Rose (provider_at old.providers end.at).store_faults
+      (provider_at new.providers end.at).store_faults
   pub sink : new.sink ≡ old.sink
   pub disk : DiskHas records new
   pub part : RewritesSome (ran_to records records old new end.heard) due
@@ -121,7 +131,8 @@ pub record LosesFile (name : List ℕ) (old new : Seen) (end : Ending) : Type 0 
   pub sink : new.sink ≡ old.sink
   pub disk : DiskHas records new
 
--- a repair found a row lost: it stays due, and some of the flagged providers' blocks before that place may have been written anew
+-- a repair found a row lost: it stays due, and some of the flagged providers' blocks before that place may
+-- have been written anew
 pub record LosesRepair (old new : Seen) (end : Ending) : Type 0 where
   pub records : List Record
   pub due : Due

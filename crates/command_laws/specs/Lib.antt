@@ -1,4 +1,3 @@
-pub mod Failing
 pub mod Ends
 pub mod Kept
 pub mod Opened

@@ -1,6 +1,7 @@
 -- What `init` and `list` have done, and when an init comes to its disk.
 --
---   IsKeyed numbers key old    == the numbers are a setup, enough providers are handed in, and the source tells the key
+--   IsKeyed numbers key old    == the numbers are a setup, enough providers are handed in, and the source
+--                                 tells the key
 --   IsInit numbers old new end == an init that is done: its source held a key, and a store is set up with it
 --   IsListed old new end       == a list that is done: the lines of the files in effect
 use Rattle.std.specs.Prelude.{◌≡◌, ℕ, ◌≤◌, true, List, [], length, Some, IfSome}
@@ -24,7 +25,8 @@ pub record IsKeyed (numbers : Numbers) (key : List ℕ) (old : Seen) : Type 0 wh
   pub source : old.source ≡ Some bytes
   pub form : IsKeyForm bytes key
 
--- an init that is done: the whole source is a key, and a store is set up with it on a disk that read no records
+-- an init that is done: the whole source is a key, and a store is set up with it on a disk that read no
+-- records
 pub record IsInit (numbers : Numbers) (old new : Seen) (end : Ending) : Type 0 where
   pub bytes : List ℕ
   pub key : List ℕ

@@ -1,12 +1,14 @@
 -- Commands as pieces of one run of the machine. Moments and calls have the newest first.
 --
---   IsStore w s               == a sound state of a store that is set up stands for what is seen of disk and providers
+--   IsStore w s               == a sound state of a store that is set up stands for what is seen of disk
+--                                and providers
 --   IsSpelledCommand command  == the name in the command's words is of bytes
---   IsCall command old new end w own == these moments are what the machine makes of a command: a later call of the program, a reopening,
---                                 and where that opened, the begin of its job with its steps, or a list of names; from this state on
+--   IsCall command old new end w own == these moments are what the machine makes of a command: a later call
+--                                 of the program, a reopening, and where that opened, the begin of its job
+--                                 with its steps, or a list of names; from this state on
 --   AreReplaced events old new == these events replaced what providers hold
---   IsLater new next          == the next command finds the disk as the last one left it, or as a stop then left it, and what providers
---                                 hold as such events left it
+--   IsLater new next          == the next command finds the disk as the last one left it, or as a stop then
+--                                 left it, and what providers hold as such events left it
 --   AreBetween own            == these moments are stops and replacements
 --   Call, IsChain first calls == commands one after the other, with stops and replacements between them
 --   last_seen first calls     == what is seen after them
@@ -37,8 +39,8 @@ use Rattle.hail_commands.specs.Refusals.{status_of}
 use Rattle.hail_commands.specs.Commands.{Answers}
 use Rattle.command_laws.specs.Ends.{RunsKind, opens_store}
 
--- a sound state of a store that is set up stands for what is seen: each image of the disk for its records, or for these with the one in
--- doubt, and the providers are its own
+-- a sound state of a store that is set up stands for what is seen: each image of the disk for its records,
+-- or for these with the one in doubt, and the providers are its own
 pub record IsStore (w : State) (s : Seen) : Type 0 where
   pub sound : IsSound 8 w
   pub set_up : IsSetUp w
@@ -58,43 +60,57 @@ IsSpelledCommand command = Unit {0}
 abbrev pub moment : Event → Outcome → State → Moment
 moment event outcome w = record { event = event; outcome = outcome; state = w }
 
--- what the machine makes of a command from this state on: its store is not opened; it is opened, and no more came of it; the begin of its
--- job is refused; the names are listed; or its job began and went on to its end
-pub data IsCall (command : Command) (old new : Seen) (end : Ending) (w : State) (own : List Moment) : Type 0 where
-  unopened : (a b : State) (why : Refusal) → own ≡ moment Reopen (Refused why) b ∷ moment Continue Continued a ∷ [] → end.heard ≡ [] →
+-- what the machine makes of a command from this state on: its store is not opened; it is opened, and no
+-- more came of it; the begin of its job is refused; the names are listed; or its job began and went on to
+-- its end
+pub data IsCall (command : Command) (old new : Seen) (end : Ending) (w : State)
+    (own : List Moment) : Type 0 where
+  unopened : (a b : State) (why : Refusal)
+      → own ≡ moment Reopen (Refused why) b ∷ moment Continue Continued a ∷ [] → end.heard ≡ [] →
       IsCall command old new end w own
-  opened : (a b : State) → own ≡ moment Reopen Opened b ∷ moment Continue Continued a ∷ [] → (end.status ≡ 14) ⊎ (end.status ≡ 70) → end.heard ≡ [] →
+  opened : (a b : State) → own ≡ moment Reopen Opened b ∷ moment Continue Continued a ∷ []
+      → (end.status ≡ 14) ⊎ (end.status ≡ 70) → end.heard ≡ [] →
       IsCall command old new end w own
   refused : (kind : Kind) (a b c : State) (why : Refusal) → RunsKind command old new kind →
       own ≡ moment (Begin kind) (Refused why) c ∷ moment Reopen Opened b ∷ moment Continue Continued a ∷ [] →
       end.status ≡ status_of why → end.heard ≡ [] → IsCall command old new end w own
   listed : (a b c : State) → command ≡ ListAll →
-      own ≡ moment Names (Listed (files_of b.records)) c ∷ moment Reopen Opened b ∷ moment Continue Continued a ∷ [] → end.heard ≡ [] →
+      own ≡ moment Names (Listed (files_of b.records)) c ∷ moment Reopen Opened b
+      ∷ moment Continue Continued a ∷ [] → end.heard ≡ [] →
       IsCall command old new end w own
-  ended : (kind : Kind) (a b c d : State) (steps : List Moment) (answer : Answer) → RunsKind command old new kind → GoOn 1 steps →
+  ended : (kind : Kind) (a b c d : State) (steps : List Moment) (answer : Answer)
+      → RunsKind command old new kind → GoOn 1 steps →
       own ≡ moment (Step 1) (Ended answer) d
-      ∷ (steps ++ moment (Begin kind) (Begun 1) c ∷ moment Reopen Opened b ∷ moment Continue Continued a ∷ []) →
-      EndsByAnswer (text_of (setup_in b).tolerance kind answer) answer old new end → end.heard ≡ heard_by (job_of (now c steps).jobs 1) →
+      ∷ (steps ++ moment (Begin kind) (Begun 1) c ∷ moment Reopen Opened b ∷ moment Continue Continued a
+      ∷ []) →
+      EndsByAnswer (text_of (setup_in b).tolerance kind answer) answer old new end
+      → end.heard ≡ heard_by (job_of (now c steps).jobs 1) →
       IsCall command old new end w own
 
 -- provider j, which was handed in, goes so, and all others are as before
 abbrev pub GoesAt : ℕ → (Provider → Provider → Type 0) → List Provider → List Provider → Type 0
-GoesAt j call old new = (p : Provider) × (q : Provider) × (j < length old) × (slice_get old j ≡ Some p) × call p q × (new ≡ slice_set old j q)
+GoesAt j call old new =
+    (p : Provider) × (q : Provider) × (j < length old) × (slice_get old j ≡ Some p) × call p q
+    × (new ≡ slice_set old j q)
 
 -- an event replaced what a provider holds, or found nothing there
 abbrev pub ReplacesHeld : Event → List Provider → List Provider → Type 0
 ReplacesHeld (Alter j object stripe place symbol) old new =
-    GoesAt j (λ p q. (found : Bool) × Replaces (λ held. HasPlace (held object stripe) place) (with_symbol object stripe place symbol) found p q) old new
+    GoesAt j (λ p q. (found : Bool) × Replaces (λ held. HasPlace (held object stripe) place)
+    (with_symbol object stripe place symbol) found p q) old new
 ReplacesHeld (Lose j object stripe) old new =
-    GoesAt j (λ p q. (found : Bool) × Replaces (λ held. IsSome (held object stripe)) (without_block object stripe) found p q) old new
+    GoesAt j (λ p q. (found : Bool) × Replaces (λ held. IsSome (held object stripe))
+    (without_block object stripe) found p q) old new
 ReplacesHeld event old new = ⊥
 
 -- these events did so, the first one first
 abbrev pub AreReplaced : List Event → List Provider → List Provider → Type 0
 AreReplaced [] old new = new ≡ old
-AreReplaced (event ∷ events) old new = IsSpelled event × ((mid : List Provider) × ReplacesHeld event old mid × AreReplaced events mid new)
+AreReplaced (event ∷ events) old new =
+    IsSpelled event × ((mid : List Provider) × ReplacesHeld event old mid × AreReplaced events mid new)
 
--- what the next command finds: the disk as it was left or as a stop then left it, and providers with some replacements
+-- what the next command finds: the disk as it was left or as a stop then left it, and providers with some
+-- replacements
 pub record IsLater (new next : Seen) : Type 0 where
   pub disk : (next.disk ≡ new.disk) ⊎ Goes Stopped new.disk next.disk
   pub faults : next.disk_faults ≡ new.disk_faults
@@ -141,5 +157,7 @@ IsChain first (c ∷ cs) = IsLater (last_seen first cs) c.old × IsAnswered c ×
 abbrev pub AreCalls : State → List Call → List Moment → Type 0
 AreCalls w [] own = own ≡ []
 AreCalls w (c ∷ cs) own =
-    (call : List Moment) × (between : List Moment) × (before : List Moment) × (own ≡ call ++ (between ++ before))
-    × IsCall c.command c.old c.new c.end (now w (between ++ before)) call × AreBetween between × AreCalls w cs before
+    (call : List Moment) × (between : List Moment) × (before : List Moment)
+    × (own ≡ call ++ (between ++ before))
+    × IsCall c.command c.old c.new c.end (now w (between ++ before)) call × AreBetween between
+    × AreCalls w cs before

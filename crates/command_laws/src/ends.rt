@@ -6,7 +6,7 @@ ghost use Rattle.hail_devices.specs.Faults.{Rose};
 ghost use Rattle.hail_devices.specs.Told.{told_then, TakesFront};
 ghost use Rattle.hail_records.specs.Records.{Record};
 ghost use Rattle.hail_records.specs.Table.{File, Due, file_of, due_of};
-ghost use Rattle.hail_records.specs.Reading.{IsNotSetUp};
+ghost use Rattle.hail_records.specs.Reading.{HasNoSetup};
 ghost use Rattle.hail_machine.specs.Setups.{object_of};
 ghost use Rattle.hail_machine.specs.Jobs.{Kind, PutJob, DropJob, AuditJob, RepairJob};
 ghost use Rattle.hail_machine.specs.Events.{AreBytes};
@@ -15,13 +15,13 @@ ghost use Rattle.hail_machine.specs.Refusals.{Refusal};
 ghost use Rattle.hail_commands.specs.Forms.{Command, Numbers, RowOf, InitWith, PutUnder, GetOf, DropOf, ListAll, AuditAll, RepairDue};
 ghost use Rattle.hail_commands.specs.Seen.{Seen, Ending, IsRefused, provider_at};
 ghost use Rattle.hail_openings.specs.Journals.{journal_read, IsRead, IsBadStart};
-ghost use Rattle.hail_commands.specs.Opens.{setup_at};
+ghost use Rattle.hail_commands.specs.Opens.{setup_in_effect};
 ghost use Rattle.hail_commands.specs.Refusals.{refusal_over, status_of};
 ghost use Rattle.hail_commands.specs.Lines.{stored_line, dropped_line, repaired_line};
 ghost use Rattle.hail_commands.specs.Jobs.{AnswersJob};
 ghost use Rattle.hail_commands.specs.Commands.{AnswersAlone, Answers};
-ghost use Rattle.command_laws.specs.Failing.{bad_seen};
-ghost use Rattle.command_laws.specs.Ends.{IsDone, IsKnown, GivesUnlessMemory, EndsInOrder, SameHolds, opens_store, FaultsHaveCauses, AreSafe, HoldsFile, IsPut, IsDropped, IsAudited, IsRepaired};
+ghost use Rattle.job_laws.specs.Failing.{bad_seen};
+ghost use Rattle.command_laws.specs.Ends.{IsDone, IsKnown, GivesUnlessMemory, EndsInOrder, SameHolds, opens_store, FaultsHaveCauses, AreSafe, HoldsFile, IsWholePut, IsDropped, IsAudited, IsRepaired};
 ghost use Rattle.command_laws.specs.Kept.{LosesFile, LosesRepair};
 
 /// A get of a file gives it whole, or finds no memory, where at most b providers are wrong for the file or failed, unless the disk or the
@@ -29,32 +29,48 @@ ghost use Rattle.command_laws.specs.Kept.{LosesFile, LosesRepair};
 /// the file. However many there are, a wrong byte means that what it heard holds a forgery. Over any devices, also such as tell nothing, a get
 /// ends with its text, or finds no memory, or is refused with its cause, or has found a row lost, unless the disk or the sink failed.
 pub fn gets_give_the_file()
-    ensures complete { (name bytes : List ℕ) (records : List Record) (file : File) (old new : Seen) (end : Ending) → Answers (GetOf name) old new end →
+    ensures complete { (name bytes : List ℕ) (records : List Record) (file : File) (old new : Seen)
+        (end : Ending) → Answers (GetOf name) old new end →
         IsKnown old records → file_of records name ≡ Some file → AreBytes bytes → length bytes ≡ file.size →
-        bad_seen records old new file.id bytes ≤ (setup_at records).b → (Rose old.disk_faults new.disk_faults → ⊥) →
+        bad_seen records old new file.id bytes ≤ (setup_in_effect records).b
+        → (Rose old.disk_faults new.disk_faults → ⊥) →
         (Rose old.sink_faults new.sink_faults → ⊥) → GivesUnlessMemory bytes old new end }
-    ensures right { (name bytes : List ℕ) (records : List Record) (file : File) (old new : Seen) (end : Ending) → Answers (GetOf name) old new end →
+    ensures right { (name bytes : List ℕ) (records : List Record) (file : File) (old new : Seen)
+        (end : Ending) → Answers (GetOf name) old new end →
         IsKnown old records → file_of records name ≡ Some file → AreBytes bytes → length bytes ≡ file.size →
-        bad_seen records old new file.id bytes ≤ (setup_at records).b + 1 → end.status ≡ 0 → new.sink ≡ told_then old.sink bytes }
-    ensures right_front { (name bytes : List ℕ) (records : List Record) (file : File) (old new : Seen) (end : Ending) → Answers (GetOf name) old new end →
+        bad_seen records old new file.id bytes ≤ (setup_in_effect records).b + 1 → end.status ≡ 0
+        → new.sink ≡ told_then old.sink bytes }
+    ensures right_front { (name bytes : List ℕ) (records : List Record) (file : File) (old new : Seen)
+        (end : Ending) → Answers (GetOf name) old new end →
         IsKnown old records → file_of records name ≡ Some file → AreBytes bytes → length bytes ≡ file.size →
-        bad_seen records old new file.id bytes ≤ (setup_at records).b + 1 → TakesFront old.sink new.sink bytes }
-    ensures unforged { (name bytes : List ℕ) (records : List Record) (file : File) (old new : Seen) (end : Ending) → Answers (GetOf name) old new end →
-        IsKnown old records → file_of records name ≡ Some file → bad_seen records old new file.id bytes ≤ (setup_at records).b + 1 →
-        HoldsForgery (object_of (setup_at records) file.id) bytes 1 end.heard → ⊥ }
-    ensures forged { (name bytes : List ℕ) (records : List Record) (file : File) (old new : Seen) (end : Ending) → Answers (GetOf name) old new end →
-        IsKnown old records → file_of records name ≡ Some file → AreBytes bytes → length bytes ≡ file.size → end.status ≡ 0 →
-        (new.sink ≡ told_then old.sink bytes) ⊎ HoldsForgery (object_of (setup_at records) file.id) bytes 1 end.heard }
-    ensures forged_front { (name bytes : List ℕ) (records : List Record) (file : File) (old new : Seen) (end : Ending) → Answers (GetOf name) old new end →
+        bad_seen records old new file.id bytes ≤ (setup_in_effect records).b + 1
+        → TakesFront old.sink new.sink bytes }
+    ensures unforged { (name bytes : List ℕ) (records : List Record) (file : File) (old new : Seen)
+        (end : Ending) → Answers (GetOf name) old new end →
+        IsKnown old records → file_of records name ≡ Some file
+        → bad_seen records old new file.id bytes ≤ (setup_in_effect records).b + 1 →
+        HoldsForgery (object_of (setup_in_effect records) file.id) bytes 1 end.heard → ⊥ }
+    ensures forged { (name bytes : List ℕ) (records : List Record) (file : File) (old new : Seen)
+        (end : Ending) → Answers (GetOf name) old new end →
+        IsKnown old records → file_of records name ≡ Some file → AreBytes bytes → length bytes ≡ file.size
+        → end.status ≡ 0 →
+        (new.sink ≡ told_then old.sink bytes)
+        ⊎ HoldsForgery (object_of (setup_in_effect records) file.id) bytes 1 end.heard }
+    ensures forged_front { (name bytes : List ℕ) (records : List Record) (file : File) (old new : Seen)
+        (end : Ending) → Answers (GetOf name) old new end →
         IsKnown old records → file_of records name ≡ Some file → AreBytes bytes → length bytes ≡ file.size →
-        TakesFront old.sink new.sink bytes ⊎ HoldsForgery (object_of (setup_at records) file.id) bytes 1 end.heard }
-    ensures ends { (name : List ℕ) (old new : Seen) (end : Ending) → Answers (GetOf name) old new end → (Rose old.disk_faults new.disk_faults → ⊥) →
-        (Rose old.sink_faults new.sink_faults → ⊥) → EndsInOrder (GetOf name) old new end ⊎ LosesFile name old new end }
+        TakesFront old.sink new.sink bytes
+        ⊎ HoldsForgery (object_of (setup_in_effect records) file.id) bytes 1 end.heard }
+    ensures ends { (name : List ℕ) (old new : Seen) (end : Ending) → Answers (GetOf name) old new end
+        → (Rose old.disk_faults new.disk_faults → ⊥) →
+        (Rose old.sink_faults new.sink_faults → ⊥)
+        → EndsInOrder (GetOf name) old new end ⊎ LosesFile name old new end }
 {}
 
 /// A get, a list and an audit leave what each provider holds, at any status.
 pub fn reads_leave_what_is_held()
-    ensures get { (name : List ℕ) (old new : Seen) (end : Ending) → Answers (GetOf name) old new end → SameHolds old new }
+    ensures get { (name : List ℕ) (old new : Seen) (end : Ending) → Answers (GetOf name) old new end
+        → SameHolds old new }
     ensures list { (old new : Seen) (end : Ending) → Answers ListAll old new end → SameHolds old new }
     ensures audit { (old new : Seen) (end : Ending) → Answers AuditAll old new end → SameHolds old new }
 {}
@@ -63,36 +79,51 @@ pub fn reads_leave_what_is_held()
 /// or is refused with its cause, unless a count of faults rose: the disk's, that of a provider's stores, the source's or the sink's. Over a
 /// disk and a source that tell, one that is not refused ends so.
 pub fn puts_store_the_source()
-    ensures done { (name : List ℕ) (old new : Seen) (end : Ending) → Answers (PutUnder name) old new end → IsDone end → IsPut name old new end }
-    ensures ends_well { (name bytes : List ℕ) (records : List Record) (old new : Seen) (end : Ending) → Answers (PutUnder name) old new end →
-        IsKnown old records → old.source ≡ Some bytes → refusal_over records (PutJob name bytes) ≡ None → (Rose old.disk_faults new.disk_faults → ⊥) →
-        ((j : ℕ) → j < (setup_at records).n → Rose (provider_at old.providers j).store_faults (provider_at new.providers j).store_faults → ⊥) →
+    ensures done { (name : List ℕ) (old new : Seen) (end : Ending) → Answers (PutUnder name) old new end
+        → IsDone end → IsWholePut name old new end }
+    ensures ends_well { (name bytes : List ℕ) (records : List Record) (old new : Seen) (end : Ending)
+        → Answers (PutUnder name) old new end →
+        IsKnown old records → old.source ≡ Some bytes → refusal_over records (PutJob name bytes) ≡ None
+        → (Rose old.disk_faults new.disk_faults → ⊥) →
+        ((j : ℕ) → j < (setup_in_effect records).n
+        → Rose (provider_at old.providers j).store_faults (provider_at new.providers j).store_faults → ⊥) →
         (Rose old.source_faults new.source_faults → ⊥) → (Rose old.sink_faults new.sink_faults → ⊥) →
         GivesUnlessMemory (stored_line name (length bytes)) old new end }
-    ensures ends { (name : List ℕ) (old new : Seen) (end : Ending) → Answers (PutUnder name) old new end → (Rose old.disk_faults new.disk_faults → ⊥) →
-        ((j : ℕ) → Rose (provider_at old.providers j).store_faults (provider_at new.providers j).store_faults → ⊥) →
-        (Rose old.source_faults new.source_faults → ⊥) → (Rose old.sink_faults new.sink_faults → ⊥) → EndsInOrder (PutUnder name) old new end }
+    ensures ends { (name : List ℕ) (old new : Seen) (end : Ending) → Answers (PutUnder name) old new end
+        → (Rose old.disk_faults new.disk_faults → ⊥) →
+        ((j : ℕ) → Rose (provider_at old.providers j).store_faults
+        (provider_at new.providers j).store_faults → ⊥) →
+        (Rose old.source_faults new.source_faults → ⊥) → (Rose old.sink_faults new.sink_faults → ⊥)
+        → EndsInOrder (PutUnder name) old new end }
 {}
 
 /// A drop of status 0 or 15 has taken the file out of effect and away from each provider, but for blocks that stay where a count rose. A drop
 /// ends so, or finds no memory, or is refused with its cause, unless the disk or the sink failed.
 pub fn drops_take_the_file_away()
-    ensures done { (name : List ℕ) (old new : Seen) (end : Ending) → Answers (DropOf name) old new end → IsDone end → IsDropped name old new end }
-    ensures ends_well { (name : List ℕ) (records : List Record) (old new : Seen) (end : Ending) → Answers (DropOf name) old new end →
-        IsKnown old records → refusal_over records (DropJob name) ≡ None → (Rose old.disk_faults new.disk_faults → ⊥) →
+    ensures done { (name : List ℕ) (old new : Seen) (end : Ending) → Answers (DropOf name) old new end
+        → IsDone end → IsDropped name old new end }
+    ensures ends_well { (name : List ℕ) (records : List Record) (old new : Seen) (end : Ending)
+        → Answers (DropOf name) old new end →
+        IsKnown old records → refusal_over records (DropJob name) ≡ None
+        → (Rose old.disk_faults new.disk_faults → ⊥) →
         (Rose old.sink_faults new.sink_faults → ⊥) → GivesUnlessMemory (dropped_line name) old new end }
-    ensures ends { (name : List ℕ) (old new : Seen) (end : Ending) → Answers (DropOf name) old new end → (Rose old.disk_faults new.disk_faults → ⊥) →
+    ensures ends { (name : List ℕ) (old new : Seen) (end : Ending) → Answers (DropOf name) old new end
+        → (Rose old.disk_faults new.disk_faults → ⊥) →
         (Rose old.sink_faults new.sink_faults → ⊥) → EndsInOrder (DropOf name) old new end }
 {}
 
 /// An audit of status 0 or 15 has counted the verdicts on what it heard. An audit ends so, or finds no memory, or is refused with its
 /// cause, unless the disk or the sink failed, whatever providers do.
 pub fn audits_count_what_they_hear()
-    ensures done { (old new : Seen) (end : Ending) → Answers AuditAll old new end → IsDone end → IsAudited old new end }
-    ensures ends_well { (records : List Record) (old new : Seen) (end : Ending) → Answers AuditAll old new end → IsKnown old records →
-        refusal_over records AuditJob ≡ None → (Rose old.disk_faults new.disk_faults → ⊥) → (Rose old.sink_faults new.sink_faults → ⊥) →
+    ensures done { (old new : Seen) (end : Ending) → Answers AuditAll old new end → IsDone end
+        → IsAudited old new end }
+    ensures ends_well { (records : List Record) (old new : Seen) (end : Ending)
+        → Answers AuditAll old new end → IsKnown old records →
+        refusal_over records AuditJob ≡ None → (Rose old.disk_faults new.disk_faults → ⊥)
+        → (Rose old.sink_faults new.sink_faults → ⊥) →
         (end.status ≡ 0) ⊎ (end.status ≡ 70) }
-    ensures ends { (old new : Seen) (end : Ending) → Answers AuditAll old new end → (Rose old.disk_faults new.disk_faults → ⊥) →
+    ensures ends { (old new : Seen) (end : Ending) → Answers AuditAll old new end
+        → (Rose old.disk_faults new.disk_faults → ⊥) →
         (Rose old.sink_faults new.sink_faults → ⊥) → EndsInOrder AuditAll old new end }
 {}
 
@@ -101,39 +132,61 @@ pub fn audits_count_what_they_hear()
 /// no memory, where it is so of each file, unless a count of faults rose: the disk's, that of a provider's stores, or the sink's. Over any
 /// devices a repair ends so, or finds no memory, or is refused with its cause, or has found a row lost, unless such a count rose.
 pub fn repairs_write_anew()
-    ensures done { (old new : Seen) (end : Ending) → Answers RepairDue old new end → IsDone end → IsRepaired old new end }
-    ensures ends_well { (records : List Record) (old new : Seen) (end : Ending) (bytes : ℕ → List ℕ) → Answers RepairDue old new end →
-        IsKnown old records → refusal_over records RepairJob ≡ None → (Rose old.disk_faults new.disk_faults → ⊥) →
-        ((j : ℕ) → j < (setup_at records).n → Rose (provider_at old.providers j).store_faults (provider_at new.providers j).store_faults → ⊥) →
+    ensures done { (old new : Seen) (end : Ending) → Answers RepairDue old new end → IsDone end
+        → IsRepaired old new end }
+    ensures ends_well { (records : List Record) (old new : Seen) (end : Ending) (bytes : ℕ → List ℕ)
+        → Answers RepairDue old new end →
+        IsKnown old records → refusal_over records RepairJob ≡ None
+        → (Rose old.disk_faults new.disk_faults → ⊥) →
+        ((j : ℕ) → j < (setup_in_effect records).n
+        → Rose (provider_at old.providers j).store_faults (provider_at new.providers j).store_faults → ⊥) →
         (Rose old.sink_faults new.sink_faults → ⊥) →
         AreSafe records old new bytes → (end.status ≡ 0) ⊎ (end.status ≡ 70) }
-    ensures right { (name bytes : List ℕ) (records : List Record) (file : File) (due : Due) (j : ℕ) (old new : Seen) (end : Ending) →
-        Answers RepairDue old new end → IsKnown old records → IsDone end → due_of records ≡ Some due → file_of records name ≡ Some file →
-        length bytes ≡ file.size → bad_seen records old new file.id bytes ≤ (setup_at records).b → j < (setup_at records).n →
-        is_flagged (setup_at records).tolerance due.counts j ≡ true → HoldsFile records new bytes file j }
-    ensures ends { (old new : Seen) (end : Ending) → Answers RepairDue old new end → (Rose old.disk_faults new.disk_faults → ⊥) →
-        ((j : ℕ) → Rose (provider_at old.providers j).store_faults (provider_at new.providers j).store_faults → ⊥) →
-        (Rose old.sink_faults new.sink_faults → ⊥) → EndsInOrder RepairDue old new end ⊎ LosesRepair old new end }
+    ensures right { (name bytes : List ℕ) (records : List Record) (file : File) (due : Due) (j : ℕ)
+        (old new : Seen) (end : Ending) →
+        Answers RepairDue old new end → IsKnown old records → IsDone end → due_of records ≡ Some due
+        → file_of records name ≡ Some file →
+        length bytes ≡ file.size → bad_seen records old new file.id bytes ≤ (setup_in_effect records).b
+        → j < (setup_in_effect records).n →
+        is_flagged (setup_in_effect records).tolerance due.counts j ≡ true
+        → HoldsFile records new bytes file j }
+    ensures ends { (old new : Seen) (end : Ending) → Answers RepairDue old new end
+        → (Rose old.disk_faults new.disk_faults → ⊥) →
+        ((j : ℕ) → Rose (provider_at old.providers j).store_faults
+        (provider_at new.providers j).store_faults → ⊥) →
+        (Rose old.sink_faults new.sink_faults → ⊥)
+        → EndsInOrder RepairDue old new end ⊎ LosesRepair old new end }
 {}
 
 /// A job has the status of a refusal only where that is the first of its refusals to apply; and where one applies, the command ends with its
 /// status, or that of no memory, and has changed nothing. So it is of the job of a command over records that were read, and of a command over
 /// a disk that tells.
 pub fn refusals_are_exact()
-    ensures only { (kind : Kind) (records : List Record) (old new : Seen) (end : Ending) (why : Refusal) → AnswersJob kind records old new end →
+    ensures only { (kind : Kind) (records : List Record) (old new : Seen) (end : Ending) (why : Refusal)
+        → AnswersJob kind records old new end →
         status_of why ≢ 70 → end.status ≡ status_of why → refusal_over records kind ≡ Some why }
-    ensures always { (kind : Kind) (records : List Record) (old new : Seen) (end : Ending) (why : Refusal) → AnswersJob kind records old new end →
-        refusal_over records kind ≡ Some why → IsRefused (status_of why) 0 old new end ⊎ IsRefused 70 0 old new end }
-    ensures known_only { (kind : Kind) (records : List Record) (old new : Seen) (end : Ending) (why : Refusal) → AnswersAlone kind old new end →
-        IsKnown old records → status_of why ≢ 70 → end.status ≡ status_of why → refusal_over records kind ≡ Some why }
-    ensures known_always { (kind : Kind) (records : List Record) (old new : Seen) (end : Ending) (why : Refusal) → AnswersAlone kind old new end →
-        IsKnown old records → (Rose old.disk_faults new.disk_faults → ⊥) → refusal_over records kind ≡ Some why →
+    ensures always { (kind : Kind) (records : List Record) (old new : Seen) (end : Ending) (why : Refusal)
+        → AnswersJob kind records old new end →
+        refusal_over records kind ≡ Some why
+        → IsRefused (status_of why) 0 old new end ⊎ IsRefused 70 0 old new end }
+    ensures known_only { (kind : Kind) (records : List Record) (old new : Seen) (end : Ending)
+        (why : Refusal) → AnswersAlone kind old new end →
+        IsKnown old records → status_of why ≢ 70 → end.status ≡ status_of why
+        → refusal_over records kind ≡ Some why }
+    ensures known_always { (kind : Kind) (records : List Record) (old new : Seen) (end : Ending)
+        (why : Refusal) → AnswersAlone kind old new end →
+        IsKnown old records → (Rose old.disk_faults new.disk_faults → ⊥)
+        → refusal_over records kind ≡ Some why →
         IsRefused (status_of why) 0 old new end ⊎ IsRefused 70 0 old new end }
-    ensures put_only { (name bytes : List ℕ) (records : List Record) (old new : Seen) (end : Ending) (why : Refusal) →
-        Answers (PutUnder name) old new end → IsKnown old records → old.source ≡ Some bytes → status_of why ≢ 70 →
+    ensures put_only { (name bytes : List ℕ) (records : List Record) (old new : Seen) (end : Ending)
+        (why : Refusal) →
+        Answers (PutUnder name) old new end → IsKnown old records → old.source ≡ Some bytes
+        → status_of why ≢ 70 →
         end.status ≡ status_of why → refusal_over records (PutJob name bytes) ≡ Some why }
-    ensures put_always { (name bytes : List ℕ) (records : List Record) (old new : Seen) (end : Ending) (why : Refusal) →
-        Answers (PutUnder name) old new end → IsKnown old records → old.source ≡ Some bytes → (Rose old.disk_faults new.disk_faults → ⊥) →
+    ensures put_always { (name bytes : List ℕ) (records : List Record) (old new : Seen) (end : Ending)
+        (why : Refusal) →
+        Answers (PutUnder name) old new end → IsKnown old records → old.source ≡ Some bytes
+        → (Rose old.disk_faults new.disk_faults → ⊥) →
         (Rose old.source_faults new.source_faults → ⊥) → refusal_over records (PutJob name bytes) ≡ Some why →
         IsRefused (status_of why) 0 old new end ⊎ IsRefused 70 0 old new end }
 {}
@@ -142,30 +195,44 @@ pub fn refusals_are_exact()
 /// that is told, and with 22 only where too few providers are handed in; and where it is so it ends with that status, or finds no memory,
 /// unless the disk failed.
 pub fn unopened_stores_are_told()
-    ensures not_set_up_only { (command : Command) (cells : Cells) (old new : Seen) (end : Ending) → Answers command old new end →
-        opens_store command ≡ true → old.disk ≡ Some cells → end.status ≡ 9 → IsNotSetUp (journal_read cells) }
-    ensures not_set_up { (command : Command) (cells : Cells) (old new : Seen) (end : Ending) → Answers command old new end →
-        opens_store command ≡ true → old.disk ≡ Some cells → IsNotSetUp (journal_read cells) → (Rose old.disk_faults new.disk_faults → ⊥) →
+    ensures not_set_up_only { (command : Command) (cells : Cells) (old new : Seen) (end : Ending)
+        → Answers command old new end →
+        opens_store command ≡ true → old.disk ≡ Some cells → end.status ≡ 9
+        → HasNoSetup (journal_read cells) }
+    ensures not_set_up { (command : Command) (cells : Cells) (old new : Seen) (end : Ending)
+        → Answers command old new end →
+        opens_store command ≡ true → old.disk ≡ Some cells → HasNoSetup (journal_read cells)
+        → (Rose old.disk_faults new.disk_faults → ⊥) →
         (end.status ≡ 9) ⊎ (end.status ≡ 70) }
-    ensures bad_journal_only { (command : Command) (cells : Cells) (old new : Seen) (end : Ending) → Answers command old new end →
+    ensures bad_journal_only { (command : Command) (cells : Cells) (old new : Seen) (end : Ending)
+        → Answers command old new end →
         opens_store command ≡ true → old.disk ≡ Some cells → end.status ≡ 8 →
         (9 < length (journal_read cells)) × IsBadStart (journal_read cells) end.at }
-    ensures bad_journal { (command : Command) (cells : Cells) (old new : Seen) (end : Ending) (at : ℕ) → Answers command old new end →
-        opens_store command ≡ true → old.disk ≡ Some cells → 9 < length (journal_read cells) → IsBadStart (journal_read cells) at →
+    ensures bad_journal { (command : Command) (cells : Cells) (old new : Seen) (end : Ending) (at : ℕ)
+        → Answers command old new end →
+        opens_store command ≡ true → old.disk ≡ Some cells → 9 < length (journal_read cells)
+        → IsBadStart (journal_read cells) at →
         (Rose old.disk_faults new.disk_faults → ⊥) → ((end.status ≡ 8) × (end.at ≡ at)) ⊎ (end.status ≡ 70) }
-    ensures too_few_only { (command : Command) (old new : Seen) (end : Ending) → Answers command old new end → opens_store command ≡ true →
-        end.status ≡ 22 → (records : List Record) × IsRead old.disk records × (length old.providers < (setup_at records).n) }
-    ensures too_few { (command : Command) (cells : Cells) (old new : Seen) (end : Ending) (records : List Record) → Answers command old new end →
-        opens_store command ≡ true → old.disk ≡ Some cells → IsRead old.disk records → length old.providers < (setup_at records).n →
+    ensures too_few_only { (command : Command) (old new : Seen) (end : Ending) → Answers command old new end
+        → opens_store command ≡ true →
+        end.status ≡ 22 → (records : List Record) × IsRead old.disk records
+        × (length old.providers < (setup_in_effect records).n) }
+    ensures too_few { (command : Command) (cells : Cells) (old new : Seen) (end : Ending)
+        (records : List Record) → Answers command old new end →
+        opens_store command ≡ true → old.disk ≡ Some cells → IsRead old.disk records
+        → length old.providers < (setup_in_effect records).n →
         (Rose old.disk_faults new.disk_faults → ⊥) → (end.status ≡ 22) ⊎ (end.status ≡ 70) }
 {}
 
 /// A command ends with the status of a fault only where the count of that device rose: of the disk (12), of the stores of the provider that is
 /// told (13), of the source (14) or of the sink (15).
 pub fn faults_have_causes()
-    ensures store { (command : Command) (old new : Seen) (end : Ending) → Answers command old new end → opens_store command ≡ true →
+    ensures store { (command : Command) (old new : Seen) (end : Ending) → Answers command old new end
+        → opens_store command ≡ true →
         FaultsHaveCauses old new end }
-    ensures init { (numbers : Numbers) (old new : Seen) (end : Ending) → Answers (InitWith numbers) old new end → FaultsHaveCauses old new end }
-    ensures row { (n l b : ℕ) (seen : List (Option ℕ)) (old new : Seen) (end : Ending) → Answers (RowOf n l b seen) old new end →
+    ensures init { (numbers : Numbers) (old new : Seen) (end : Ending)
+        → Answers (InitWith numbers) old new end → FaultsHaveCauses old new end }
+    ensures row { (n l b : ℕ) (seen : List (Option ℕ)) (old new : Seen) (end : Ending)
+        → Answers (RowOf n l b seen) old new end →
         FaultsHaveCauses old new end }
 {}

@@ -4,10 +4,10 @@ ghost use Rattle.hail_records.specs.Table.{files_of};
 ghost use Rattle.hail_machine.specs.States.{State};
 ghost use Rattle.hail_commands.specs.Forms.{InitWith, PutUnder, GetOf, ListAll, AuditAll, RepairDue, RowOf};
 ghost use Rattle.hail_commands.specs.Lines.{list_lines};
-ghost use Rattle.hail_commands.specs.Opens.{setup_at};
+ghost use Rattle.hail_commands.specs.Opens.{setup_in_effect};
 ghost use Rattle.hail_commands.specs.Seen.{NoCountFalls};
 ghost use Rattle.hail_commands.specs.Commands.{Answers, IsUsage};
-ghost use Rattle.command_laws.specs.Failing.{bad_seen};
+ghost use Rattle.job_laws.specs.Failing.{bad_seen};
 ghost use Rattle.command_laws.specs.After.{IsSure, Follows, HasRightFile, IsUntouched, IsSteady, IsFaultless};
 ghost use Rattle.command_laws.specs.Opened.{IsKeyed};
 ghost use Rattle.command_laws.specs.Pieces.{IsStore, IsLater, IsChain};
@@ -20,10 +20,13 @@ pub fn there_are_known_stores()
     ensures sure { IsSure (store held_records) held_records }
     ensures due { IsSure (store due_records) due_records }
     ensures file { HasRightFile (store held_records) held_records held_name [] (λ j. false) }
-    ensures none_bad { bad_seen held_records (store held_records) (store held_records) 1 [] ≤ (setup_at held_records).b }
+    ensures none_bad { bad_seen held_records (store held_records) (store held_records) 1 []
+        ≤ (setup_in_effect held_records).b }
     ensures between { Follows ready_store (store set_up_records) × Follows put_store (store held_records) }
-    ensures faultless { IsFaultless (store set_up_records) put_store × IsFaultless (store held_records) (store held_records) }
-    ensures follows { Follows (store held_records) (store held_records) × IsLater (store held_records) (store held_records) }
+    ensures faultless { IsFaultless (store set_up_records) put_store
+        × IsFaultless (store held_records) (store held_records) }
+    ensures follows { Follows (store held_records) (store held_records)
+        × IsLater (store held_records) (store held_records) }
     ensures untouched { IsUntouched 4 (λ j. false) (store held_records) (store held_records)
         × IsSteady 4 (λ j. false) (store held_records) (store held_records) }
     ensures state { (w : State) × IsStore w (store held_records) }
@@ -36,11 +39,13 @@ pub fn there_are_known_stores()
 pub fn there_are_answers()
     ensures got { Answers (GetOf held_name) (store held_records) (store held_records) (ends 0) }
     ensures missing { Answers (GetOf other_name) (store held_records) (store held_records) (ends 3) }
-    ensures listed { Answers ListAll (store held_records) (with_sink (store held_records) (list_lines (files_of held_records))) (ends 0) }
+    ensures listed { Answers ListAll (store held_records)
+        (with_sink (store held_records) (list_lines (files_of held_records))) (ends 0) }
     ensures not_set_up { Answers (GetOf held_name) empty_devices empty_devices (ends 9) }
     ensures row { Answers (RowOf 3 1 1 []) empty_devices empty_devices (ends 20) }
     ensures usage { IsUsage empty_devices empty_devices (ends 2) }
-    ensures init { Answers (InitWith small_numbers) key_devices ready_store (ends 0) × IsKeyed small_numbers small_setup.master key_devices }
+    ensures init { Answers (InitWith small_numbers) key_devices ready_store (ends 0)
+        × IsKeyed small_numbers small_setup.master key_devices }
     ensures put { Answers (PutUnder held_name) (store set_up_records) put_store (ends 0) }
     ensures audit { Answers AuditAll (store set_up_records) audited_store (ends 0) }
     ensures repair { Answers RepairDue (store due_records) repaired_store (ends 0) }

@@ -1,13 +1,10 @@
-//! What the job of a command leaves, as laws over runs of the machine.
+//! What a user may believe of a command: how it ends, and what it leaves.
 #![tactic(auto)]
 
 pub mod after;
-pub mod alone;
 pub mod ends;
-pub mod files;
 pub mod inits;
 pub mod instances;
 pub mod kept;
-pub mod laws;
 pub mod pieces;
 pub mod statuses;

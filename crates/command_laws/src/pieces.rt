@@ -14,13 +14,20 @@ ghost use Rattle.command_laws.specs.Pieces.{IsStore, IsSpelledCommand, IsCall, I
 /// and replacements between commands. So commands one after the other are one run of the machine. Over each known store there is a state
 /// from which such a run begins.
 pub fn commands_are_runs()
-    ensures call { (start : State) (ms : List Moment) (command : Command) (old new : Seen) (end : Ending) → IsRun 8 start ms →
-        IsStore (now start ms) old → opens_store command ≡ true → IsSpelledCommand command → Answers command old new end → NoCountFalls old new →
-        (own : List Moment) × IsCall command old new end (now start ms) own × IsRun 8 start (own ++ ms) × IsStore (now start (own ++ ms)) new }
-    ensures later { (start : State) (ms : List Moment) (new next : Seen) → IsRun 8 start ms → IsStore (now start ms) new → IsLater new next →
-        (own : List Moment) × AreBetween own × IsRun 8 start (own ++ ms) × IsStore (now start (own ++ ms)) next }
+    ensures call { (start : State) (ms : List Moment) (command : Command) (old new : Seen) (end : Ending)
+        → IsRun 8 start ms →
+        IsStore (now start ms) old → opens_store command ≡ true → IsSpelledCommand command
+        → Answers command old new end → NoCountFalls old new →
+        (own : List Moment) × IsCall command old new end (now start ms) own × IsRun 8 start (own ++ ms)
+        × IsStore (now start (own ++ ms)) new }
+    ensures later { (start : State) (ms : List Moment) (new next : Seen) → IsRun 8 start ms
+        → IsStore (now start ms) new → IsLater new next →
+        (own : List Moment) × AreBetween own × IsRun 8 start (own ++ ms)
+        × IsStore (now start (own ++ ms)) next }
     ensures known { (s : Seen) (records : List Record) → IsSure s records → (w : State) × IsStore w s }
-    ensures chain { (start : State) (ms : List Moment) (first : Seen) (calls : List Call) → IsRun 8 start ms → IsStore (now start ms) first →
+    ensures chain { (start : State) (ms : List Moment) (first : Seen) (calls : List Call) → IsRun 8 start ms
+        → IsStore (now start ms) first →
         IsChain first calls →
-        (own : List Moment) × AreCalls (now start ms) calls own × IsRun 8 start (own ++ ms) × IsStore (now start (own ++ ms)) (last_seen first calls) }
+        (own : List Moment) × AreCalls (now start ms) calls own × IsRun 8 start (own ++ ms)
+        × IsStore (now start (own ++ ms)) (last_seen first calls) }
 {}

@@ -1,8 +1,8 @@
 -- The lines of files grow by one file.
-use Rattle.std.proofs.Common.{◌≡◌, ℕ, ◌+◌, List, [], ◌∷◌, ◌++◌, take, Some, None, length, ◌<◌, arith, sym, ap, ◌∙◌}
+use Rattle.std.proofs.Common.{◌≡◌, ℕ, ◌+◌, List, [], ◌∷◌, ◌++◌, take, Some, sym, ap, ◌∙◌}
 use Rattle.std.specs.List.{slice_get}
 use Rattle.std.proofs.lemmas.List.{take_more, flat_map_more}
-use Rattle.std.proofs.lemmas.Option.{slice_get_within, get_or_from_slice_get, slice_get-get_or}
+use Rattle.std.proofs.lemmas.Option.{slice_get_within, get_or_from_slice_get}
 use Rattle.hail_records.specs.Table.{File}
 use Rattle.hail_machine.specs.Lines.{file_line}
 use Rattle.hail_commands.specs.Lines.{list_lines}
@@ -15,11 +15,3 @@ listed_more files text place file at before =
     take_more files place file (slice_get_within files place file at)
     ∙ ap (λ (x : File). take place files ++ x ∷ []) (get_or_from_slice_get files place file file at) in
     ap (λ (front : List ℕ). front ++ file_line file) before ∙ flat_map_more file_line [] (take place files) file ∙ ap (λ (fs : List File). list_lines fs) (sym more)
-
-none_is_not : (f : File) → None ≡ Some f → ⊥
-none_is_not f same = absurd cc
-
--- a place below the length has a file
-pub listed_within : (files : List File) (place : ℕ) → place < length files → None ≡ slice_get files place → ⊥
-listed_within [] place within none = omega (arith, within)
-listed_within (f ∷ files) place within none = none_is_not _ (none ∙ slice_get-get_or (f ∷ files) place f within)

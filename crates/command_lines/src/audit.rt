@@ -19,7 +19,8 @@ fn used(counts: &Counts) -> &[u32]
 
 /// The first line: the audit's number, and how many rounds were undecided.
 fn first_line(alloc: Global, number: u64, undecided: u32) -> Result<String, AllocError>
-    ensures { IfOk result (λ text. string_bytes text ≡ line (codes "audit" ++ then_number number ++ codes " undecided" ++ then_number undecided)) }
+    ensures { IfOk result (λ text. string_bytes text ≡ line
+        (codes "audit" ++ then_number number ++ codes " undecided" ++ then_number undecided)) }
 {
     Ok(format!(in alloc; "audit {number} undecided {undecided}\n")?)
 }

@@ -31,7 +31,8 @@ fn lines_of(alloc: Global, table: &Table) -> Result<Vec<u8>, AllocError>
 /// refusal.
 pub fn list_lines(alloc: Global, table: &Table) -> Result<Bytes, Memory>
     ensures table { IfOk result (λ lines. lines ≡ list_lines table.now.files) }
-    ensures records { IfOk result (λ lines. (rs : _) → IsFoldOf rs table.now → lines ≡ list_lines (files_of rs)) }
+    ensures records { IfOk result (λ lines. (rs : _) → IsFoldOf rs table.now → lines ≡ list_lines
+        (files_of rs)) }
 {
     let text = lines_of(alloc, table)?;
     Ok(Bytes::from_vec(text))

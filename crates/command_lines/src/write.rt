@@ -10,7 +10,12 @@ use stream_model::{Sink, WriteFault, write_all};
 /// Writes the text of a command that succeeded. The sink is not called for an empty text. The status is that of the command.
 pub fn write_text<K: Sink>(text: &[u8], sink: &mut K) -> u8
     ensures writes { WritesLine text.now result
-        (record { old = K.written sink.old; new = K.written sink.new; before = K.faults sink.old; now = K.faults sink.new }) }
+        (record {
+          old = K.written sink.old;
+          new = K.written sink.new;
+          before = K.faults sink.old;
+          now = K.faults sink.new;
+        }) }
     ensures count { K.faults sink.old ≤ K.faults sink.new }
     ensures empty { text.now ≡ [] → (result ≡ 0) × (sink.new ≡ sink.old) }
 {
@@ -27,7 +32,12 @@ pub fn write_text<K: Sink>(text: &[u8], sink: &mut K) -> u8
 /// Writes that no polynomial is accepted for a row. The status is that of a lost row, also where the sink fails.
 pub fn tell_no_row<K: Sink>(sink: &mut K) -> u8
     ensures tells { TellsLine 4 no_row_line result
-        (record { old = K.written sink.old; new = K.written sink.new; before = K.faults sink.old; now = K.faults sink.new }) }
+        (record {
+          old = K.written sink.old;
+          new = K.written sink.new;
+          before = K.faults sink.old;
+          now = K.faults sink.new;
+        }) }
     ensures count { K.faults sink.old ≤ K.faults sink.new }
 {
     match write_all(sink, b"no row\n") {

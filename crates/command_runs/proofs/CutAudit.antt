@@ -14,21 +14,19 @@ use Rattle.hail_machine.specs.Machine.{Happens}
 use Rattle.hail_machine.specs.Runs.{Moment}
 use Rattle.hail_machine.specs.States.{State, setup_in, with_provider}
 use Rattle.hail_commands.specs.Forms.{AuditAll}
-use Rattle.hail_commands.specs.Refusals.{refusal_over}
 use Rattle.hail_commands.specs.JobRuns.{AreSteps}
 use Rattle.hail_commands.specs.Jobs.{RanAlone, RunsAlone, AnswersJob}
 use Rattle.hail_commands.specs.Commands.{AnswersAlone, Answers}
 use Rattle.command_laws.specs.Pieces.{moment}
-use Rattle.command_laws.proofs.Telling.{left-alone, jobs-leave}
-use Rattle.command_laws.proofs.BeginRefusals.{refusal-of}
-use Rattle.command_runs.specs.Devices.{named, byte_records, counts, audit_cut, holds, ends_hearing, damaged, answers_heard}
+use Rattle.job_laws.proofs.Telling.{left-alone, jobs-leave}
+use Rattle.job_laws.proofs.BeginRefusals.{refusal-of}
+use Rattle.command_runs.specs.Devices.{named, byte_records, audit_cut, holds, ends_hearing, damaged, answers_heard}
+use Rattle.damage_run.specs.Points.{counts}
 use Rattle.command_runs.proofs.Shape.{formed, form-is, one_byte, one_byte-is}
 use Rattle.command_runs.proofs.Counting.{other-counts}
 use Rattle.command_runs.proofs.Stores.{damaged-sure as old-sure, audit_cut-new as new-sure}
 use Rattle.damage_run.proofs.Values.{right, same_first, no_answer, sums, judged}
-
-begins-none : refusal_over byte_records (AuditJob) ≡ None
-begins-none = refl
+use Rattle.command_runs.proofs.Begins.{audit_begins}
 
 module _ (w : State) (n : ℕ) (count : w.handed ≡ 4) where
   abbrev v : State
@@ -261,7 +259,7 @@ module _ (w : State) (n : ℕ) (count : w.handed ≡ 4) where
     runs = record {
       begun = s0;
       job = 1;
-      begins = (refl, refusal-of v (AuditJob) refl refl ∙ begins-none, refl, refl);
+      begins = (refl, refusal-of v (AuditJob) refl refl ∙ audit_begins, refl, refl);
       goes_on = record { steps = steps; are_steps = steps-are; ends = happens12 0; heard_is = refl };
     };
     images = λ image is. inr (record { doubt = record { entry = (AuditDone 1 0 counts); maker = Some (record base { subject = 1; place = 11; given = Answered 3 1 0 (right 3) ∷ Answered 2 1 0 (None) ∷ Answered 1 1 0 (right 1) ∷ Answered 0 1 0 (right 0) ∷ [] }) }; in_doubt = refl; stands = new-sure.images image is });
@@ -275,13 +273,14 @@ alone = record {
   faults = 0;
   before = omega arith;
   ran = λ w n V. subst (λ u. RanAlone byte_records (AuditJob) (DiskFault) (damaged) (audit_cut) (answers_heard) 0 u n)
-      (form-is byte_records (one_byte w.bytes) (holds 0) (holds 1) (empty_provider) (holds 3) w (one_byte-is w.bytes (V.bytes named (record { name = named; id = 1; size = 1 }) refl).1) V)
+      (form-is byte_records (one_byte w.bytes) (holds 0) (holds 1) (empty_provider) (holds 3) w
+      (one_byte-is w.bytes (V.bytes named (record { name = named; id = 1; size = 1; profile = 0 }) refl).1) V)
       (ran-formed w n V.handed.count);
 }
 
 pub answers : Answers (AuditAll) (damaged) (audit_cut) (ends_hearing 12 answers_heard)
 answers = (
-  AnswersAlone.begun byte_records old-sure.known.opened (AnswersJob.ended (DiskFault) begins-none alone
+  AnswersAlone.begun byte_records old-sure.known.opened (AnswersJob.ended (DiskFault) audit_begins alone
       (left-alone byte_records (AuditJob) (DiskFault) (damaged) (audit_cut) (answers_heard)
       (λ w last n O r. jobs-leave (AuditJob) w last n (DiskFault) (answers_heard) tt O r) old-sure.known.opened refl alone)
       (record { status_is = refl; place = refl; sink = refl })),

@@ -13,26 +13,25 @@ use Rattle.hail_machine.specs.Examples.{empty_provider}
 use Rattle.hail_machine.specs.Machine.{Happens}
 use Rattle.hail_machine.specs.Runs.{Moment}
 use Rattle.hail_machine.specs.States.{State, setup_in, with_provider}
+use Rattle.step_laws.proofs.ByteSteps.{block_sized}
 use Rattle.hail_commands.specs.Forms.{RepairDue}
-use Rattle.hail_commands.specs.Refusals.{refusal_over}
 use Rattle.hail_commands.specs.JobRuns.{AreSteps}
 use Rattle.hail_commands.specs.Jobs.{RanAlone, RunsAlone, AnswersJob}
 use Rattle.hail_commands.specs.Commands.{AnswersAlone, Answers}
 use Rattle.command_laws.specs.Pieces.{moment}
-use Rattle.command_laws.proofs.Telling.{left-alone, jobs-leave}
-use Rattle.command_laws.proofs.BeginRefusals.{refusal-of}
-use Rattle.command_runs.specs.Devices.{named, audited_records, own_block, given_block, repair_cut, holds, fetched, ends, due}
+use Rattle.job_laws.proofs.Telling.{left-alone, jobs-leave}
+use Rattle.job_laws.proofs.BeginRefusals.{refusal-of}
+use Rattle.command_runs.specs.Devices.{named, byte_audited_records, own_block, given_block, repair_cut, holds, fetched, due}
+use Rattle.command_laws.specs.Instances.{ends}
 use Rattle.command_runs.proofs.Shape.{formed, form-is, one_byte, one_byte-is}
 use Rattle.command_runs.proofs.Counting.{fetch-counts, store-counts}
 use Rattle.command_runs.proofs.Stores.{due-sure as old-sure, repair_cut-new as new-sure}
-use Rattle.damage_run.proofs.Values.{block_sized, symbols, without_two_give}
-
-begins-none : refusal_over audited_records (RepairJob) ≡ None
-begins-none = refl
+use Rattle.damage_run.proofs.Values.{symbols, without_two_give}
+use Rattle.command_runs.proofs.Begins.{repair_begins}
 
 module _ (w : State) (n : ℕ) (count : w.handed ≡ 4) where
   abbrev v : State
-  v = formed audited_records (one_byte w.bytes) (holds 0) (holds 1) (empty_provider) (holds 3) w
+  v = formed byte_audited_records (one_byte w.bytes) (holds 0) (holds 1) (empty_provider) (holds 3) w
 
   abbrev base : Job
   base = new_job v n (RepairJob)
@@ -202,14 +201,14 @@ module _ (w : State) (n : ℕ) (count : w.handed ≡ 4) where
   each (suc (suc (suc zero))) l = refl
   each (suc (suc (suc (suc j)))) l = absurd (omega (arith, l))
 
-  ran-formed : RanAlone audited_records (RepairJob) (DiskFault) (due) (repair_cut) ([]) 0 v n
+  ran-formed : RanAlone byte_audited_records (RepairJob) (DiskFault) (due) (repair_cut) ([]) 0 v n
   unfolding steps spelling
   ran-formed = record {
     last = s10;
     runs = record {
       begun = s0;
       job = 1;
-      begins = (refl, refusal-of v (RepairJob) refl refl ∙ begins-none, refl, refl);
+      begins = (refl, refusal-of v (RepairJob) refl refl ∙ repair_begins, refl, refl);
       goes_on = record { steps = steps; are_steps = steps-are; ends = happens10 0; heard_is = refl };
     };
     images = λ image is. inr (record { doubt = record { entry = (RepairDone 1); maker = Some (record base { place = 9; given = Worked 1 0 symbols ∷ Fetched 3 1 0 (Some (own_block 3)) ∷ Fetched 2 1 0 (None) ∷ Fetched 1 1 0 (Some (own_block 1)) ∷ Fetched 0 1 0 (Some (own_block 0)) ∷ [] }) }; in_doubt = refl; stands = new-sure.images image is });
@@ -218,19 +217,20 @@ module _ (w : State) (n : ℕ) (count : w.handed ≡ 4) where
     past_text = record { next = Some (RepairDone 1); is_next = record { done = []; rest = []; parts = refl; after_is = refl }; same = refl };
   }
 
-pub alone : RunsAlone audited_records (RepairJob) (DiskFault) (due) (repair_cut) ([])
+pub alone : RunsAlone byte_audited_records (RepairJob) (DiskFault) (due) (repair_cut) ([])
 alone = record {
   faults = 0;
   before = omega arith;
-  ran = λ w n V. subst (λ u. RanAlone audited_records (RepairJob) (DiskFault) (due) (repair_cut) ([]) 0 u n)
-      (form-is audited_records (one_byte w.bytes) (holds 0) (holds 1) (empty_provider) (holds 3) w (one_byte-is w.bytes (V.bytes named (record { name = named; id = 1; size = 1 }) refl).1) V)
+  ran = λ w n V. subst (λ u. RanAlone byte_audited_records (RepairJob) (DiskFault) (due) (repair_cut) ([]) 0 u n)
+      (form-is byte_audited_records (one_byte w.bytes) (holds 0) (holds 1) (empty_provider) (holds 3) w
+      (one_byte-is w.bytes (V.bytes named (record { name = named; id = 1; size = 1; profile = 0 }) refl).1) V)
       (ran-formed w n V.handed.count);
 }
 
 pub answers : Answers (RepairDue) (due) (repair_cut) (ends 12)
 answers = (
-  AnswersAlone.begun audited_records old-sure.known.opened (AnswersJob.ended (DiskFault) begins-none alone
-      (left-alone audited_records (RepairJob) (DiskFault) (due) (repair_cut) ([])
+  AnswersAlone.begun byte_audited_records old-sure.known.opened (AnswersJob.ended (DiskFault) repair_begins alone
+      (left-alone byte_audited_records (RepairJob) (DiskFault) (due) (repair_cut) ([])
       (λ w last n O r. jobs-leave (RepairJob) w last n (DiskFault) ([]) tt O r) old-sure.known.opened refl alone)
       (record { status_is = refl; place = refl; sink = refl })),
   (refl, refl),

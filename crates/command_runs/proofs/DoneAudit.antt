@@ -14,21 +14,19 @@ use Rattle.hail_machine.specs.Machine.{Happens}
 use Rattle.hail_machine.specs.Runs.{Moment}
 use Rattle.hail_machine.specs.States.{State, setup_in, with_provider}
 use Rattle.hail_commands.specs.Forms.{AuditAll}
-use Rattle.hail_commands.specs.Refusals.{refusal_over}
 use Rattle.hail_commands.specs.JobRuns.{AreSteps}
 use Rattle.hail_commands.specs.Jobs.{RanAlone, RunsAlone, AnswersJob}
 use Rattle.hail_commands.specs.Commands.{AnswersAlone, Answers}
 use Rattle.command_laws.specs.Pieces.{moment}
-use Rattle.command_laws.proofs.Telling.{left-alone, jobs-leave}
-use Rattle.command_laws.proofs.BeginRefusals.{refusal-of}
-use Rattle.command_runs.specs.Devices.{named, byte_records, audited_records, counts, holds, ends_hearing, damaged, audited, answers_heard}
+use Rattle.job_laws.proofs.Telling.{left-alone, jobs-leave}
+use Rattle.job_laws.proofs.BeginRefusals.{refusal-of}
+use Rattle.command_runs.specs.Devices.{named, byte_records, byte_audited_records, holds, ends_hearing, damaged, byte_audited, answers_heard}
+use Rattle.damage_run.specs.Points.{counts}
 use Rattle.command_runs.proofs.Shape.{formed, form-is, one_byte, one_byte-is}
 use Rattle.command_runs.proofs.Counting.{other-counts}
 use Rattle.command_runs.proofs.Stores.{damaged-sure as old-sure, audited-new as new-sure}
 use Rattle.damage_run.proofs.Values.{right, same_first, no_answer, sums, judged}
-
-begins-none : refusal_over byte_records (AuditJob) ≡ None
-begins-none = refl
+use Rattle.command_runs.proofs.Begins.{audit_begins}
 
 module _ (w : State) (n : ℕ) (count : w.handed ≡ 4) where
   abbrev v : State
@@ -222,7 +220,7 @@ module _ (w : State) (n : ℕ) (count : w.handed ≡ 4) where
 
   abbrev s12 : State
   s12 = record v {
-    records = audited_records;
+    records = byte_audited_records;
     audits = (λ number. if number == 1 then n else v.audits number);
     jobs = (record base { subject = 1; place = 12; given = Answered 3 1 0 (right 3) ∷ Answered 2 1 0 (None) ∷ Answered 1 1 0 (right 1) ∷ Answered 0 1 0 (right 0) ∷ [] }) ∷ [];
     next_job = 2;
@@ -237,7 +235,7 @@ module _ (w : State) (n : ℕ) (count : w.handed ≡ 4) where
 
   abbrev s13 : State
   s13 = record v {
-    records = audited_records;
+    records = byte_audited_records;
     audits = (λ number. if number == 1 then n else v.audits number);
     jobs = [];
     next_job = 2;
@@ -260,21 +258,21 @@ module _ (w : State) (n : ℕ) (count : w.handed ≡ 4) where
   unfolding steps
   steps-are = (refl, refl, happens12 0, (refl, refl, happens11 0, (refl, refl, happens10 0, (refl, refl, happens9 0, (refl, refl, happens8 0, (refl, refl, happens7 0, (refl, refl, happens6 0, (refl, refl, happens5 0, (refl, refl, happens4 0, (refl, refl, happens3 0, (refl, refl, happens2 0, (refl, refl, happens1 0, tt))))))))))))
 
-  each : (j : ℕ) → j < 4 → slice_get (audited).providers j ≡ Some (s13.providers j)
+  each : (j : ℕ) → j < 4 → slice_get (byte_audited).providers j ≡ Some (s13.providers j)
   each zero l = refl
   each (suc zero) l = refl
   each (suc (suc zero)) l = refl
   each (suc (suc (suc zero))) l = refl
   each (suc (suc (suc (suc j)))) l = absurd (omega (arith, l))
 
-  ran-formed : RanAlone byte_records (AuditJob) (Audited 1 0 counts) (damaged) (audited) (answers_heard) 0 v n
+  ran-formed : RanAlone byte_records (AuditJob) (Audited 1 0 counts) (damaged) (byte_audited) (answers_heard) 0 v n
   unfolding steps spelling
   ran-formed = record {
     last = s13;
     runs = record {
       begun = s0;
       job = 1;
-      begins = (refl, refusal-of v (AuditJob) refl refl ∙ begins-none, refl, refl);
+      begins = (refl, refusal-of v (AuditJob) refl refl ∙ audit_begins, refl, refl);
       goes_on = record { steps = steps; are_steps = steps-are; ends = happens13 0; heard_is = refl };
     };
     images = λ image is. inl (inl (new-sure.images image is));
@@ -283,19 +281,20 @@ module _ (w : State) (n : ℕ) (count : w.handed ≡ 4) where
     past_text = refl;
   }
 
-pub alone : RunsAlone byte_records (AuditJob) (Audited 1 0 counts) (damaged) (audited) (answers_heard)
+pub alone : RunsAlone byte_records (AuditJob) (Audited 1 0 counts) (damaged) (byte_audited) (answers_heard)
 alone = record {
   faults = 0;
   before = omega arith;
-  ran = λ w n V. subst (λ u. RanAlone byte_records (AuditJob) (Audited 1 0 counts) (damaged) (audited) (answers_heard) 0 u n)
-      (form-is byte_records (one_byte w.bytes) (holds 0) (holds 1) (empty_provider) (holds 3) w (one_byte-is w.bytes (V.bytes named (record { name = named; id = 1; size = 1 }) refl).1) V)
+  ran = λ w n V. subst (λ u. RanAlone byte_records (AuditJob) (Audited 1 0 counts) (damaged) (byte_audited) (answers_heard) 0 u n)
+      (form-is byte_records (one_byte w.bytes) (holds 0) (holds 1) (empty_provider) (holds 3) w
+      (one_byte-is w.bytes (V.bytes named (record { name = named; id = 1; size = 1; profile = 0 }) refl).1) V)
       (ran-formed w n V.handed.count);
 }
 
-pub answers : Answers (AuditAll) (damaged) (audited) (ends_hearing 0 answers_heard)
+pub answers : Answers (AuditAll) (damaged) (byte_audited) (ends_hearing 0 answers_heard)
 answers = (
-  AnswersAlone.begun byte_records old-sure.known.opened (AnswersJob.ended (Audited 1 0 counts) begins-none alone
-      (left-alone byte_records (AuditJob) (Audited 1 0 counts) (damaged) (audited) (answers_heard)
+  AnswersAlone.begun byte_records old-sure.known.opened (AnswersJob.ended (Audited 1 0 counts) audit_begins alone
+      (left-alone byte_records (AuditJob) (Audited 1 0 counts) (damaged) (byte_audited) (answers_heard)
       (λ w last n O r. jobs-leave (AuditJob) w last n (Audited 1 0 counts) (answers_heard) tt O r) old-sure.known.opened refl alone)
       (record { written = inl (refl, refl); place = refl })),
   (refl, refl),

@@ -13,20 +13,18 @@ use Rattle.hail_machine.specs.Machine.{Happens}
 use Rattle.hail_machine.specs.Runs.{Moment}
 use Rattle.hail_machine.specs.States.{State, setup_in, with_provider}
 use Rattle.hail_commands.specs.Forms.{DropOf}
-use Rattle.hail_commands.specs.Refusals.{refusal_over}
 use Rattle.hail_commands.specs.JobRuns.{AreSteps}
 use Rattle.hail_commands.specs.Jobs.{RanAlone, RunsAlone, AnswersJob}
 use Rattle.hail_commands.specs.Commands.{AnswersAlone, Answers}
 use Rattle.command_laws.specs.Pieces.{moment}
-use Rattle.command_laws.proofs.Telling.{left-alone, jobs-leave}
-use Rattle.command_laws.proofs.BeginRefusals.{refusal-of}
-use Rattle.command_runs.specs.Devices.{named, byte_records, dropped_records, holds, robbed, ends, kept, dropped}
+use Rattle.job_laws.proofs.Telling.{left-alone, jobs-leave}
+use Rattle.job_laws.proofs.BeginRefusals.{refusal-of}
+use Rattle.command_runs.specs.Devices.{named, byte_records, dropped_records, holds, robbed, byte_kept, dropped}
+use Rattle.command_laws.specs.Instances.{ends}
 use Rattle.command_runs.proofs.Shape.{formed, form-is, one_byte, one_byte-is}
 use Rattle.command_runs.proofs.Counting.{robbed-counts}
 use Rattle.command_runs.proofs.Stores.{stored-sure as old-sure, dropped-new as new-sure}
-
-begins-none : refusal_over byte_records (DropJob named) ≡ None
-begins-none = refl
+use Rattle.command_runs.proofs.Begins.{drop_begins}
 
 module _ (w : State) (n : ℕ) (count : w.handed ≡ 4) where
   abbrev v : State
@@ -184,14 +182,14 @@ module _ (w : State) (n : ℕ) (count : w.handed ≡ 4) where
   each (suc (suc (suc zero))) l = refl
   each (suc (suc (suc (suc j)))) l = absurd (omega (arith, l))
 
-  ran-formed : RanAlone byte_records (DropJob named) (Dropped) (kept) (dropped) ([]) 0 v n
+  ran-formed : RanAlone byte_records (DropJob named) (Dropped) (byte_kept) (dropped) ([]) 0 v n
   unfolding steps spelling
   ran-formed = record {
     last = s9;
     runs = record {
       begun = s0;
       job = 1;
-      begins = (refl, refusal-of v (DropJob named) refl refl ∙ begins-none, refl, refl);
+      begins = (refl, refusal-of v (DropJob named) refl refl ∙ drop_begins, refl, refl);
       goes_on = record { steps = steps; are_steps = steps-are; ends = happens9 0; heard_is = refl };
     };
     images = λ image is. inl (inl (new-sure.images image is));
@@ -200,19 +198,20 @@ module _ (w : State) (n : ℕ) (count : w.handed ≡ 4) where
     past_text = refl;
   }
 
-pub alone : RunsAlone byte_records (DropJob named) (Dropped) (kept) (dropped) ([])
+pub alone : RunsAlone byte_records (DropJob named) (Dropped) (byte_kept) (dropped) ([])
 alone = record {
   faults = 0;
   before = omega arith;
-  ran = λ w n V. subst (λ u. RanAlone byte_records (DropJob named) (Dropped) (kept) (dropped) ([]) 0 u n)
-      (form-is byte_records (one_byte w.bytes) (holds 0) (holds 1) (holds 2) (holds 3) w (one_byte-is w.bytes (V.bytes named (record { name = named; id = 1; size = 1 }) refl).1) V)
+  ran = λ w n V. subst (λ u. RanAlone byte_records (DropJob named) (Dropped) (byte_kept) (dropped) ([]) 0 u n)
+      (form-is byte_records (one_byte w.bytes) (holds 0) (holds 1) (holds 2) (holds 3) w
+      (one_byte-is w.bytes (V.bytes named (record { name = named; id = 1; size = 1; profile = 0 }) refl).1) V)
       (ran-formed w n V.handed.count);
 }
 
-pub answers : Answers (DropOf named) (kept) (dropped) (ends 0)
+pub answers : Answers (DropOf named) (byte_kept) (dropped) (ends 0)
 answers = (
-  AnswersAlone.begun byte_records old-sure.known.opened (AnswersJob.ended (Dropped) begins-none alone
-      (left-alone byte_records (DropJob named) (Dropped) (kept) (dropped) ([])
+  AnswersAlone.begun byte_records old-sure.known.opened (AnswersJob.ended (Dropped) drop_begins alone
+      (left-alone byte_records (DropJob named) (Dropped) (byte_kept) (dropped) ([])
       (λ w last n O r. jobs-leave (DropJob named) w last n (Dropped) ([]) refl O r) old-sure.known.opened refl alone)
       (record { written = inl (refl, refl); place = refl })),
   (refl, refl),

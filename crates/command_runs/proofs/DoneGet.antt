@@ -12,26 +12,28 @@ use Rattle.hail_machine.specs.Examples.{empty_provider}
 use Rattle.hail_machine.specs.Machine.{Happens}
 use Rattle.hail_machine.specs.Runs.{Moment}
 use Rattle.hail_machine.specs.States.{State, setup_in, with_provider}
+use Rattle.step_laws.proofs.ByteSteps.{block_sized}
 use Rattle.hail_commands.specs.Forms.{GetOf}
 use Rattle.hail_commands.specs.Refusals.{refusal_over}
 use Rattle.hail_commands.specs.JobRuns.{AreSteps}
 use Rattle.hail_commands.specs.Jobs.{RanAlone, RunsAlone, AnswersJob}
 use Rattle.hail_commands.specs.Commands.{AnswersAlone, Answers}
 use Rattle.command_laws.specs.Pieces.{moment}
-use Rattle.command_laws.proofs.Telling.{left-alone, jobs-leave}
-use Rattle.command_laws.proofs.BeginRefusals.{refusal-of}
-use Rattle.command_runs.specs.Devices.{named, byte, repaired_records, own_block, given_block, holds, fetched, ends_hearing, mended, got, blocks_heard}
+use Rattle.job_laws.proofs.Telling.{left-alone, jobs-leave}
+use Rattle.job_laws.proofs.BeginRefusals.{refusal-of}
+use Rattle.command_runs.specs.Devices.{named, byte_repaired_records, own_block, given_block, holds, fetched, ends_hearing, mended, got, own_blocks_heard}
+use Rattle.damage_run.specs.Schedule.{byte}
 use Rattle.command_runs.proofs.Shape.{formed, form-is, one_byte, one_byte-is}
 use Rattle.command_runs.proofs.Counting.{fetch-counts}
 use Rattle.command_runs.proofs.Stores.{mended-sure as old-sure, got-new as new-sure}
-use Rattle.damage_run.proofs.Values.{block_sized, symbols, all_give, byte_back}
+use Rattle.damage_run.proofs.Values.{symbols, all_give, byte_back}
 
-begins-none : refusal_over repaired_records (GetJob named) ≡ None
+begins-none : refusal_over byte_repaired_records (GetJob named) ≡ None
 begins-none = refl
 
 module _ (w : State) (n : ℕ) (count : w.handed ≡ 4) where
   abbrev v : State
-  v = formed repaired_records (one_byte w.bytes) (fetched (holds 0)) (fetched (holds 1)) (given_block 2 (fetched empty_provider)) (fetched (holds 3)) w
+  v = formed byte_repaired_records (one_byte w.bytes) (fetched (holds 0)) (fetched (holds 1)) (given_block 2 (fetched empty_provider)) (fetched (holds 3)) w
 
   abbrev base : Job
   base = new_job v n (GetJob named)
@@ -142,7 +144,7 @@ module _ (w : State) (n : ℕ) (count : w.handed ≡ 4) where
   each (suc (suc (suc zero))) l = refl
   each (suc (suc (suc (suc j)))) l = absurd (omega (arith, l))
 
-  ran-formed : RanAlone repaired_records (GetJob named) (Got byte) (mended) (got) (blocks_heard) 0 v n
+  ran-formed : RanAlone byte_repaired_records (GetJob named) (Got byte) (mended) (got) (own_blocks_heard) 0 v n
   unfolding steps spelling
   ran-formed = record {
     last = s6;
@@ -158,20 +160,21 @@ module _ (w : State) (n : ℕ) (count : w.handed ≡ 4) where
     past_text = refl;
   }
 
-pub alone : RunsAlone repaired_records (GetJob named) (Got byte) (mended) (got) (blocks_heard)
+pub alone : RunsAlone byte_repaired_records (GetJob named) (Got byte) (mended) (got) (own_blocks_heard)
 alone = record {
   faults = 0;
   before = omega arith;
-  ran = λ w n V. subst (λ u. RanAlone repaired_records (GetJob named) (Got byte) (mended) (got) (blocks_heard) 0 u n)
-      (form-is repaired_records (one_byte w.bytes) (fetched (holds 0)) (fetched (holds 1)) (given_block 2 (fetched empty_provider)) (fetched (holds 3)) w (one_byte-is w.bytes (V.bytes named (record { name = named; id = 1; size = 1 }) refl).1) V)
+  ran = λ w n V. subst (λ u. RanAlone byte_repaired_records (GetJob named) (Got byte) (mended) (got) (own_blocks_heard) 0 u n)
+      (form-is byte_repaired_records (one_byte w.bytes) (fetched (holds 0)) (fetched (holds 1)) (given_block 2 (fetched empty_provider)) (fetched (holds 3)) w
+      (one_byte-is w.bytes (V.bytes named (record { name = named; id = 1; size = 1; profile = 0 }) refl).1) V)
       (ran-formed w n V.handed.count);
 }
 
-pub answers : Answers (GetOf named) (mended) (got) (ends_hearing 0 blocks_heard)
+pub answers : Answers (GetOf named) (mended) (got) (ends_hearing 0 own_blocks_heard)
 answers = (
-  AnswersAlone.begun repaired_records old-sure.known.opened (AnswersJob.ended (Got byte) begins-none alone
-      (left-alone repaired_records (GetJob named) (Got byte) (mended) (got) (blocks_heard)
-      (λ w last n O r. jobs-leave (GetJob named) w last n (Got byte) (blocks_heard) refl O r) old-sure.known.opened refl alone)
+  AnswersAlone.begun byte_repaired_records old-sure.known.opened (AnswersJob.ended (Got byte) begins-none alone
+      (left-alone byte_repaired_records (GetJob named) (Got byte) (mended) (got) (own_blocks_heard)
+      (λ w last n O r. jobs-leave (GetJob named) w last n (Got byte) (own_blocks_heard) refl O r) old-sure.known.opened refl alone)
       (record { written = inl (refl, refl); place = refl })),
   (refl, refl),
 )

@@ -13,26 +13,25 @@ use Rattle.hail_machine.specs.Examples.{empty_provider}
 use Rattle.hail_machine.specs.Machine.{Happens}
 use Rattle.hail_machine.specs.Runs.{Moment}
 use Rattle.hail_machine.specs.States.{State, setup_in, with_provider}
+use Rattle.step_laws.proofs.ByteSteps.{block_sized}
 use Rattle.hail_commands.specs.Forms.{RepairDue}
-use Rattle.hail_commands.specs.Refusals.{refusal_over}
 use Rattle.hail_commands.specs.JobRuns.{AreSteps}
 use Rattle.hail_commands.specs.Jobs.{RanAlone, RunsAlone, AnswersJob}
 use Rattle.hail_commands.specs.Commands.{AnswersAlone, Answers}
 use Rattle.command_laws.specs.Pieces.{moment}
-use Rattle.command_laws.proofs.Telling.{left-alone, jobs-leave}
-use Rattle.command_laws.proofs.BeginRefusals.{refusal-of}
-use Rattle.command_runs.specs.Devices.{named, audited_records, repaired_records, own_block, given_block, holds, fetched, ends, due, repaired}
+use Rattle.job_laws.proofs.Telling.{left-alone, jobs-leave}
+use Rattle.job_laws.proofs.BeginRefusals.{refusal-of}
+use Rattle.command_runs.specs.Devices.{named, byte_audited_records, byte_repaired_records, own_block, given_block, holds, fetched, due, repaired}
+use Rattle.command_laws.specs.Instances.{ends}
 use Rattle.command_runs.proofs.Shape.{formed, form-is, one_byte, one_byte-is}
 use Rattle.command_runs.proofs.Counting.{fetch-counts, store-counts}
 use Rattle.command_runs.proofs.Stores.{due-sure as old-sure, repaired-new as new-sure}
-use Rattle.damage_run.proofs.Values.{block_sized, symbols, without_two_give}
-
-begins-none : refusal_over audited_records (RepairJob) ≡ None
-begins-none = refl
+use Rattle.damage_run.proofs.Values.{symbols, without_two_give}
+use Rattle.command_runs.proofs.Begins.{repair_begins}
 
 module _ (w : State) (n : ℕ) (count : w.handed ≡ 4) where
   abbrev v : State
-  v = formed audited_records (one_byte w.bytes) (holds 0) (holds 1) (empty_provider) (holds 3) w
+  v = formed byte_audited_records (one_byte w.bytes) (holds 0) (holds 1) (empty_provider) (holds 3) w
 
   abbrev base : Job
   base = new_job v n (RepairJob)
@@ -172,7 +171,7 @@ module _ (w : State) (n : ℕ) (count : w.handed ≡ 4) where
 
   abbrev s10 : State
   s10 = record v {
-    records = repaired_records;
+    records = byte_repaired_records;
     jobs = (record base { place = 10; given = Worked 1 0 symbols ∷ Fetched 3 1 0 (Some (own_block 3)) ∷ Fetched 2 1 0 (None) ∷ Fetched 1 1 0 (Some (own_block 1)) ∷ Fetched 0 1 0 (Some (own_block 0)) ∷ [] }) ∷ [];
     next_job = 2;
     append = None;
@@ -186,7 +185,7 @@ module _ (w : State) (n : ℕ) (count : w.handed ≡ 4) where
 
   abbrev s11 : State
   s11 = record v {
-    records = repaired_records;
+    records = byte_repaired_records;
     jobs = [];
     next_job = 2;
     append = None;
@@ -215,14 +214,14 @@ module _ (w : State) (n : ℕ) (count : w.handed ≡ 4) where
   each (suc (suc (suc zero))) l = refl
   each (suc (suc (suc (suc j)))) l = absurd (omega (arith, l))
 
-  ran-formed : RanAlone audited_records (RepairJob) (Repaired 1) (due) (repaired) ([]) 0 v n
+  ran-formed : RanAlone byte_audited_records (RepairJob) (Repaired 1) (due) (repaired) ([]) 0 v n
   unfolding steps spelling
   ran-formed = record {
     last = s11;
     runs = record {
       begun = s0;
       job = 1;
-      begins = (refl, refusal-of v (RepairJob) refl refl ∙ begins-none, refl, refl);
+      begins = (refl, refusal-of v (RepairJob) refl refl ∙ repair_begins, refl, refl);
       goes_on = record { steps = steps; are_steps = steps-are; ends = happens11 0; heard_is = refl };
     };
     images = λ image is. inl (inl (new-sure.images image is));
@@ -231,19 +230,20 @@ module _ (w : State) (n : ℕ) (count : w.handed ≡ 4) where
     past_text = refl;
   }
 
-pub alone : RunsAlone audited_records (RepairJob) (Repaired 1) (due) (repaired) ([])
+pub alone : RunsAlone byte_audited_records (RepairJob) (Repaired 1) (due) (repaired) ([])
 alone = record {
   faults = 0;
   before = omega arith;
-  ran = λ w n V. subst (λ u. RanAlone audited_records (RepairJob) (Repaired 1) (due) (repaired) ([]) 0 u n)
-      (form-is audited_records (one_byte w.bytes) (holds 0) (holds 1) (empty_provider) (holds 3) w (one_byte-is w.bytes (V.bytes named (record { name = named; id = 1; size = 1 }) refl).1) V)
+  ran = λ w n V. subst (λ u. RanAlone byte_audited_records (RepairJob) (Repaired 1) (due) (repaired) ([]) 0 u n)
+      (form-is byte_audited_records (one_byte w.bytes) (holds 0) (holds 1) (empty_provider) (holds 3) w
+      (one_byte-is w.bytes (V.bytes named (record { name = named; id = 1; size = 1; profile = 0 }) refl).1) V)
       (ran-formed w n V.handed.count);
 }
 
 pub answers : Answers (RepairDue) (due) (repaired) (ends 0)
 answers = (
-  AnswersAlone.begun audited_records old-sure.known.opened (AnswersJob.ended (Repaired 1) begins-none alone
-      (left-alone audited_records (RepairJob) (Repaired 1) (due) (repaired) ([])
+  AnswersAlone.begun byte_audited_records old-sure.known.opened (AnswersJob.ended (Repaired 1) repair_begins alone
+      (left-alone byte_audited_records (RepairJob) (Repaired 1) (due) (repaired) ([])
       (λ w last n O r. jobs-leave (RepairJob) w last n (Repaired 1) ([]) tt O r) old-sure.known.opened refl alone)
       (record { written = inl (refl, refl); place = refl })),
   (refl, refl),

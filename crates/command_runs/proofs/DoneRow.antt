@@ -4,24 +4,22 @@ use Rattle.poly_laws.specs.Poly.{value as value_over, agree as agree_over, is_se
 use Rattle.hail_field.specs.Nim.{nim, nim_add}
 use Rattle.hail_field.specs.Shape.{IsShape}
 use Rattle.hail_field.proofs.AllNumbers.{nim_laws}
-use Rattle.hail_codes.specs.Polynomials.{value, agree}
+use Rattle.hail_codes.specs.Polynomials.{agree}
 use Rattle.hail_codes.specs.Points.{upto, values_at}
 use Rattle.hail_codes.specs.DispersalCode.{Accepts}
+use Rattle.hail_codes.proofs.Values.{value-constant}
 use Rattle.hail_commands.specs.Forms.{RowOf}
 use Rattle.hail_commands.specs.Line.{values_line}
 use Rattle.hail_commands.specs.Commands.{Answers}
-use Rattle.command_runs.specs.Devices.{with_sink, kept, ends}
+use Rattle.command_runs.specs.Devices.{byte_kept}
+use Rattle.command_laws.specs.Instances.{with_sink, ends}
 
 abbrev pub sevens : List (Option ℕ)
 sevens = Some 7 ∷ Some 7 ∷ Some 7 ∷ Some 9 ∷ []
 
-constant : (c x : ℕ) → value (c ∷ []) x ≡ c
-unfolding value_over
-constant c x = ap (nim_add c) (nim_laws.ring.mul_zero x) ∙ nim_laws.ring.add_zero c
-
 agreed : (c : ℕ) → agree (c ∷ []) (upto 4) sevens ≡ cond (nim.eq 7 c) 1 0 + (cond (nim.eq 7 c) 1 0 + (cond (nim.eq 7 c) 1 0 + (cond (nim.eq 9 c) 1 0 + 0)))
 unfolding agree_over is_seen_over
-agreed c = rw (constant c 0, constant c 1, constant c 2, constant c 3) refl
+agreed c = rw (value-constant c 0, value-constant c 1, value-constant c 2, value-constant c 3) refl
 
 none : agree [] (upto 4) sevens ≡ 0
 unfolding agree_over is_seen_over value_over
@@ -38,7 +36,7 @@ enough n m e h = omega (arith, e, h)
 only : (p : List ℕ) → Accepts (upto 4) sevens 1 1 p → values_at (upto 1) p ≡ 7 ∷ []
 only [] a = absurd (omega (arith, a.agrees, none))
 only (c ∷ []) a = (let seven : 7 ≡ c = nim_laws.eq_true 7 c (thrice (nim.eq 7 c) (nim.eq 9 c) (enough _ _ (agreed c) a.agrees)) in
-    ap (λ v. v ∷ []) (constant c 0 ∙ sym seven))
+    ap (λ v. v ∷ []) (value-constant c 0 ∙ sym seven))
 only (c ∷ d ∷ p) a = absurd (omega (arith, a.degree))
 
 accepted : Accepts (upto 4) sevens 1 1 (7 ∷ [])
@@ -47,7 +45,7 @@ accepted = record { degree = omega arith; agrees = (let e : agree (7 ∷ []) (up
 row_shape : IsShape 4 1 1
 row_shape = (omega arith, omega arith, omega arith, omega arith, omega arith)
 
-pub done-row : Answers (RowOf 4 1 1 sevens) kept (with_sink kept (values_line (7 ∷ []))) (ends 0)
+pub done-row : Answers (RowOf 4 1 1 sevens) byte_kept (with_sink byte_kept (values_line (7 ∷ []))) (ends 0)
 done-row = (
   record {
     no_shape = λ no. absurd (no row_shape);

@@ -8,26 +8,23 @@ use Rattle.hail_machine.specs.Actions.{actions_of}
 use Rattle.hail_machine.specs.Answers.{Lost}
 use Rattle.hail_machine.specs.Begins.{new_job}
 use Rattle.hail_machine.specs.Events.{Step, More, Ended}
-use Rattle.hail_machine.specs.Examples.{four}
+use Rattle.hail_records.specs.Examples.{four}
 use Rattle.hail_machine.specs.Machine.{Happens}
 use Rattle.hail_machine.specs.Runs.{Moment}
 use Rattle.hail_machine.specs.States.{State, setup_in, with_provider}
 use Rattle.hail_commands.specs.Forms.{GetOf}
-use Rattle.hail_commands.specs.Refusals.{refusal_over}
 use Rattle.hail_commands.specs.JobRuns.{AreSteps}
 use Rattle.hail_commands.specs.Jobs.{RanAlone, RunsAlone, AnswersJob}
 use Rattle.hail_commands.specs.Commands.{AnswersAlone, Answers}
 use Rattle.command_laws.specs.Pieces.{moment}
-use Rattle.command_laws.proofs.Telling.{left-alone, jobs-leave}
-use Rattle.command_laws.proofs.BeginRefusals.{refusal-of}
-use Rattle.command_runs.specs.Devices.{named, byte_records, hidden, hidden_fetched, silent, fetched, ends_hearing, no_blocks}
+use Rattle.job_laws.proofs.Telling.{left-alone, jobs-leave}
+use Rattle.job_laws.proofs.BeginRefusals.{refusal-of}
+use Rattle.command_runs.specs.Devices.{named, byte_records, all_hidden, hidden_fetched, silent, fetched, ends_hearing, no_blocks}
 use Rattle.command_runs.proofs.Shape.{formed, form-is, one_byte, one_byte-is}
 use Rattle.command_runs.proofs.Counting.{fetch-counts}
 use Rattle.column_laws.proofs.Worked.{none-lose}
 use Rattle.command_runs.proofs.Stores.{hidden-opened}
-
-begins-none : refusal_over byte_records (GetJob named) ≡ None
-begins-none = refl
+use Rattle.command_runs.proofs.Begins.{get_begins}
 
 module _ (w : State) (n : ℕ) (count : w.handed ≡ 4) where
   abbrev v : State
@@ -131,14 +128,14 @@ module _ (w : State) (n : ℕ) (count : w.handed ≡ 4) where
   each (suc (suc (suc zero))) l = refl
   each (suc (suc (suc (suc j)))) l = absurd (omega (arith, l))
 
-  ran-formed : RanAlone byte_records (GetJob named) (Lost 0 0) (hidden) (hidden_fetched) (no_blocks) 0 v n
+  ran-formed : RanAlone byte_records (GetJob named) (Lost 0 0) (all_hidden) (hidden_fetched) (no_blocks) 0 v n
   unfolding steps spelling
   ran-formed = record {
     last = s5;
     runs = record {
       begun = s0;
       job = 1;
-      begins = (refl, refusal-of v (GetJob named) refl refl ∙ begins-none, refl, refl);
+      begins = (refl, refusal-of v (GetJob named) refl refl ∙ get_begins, refl, refl);
       goes_on = record { steps = steps; are_steps = steps-are; ends = happens5 0; heard_is = refl };
     };
     images = tt;
@@ -147,19 +144,20 @@ module _ (w : State) (n : ℕ) (count : w.handed ≡ 4) where
     past_text = refl;
   }
 
-pub alone : RunsAlone byte_records (GetJob named) (Lost 0 0) (hidden) (hidden_fetched) (no_blocks)
+pub alone : RunsAlone byte_records (GetJob named) (Lost 0 0) (all_hidden) (hidden_fetched) (no_blocks)
 alone = record {
   faults = 0;
   before = omega arith;
-  ran = λ w n V. subst (λ u. RanAlone byte_records (GetJob named) (Lost 0 0) (hidden) (hidden_fetched) (no_blocks) 0 u n)
-      (form-is byte_records (one_byte w.bytes) (silent) (silent) (silent) (silent) w (one_byte-is w.bytes (V.bytes named (record { name = named; id = 1; size = 1 }) refl).1) V)
+  ran = λ w n V. subst (λ u. RanAlone byte_records (GetJob named) (Lost 0 0) (all_hidden) (hidden_fetched) (no_blocks) 0 u n)
+      (form-is byte_records (one_byte w.bytes) (silent) (silent) (silent) (silent) w
+      (one_byte-is w.bytes (V.bytes named (record { name = named; id = 1; size = 1; profile = 0 }) refl).1) V)
       (ran-formed w n V.handed.count);
 }
 
-pub answers : Answers (GetOf named) (hidden) (hidden_fetched) (ends_hearing 4 no_blocks)
+pub answers : Answers (GetOf named) (all_hidden) (hidden_fetched) (ends_hearing 4 no_blocks)
 answers = (
-  AnswersAlone.begun byte_records hidden-opened (AnswersJob.ended (Lost 0 0) begins-none alone
-      (left-alone byte_records (GetJob named) (Lost 0 0) (hidden) (hidden_fetched) (no_blocks)
+  AnswersAlone.begun byte_records hidden-opened (AnswersJob.ended (Lost 0 0) get_begins alone
+      (left-alone byte_records (GetJob named) (Lost 0 0) (all_hidden) (hidden_fetched) (no_blocks)
       (λ w last n O r. jobs-leave (GetJob named) w last n (Lost 0 0) (no_blocks) refl O r) hidden-opened refl alone)
       (record { status_is = refl; place = refl; sink = refl })),
   (refl, refl),

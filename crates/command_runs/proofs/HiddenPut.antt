@@ -9,26 +9,23 @@ use Rattle.hail_machine.specs.Actions.{actions_of}
 use Rattle.hail_machine.specs.Answers.{Put}
 use Rattle.hail_machine.specs.Begins.{new_job}
 use Rattle.hail_machine.specs.Events.{Step, More, Ended}
-use Rattle.hail_machine.specs.Examples.{four}
 use Rattle.hail_machine.specs.Machine.{Happens}
 use Rattle.hail_machine.specs.Runs.{Moment}
 use Rattle.hail_machine.specs.States.{State, setup_in, with_provider}
 use Rattle.hail_commands.specs.Forms.{PutUnder}
-use Rattle.hail_commands.specs.Refusals.{refusal_over}
 use Rattle.hail_commands.specs.JobRuns.{AreSteps}
 use Rattle.hail_commands.specs.Jobs.{RanAlone, RunsAlone, AnswersJob}
 use Rattle.hail_commands.specs.Commands.{AnswersPut, Answers}
 use Rattle.command_laws.specs.Pieces.{moment}
-use Rattle.command_laws.proofs.Telling.{left-alone, jobs-leave}
-use Rattle.command_laws.proofs.BeginRefusals.{refusal-of}
-use Rattle.command_laws.proofs.Chains.{put-begins}
-use Rattle.command_runs.specs.Devices.{named, byte, four_records, started_records, byte_records, given_block, hidden, silent, ends}
+use Rattle.job_laws.proofs.Telling.{left-alone, jobs-leave}
+use Rattle.job_laws.proofs.BeginRefusals.{refusal-of}
+use Rattle.command_runs.specs.Devices.{named, four_records, started_records, byte_records, given_block, all_hidden, silent}
+use Rattle.damage_run.specs.Schedule.{byte}
+use Rattle.command_laws.specs.Instances.{ends}
 use Rattle.command_runs.proofs.Shape.{formed, form-is}
 use Rattle.command_runs.proofs.Counting.{store-counts}
 use Rattle.command_runs.proofs.Stores.{hidden-fresh}
-
-begins-none : refusal_over four_records (PutJob named byte) ≡ None
-begins-none = put-begins four named byte refl (omega arith)
+use Rattle.command_runs.proofs.Begins.{put_begins}
 
 module _ (w : State) (n : ℕ) (count : w.handed ≡ 4) where
   abbrev v : State
@@ -248,21 +245,21 @@ module _ (w : State) (n : ℕ) (count : w.handed ≡ 4) where
   unfolding steps
   steps-are = (refl, refl, happens12 0, (refl, refl, happens11 0, (refl, refl, happens10 0, (refl, refl, happens9 0, (refl, refl, happens8 0, (refl, refl, happens7 0, (refl, refl, happens6 0, (refl, refl, happens5 0, (refl, refl, happens4 0, (refl, refl, happens3 0, (refl, refl, happens2 0, (refl, refl, happens1 0, tt))))))))))))
 
-  each : (j : ℕ) → j < 4 → slice_get (hidden).providers j ≡ Some (s13.providers j)
+  each : (j : ℕ) → j < 4 → slice_get (all_hidden).providers j ≡ Some (s13.providers j)
   each zero l = refl
   each (suc zero) l = refl
   each (suc (suc zero)) l = refl
   each (suc (suc (suc zero))) l = refl
   each (suc (suc (suc (suc j)))) l = absurd (omega (arith, l))
 
-  ran-formed : RanAlone four_records (PutJob named byte) (Put) (hidden) (hidden) ([]) 0 v n
+  ran-formed : RanAlone four_records (PutJob named byte) (Put) (all_hidden) (all_hidden) ([]) 0 v n
   unfolding steps spelling
   ran-formed = record {
     last = s13;
     runs = record {
       begun = s0;
       job = 1;
-      begins = (refl, refusal-of v (PutJob named byte) refl refl ∙ begins-none, refl, refl);
+      begins = (refl, refusal-of v (PutJob named byte) refl refl ∙ put_begins, refl, refl);
       goes_on = record { steps = steps; are_steps = steps-are; ends = happens13 0; heard_is = refl };
     };
     images = tt;
@@ -271,18 +268,18 @@ module _ (w : State) (n : ℕ) (count : w.handed ≡ 4) where
     past_text = refl;
   }
 
-pub alone : RunsAlone four_records (PutJob named byte) (Put) (hidden) (hidden) ([])
+pub alone : RunsAlone four_records (PutJob named byte) (Put) (all_hidden) (all_hidden) ([])
 alone = record {
   faults = 0;
   before = omega arith;
-  ran = λ w n V. subst (λ u. RanAlone four_records (PutJob named byte) (Put) (hidden) (hidden) ([]) 0 u n)
+  ran = λ w n V. subst (λ u. RanAlone four_records (PutJob named byte) (Put) (all_hidden) (all_hidden) ([]) 0 u n)
       (form-is four_records w.bytes (silent) (silent) (silent) (silent) w refl V)
       (ran-formed w n V.handed.count);
 }
 
-pub answers : Answers (PutUnder named) (hidden) (hidden) (ends 0)
+pub answers : Answers (PutUnder named) (all_hidden) (all_hidden) (ends 0)
 answers = AnswersPut.begun four_records byte hidden-fresh (record { are_bytes = refl; front = refl; few = omega arith; end = λ l. tt })
-    (AnswersJob.ended (Put) begins-none alone
-    (left-alone four_records (PutJob named byte) (Put) (hidden) (hidden) ([])
+    (AnswersJob.ended (Put) put_begins alone
+    (left-alone four_records (PutJob named byte) (Put) (all_hidden) (all_hidden) ([])
     (λ w last n O r. jobs-leave (PutJob named byte) w last n (Put) ([]) (refl, refl) O r) hidden-fresh refl alone)
     (record { written = inl (refl, refl); place = refl }))

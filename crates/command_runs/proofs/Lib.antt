@@ -1,3 +1,4 @@
+pub mod Begins
 pub mod Shape
 pub mod Stores
 pub mod StoredPut

@@ -8,26 +8,24 @@ use Rattle.hail_machine.specs.Actions.{actions_of}
 use Rattle.hail_machine.specs.Answers.{Lost}
 use Rattle.hail_machine.specs.Begins.{new_job}
 use Rattle.hail_machine.specs.Events.{Step, More, Ended}
-use Rattle.hail_machine.specs.Examples.{four, empty_provider}
+use Rattle.hail_machine.specs.Examples.{empty_provider}
+use Rattle.hail_records.specs.Examples.{four}
 use Rattle.hail_machine.specs.Machine.{Happens}
 use Rattle.hail_machine.specs.Runs.{Moment}
 use Rattle.hail_machine.specs.States.{State, setup_in, with_provider}
 use Rattle.hail_commands.specs.Forms.{GetOf}
-use Rattle.hail_commands.specs.Refusals.{refusal_over}
 use Rattle.hail_commands.specs.JobRuns.{AreSteps}
 use Rattle.hail_commands.specs.Jobs.{RanAlone, RunsAlone, AnswersJob}
 use Rattle.hail_commands.specs.Commands.{AnswersAlone, Answers}
 use Rattle.command_laws.specs.Pieces.{moment}
-use Rattle.command_laws.proofs.Telling.{left-alone, jobs-leave}
-use Rattle.command_laws.proofs.BeginRefusals.{refusal-of}
+use Rattle.job_laws.proofs.Telling.{left-alone, jobs-leave}
+use Rattle.job_laws.proofs.BeginRefusals.{refusal-of}
 use Rattle.command_runs.specs.Devices.{named, byte_records, fetched, ends_hearing, all_lost, found_lost, no_blocks}
 use Rattle.command_runs.proofs.Shape.{formed, form-is, one_byte, one_byte-is}
 use Rattle.command_runs.proofs.Counting.{fetch-counts}
 use Rattle.column_laws.proofs.Worked.{none-lose}
 use Rattle.command_runs.proofs.Stores.{robbed-old as old-sure, lost-new as new-sure}
-
-begins-none : refusal_over byte_records (GetJob named) ≡ None
-begins-none = refl
+use Rattle.command_runs.proofs.Begins.{get_begins}
 
 module _ (w : State) (n : ℕ) (count : w.handed ≡ 4) where
   abbrev v : State
@@ -138,7 +136,7 @@ module _ (w : State) (n : ℕ) (count : w.handed ≡ 4) where
     runs = record {
       begun = s0;
       job = 1;
-      begins = (refl, refusal-of v (GetJob named) refl refl ∙ begins-none, refl, refl);
+      begins = (refl, refusal-of v (GetJob named) refl refl ∙ get_begins, refl, refl);
       goes_on = record { steps = steps; are_steps = steps-are; ends = happens5 0; heard_is = refl };
     };
     images = λ image is. inl (inl (new-sure.images image is));
@@ -152,13 +150,14 @@ alone = record {
   faults = 0;
   before = omega arith;
   ran = λ w n V. subst (λ u. RanAlone byte_records (GetJob named) (Lost 0 0) (all_lost) (found_lost) (no_blocks) 0 u n)
-      (form-is byte_records (one_byte w.bytes) (empty_provider) (empty_provider) (empty_provider) (empty_provider) w (one_byte-is w.bytes (V.bytes named (record { name = named; id = 1; size = 1 }) refl).1) V)
+      (form-is byte_records (one_byte w.bytes) (empty_provider) (empty_provider) (empty_provider) (empty_provider) w
+      (one_byte-is w.bytes (V.bytes named (record { name = named; id = 1; size = 1; profile = 0 }) refl).1) V)
       (ran-formed w n V.handed.count);
 }
 
 pub answers : Answers (GetOf named) (all_lost) (found_lost) (ends_hearing 4 no_blocks)
 answers = (
-  AnswersAlone.begun byte_records old-sure.known.opened (AnswersJob.ended (Lost 0 0) begins-none alone
+  AnswersAlone.begun byte_records old-sure.known.opened (AnswersJob.ended (Lost 0 0) get_begins alone
       (left-alone byte_records (GetJob named) (Lost 0 0) (all_lost) (found_lost) (no_blocks)
       (λ w last n O r. jobs-leave (GetJob named) w last n (Lost 0 0) (no_blocks) refl O r) old-sure.known.opened refl alone)
       (record { status_is = refl; place = refl; sink = refl })),

@@ -8,30 +8,29 @@ use Rattle.hail_machine.specs.Actions.{actions_of}
 use Rattle.hail_machine.specs.Answers.{Lost}
 use Rattle.hail_machine.specs.Begins.{new_job}
 use Rattle.hail_machine.specs.Events.{Step, More, Ended}
-use Rattle.hail_machine.specs.Examples.{four, empty_provider}
+use Rattle.hail_machine.specs.Examples.{empty_provider}
+use Rattle.hail_records.specs.Examples.{four}
 use Rattle.hail_machine.specs.Machine.{Happens}
 use Rattle.hail_machine.specs.Runs.{Moment}
 use Rattle.hail_machine.specs.States.{State, setup_in, with_provider}
 use Rattle.hail_commands.specs.Forms.{RepairDue}
-use Rattle.hail_commands.specs.Refusals.{refusal_over}
 use Rattle.hail_commands.specs.JobRuns.{AreSteps}
 use Rattle.hail_commands.specs.Jobs.{RanAlone, RunsAlone, AnswersJob}
 use Rattle.hail_commands.specs.Commands.{AnswersAlone, Answers}
 use Rattle.command_laws.specs.Pieces.{moment}
-use Rattle.command_laws.proofs.Telling.{left-alone, jobs-leave}
-use Rattle.command_laws.proofs.BeginRefusals.{refusal-of}
-use Rattle.command_runs.specs.Devices.{named, audited_records, fetched, ends, due_lost, repair_lost}
+use Rattle.job_laws.proofs.Telling.{left-alone, jobs-leave}
+use Rattle.job_laws.proofs.BeginRefusals.{refusal-of}
+use Rattle.command_runs.specs.Devices.{named, byte_audited_records, fetched, due_lost, repair_lost}
+use Rattle.command_laws.specs.Instances.{ends}
 use Rattle.command_runs.proofs.Shape.{formed, form-is, one_byte, one_byte-is}
 use Rattle.command_runs.proofs.Counting.{fetch-counts}
 use Rattle.column_laws.proofs.Worked.{none-lose}
 use Rattle.command_runs.proofs.Stores.{robbed_due-old as old-sure, lost_due-new as new-sure}
-
-begins-none : refusal_over audited_records (RepairJob) ≡ None
-begins-none = refl
+use Rattle.command_runs.proofs.Begins.{repair_begins}
 
 module _ (w : State) (n : ℕ) (count : w.handed ≡ 4) where
   abbrev v : State
-  v = formed audited_records (one_byte w.bytes) (empty_provider) (empty_provider) (empty_provider) (empty_provider) w
+  v = formed byte_audited_records (one_byte w.bytes) (empty_provider) (empty_provider) (empty_provider) (empty_provider) w
 
   abbrev base : Job
   base = new_job v n (RepairJob)
@@ -131,14 +130,14 @@ module _ (w : State) (n : ℕ) (count : w.handed ≡ 4) where
   each (suc (suc (suc zero))) l = refl
   each (suc (suc (suc (suc j)))) l = absurd (omega (arith, l))
 
-  ran-formed : RanAlone audited_records (RepairJob) (Lost 0 0) (due_lost) (repair_lost) ([]) 0 v n
+  ran-formed : RanAlone byte_audited_records (RepairJob) (Lost 0 0) (due_lost) (repair_lost) ([]) 0 v n
   unfolding steps spelling
   ran-formed = record {
     last = s5;
     runs = record {
       begun = s0;
       job = 1;
-      begins = (refl, refusal-of v (RepairJob) refl refl ∙ begins-none, refl, refl);
+      begins = (refl, refusal-of v (RepairJob) refl refl ∙ repair_begins, refl, refl);
       goes_on = record { steps = steps; are_steps = steps-are; ends = happens5 0; heard_is = refl };
     };
     images = λ image is. inl (inl (new-sure.images image is));
@@ -147,19 +146,20 @@ module _ (w : State) (n : ℕ) (count : w.handed ≡ 4) where
     past_text = refl;
   }
 
-pub alone : RunsAlone audited_records (RepairJob) (Lost 0 0) (due_lost) (repair_lost) ([])
+pub alone : RunsAlone byte_audited_records (RepairJob) (Lost 0 0) (due_lost) (repair_lost) ([])
 alone = record {
   faults = 0;
   before = omega arith;
-  ran = λ w n V. subst (λ u. RanAlone audited_records (RepairJob) (Lost 0 0) (due_lost) (repair_lost) ([]) 0 u n)
-      (form-is audited_records (one_byte w.bytes) (empty_provider) (empty_provider) (empty_provider) (empty_provider) w (one_byte-is w.bytes (V.bytes named (record { name = named; id = 1; size = 1 }) refl).1) V)
+  ran = λ w n V. subst (λ u. RanAlone byte_audited_records (RepairJob) (Lost 0 0) (due_lost) (repair_lost) ([]) 0 u n)
+      (form-is byte_audited_records (one_byte w.bytes) (empty_provider) (empty_provider) (empty_provider) (empty_provider) w
+      (one_byte-is w.bytes (V.bytes named (record { name = named; id = 1; size = 1; profile = 0 }) refl).1) V)
       (ran-formed w n V.handed.count);
 }
 
 pub answers : Answers (RepairDue) (due_lost) (repair_lost) (ends 4)
 answers = (
-  AnswersAlone.begun audited_records old-sure.known.opened (AnswersJob.ended (Lost 0 0) begins-none alone
-      (left-alone audited_records (RepairJob) (Lost 0 0) (due_lost) (repair_lost) ([])
+  AnswersAlone.begun byte_audited_records old-sure.known.opened (AnswersJob.ended (Lost 0 0) repair_begins alone
+      (left-alone byte_audited_records (RepairJob) (Lost 0 0) (due_lost) (repair_lost) ([])
       (λ w last n O r. jobs-leave (RepairJob) w last n (Lost 0 0) ([]) tt O r) old-sure.known.opened refl alone)
       (record { status_is = refl; place = refl; sink = refl })),
   (refl, refl),

@@ -5,16 +5,19 @@ use Rattle.std.proofs.lemmas.Bool.{ne_eqb}
 use Rattle.hail_columns.specs.Columns.{columns, is_wrong}
 use Rattle.hail_columns.specs.Verdicts.{is_flagged}
 use Rattle.hail_devices.specs.Faults.{Rose}
+use Rattle.column_laws.proofs.Worked.{column-right}
 use Rattle.hail_machine.specs.Setups.{object_of}
-use Rattle.hail_machine.specs.Examples.{four}
+use Rattle.hail_records.specs.Examples.{four}
 use Rattle.hail_commands.specs.Seen.{provider_at}
-use Rattle.step_laws.proofs.GivesRight.{own_not_wrong}
 use Rattle.command_laws.specs.After.{HasRightFile, IsUntouched, IsSteady, is_wrong_at}
-use Rattle.command_laws.specs.Failing.{bad_seen}
+use Rattle.job_laws.specs.Failing.{bad_seen}
 use Rattle.command_laws.proofs.FilesStay.{bad-few}
 use Rattle.command_laws.proofs.Samples.{never-rises}
 use Rattle.command_runs.proofs.Shape.{first_of}
-use Rattle.command_runs.specs.Devices.{named, other_name, byte, counts, byte_records, audited_records, repaired_records, to_put_other, stored, damaged, due, repaired, mended, got, hidden, none_hold, three_hold, repair_cut}
+use Rattle.command_runs.specs.Devices.{named, byte_records, byte_audited_records, byte_repaired_records, to_put_other, byte_stored, damaged, due, repaired, mended, got, all_hidden, none_hold, three_hold, repair_cut}
+use Rattle.damage_run.specs.Points.{counts}
+use Rattle.damage_run.specs.Schedule.{byte}
+use Rattle.command_laws.specs.Instances.{other_name}
 
 -- the provider whose block is lost, and another one
 abbrev pub second : ℕ → Bool
@@ -39,7 +42,7 @@ three-tell (suc (suc (suc zero))) l = refl
 three-tell (suc (suc (suc (suc j)))) l = absurd (omega (arith, l))
 
 -- of devices that tell nothing no count rises
-pub none-rises : (j : ℕ) → Rose (provider_at hidden.providers j).store_faults (provider_at hidden.providers j).store_faults → ⊥
+pub none-rises : (j : ℕ) → Rose (provider_at all_hidden.providers j).store_faults (provider_at all_hidden.providers j).store_faults → ⊥
 none-rises zero rose = never-rises 0 (omega arith) rose
 none-rises (suc zero) rose = never-rises 0 (omega arith) rose
 none-rises (suc (suc zero)) rose = never-rises 0 (omega arith) rose
@@ -49,20 +52,26 @@ none-rises (suc (suc (suc (suc j)))) rose = never-rises 0 (omega arith) rose
 -- the own block is right
 right_held : (j : ℕ) → is_wrong (object_of four 1) byte j (λ stripe. if (1 == 1) && (stripe == 0) then Some (columns (object_of four 1) byte j 0) else None) ≡ false
 unfolding is_wrong
-right_held j = rw (own_not_wrong (object_of four 1) byte j 0) refl
+right_held j = rw (column-right (object_of four 1) byte j 0) refl
 
-right-at : (j : ℕ) → j < 4 → second j ≡ false → is_wrong_at audited_records due 1 byte j ≡ false
+right-at : (j : ℕ) → j < 4 → second j ≡ false → is_wrong_at byte_audited_records due 1 byte j ≡ false
 right-at zero l s = right_held 0
 right-at (suc zero) l s = right_held 1
 right-at (suc (suc zero)) l s = (let e : true ≡ false = s in absurd (cc e))
 right-at (suc (suc (suc zero))) l s = right_held 3
 right-at (suc (suc (suc (suc j)))) l s = absurd (omega (arith, l))
 
-pub due-file : HasRightFile due audited_records named byte second
-due-file = record { file = record { name = named; id = 1; size = 1 }; in_effect = refl; are_bytes = refl; size = refl; right = right-at }
+pub due-file : HasRightFile due byte_audited_records named byte second
+due-file = record {
+  file = record { name = named; id = 1; size = 1; profile = 0 };
+  in_effect = refl;
+  are_bytes = refl;
+  size = refl;
+  right = right-at;
+}
 
 -- between the put and the audit that block is lost; nothing else changes, and no count rises
-pub robbed-untouched : IsUntouched 4 second stored damaged
+pub robbed-untouched : IsUntouched 4 second byte_stored damaged
 robbed-untouched zero l s = refl
 robbed-untouched (suc zero) l s = refl
 robbed-untouched (suc (suc zero)) l s = (let e : true ≡ false = s in absurd (cc e))
@@ -113,17 +122,29 @@ right-kept (suc (suc (suc zero))) l = right_held 3
 right-kept (suc (suc (suc (suc j)))) l = absurd (omega (arith, l))
 
 pub kept-file : HasRightFile to_put_other byte_records named byte (λ j. false)
-kept-file = record { file = record { name = named; id = 1; size = 1 }; in_effect = refl; are_bytes = refl; size = refl; right = λ j l s. right-kept j l }
+kept-file = record {
+  file = record { name = named; id = 1; size = 1; profile = 0 };
+  in_effect = refl;
+  are_bytes = refl;
+  size = refl;
+  right = λ j l s. right-kept j l;
+}
 
-right-mended : (j : ℕ) → j < 4 → is_wrong_at repaired_records mended 1 byte j ≡ false
+right-mended : (j : ℕ) → j < 4 → is_wrong_at byte_repaired_records mended 1 byte j ≡ false
 right-mended zero l = right_held 0
 right-mended (suc zero) l = right_held 1
 right-mended (suc (suc zero)) l = right_held 2
 right-mended (suc (suc (suc zero))) l = right_held 3
 right-mended (suc (suc (suc (suc j)))) l = absurd (omega (arith, l))
 
-pub mended-file : HasRightFile mended repaired_records named byte (λ j. false)
-mended-file = record { file = record { name = named; id = 1; size = 1 }; in_effect = refl; are_bytes = refl; size = refl; right = λ j l s. right-mended j l }
+pub mended-file : HasRightFile mended byte_repaired_records named byte (λ j. false)
+mended-file = record {
+  file = record { name = named; id = 1; size = 1; profile = 0 };
+  in_effect = refl;
+  are_bytes = refl;
+  size = refl;
+  right = λ j l s. right-mended j l;
+}
 
 right-damaged : (j : ℕ) → j < 4 → second j ≡ false → is_wrong_at byte_records damaged 1 byte j ≡ false
 right-damaged zero l s = right_held 0
@@ -133,12 +154,18 @@ right-damaged (suc (suc (suc zero))) l s = right_held 3
 right-damaged (suc (suc (suc (suc j)))) l s = absurd (omega (arith, l))
 
 pub damaged-file : HasRightFile damaged byte_records named byte second
-damaged-file = record { file = record { name = named; id = 1; size = 1 }; in_effect = refl; are_bytes = refl; size = refl; right = right-damaged }
+damaged-file = record {
+  file = record { name = named; id = 1; size = 1; profile = 0 };
+  in_effect = refl;
+  are_bytes = refl;
+  size = refl;
+  right = right-damaged;
+}
 
 -- at most one provider is wrong for it, or failed
-pub few-bad : bad_seen audited_records due repaired 1 byte ≤ 1
+pub few-bad : bad_seen byte_audited_records due repaired 1 byte ≤ 1
 unfolding due-file
-few-bad = within _ (bad-few named byte audited_records second due repaired due-file (λ j below clean rose. repair-steady second j below clean rose))
+few-bad = within _ (bad-few named byte byte_audited_records second due repaired due-file (λ j below clean rose. repair-steady second j below clean rose))
   where
     within : (n : ℕ) → n ≤ 1 → n ≤ 1
     within n l = l

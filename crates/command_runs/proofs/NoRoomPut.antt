@@ -7,25 +7,23 @@ use Rattle.hail_machine.specs.Actions.{actions_of}
 use Rattle.hail_machine.specs.Answers.{Memory}
 use Rattle.hail_machine.specs.Begins.{new_job}
 use Rattle.hail_machine.specs.Events.{Step, More, Ended}
-use Rattle.hail_machine.specs.Examples.{four, empty_provider}
+use Rattle.hail_machine.specs.Examples.{empty_provider}
 use Rattle.hail_machine.specs.Machine.{Happens}
 use Rattle.hail_machine.specs.Runs.{Moment}
 use Rattle.hail_machine.specs.States.{State, setup_in}
 use Rattle.hail_commands.specs.Forms.{PutUnder}
-use Rattle.hail_commands.specs.Refusals.{refusal_over}
 use Rattle.hail_commands.specs.JobRuns.{AreSteps}
 use Rattle.hail_commands.specs.Jobs.{RanAlone, RunsAlone, AnswersJob}
 use Rattle.hail_commands.specs.Commands.{AnswersPut, Answers}
 use Rattle.command_laws.specs.Pieces.{moment}
-use Rattle.command_laws.proofs.Telling.{left-alone, jobs-leave}
-use Rattle.command_laws.proofs.BeginRefusals.{refusal-of}
-use Rattle.command_laws.proofs.Chains.{put-begins}
-use Rattle.command_runs.specs.Devices.{named, byte, four_records, ends, to_put, put_unmade}
+use Rattle.job_laws.proofs.Telling.{left-alone, jobs-leave}
+use Rattle.job_laws.proofs.BeginRefusals.{refusal-of}
+use Rattle.command_runs.specs.Devices.{named, four_records, to_put, put_unmade}
+use Rattle.damage_run.specs.Schedule.{byte}
+use Rattle.command_laws.specs.Instances.{ends}
 use Rattle.command_runs.proofs.Shape.{formed, form-is}
 use Rattle.command_runs.proofs.Stores.{put-old as old-sure, no_room-new as new-sure}
-
-begins-none : refusal_over four_records (PutJob named byte) ≡ None
-begins-none = put-begins four named byte refl (omega arith)
+use Rattle.command_runs.proofs.Begins.{put_begins}
 
 module _ (w : State) (n : ℕ) (count : w.handed ≡ 4) where
   abbrev v : State
@@ -68,7 +66,7 @@ module _ (w : State) (n : ℕ) (count : w.handed ≡ 4) where
     runs = record {
       begun = s0;
       job = 1;
-      begins = (refl, refusal-of v (PutJob named byte) refl refl ∙ begins-none, refl, refl);
+      begins = (refl, refusal-of v (PutJob named byte) refl refl ∙ put_begins, refl, refl);
       goes_on = record { steps = steps; are_steps = steps-are; ends = happens1 0; heard_is = refl };
     };
     images = λ image is. inl (inl (new-sure.images image is));
@@ -88,7 +86,7 @@ alone = record {
 
 pub answers : Answers (PutUnder named) (to_put) (put_unmade) (ends 70)
 answers = AnswersPut.begun four_records byte old-sure.known.opened (record { are_bytes = refl; front = refl; few = omega arith; end = λ l. refl })
-    (AnswersJob.ended (Memory) begins-none alone
+    (AnswersJob.ended (Memory) put_begins alone
     (left-alone four_records (PutJob named byte) (Memory) (to_put) (put_unmade) ([])
     (λ w last n O r. jobs-leave (PutJob named byte) w last n (Memory) ([]) (refl, refl) O r) old-sure.known.opened refl alone)
     (record { status_is = refl; place = refl; sink = refl }))

@@ -11,10 +11,8 @@ use Rattle.hail_codes.specs.Polynomials.{value, agree, is_seen}
 use Rattle.hail_codes.specs.Points.{upto}
 use Rattle.hail_codes.specs.DispersalCode.{AcceptsNone}
 use Rattle.hail_devices.specs.Cells.{firm}
-use Rattle.hail_devices.specs.Disks.{synced}
 use Rattle.hail_records.specs.Journal.{text, magic}
-use Rattle.hail_records.specs.Records.{Record}
-use Rattle.hail_machine.specs.Examples.{four}
+use Rattle.hail_records.specs.Examples.{four}
 use Rattle.hail_machine.specs.Refusals as refusal
 use Rattle.hail_commands.specs.Forms.{RowOf, InitWith, PutUnder, GetOf, ListAll, AuditAll, RepairDue}
 use Rattle.hail_commands.specs.Keys.{IsKeyForm}
@@ -26,29 +24,27 @@ use Rattle.hail_commands.specs.Jobs.{AnswersJob}
 use Rattle.hail_commands.specs.Line.{no_row_line}
 use Rattle.hail_commands.specs.Commands.{AnswersAlone, AnswersPut, AnswersList, Answers}
 use Rattle.hail_openings.proofs.Readings.{read-set_up}
-use Rattle.command_laws.proofs.Afterwards.{reads-firm}
-use Rattle.command_runs.specs.Devices.{with_source, with_sink, named, byte, other_name, four_records, byte_records, audited_records, key_text, good_numbers, bad_numbers, to_put, put_unmade, kept, due, dropped_records, after_drop, disk_failed, deserted, scrambled, hidden, ends}
+use Rattle.command_runs.specs.Devices.{with_source, named, four_records, byte_records, byte_audited_records, good_numbers, bad_numbers, to_put, put_unmade, byte_kept, due, dropped_records, seen_after_drop, disk_failed, deserted, scrambled, all_hidden}
+use Rattle.damage_run.specs.Schedule.{byte}
+use Rattle.command_laws.specs.Instances.{with_sink, key_text, other_name, ends}
 use Rattle.command_laws.specs.After.{IsSure}
+use Rattle.command_laws.proofs.Samples.{same-disk}
 use Rattle.command_runs.proofs.Shape.{sure}
 use Rattle.command_runs.proofs.Stores.{put-old, stored-sure, due-sure, dropped-fit, hidden-opened}
 
--- a disk with nothing loose is left as it is by a sync
-same-disk : (rs : List Record) → Some (firm (text rs)) ≡ Some (synced (firm (text rs)))
-same-disk rs = ap (λ bytes. Some (firm bytes)) (sym (reads-firm (text rs)))
-
 -- ---- faults, and want of memory
 
-pub disk-fault : Answers ListAll kept (disk_failed kept) (ends 12)
+pub disk-fault : Answers ListAll byte_kept (disk_failed byte_kept) (ends 12)
 disk-fault = (AnswersList.unstarted (Unstarted.disk_fault (λ low. omega arith) (record { status_is = refl; place = refl; heard = refl; disk = inl refl; providers = refl; sink = refl })), (refl, refl))
 
-pub no-memory : Answers ListAll kept kept (ends 70)
+pub no-memory : Answers ListAll byte_kept byte_kept (ends 70)
 no-memory = (AnswersList.unstarted (Unstarted.no_memory (record { status_is = refl; place = refl; heard = refl; disk = inl refl; providers = refl; sink = refl })), (refl, refl))
 
 pub source-fault : Answers (PutUnder named) to_put (record to_put { source_faults = 1 }) (ends 14)
 source-fault = AnswersPut.source_fault four_records put-old.known.opened (λ low. omega arith) (same-disk four_records)
     (record { bytes = []; front = refl; few = omega arith }) (record { status_is = refl; place = refl; heard = refl; disk = inl refl; providers = refl; sink = refl })
 
-pub sink-fault : Answers ListAll kept (record kept { sink_faults = 1 }) (ends 15)
+pub sink-fault : Answers ListAll byte_kept (record byte_kept { sink_faults = 1 }) (ends 15)
 unfolding digits
 sink-fault = (
   AnswersList.listed byte_records stored-sure.known.opened (record {
@@ -89,9 +85,9 @@ too-few = (AnswersList.unstarted (Unstarted.too_few_providers byte_records store
 -- ---- begins that are refused
 
 pub repair-due : Answers AuditAll due due (ends 6)
-repair-due = (AnswersAlone.begun audited_records due-sure.known.opened (AnswersJob.refused refusal.RepairDue refl (same-disk audited_records) (record { status_is = refl; place = refl; heard = refl; disk = inl refl; providers = refl; sink = refl })), (refl, refl))
+repair-due = (AnswersAlone.begun byte_audited_records due-sure.known.opened (AnswersJob.refused refusal.RepairDue refl (same-disk byte_audited_records) (record { status_is = refl; place = refl; heard = refl; disk = inl refl; providers = refl; sink = refl })), (refl, refl))
 
-pub nothing-due : Answers RepairDue kept kept (ends 7)
+pub nothing-due : Answers RepairDue byte_kept byte_kept (ends 7)
 nothing-due = (AnswersAlone.begun byte_records stored-sure.known.opened (AnswersJob.refused refusal.NothingDue refl (same-disk byte_records) (record { status_is = refl; place = refl; heard = refl; disk = inl refl; providers = refl; sink = refl })), (refl, refl))
 
 pub bad-name : Answers (PutUnder []) to_put put_unmade (ends 17)
@@ -99,10 +95,10 @@ bad-name = AnswersPut.begun four_records byte put-old.known.opened (record { are
     (AnswersJob.refused refusal.BadName refl (same-disk four_records) (record { status_is = refl; place = refl; heard = refl; disk = inl refl; providers = refl; sink = refl }))
 
 -- after its drop the file is gone
-gone-sure : IsSure after_drop dropped_records
-gone-sure = sure after_drop dropped_records dropped-fit refl (omega arith)
+gone-sure : IsSure seen_after_drop dropped_records
+gone-sure = sure seen_after_drop dropped_records dropped-fit refl (omega arith)
 
-pub gone : Answers (GetOf named) after_drop after_drop (ends 3)
+pub gone : Answers (GetOf named) seen_after_drop seen_after_drop (ends 3)
 gone = (AnswersAlone.begun dropped_records gone-sure.known.opened (AnswersJob.refused refusal.NoSuchName refl (same-disk dropped_records) (record { status_is = refl; place = refl; heard = refl; disk = inl refl; providers = refl; sink = refl })), (refl, refl))
 
 -- ---- an init
@@ -124,20 +120,20 @@ long_journal = elim (cases_lt 9 (length (journal_read (firm (text byte_records))
   | inr l ↦ absurd (read-set_up (firm (text byte_records)) byte_records stored-sure.known.opened.read (inl l))
 ]
 
-pub init-bad-setup : Answers (InitWith bad_numbers) kept kept (ends 20)
+pub init-bad-setup : Answers (InitWith bad_numbers) byte_kept byte_kept (ends 20)
 init-bad-setup = AnswersInit.bad_setup refl (refl, refl) (record { status_is = refl; place = refl; heard = refl; disk = inl refl; providers = refl; sink = refl })
 
 pub init-too-few : Answers (InitWith good_numbers) deserted deserted (ends 22)
 init-too-few = AnswersInit.too_few_providers shape_good (omega arith) (refl, refl) (record { status_is = refl; place = refl; heard = refl; disk = inl refl; providers = refl; sink = refl })
 
-pub init-source-fault : Answers (InitWith good_numbers) kept (record kept { source_faults = 1 }) (ends 14)
+pub init-source-fault : Answers (InitWith good_numbers) byte_kept (record byte_kept { source_faults = 1 }) (ends 14)
 init-source-fault = AnswersInit.source_fault shape_good (omega arith) (λ low. omega arith) (record { bytes = []; front = refl; few = omega arith }) (record { status_is = refl; place = refl; heard = refl; disk = inl refl; providers = refl; sink = refl })
 
-pub init-bad-key : Answers (InitWith good_numbers) kept kept (ends 18)
+pub init-bad-key : Answers (InitWith good_numbers) byte_kept byte_kept (ends 18)
 init-bad-key = AnswersInit.bad_key [] shape_good (omega arith) (record { are_bytes = refl; front = refl; few = omega arith; end = λ l. refl })
     (λ key form. no_front form.digits form.behind form.text_is form.size) (record { status_is = refl; place = refl; heard = refl; disk = inl refl; providers = refl; sink = refl })
 
-pub init-already : Answers (InitWith good_numbers) (with_source kept key_text) kept (ends 10)
+pub init-already : Answers (InitWith good_numbers) (with_source byte_kept key_text) byte_kept (ends 10)
 init-already = AnswersInit.keyed key_text four.master shape_good (omega arith) (record { are_bytes = refl; front = refl; few = omega arith; end = λ l. refl }) key-form
     (InitsDisk.already (long_journal, (byte_records, stored-sure.known.opened.read.reads_are.1, tt)) (record { status_is = refl; place = refl; heard = refl; disk = inl refl; providers = refl; sink = refl }))
 
@@ -164,7 +160,7 @@ none_accepted p h = (let few = at_most_two p 0 1 2 3 (Some 7) (Some 9) in let ma
 row_shape : IsShape 4 1 1
 row_shape = (omega arith, omega arith, omega arith, omega arith, omega arith)
 
-pub lost-row : Answers (RowOf 4 1 1 (None ∷ None ∷ Some 7 ∷ Some 9 ∷ [])) kept (with_sink kept no_row_line) (ends 4)
+pub lost-row : Answers (RowOf 4 1 1 (None ∷ None ∷ Some 7 ∷ Some 9 ∷ [])) byte_kept (with_sink byte_kept no_row_line) (ends 4)
 lost-row = (
   record { no_shape = λ no. absurd (no row_shape); lost = λ shape none. inl (refl, refl); held = λ shape p accepted. absurd (none_accepted p accepted) },
   record { disk = refl; disk_faults = refl; providers = refl; source = (refl, refl); place = refl; heard = refl },
@@ -172,11 +168,11 @@ lost-row = (
 
 -- ---- devices that tell nothing
 
-pub hidden-list : Answers ListAll hidden hidden (ends 0)
+pub hidden-list : Answers ListAll all_hidden all_hidden (ends 0)
 hidden-list = (AnswersList.listed byte_records hidden-opened (record { written = inl (refl, refl); place = refl; heard = refl; disk = refl; providers = refl }), (refl, refl))
 
-pub hidden-repair : Answers RepairDue hidden hidden (ends 7)
+pub hidden-repair : Answers RepairDue all_hidden all_hidden (ends 7)
 hidden-repair = (AnswersAlone.begun byte_records hidden-opened (AnswersJob.refused refusal.NothingDue refl refl (record { status_is = refl; place = refl; heard = refl; disk = tt; providers = refl; sink = refl })), (refl, refl))
 
-pub hidden-get : Answers (GetOf other_name) hidden hidden (ends 3)
+pub hidden-get : Answers (GetOf other_name) all_hidden all_hidden (ends 3)
 hidden-get = (AnswersAlone.begun byte_records hidden-opened (AnswersJob.refused refusal.NoSuchName refl refl (record { status_is = refl; place = refl; heard = refl; disk = tt; providers = refl; sink = refl })), (refl, refl))

@@ -11,12 +11,12 @@ use Rattle.hail_records.specs.Acceptance.{AreAccepted}
 use Rattle.hail_machine.specs.States.{State, with_provider}
 use Rattle.hail_machine.proofs.JobLists.{cond_true, cond_false}
 use Rattle.hail_devices.specs.Images.{EachImage}
+use Rattle.hail_devices.proofs.Lasting.{reads-firm, image-firm}
+use Rattle.hail_records.proofs.Standing.{stands-text}
 use Rattle.hail_commands.specs.Seen.{Seen}
-use Rattle.hail_commands.specs.Opens.{setup_at}
+use Rattle.hail_commands.specs.Opens.{setup_in_effect}
 use Rattle.hail_openings.specs.Opened.{IsOpenedOver}
 use Rattle.command_laws.specs.After.{IsSure}
-use Rattle.command_laws.proofs.Images.{image-firm}
-use Rattle.command_laws.proofs.Afterwards.{reads-firm}
 use Rattle.command_laws.proofs.Knowing.{known-good}
 
 -- ---- the providers
@@ -100,9 +100,6 @@ form-is rs bytes p q r s w same V =
 
 -- ---- stores that are known
 
-pub stands-text : (rs : List Record) → IsTrue (list_all is_in_grammar rs) → (image : List ℕ) → image ≡ text rs → StandsFor image rs
-stands-text rs all image is = record { in_grammar = all; gate = 0; rest = []; closed = λ e. omega (arith, e); bytes_are = is }
-
 -- records that a journal may hold and the fold accepts
 pub record AreFit (rs : List Record) : Type 0 where
   pub some : rs ≢ []
@@ -111,9 +108,9 @@ pub record AreFit (rs : List Record) : Type 0 where
   pub room : text_size rs ≤ largest_journal
 
 -- devices whose disk reads them are known
-pub sure : (s : Seen) (rs : List Record) → AreFit rs → s.disk ≡ Some (firm (text rs)) → (setup_at rs).n ≤ length s.providers → IsSure s rs
+pub sure : (s : Seen) (rs : List Record) → AreFit rs → s.disk ≡ Some (firm (text rs)) → (setup_in_effect rs).n ≤ length s.providers → IsSure s rs
 sure s rs fit is few = record {
-  known = known-good (setup_at rs) s (firm (text rs)) rs is
+  known = known-good (setup_in_effect rs) s (firm (text rs)) rs is
       (record { some = fit.some; accepted = fit.accepted; room = fit.room; setup = refl; stands = stands-text rs fit.all (reads (firm (text rs))) (reads-firm (text rs)) }) few;
   images = subst (λ told. EachImage told (λ image. StandsFor image rs)) (sym is) (λ image has. stands-text rs fit.all image (image-firm (text rs) image has));
 }

@@ -9,26 +9,24 @@ use Rattle.hail_machine.specs.Actions.{actions_of}
 use Rattle.hail_machine.specs.Answers.{Put}
 use Rattle.hail_machine.specs.Begins.{new_job}
 use Rattle.hail_machine.specs.Events.{Step, More, Ended}
-use Rattle.hail_machine.specs.Examples.{four, empty_provider}
+use Rattle.hail_machine.specs.Examples.{empty_provider}
 use Rattle.hail_machine.specs.Machine.{Happens}
 use Rattle.hail_machine.specs.Runs.{Moment}
 use Rattle.hail_machine.specs.States.{State, setup_in, with_provider}
 use Rattle.hail_commands.specs.Forms.{PutUnder}
-use Rattle.hail_commands.specs.Refusals.{refusal_over}
 use Rattle.hail_commands.specs.JobRuns.{AreSteps}
 use Rattle.hail_commands.specs.Jobs.{RanAlone, RunsAlone, AnswersJob}
 use Rattle.hail_commands.specs.Commands.{AnswersPut, Answers}
 use Rattle.command_laws.specs.Pieces.{moment}
-use Rattle.command_laws.proofs.Telling.{left-alone, jobs-leave}
-use Rattle.command_laws.proofs.BeginRefusals.{refusal-of}
-use Rattle.command_laws.proofs.Chains.{put-begins}
-use Rattle.command_runs.specs.Devices.{named, byte, four_records, started_records, byte_records, given_block, ends, to_put, stored}
+use Rattle.job_laws.proofs.Telling.{left-alone, jobs-leave}
+use Rattle.job_laws.proofs.BeginRefusals.{refusal-of}
+use Rattle.command_runs.specs.Devices.{named, four_records, started_records, byte_records, given_block, to_put, byte_stored}
+use Rattle.damage_run.specs.Schedule.{byte}
+use Rattle.command_laws.specs.Instances.{ends}
 use Rattle.command_runs.proofs.Shape.{formed, form-is}
 use Rattle.command_runs.proofs.Counting.{store-counts}
 use Rattle.command_runs.proofs.Stores.{put-old as old-sure, put-new as new-sure}
-
-begins-none : refusal_over four_records (PutJob named byte) ≡ None
-begins-none = put-begins four named byte refl (omega arith)
+use Rattle.command_runs.proofs.Begins.{put_begins}
 
 module _ (w : State) (n : ℕ) (count : w.handed ≡ 4) where
   abbrev v : State
@@ -248,21 +246,21 @@ module _ (w : State) (n : ℕ) (count : w.handed ≡ 4) where
   unfolding steps
   steps-are = (refl, refl, happens12 0, (refl, refl, happens11 0, (refl, refl, happens10 0, (refl, refl, happens9 0, (refl, refl, happens8 0, (refl, refl, happens7 0, (refl, refl, happens6 0, (refl, refl, happens5 0, (refl, refl, happens4 0, (refl, refl, happens3 0, (refl, refl, happens2 0, (refl, refl, happens1 0, tt))))))))))))
 
-  each : (j : ℕ) → j < 4 → slice_get (stored).providers j ≡ Some (s13.providers j)
+  each : (j : ℕ) → j < 4 → slice_get (byte_stored).providers j ≡ Some (s13.providers j)
   each zero l = refl
   each (suc zero) l = refl
   each (suc (suc zero)) l = refl
   each (suc (suc (suc zero))) l = refl
   each (suc (suc (suc (suc j)))) l = absurd (omega (arith, l))
 
-  ran-formed : RanAlone four_records (PutJob named byte) (Put) (to_put) (stored) ([]) 0 v n
+  ran-formed : RanAlone four_records (PutJob named byte) (Put) (to_put) (byte_stored) ([]) 0 v n
   unfolding steps spelling
   ran-formed = record {
     last = s13;
     runs = record {
       begun = s0;
       job = 1;
-      begins = (refl, refusal-of v (PutJob named byte) refl refl ∙ begins-none, refl, refl);
+      begins = (refl, refusal-of v (PutJob named byte) refl refl ∙ put_begins, refl, refl);
       goes_on = record { steps = steps; are_steps = steps-are; ends = happens13 0; heard_is = refl };
     };
     images = λ image is. inl (inl (new-sure.images image is));
@@ -271,18 +269,18 @@ module _ (w : State) (n : ℕ) (count : w.handed ≡ 4) where
     past_text = refl;
   }
 
-pub alone : RunsAlone four_records (PutJob named byte) (Put) (to_put) (stored) ([])
+pub alone : RunsAlone four_records (PutJob named byte) (Put) (to_put) (byte_stored) ([])
 alone = record {
   faults = 0;
   before = omega arith;
-  ran = λ w n V. subst (λ u. RanAlone four_records (PutJob named byte) (Put) (to_put) (stored) ([]) 0 u n)
+  ran = λ w n V. subst (λ u. RanAlone four_records (PutJob named byte) (Put) (to_put) (byte_stored) ([]) 0 u n)
       (form-is four_records w.bytes (empty_provider) (empty_provider) (empty_provider) (empty_provider) w refl V)
       (ran-formed w n V.handed.count);
 }
 
-pub answers : Answers (PutUnder named) (to_put) (stored) (ends 0)
+pub answers : Answers (PutUnder named) (to_put) (byte_stored) (ends 0)
 answers = AnswersPut.begun four_records byte old-sure.known.opened (record { are_bytes = refl; front = refl; few = omega arith; end = λ l. refl })
-    (AnswersJob.ended (Put) begins-none alone
-    (left-alone four_records (PutJob named byte) (Put) (to_put) (stored) ([])
+    (AnswersJob.ended (Put) put_begins alone
+    (left-alone four_records (PutJob named byte) (Put) (to_put) (byte_stored) ([])
     (λ w last n O r. jobs-leave (PutJob named byte) w last n (Put) ([]) (refl, refl) O r) old-sure.known.opened refl alone)
     (record { written = inl (refl, refl); place = refl }))

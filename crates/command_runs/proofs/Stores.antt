@@ -2,7 +2,7 @@
 use Rattle.std.proofs.Common.{refl, arith}
 use Rattle.hail_commands.specs.Opens.{IsOpened}
 use Rattle.command_laws.specs.After.{IsSure}
-use Rattle.command_runs.specs.Devices.{four_records, started_records, byte_records, dropped_records, audited_records, repaired_records, both_records, to_put_other, stored_other, hidden, to_put, stored, put_failed, put_cut, put_unmade, kept, dropped, all_lost, found_lost, due_lost, repair_lost, damaged, audited, due, repaired, repair_failed, mended, got, drop_cut, audit_cut, repair_cut}
+use Rattle.command_runs.specs.Devices.{four_records, started_records, byte_records, dropped_records, byte_audited_records, byte_repaired_records, both_records, to_put_other, stored_other, all_hidden, to_put, byte_stored, put_failed, put_cut, put_unmade, byte_kept, dropped, all_lost, found_lost, due_lost, repair_lost, damaged, byte_audited, due, repaired, repair_failed, mended, got, drop_cut, audit_cut, repair_cut}
 use Rattle.command_runs.proofs.Shape.{AreFit, sure}
 
 pub four-fit : AreFit four_records
@@ -17,17 +17,17 @@ byte-fit = record { some = λ e. cc; all = refl; accepted = (refl, (refl, (refl,
 pub dropped-fit : AreFit dropped_records
 dropped-fit = record { some = λ e. cc; all = refl; accepted = (refl, (refl, (refl, (refl, tt)))); room = omega arith }
 
-pub audited-fit : AreFit audited_records
+pub audited-fit : AreFit byte_audited_records
 audited-fit = record { some = λ e. cc; all = refl; accepted = (refl, (refl, (refl, (refl, (refl, tt))))); room = omega arith }
 
-pub repaired-fit : AreFit repaired_records
+pub repaired-fit : AreFit byte_repaired_records
 repaired-fit = record { some = λ e. cc; all = refl; accepted = (refl, (refl, (refl, (refl, (refl, (refl, tt)))))); room = omega arith }
 
 pub put-old : IsSure to_put four_records
 put-old = sure to_put four_records four-fit refl (omega arith)
 
-pub put-new : IsSure stored byte_records
-put-new = sure stored byte_records byte-fit refl (omega arith)
+pub put-new : IsSure byte_stored byte_records
+put-new = sure byte_stored byte_records byte-fit refl (omega arith)
 
 pub failed-new : IsSure put_failed started_records
 failed-new = sure put_failed started_records started-fit refl (omega arith)
@@ -38,8 +38,8 @@ cut-new = sure put_cut byte_records byte-fit refl (omega arith)
 pub no_room-new : IsSure put_unmade four_records
 no_room-new = sure put_unmade four_records four-fit refl (omega arith)
 
-pub stored-sure : IsSure kept byte_records
-stored-sure = sure kept byte_records byte-fit refl (omega arith)
+pub stored-sure : IsSure byte_kept byte_records
+stored-sure = sure byte_kept byte_records byte-fit refl (omega arith)
 
 pub dropped-new : IsSure dropped dropped_records
 dropped-new = sure dropped dropped_records dropped-fit refl (omega arith)
@@ -50,32 +50,32 @@ robbed-old = sure all_lost byte_records byte-fit refl (omega arith)
 pub lost-new : IsSure found_lost byte_records
 lost-new = sure found_lost byte_records byte-fit refl (omega arith)
 
-pub robbed_due-old : IsSure due_lost audited_records
-robbed_due-old = sure due_lost audited_records audited-fit refl (omega arith)
+pub robbed_due-old : IsSure due_lost byte_audited_records
+robbed_due-old = sure due_lost byte_audited_records audited-fit refl (omega arith)
 
-pub lost_due-new : IsSure repair_lost audited_records
-lost_due-new = sure repair_lost audited_records audited-fit refl (omega arith)
+pub lost_due-new : IsSure repair_lost byte_audited_records
+lost_due-new = sure repair_lost byte_audited_records audited-fit refl (omega arith)
 
 pub damaged-sure : IsSure damaged byte_records
 damaged-sure = sure damaged byte_records byte-fit refl (omega arith)
 
-pub audited-new : IsSure audited audited_records
-audited-new = sure audited audited_records audited-fit refl (omega arith)
+pub audited-new : IsSure byte_audited byte_audited_records
+audited-new = sure byte_audited byte_audited_records audited-fit refl (omega arith)
 
-pub due-sure : IsSure due audited_records
-due-sure = sure due audited_records audited-fit refl (omega arith)
+pub due-sure : IsSure due byte_audited_records
+due-sure = sure due byte_audited_records audited-fit refl (omega arith)
 
-pub repaired-new : IsSure repaired repaired_records
-repaired-new = sure repaired repaired_records repaired-fit refl (omega arith)
+pub repaired-new : IsSure repaired byte_repaired_records
+repaired-new = sure repaired byte_repaired_records repaired-fit refl (omega arith)
 
-pub failed_due-new : IsSure repair_failed audited_records
-failed_due-new = sure repair_failed audited_records audited-fit refl (omega arith)
+pub failed_due-new : IsSure repair_failed byte_audited_records
+failed_due-new = sure repair_failed byte_audited_records audited-fit refl (omega arith)
 
-pub mended-sure : IsSure mended repaired_records
-mended-sure = sure mended repaired_records repaired-fit refl (omega arith)
+pub mended-sure : IsSure mended byte_repaired_records
+mended-sure = sure mended byte_repaired_records repaired-fit refl (omega arith)
 
-pub got-new : IsSure got repaired_records
-got-new = sure got repaired_records repaired-fit refl (omega arith)
+pub got-new : IsSure got byte_repaired_records
+got-new = sure got byte_repaired_records repaired-fit refl (omega arith)
 
 pub both-fit : AreFit both_records
 both-fit = record { some = λ e. cc; all = refl; accepted = (refl, (refl, (refl, (refl, (refl, tt))))); room = omega arith }
@@ -87,17 +87,17 @@ pub stored_other-sure : IsSure stored_other both_records
 stored_other-sure = sure stored_other both_records both-fit refl (omega arith)
 
 -- devices that tell nothing
-pub hidden-opened : IsOpened hidden byte_records
+pub hidden-opened : IsOpened all_hidden byte_records
 hidden-opened = record { read = record { some = byte-fit.some; in_grammar = byte-fit.all; accepted = byte-fit.accepted; room = byte-fit.room; reads_are = tt }; enough = omega arith }
 
-pub hidden-fresh : IsOpened hidden four_records
+pub hidden-fresh : IsOpened all_hidden four_records
 hidden-fresh = record { read = record { some = four-fit.some; in_grammar = four-fit.all; accepted = four-fit.accepted; room = four-fit.room; reads_are = tt }; enough = omega arith }
 
 pub drop_cut-new : IsSure drop_cut dropped_records
 drop_cut-new = sure drop_cut dropped_records dropped-fit refl (omega arith)
 
-pub audit_cut-new : IsSure audit_cut audited_records
-audit_cut-new = sure audit_cut audited_records audited-fit refl (omega arith)
+pub audit_cut-new : IsSure audit_cut byte_audited_records
+audit_cut-new = sure audit_cut byte_audited_records audited-fit refl (omega arith)
 
-pub repair_cut-new : IsSure repair_cut repaired_records
-repair_cut-new = sure repair_cut repaired_records repaired-fit refl (omega arith)
+pub repair_cut-new : IsSure repair_cut byte_repaired_records
+repair_cut-new = sure repair_cut byte_repaired_records repaired-fit refl (omega arith)

@@ -4,10 +4,10 @@ use Rattle.std.proofs.lemmas.Bool.{cases_Bool, eqb-true, eq-eqb, false≢true}
 use Rattle.hail_devices.specs.Cells.{firm}
 use Rattle.hail_devices.specs.Disks.{Stopped}
 use Rattle.hail_devices.specs.Images.{IsImage}
+use Rattle.hail_devices.proofs.Lasting.{image-firm}
 use Rattle.hail_records.specs.Records.{PutDone}
 use Rattle.hail_records.specs.Spellings.{spelling}
 use Rattle.hail_records.specs.Journal.{text, before_gate, StandsFor}
-use Rattle.command_laws.proofs.Images.{image-firm}
 use Rattle.command_runs.specs.Devices.{started_records, byte_records}
 use Rattle.command_runs.proofs.Stores.{started-fit, byte-fit}
 

@@ -9,27 +9,25 @@ use Rattle.hail_machine.specs.Actions.{actions_of}
 use Rattle.hail_machine.specs.Answers.{DiskFault}
 use Rattle.hail_machine.specs.Begins.{new_job}
 use Rattle.hail_machine.specs.Events.{Step, More, Ended}
-use Rattle.hail_machine.specs.Examples.{four, empty_provider}
+use Rattle.hail_machine.specs.Examples.{empty_provider}
 use Rattle.hail_machine.specs.Machine.{Happens}
 use Rattle.hail_machine.specs.Runs.{Moment}
 use Rattle.hail_machine.specs.States.{State, setup_in, with_provider}
 use Rattle.hail_commands.specs.Forms.{PutUnder}
-use Rattle.hail_commands.specs.Refusals.{refusal_over}
 use Rattle.hail_commands.specs.JobRuns.{AreSteps}
 use Rattle.hail_commands.specs.Jobs.{RanAlone, RunsAlone, AnswersJob}
 use Rattle.hail_commands.specs.Commands.{AnswersPut, Answers}
 use Rattle.command_laws.specs.Pieces.{moment}
-use Rattle.command_laws.proofs.Telling.{left-alone, jobs-leave}
-use Rattle.command_laws.proofs.BeginRefusals.{refusal-of}
-use Rattle.command_laws.proofs.Chains.{put-begins}
-use Rattle.command_runs.specs.Devices.{named, byte, four_records, started_records, given_block, put_torn, ends, to_put}
+use Rattle.job_laws.proofs.Telling.{left-alone, jobs-leave}
+use Rattle.job_laws.proofs.BeginRefusals.{refusal-of}
+use Rattle.command_runs.specs.Devices.{named, four_records, started_records, given_block, put_torn, to_put}
+use Rattle.damage_run.specs.Schedule.{byte}
+use Rattle.command_laws.specs.Instances.{ends}
 use Rattle.command_runs.proofs.Shape.{formed, form-is}
 use Rattle.command_runs.proofs.Counting.{store-counts}
 use Rattle.command_runs.proofs.Stores.{put-old as old-sure}
 use Rattle.command_runs.proofs.Torn.{torn-image}
-
-begins-none : refusal_over four_records (PutJob named byte) ≡ None
-begins-none = put-begins four named byte refl (omega arith)
+use Rattle.command_runs.proofs.Begins.{put_begins}
 
 module _ (w : State) (n : ℕ) (count : w.handed ≡ 4) where
   abbrev v : State
@@ -250,7 +248,7 @@ module _ (w : State) (n : ℕ) (count : w.handed ≡ 4) where
     runs = record {
       begun = s0;
       job = 1;
-      begins = (refl, refusal-of v (PutJob named byte) refl refl ∙ begins-none, refl, refl);
+      begins = (refl, refusal-of v (PutJob named byte) refl refl ∙ put_begins, refl, refl);
       goes_on = record { steps = steps; are_steps = steps-are; ends = happens12 0; heard_is = refl };
     };
     images = λ image is. elim (torn-image image is) [ inl h ↦ inl (inl h) | inr h ↦ inr (record { doubt = record { entry = (PutDone 1 1); maker = Some (record base { subject = 1; place = 11 }) }; in_doubt = refl; stands = h }) ];
@@ -270,7 +268,7 @@ alone = record {
 
 pub answers : Answers (PutUnder named) (to_put) (put_torn) (ends 12)
 answers = AnswersPut.begun four_records byte old-sure.known.opened (record { are_bytes = refl; front = refl; few = omega arith; end = λ l. refl })
-    (AnswersJob.ended (DiskFault) begins-none alone
+    (AnswersJob.ended (DiskFault) put_begins alone
     (left-alone four_records (PutJob named byte) (DiskFault) (to_put) (put_torn) ([])
     (λ w last n O r. jobs-leave (PutJob named byte) w last n (DiskFault) ([]) (refl, refl) O r) old-sure.known.opened refl alone)
     (record { status_is = refl; place = refl; sink = refl }))

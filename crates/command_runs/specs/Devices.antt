@@ -1,9 +1,12 @@
--- Devices before and after the commands: a store over four providers, one of them primary, of which one may be wrong.
+-- Devices before and after the commands: a store over four providers, one of them primary, of which one may
+-- be wrong.
 --
---   devices records providers == what is seen of devices whose disk reads these records, with nothing loose, and of these providers
+--   reading_devices records providers == what is seen of devices whose disk reads these records, with
+--                                        nothing loose, and of these providers
 --   named, byte               == the name and the bytes of the file that is put
---   four_records, byte_records, dropped_records, audited_records, repaired_records == of a store that was set up, with the file, after its
---                                drop, and after an audit that flags provider 2 and its repair
+--   four_records, byte_records, dropped_records, byte_audited_records, byte_repaired_records == of a store
+--                                that was set up, with the file, after its drop, and after an audit that
+--                                flags provider 2 and its repair
 --   holds j                   == a provider that holds its own block of the file, and nothing else
 --   with_source, with_sink    == what is seen, with these bytes in the source or in the sink
 --   done                      == an end of status 0 that heard nothing
@@ -20,18 +23,22 @@ use Rattle.hail_records.specs.Journal.{text, before_gate}
 use Rattle.hail_machine.specs.Setups.{object_of}
 use Rattle.hail_machine.specs.Jobs.{Given, Fetched, Answered}
 use Rattle.hail_machine.specs.Heard.{Entry}
-use Rattle.hail_machine.specs.Examples.{four, empty_provider}
+use Rattle.hail_machine.specs.Examples.{empty_provider}
+use Rattle.hail_records.specs.Examples.{four}
 use Rattle.hail_commands.specs.Forms.{Numbers}
 use Rattle.hail_commands.specs.Lines.{stored_line, dropped_line, audit_lines, repaired_line}
 use Rattle.hail_commands.specs.Seen.{Seen, Ending}
+use Rattle.command_laws.specs.Instances.{with_sink, other_name}
+use Rattle.damage_run.specs.Schedule.{byte}
+use Rattle.damage_run.specs.Points.{counts}
 
 -- an entry of the one job
 abbrev pub heard : Given → Entry
 heard gift = record { job = 1; given = gift }
 
 -- devices whose disk reads these records
-abbrev pub devices : List Record → List Provider → Seen
-devices records providers = record {
+abbrev pub reading_devices : List Record → List Provider → Seen
+reading_devices records providers = record {
   disk = Some (firm (text records));
   disk_faults = 0;
   providers = providers;
@@ -45,16 +52,9 @@ devices records providers = record {
 abbrev pub with_source : Seen → List ℕ → Seen
 with_source s bytes = record s { source = Some bytes }
 
--- these bytes are in the sink
-abbrev pub with_sink : Seen → List ℕ → Seen
-with_sink s bytes = record s { sink = Some bytes }
-
 -- the file: its name is "a"
 abbrev pub named : List ℕ
 named = 97 ∷ []
-
-abbrev pub byte : List ℕ
-byte = 111 ∷ []
 
 -- the records of a store that was set up
 abbrev pub four_records : List Record
@@ -72,17 +72,13 @@ byte_records = PutDone 1 1 ∷ started_records
 abbrev pub dropped_records : List Record
 dropped_records = Drop named ∷ byte_records
 
--- the counts of an audit that flags provider 2
-abbrev pub counts : List ℕ
-counts = 0 ∷ 0 ∷ 1 ∷ 0 ∷ []
-
 -- after such an audit
-abbrev pub audited_records : List Record
-audited_records = AuditDone 1 0 counts ∷ AuditStart 1 ∷ byte_records
+abbrev pub byte_audited_records : List Record
+byte_audited_records = AuditDone 1 0 counts ∷ AuditStart 1 ∷ byte_records
 
 -- and after its repair
-abbrev pub repaired_records : List Record
-repaired_records = RepairDone 1 ∷ audited_records
+abbrev pub byte_repaired_records : List Record
+byte_repaired_records = RepairDone 1 ∷ byte_audited_records
 
 -- the block of a provider
 abbrev pub own_block : ℕ → List ℕ
@@ -120,10 +116,6 @@ all_hold = holds 0 ∷ holds 1 ∷ holds 2 ∷ holds 3 ∷ []
 abbrev pub three_hold : List Provider
 three_hold = holds 0 ∷ holds 1 ∷ empty_provider ∷ holds 3 ∷ []
 
--- an end with this status that heard nothing
-abbrev pub ends : ℕ → Ending
-ends status = record { status = status; at = 0; heard = [] }
-
 -- and one that heard these entries
 abbrev pub ends_hearing : ℕ → List Entry → Ending
 ends_hearing status heard = record { status = status; at = 0; heard = heard }
@@ -135,110 +127,131 @@ ends_at status place = record { status = status; at = place; heard = [] }
 -- ---- a put of the file: before it, done, with a store that failed, cut off by the disk, and not made
 
 abbrev pub to_put : Seen
-to_put = with_source (devices four_records none_hold) byte
+to_put = with_source (reading_devices four_records none_hold) byte
 
-abbrev pub stored : Seen
-stored = with_sink (devices byte_records all_hold) (stored_line named 1)
+abbrev pub byte_stored : Seen
+byte_stored = with_sink (reading_devices byte_records all_hold) (stored_line named 1)
 
 abbrev pub put_failed : Seen
-put_failed = devices started_records (failed_store empty_provider ∷ empty_provider ∷ empty_provider ∷ empty_provider ∷ [])
+put_failed =
+    reading_devices started_records (failed_store empty_provider ∷ empty_provider ∷ empty_provider
+    ∷ empty_provider ∷ [])
 
 -- the disk wrote the last record, and told that it failed
 abbrev pub put_cut : Seen
-put_cut = record (devices byte_records all_hold) { disk_faults = 1 }
+put_cut = record (reading_devices byte_records all_hold) { disk_faults = 1 }
 
 -- or it left the gate of the last record loose: a stop then brings it into effect, or not
 abbrev pub put_torn : Seen
-put_torn = record (devices byte_records all_hold) {
+put_torn = record (reading_devices byte_records all_hold) {
   disk = Some (firm (before_gate started_records) ++ (1, true) ∷ firm (spelling (PutDone 1 1) ++ 0 ∷ []));
   disk_faults = 1;
 }
 
 -- what the next command finds where it did not
 abbrev pub put_gone : Seen
-put_gone = record put_torn { disk = Some (firm (before_gate started_records ++ 0 ∷ (spelling (PutDone 1 1) ++ 0 ∷ []))) }
+put_gone =
+    record put_torn {
+      disk = Some (firm (before_gate started_records
+          ++ 0 ∷ (spelling (PutDone 1 1) ++ 0 ∷ [])));
+    }
 
 abbrev pub put_unmade : Seen
-put_unmade = devices four_records none_hold
+put_unmade = reading_devices four_records none_hold
 
 -- ---- a drop of it
 
-abbrev pub kept : Seen
-kept = devices byte_records all_hold
+abbrev pub byte_kept : Seen
+byte_kept = reading_devices byte_records all_hold
 
 abbrev pub dropped : Seen
-dropped = with_sink (devices dropped_records (robbed (holds 0) ∷ robbed (holds 1) ∷ robbed (holds 2) ∷ robbed (holds 3) ∷ [])) (dropped_line named)
+dropped =
+    with_sink (reading_devices dropped_records
+    (robbed (holds 0) ∷ robbed (holds 1) ∷ robbed (holds 2) ∷ robbed (holds 3) ∷ [])) (dropped_line named)
 
 abbrev pub drop_cut : Seen
-drop_cut = record (devices dropped_records all_hold) { disk_faults = 1 }
+drop_cut = record (reading_devices dropped_records all_hold) { disk_faults = 1 }
 
 -- what the next command finds
-abbrev pub after_drop : Seen
-after_drop = devices dropped_records (robbed (holds 0) ∷ robbed (holds 1) ∷ robbed (holds 2) ∷ robbed (holds 3) ∷ [])
+abbrev pub seen_after_drop : Seen
+seen_after_drop =
+    reading_devices dropped_records (robbed (holds 0) ∷ robbed (holds 1) ∷ robbed (holds 2) ∷ robbed
+    (holds 3) ∷ [])
 
 -- ---- a get and a repair where all blocks are lost
 
 abbrev pub all_lost : Seen
-all_lost = devices byte_records none_hold
+all_lost = reading_devices byte_records none_hold
 
 abbrev pub none_fetched : List Provider
-none_fetched = fetched empty_provider ∷ fetched empty_provider ∷ fetched empty_provider ∷ fetched empty_provider ∷ []
+none_fetched =
+    fetched empty_provider ∷ fetched empty_provider ∷ fetched empty_provider ∷ fetched empty_provider ∷ []
 
 abbrev pub found_lost : Seen
-found_lost = devices byte_records none_fetched
+found_lost = reading_devices byte_records none_fetched
 
 abbrev pub due_lost : Seen
-due_lost = devices audited_records none_hold
+due_lost = reading_devices byte_audited_records none_hold
 
 abbrev pub repair_lost : Seen
-repair_lost = devices audited_records none_fetched
+repair_lost = reading_devices byte_audited_records none_fetched
 
 -- the fetches gave nothing
 abbrev pub no_blocks : List Entry
-no_blocks = heard (Fetched 0 1 0 None) ∷ heard (Fetched 1 1 0 None) ∷ heard (Fetched 2 1 0 None) ∷ heard (Fetched 3 1 0 None) ∷ []
+no_blocks =
+    heard (Fetched 0 1 0 None) ∷ heard (Fetched 1 1 0 None) ∷ heard (Fetched 2 1 0 None)
+    ∷ heard (Fetched 3 1 0 None) ∷ []
 
 -- ---- one block is lost: an audit finds it, a repair writes it anew or fails to, and a get gives the file
 
 abbrev pub damaged : Seen
-damaged = devices byte_records three_hold
+damaged = reading_devices byte_records three_hold
 
-abbrev pub audited : Seen
-audited = with_sink (devices audited_records three_hold) (audit_lines 0 1 0 counts)
+abbrev pub byte_audited : Seen
+byte_audited = with_sink (reading_devices byte_audited_records three_hold) (audit_lines 0 1 0 counts)
 
 abbrev pub audit_cut : Seen
-audit_cut = record (devices audited_records three_hold) { disk_faults = 1 }
+audit_cut = record (reading_devices byte_audited_records three_hold) { disk_faults = 1 }
 
 abbrev pub due : Seen
-due = devices audited_records three_hold
+due = reading_devices byte_audited_records three_hold
 
 abbrev pub mended_hold : List Provider
-mended_hold = fetched (holds 0) ∷ fetched (holds 1) ∷ given_block 2 (fetched empty_provider) ∷ fetched (holds 3) ∷ []
+mended_hold =
+    fetched (holds 0) ∷ fetched (holds 1) ∷ given_block 2 (fetched empty_provider) ∷ fetched (holds 3) ∷ []
 
 abbrev pub repaired : Seen
-repaired = with_sink (devices repaired_records mended_hold) (repaired_line 1)
+repaired = with_sink (reading_devices byte_repaired_records mended_hold) (repaired_line 1)
 
 abbrev pub repair_cut : Seen
-repair_cut = record (devices repaired_records mended_hold) { disk_faults = 1 }
+repair_cut = record (reading_devices byte_repaired_records mended_hold) { disk_faults = 1 }
 
 abbrev pub repair_failed : Seen
-repair_failed = devices audited_records (fetched (holds 0) ∷ fetched (holds 1) ∷ failed_store (fetched empty_provider) ∷ fetched (holds 3) ∷ [])
+repair_failed =
+    reading_devices byte_audited_records
+    (fetched (holds 0) ∷ fetched (holds 1) ∷ failed_store (fetched empty_provider) ∷ fetched (holds 3) ∷ [])
 
 abbrev pub mended : Seen
-mended = devices repaired_records mended_hold
+mended = reading_devices byte_repaired_records mended_hold
 
 abbrev pub got : Seen
-got = with_sink (devices repaired_records
-    (fetched (fetched (holds 0)) ∷ fetched (fetched (holds 1)) ∷ fetched (given_block 2 (fetched empty_provider)) ∷ fetched (fetched (holds 3)) ∷ [])) byte
+got = with_sink (reading_devices byte_repaired_records
+    (fetched (fetched (holds 0)) ∷ fetched (fetched (holds 1))
+    ∷ fetched (given_block 2 (fetched empty_provider)) ∷ fetched (fetched (holds 3)) ∷ [])) byte
 
 -- the right answer of a provider to the one challenge
-abbrev pub answer : ℕ → Option ℕ
-answer j = right_answer (object_of four 1) byte j (challenge_of (object_of four 1) 1 1 1 0)
+abbrev pub right_reply : ℕ → Option ℕ
+right_reply j = right_answer (object_of four 1) byte j (challenge_of (object_of four 1) 1 1 1 0)
 
 abbrev pub answers_heard : List Entry
-answers_heard = heard (Answered 0 1 0 (answer 0)) ∷ heard (Answered 1 1 0 (answer 1)) ∷ heard (Answered 2 1 0 None) ∷ heard (Answered 3 1 0 (answer 3)) ∷ []
+answers_heard =
+    heard (Answered 0 1 0 (right_reply 0)) ∷ heard (Answered 1 1 0 (right_reply 1))
+    ∷ heard (Answered 2 1 0 None) ∷ heard (Answered 3 1 0 (right_reply 3)) ∷ []
 
-abbrev pub blocks_heard : List Entry
-blocks_heard = heard (Fetched 0 1 0 (Some (own_block 0))) ∷ heard (Fetched 1 1 0 (Some (own_block 1))) ∷ heard (Fetched 2 1 0 (Some (own_block 2)))
+abbrev pub own_blocks_heard : List Entry
+own_blocks_heard =
+    heard (Fetched 0 1 0 (Some (own_block 0))) ∷ heard (Fetched 1 1 0 (Some (own_block 1)))
+    ∷ heard (Fetched 2 1 0 (Some (own_block 2)))
     ∷ heard (Fetched 3 1 0 (Some (own_block 3))) ∷ []
 
 -- ---- refusals and faults
@@ -249,18 +262,18 @@ disk_failed s = record s { disk_faults = 1 }
 
 -- no provider is handed in
 abbrev pub deserted : Seen
-deserted = devices byte_records []
+deserted = reading_devices byte_records []
 
 -- the disk reads twelve zeros
 abbrev pub scrambled : Seen
-scrambled = record kept { disk = Some (firm (replicate 12 0)) }
+scrambled = record byte_kept { disk = Some (firm (replicate 12 0)) }
 
 -- devices that tell nothing: so they are before a command, and after it
 abbrev pub silent : Provider
 silent = record { held = None; store_faults = 0; other_faults = 0; fetches = 0 }
 
-abbrev pub hidden : Seen
-hidden = record {
+abbrev pub all_hidden : Seen
+all_hidden = record {
   disk = None;
   disk_faults = 0;
   providers = silent ∷ silent ∷ silent ∷ silent ∷ [];
@@ -271,7 +284,8 @@ hidden = record {
 }
 
 abbrev pub hidden_fetched : Seen
-hidden_fetched = record hidden { providers = fetched silent ∷ fetched silent ∷ fetched silent ∷ fetched silent ∷ [] }
+hidden_fetched =
+    record all_hidden { providers = fetched silent ∷ fetched silent ∷ fetched silent ∷ fetched silent ∷ [] }
 
 -- numbers of a setup, and some that are none
 abbrev pub good_numbers : Numbers
@@ -280,15 +294,7 @@ good_numbers = record { n = 4; l = 1; b = 1; profile = 0; rounds = 1; picks = 1;
 abbrev pub bad_numbers : Numbers
 bad_numbers = record { n = 4; l = 4; b = 1; profile = 0; rounds = 1; picks = 1; tolerance = 0 }
 
--- a source with the key of zeros
-abbrev pub key_text : List ℕ
-key_text = replicate 64 48
-
 -- ---- a put of another file beside the first
-
--- its name is "b"
-abbrev pub other_name : List ℕ
-other_name = 98 ∷ []
 
 abbrev pub begun_records : List Record
 begun_records = PutStart 2 other_name ∷ byte_records
@@ -301,10 +307,12 @@ abbrev pub given_other : ℕ → Provider → Provider
 given_other j p = record p { held = option_map (with_block 2 0 (columns (object_of four 2) byte j 0)) p.held }
 
 abbrev pub both_hold : List Provider
-both_hold = given_other 0 (holds 0) ∷ given_other 1 (holds 1) ∷ given_other 2 (holds 2) ∷ given_other 3 (holds 3) ∷ []
+both_hold =
+    given_other 0 (holds 0) ∷ given_other 1 (holds 1) ∷ given_other 2 (holds 2) ∷ given_other 3 (holds 3)
+    ∷ []
 
 abbrev pub to_put_other : Seen
-to_put_other = with_source kept byte
+to_put_other = with_source byte_kept byte
 
 abbrev pub stored_other : Seen
-stored_other = with_sink (devices both_records both_hold) (stored_line other_name 1)
+stored_other = with_sink (reading_devices both_records both_hold) (stored_line other_name 1)

@@ -1,6 +1,7 @@
 -- A job that runs alone from some state.
 --
---   RunsSomewhere kind answer heard == from some state whose vault was just opened a job of this kind runs to this answer and hears this
+--   RunsSomewhere kind answer heard == from some state whose vault was just opened a job of this kind runs
+--                                      to this answer and hears this
 use Rattle.std.specs.Prelude.{List}
 use Rattle.hail_machine.specs.Jobs.{Kind}
 use Rattle.hail_machine.specs.Answers.{Answer}

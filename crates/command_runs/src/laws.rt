@@ -15,17 +15,19 @@ ghost use Rattle.hail_openings.specs.Journals.{journal_read, IsBadStart, IsBadIn
 ghost use Rattle.hail_commands.specs.Inits.{setup_with};
 ghost use Rattle.hail_commands.specs.Refusals.{refusal_over};
 ghost use Rattle.hail_commands.specs.Audits.{HearsRounds, CountsHeard};
-ghost use Rattle.command_laws.specs.Ends.{IsKnown, IsPut, IsDropped, IsAudited, IsRepaired, FaultsHaveCauses, EndsInOrder, GivesUnlessMemory, HoldsFile, ran_to, after_put, after_audit, after_repair};
+ghost use Rattle.command_laws.specs.Ends.{IsKnown, IsWholePut, IsDropped, IsAudited, IsRepaired, FaultsHaveCauses, EndsInOrder, GivesUnlessMemory, HoldsFile, ran_to, after_put, after_audit, after_repair};
 ghost use Rattle.command_laws.specs.Kept.{FailsToPut, FailsToRepair, LosesFile, LosesRepair, LeavesImages, after_start};
 ghost use Rattle.command_laws.specs.After.{IsSure, IsThen, HasRightFile};
 ghost use Rattle.command_runs.specs.Lone.{RunsSomewhere};
-ghost use Rattle.command_runs.specs.Devices.{with_source, named, byte, other_name, key_text, four_records, byte_records, audited_records, good_numbers, bad_numbers, to_put, stored, put_failed, put_cut, put_torn, put_gone, drop_cut, audit_cut, repair_cut, kept, dropped, all_lost, found_lost, due_lost, repair_lost, no_blocks, damaged, audited, answers_heard, due, repaired, repair_failed, mended, got, blocks_heard, after_drop, disk_failed, scrambled, hidden, hidden_fetched, counts, both_records, stored_other, ends, ends_at, ends_hearing};
+ghost use Rattle.command_runs.specs.Devices.{with_source, named, four_records, byte_records, byte_audited_records, good_numbers, bad_numbers, to_put, byte_stored, put_failed, put_cut, put_torn, put_gone, drop_cut, audit_cut, repair_cut, byte_kept, dropped, all_lost, found_lost, due_lost, repair_lost, no_blocks, damaged, byte_audited, answers_heard, due, repaired, repair_failed, mended, got, own_blocks_heard, seen_after_drop, disk_failed, scrambled, all_hidden, hidden_fetched, both_records, stored_other, ends_at, ends_hearing};
+ghost use Rattle.damage_run.specs.Points.{counts};
+ghost use Rattle.damage_run.specs.Schedule.{byte};
+ghost use Rattle.command_laws.specs.Instances.{key_text, other_name, ends};
 
 use command_laws::after::{
     audits_in_effect_count_what_they_heard, done_commands_leave_known_stores, files_stay,
     gets_tell_what_stands, put_files_are_got, stores_stay_known,
 };
-use command_laws::alone::opened_states;
 use command_laws::ends::{
     audits_count_what_they_hear, drops_take_the_file_away, faults_have_causes, gets_give_the_file,
     puts_store_the_source, refusals_are_exact, repairs_write_anew, unopened_stores_are_told,
@@ -33,12 +35,13 @@ use command_laws::ends::{
 use command_laws::inits::{init_refusals_are_exact, lists_give_the_files};
 use command_laws::kept::{failed_stores_leave, images_stand, lost_rows_are_told};
 use command_laws::statuses::rows_have_causes;
+use job_laws::alone::opened_states;
 
 /// What commands have done that are done, and what such leave whose store failed or that found a row lost.
 pub fn jobs_leave_what_is_said()
-    ensures put { IsPut named to_put stored (ends 0) }
-    ensures drop { IsDropped named kept dropped (ends 0) }
-    ensures audit { IsAudited damaged audited (ends_hearing 0 answers_heard) }
+    ensures put { IsWholePut named to_put byte_stored (ends 0) }
+    ensures drop { IsDropped named byte_kept dropped (ends 0) }
+    ensures audit { IsAudited damaged byte_audited (ends_hearing 0 answers_heard) }
     ensures repair { IsRepaired due repaired (ends 0) }
     ensures failed_put { FailsToPut named to_put put_failed (ends 13) }
     ensures failed_repair { FailsToRepair due repair_failed (ends_at 13 2) }
@@ -56,20 +59,23 @@ pub fn jobs_leave_what_is_said()
 /// The causes of the statuses of faults, of stores that are not opened, of refusals and of a lost row; and of the ends over devices that tell
 /// nothing.
 pub fn statuses_have_their_causes()
-    ensures disk { FaultsHaveCauses kept (disk_failed kept) (ends 12) }
+    ensures disk { FaultsHaveCauses byte_kept (disk_failed byte_kept) (ends 12) }
     ensures provider { FaultsHaveCauses to_put put_failed (ends 13) }
     ensures source { FaultsHaveCauses to_put (record to_put { source_faults = 1 }) (ends 14) }
-    ensures sink { FaultsHaveCauses kept (record kept { sink_faults = 1 }) (ends 15) }
-    ensures bad_journal { (9 < length (journal_read (firm (replicate 12 0)))) × IsBadStart (journal_read (firm (replicate 12 0))) 0 }
-    ensures repair_due { refusal_over audited_records AuditJob ≡ Some DueRefusal }
+    ensures sink { FaultsHaveCauses byte_kept (record byte_kept { sink_faults = 1 }) (ends 15) }
+    ensures bad_journal { (9 < length (journal_read (firm (replicate 12 0))))
+        × IsBadStart (journal_read (firm (replicate 12 0))) 0 }
+    ensures repair_due { refusal_over byte_audited_records AuditJob ≡ Some DueRefusal }
     ensures nothing_due { refusal_over byte_records RepairJob ≡ Some NothingDue }
     ensures row { IsShape 4 1 1 × AcceptsNone (upto 4) (None ∷ None ∷ Some 7 ∷ Some 9 ∷ []) 1 1 }
-    ensures hidden_get { EndsInOrder (GetOf other_name) hidden hidden (ends 3) ⊎ LosesFile other_name hidden hidden (ends 3) }
-    ensures hidden_put { EndsInOrder (PutUnder named) hidden hidden (ends 0) }
-    ensures hidden_lost { EndsInOrder (GetOf named) hidden hidden_fetched (ends_hearing 4 no_blocks)
-        ⊎ LosesFile named hidden hidden_fetched (ends_hearing 4 no_blocks) }
-    ensures hidden_repair { EndsInOrder RepairCommand hidden hidden (ends 7) ⊎ LosesRepair hidden hidden (ends 7) }
-    ensures hidden_list { EndsInOrder ListAll hidden hidden (ends 0) }
+    ensures hidden_get { EndsInOrder (GetOf other_name) all_hidden all_hidden (ends 3)
+        ⊎ LosesFile other_name all_hidden all_hidden (ends 3) }
+    ensures hidden_put { EndsInOrder (PutUnder named) all_hidden all_hidden (ends 0) }
+    ensures hidden_lost { EndsInOrder (GetOf named) all_hidden hidden_fetched (ends_hearing 4 no_blocks)
+        ⊎ LosesFile named all_hidden hidden_fetched (ends_hearing 4 no_blocks) }
+    ensures hidden_repair { EndsInOrder RepairCommand all_hidden all_hidden (ends 7)
+        ⊎ LosesRepair all_hidden all_hidden (ends 7) }
+    ensures hidden_list { EndsInOrder ListAll all_hidden all_hidden (ends 0) }
 {
     faults_have_causes();
     unopened_stores_are_told();
@@ -85,7 +91,8 @@ pub fn statuses_have_their_causes()
 pub fn inits_have_their_causes()
     ensures bad_setup { is_setup (setup_with bad_numbers []) ≡ false }
     ensures bad_key { (key : List ℕ) → IsKeyForm [] key → ⊥ }
-    ensures bad_journal { (9 < length (journal_read (firm (replicate 12 0)))) × IsBadInit (journal_read (firm (replicate 12 0))) 0 }
+    ensures bad_journal { (9 < length (journal_read (firm (replicate 12 0))))
+        × IsBadInit (journal_read (firm (replicate 12 0))) 0 }
 {
     init_refusals_are_exact();
 }
@@ -94,14 +101,20 @@ pub fn inits_have_their_causes()
 /// of a put is found in effect the file is whole; where that of a repair is, the flagged provider is right; where that of an audit is, it has
 /// counted what it heard. After a put whose store failed the records are those before, with its start.
 pub fn cut_commands_leave_known_stores()
-    ensures gone { (after : List Record) × IsKnown put_gone after × IsThen (PutUnder named) four_records to_put put_torn after }
-    ensures come { (after : List Record) × IsKnown put_cut after × IsThen (PutUnder named) four_records to_put put_torn after }
-    ensures dropped { (after : List Record) × IsKnown drop_cut after × IsThen (DropOf named) byte_records kept drop_cut after }
+    ensures gone { (after : List Record) × IsKnown put_gone after
+        × IsThen (PutUnder named) four_records to_put put_torn after }
+    ensures come { (after : List Record) × IsKnown put_cut after
+        × IsThen (PutUnder named) four_records to_put put_torn after }
+    ensures dropped { (after : List Record) × IsKnown drop_cut after
+        × IsThen (DropOf named) byte_records byte_kept drop_cut after }
     ensures put { HasRightFile put_torn (after_put four_records named 1) named byte (λ j. false) }
-    ensures repair { HasRightFile repair_cut (after_repair audited_records (record { number = 1; counts = counts })) named byte
+    ensures repair { HasRightFile repair_cut
+        (after_repair byte_audited_records (record { number = 1; counts = counts })) named byte
         (λ j. (j == 2) && not (is_flagged 0 counts j)) }
-    ensures audit { HearsRounds (ran_to (after_audit byte_records 0 counts) byte_records damaged audit_cut answers_heard) 1
-        × CountsHeard (ran_to (after_audit byte_records 0 counts) byte_records damaged audit_cut answers_heard) 1 0 counts }
+    ensures audit { HearsRounds (ran_to (after_audit byte_records 0 counts) byte_records damaged audit_cut
+        answers_heard) 1
+        × CountsHeard (ran_to (after_audit byte_records 0 counts) byte_records damaged audit_cut
+        answers_heard) 1 0 counts }
     ensures images { LeavesImages (PutUnder named) to_put put_torn }
     ensures failed { IsSure put_failed (after_start four_records named) }
 {
@@ -115,8 +128,8 @@ pub fn cut_commands_leave_known_stores()
 /// A put, an audit that finds the lost block, a repair that writes it anew, and a get that gives the file: also where another provider is
 /// spoilt by then. After a drop a get ends with 3.
 pub fn damage_is_mended()
-    ensures repaired { GivesUnlessMemory byte mended got (ends_hearing 0 blocks_heard) }
-    ensures mended { GivesUnlessMemory byte mended got (ends_hearing 0 blocks_heard) }
+    ensures repaired { GivesUnlessMemory byte mended got (ends_hearing 0 own_blocks_heard) }
+    ensures mended { GivesUnlessMemory byte mended got (ends_hearing 0 own_blocks_heard) }
     ensures dropped { ((ends 3).status ≡ 3) ⊎ ((ends 3).status ≡ 70) }
 {
     put_files_are_got();
@@ -124,13 +137,16 @@ pub fn damage_is_mended()
 
 /// Files stay right: after the put, an audit, a put of another file and the repair; and what the audit counts it has heard.
 pub fn files_stay_right()
-    ensures put { HasRightFile stored (after_put four_records named 1) named byte (λ j. false) }
-    ensures audit { HasRightFile audited audited_records named byte (λ j. j == 2) }
+    ensures put { HasRightFile byte_stored (after_put four_records named 1) named byte (λ j. false) }
+    ensures audit { HasRightFile byte_audited byte_audited_records named byte (λ j. j == 2) }
     ensures other { HasRightFile stored_other both_records named byte (λ j. false) }
-    ensures repair { HasRightFile repaired (after_repair audited_records (record { number = 1; counts = counts })) named byte
+    ensures repair { HasRightFile repaired
+        (after_repair byte_audited_records (record { number = 1; counts = counts })) named byte
         (λ j. (j == 2) && not (is_flagged 0 counts j)) }
-    ensures heard { HearsRounds (ran_to (after_audit byte_records 0 counts) byte_records damaged audited answers_heard) 1
-        × CountsHeard (ran_to (after_audit byte_records 0 counts) byte_records damaged audited answers_heard) 1 0 counts }
+    ensures heard { HearsRounds (ran_to (after_audit byte_records 0 counts) byte_records damaged
+        byte_audited answers_heard) 1
+        × CountsHeard (ran_to (after_audit byte_records 0 counts) byte_records damaged byte_audited
+        answers_heard) 1 0 counts }
 {
     files_stay();
     audits_in_effect_count_what_they_heard();
@@ -138,8 +154,9 @@ pub fn files_stay_right()
 
 /// The repair wrote the very block, since no more than one provider was wrong; and the get over what it left is complete.
 pub fn few_bad_providers_do_no_harm()
-    ensures rewritten { HoldsFile audited_records repaired byte (record { name = named; id = 1; size = 1 }) 2 }
-    ensures complete { GivesUnlessMemory byte mended got (ends_hearing 0 blocks_heard) }
+    ensures rewritten { HoldsFile byte_audited_records repaired byte
+        (record { name = named; id = 1; size = 1; profile = 0 }) 2 }
+    ensures complete { GivesUnlessMemory byte mended got (ends_hearing 0 own_blocks_heard) }
 {
     repairs_write_anew();
     gets_tell_what_stands();
@@ -152,7 +169,7 @@ pub fn jobs_run_alone()
     ensures cut_put { RunsSomewhere (PutJob named byte) DiskFault [] }
     ensures unmade_put { RunsSomewhere (PutJob named byte) Memory [] }
     ensures drop { RunsSomewhere (DropJob named) Dropped [] }
-    ensures get { RunsSomewhere (GetJob named) (Got byte) blocks_heard }
+    ensures get { RunsSomewhere (GetJob named) (Got byte) own_blocks_heard }
     ensures lost_get { RunsSomewhere (GetJob named) (Lost 0 0) no_blocks }
     ensures audit { RunsSomewhere AuditJob (Audited 1 0 counts) answers_heard }
     ensures repair { RunsSomewhere RepairJob (Repaired 1) [] }

@@ -3,35 +3,40 @@ ghost use Rattle.std.specs.Prelude.{[], ◌∷◌, Some, None};
 ghost use Rattle.hail_commands.specs.Forms.{RowOf, InitWith, PutUnder, GetOf, ListAll, AuditAll, RepairDue};
 ghost use Rattle.hail_commands.specs.Line.{values_line, no_row_line};
 ghost use Rattle.hail_commands.specs.Commands.{Answers};
-ghost use Rattle.command_runs.specs.Devices.{with_source, with_sink, named, other_name, key_text, good_numbers, bad_numbers, to_put, put_unmade, kept, due, after_drop, disk_failed, deserted, scrambled, hidden, ends};
+ghost use Rattle.command_runs.specs.Devices.{with_source, named, good_numbers, bad_numbers, to_put, put_unmade, byte_kept, due, seen_after_drop, disk_failed, deserted, scrambled, all_hidden};
+ghost use Rattle.command_laws.specs.Instances.{with_sink, key_text, other_name, ends};
 
 /// Faults of the disk, the sink and the source, and want of memory; a disk that reads no journal, and too few providers; begins that are
 /// refused; a row that is accepted and one that is lost; and a list, a get and a repair over devices that tell nothing.
 pub fn commands_end_early()
-    ensures disk_fault { Answers ListAll kept (disk_failed kept) (ends 12) }
-    ensures sink_fault { Answers ListAll kept (record kept { sink_faults = 1 }) (ends 15) }
+    ensures disk_fault { Answers ListAll byte_kept (disk_failed byte_kept) (ends 12) }
+    ensures sink_fault { Answers ListAll byte_kept (record byte_kept { sink_faults = 1 }) (ends 15) }
     ensures source_fault { Answers (PutUnder named) to_put (record to_put { source_faults = 1 }) (ends 14) }
-    ensures no_memory { Answers ListAll kept kept (ends 70) }
+    ensures no_memory { Answers ListAll byte_kept byte_kept (ends 70) }
     ensures bad_journal { Answers ListAll scrambled scrambled (ends 8) }
     ensures too_few { Answers ListAll deserted deserted (ends 22) }
     ensures repair_due { Answers AuditAll due due (ends 6) }
-    ensures nothing_due { Answers RepairDue kept kept (ends 7) }
+    ensures nothing_due { Answers RepairDue byte_kept byte_kept (ends 7) }
     ensures bad_name { Answers (PutUnder []) to_put put_unmade (ends 17) }
-    ensures gone { Answers (GetOf named) after_drop after_drop (ends 3) }
-    ensures done_row { Answers (RowOf 4 1 1 (Some 7 ∷ Some 7 ∷ Some 7 ∷ Some 9 ∷ [])) kept (with_sink kept (values_line (7 ∷ []))) (ends 0) }
-    ensures lost_row { Answers (RowOf 4 1 1 (None ∷ None ∷ Some 7 ∷ Some 9 ∷ [])) kept (with_sink kept no_row_line) (ends 4) }
-    ensures hidden_list { Answers ListAll hidden hidden (ends 0) }
-    ensures hidden_repair { Answers RepairDue hidden hidden (ends 7) }
-    ensures hidden_get { Answers (GetOf other_name) hidden hidden (ends 3) }
+    ensures gone { Answers (GetOf named) seen_after_drop seen_after_drop (ends 3) }
+    ensures done_row { Answers (RowOf 4 1 1 (Some 7 ∷ Some 7 ∷ Some 7 ∷ Some 9 ∷ [])) byte_kept
+        (with_sink byte_kept (values_line (7 ∷ []))) (ends 0) }
+    ensures lost_row { Answers (RowOf 4 1 1 (None ∷ None ∷ Some 7 ∷ Some 9 ∷ [])) byte_kept
+        (with_sink byte_kept no_row_line) (ends 4) }
+    ensures hidden_list { Answers ListAll all_hidden all_hidden (ends 0) }
+    ensures hidden_repair { Answers RepairDue all_hidden all_hidden (ends 7) }
+    ensures hidden_get { Answers (GetOf other_name) all_hidden all_hidden (ends 3) }
 {}
 
 /// An init: of numbers that are no setup, over too few providers, of a source that failed or tells no key, over a disk that is set up
 /// already, and over one that reads no journal.
 pub fn inits_are_refused()
-    ensures bad_setup { Answers (InitWith bad_numbers) kept kept (ends 20) }
+    ensures bad_setup { Answers (InitWith bad_numbers) byte_kept byte_kept (ends 20) }
     ensures too_few { Answers (InitWith good_numbers) deserted deserted (ends 22) }
-    ensures source_fault { Answers (InitWith good_numbers) kept (record kept { source_faults = 1 }) (ends 14) }
-    ensures bad_key { Answers (InitWith good_numbers) kept kept (ends 18) }
-    ensures already { Answers (InitWith good_numbers) (with_source kept key_text) kept (ends 10) }
-    ensures bad_journal { Answers (InitWith good_numbers) (with_source scrambled key_text) scrambled (ends 8) }
+    ensures source_fault { Answers (InitWith good_numbers) byte_kept
+        (record byte_kept { source_faults = 1 }) (ends 14) }
+    ensures bad_key { Answers (InitWith good_numbers) byte_kept byte_kept (ends 18) }
+    ensures already { Answers (InitWith good_numbers) (with_source byte_kept key_text) byte_kept (ends 10) }
+    ensures bad_journal { Answers (InitWith good_numbers) (with_source scrambled key_text) scrambled
+        (ends 8) }
 {}

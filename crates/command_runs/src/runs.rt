@@ -1,29 +1,30 @@
 //! Commands over devices that run a job, given outright.
 ghost use Rattle.hail_commands.specs.Forms.{PutUnder, GetOf, DropOf, AuditAll, RepairDue};
 ghost use Rattle.hail_commands.specs.Commands.{Answers};
-ghost use Rattle.command_runs.specs.Devices.{named, other_name, hidden, hidden_fetched, to_put_other, stored_other, ends, ends_hearing, to_put, stored, put_failed, put_cut, put_torn, put_unmade, drop_cut, audit_cut, repair_cut, kept, dropped, all_lost, found_lost, due_lost, repair_lost, no_blocks, damaged, audited, answers_heard, due, repaired, repair_failed, mended, got, blocks_heard, ends_at};
+ghost use Rattle.command_runs.specs.Devices.{named, all_hidden, hidden_fetched, to_put_other, stored_other, ends_hearing, to_put, byte_stored, put_failed, put_cut, put_torn, put_unmade, drop_cut, audit_cut, repair_cut, byte_kept, dropped, all_lost, found_lost, due_lost, repair_lost, no_blocks, damaged, byte_audited, answers_heard, due, repaired, repair_failed, mended, got, own_blocks_heard, ends_at};
+ghost use Rattle.command_laws.specs.Instances.{other_name, ends};
 
 /// Puts: one that is done; one whose first store fails; two that a fault of the disk cuts off at their last move, with the record in doubt, of
 /// which one leaves its gate loose; one that finds no memory; one of another file; and one over devices that tell nothing. A drop, done and
 /// cut off. A get of the file, and two that find a row lost. An audit that finds a lost block, done and cut off. A repair that writes it anew,
 /// done and cut off, one whose store fails, and one that finds a row lost.
 pub fn commands_end()
-    ensures put { Answers (PutUnder named) to_put stored (ends 0) }
+    ensures put { Answers (PutUnder named) to_put byte_stored (ends 0) }
     ensures failed_put { Answers (PutUnder named) to_put put_failed (ends 13) }
     ensures cut_put { Answers (PutUnder named) to_put put_cut (ends 12) }
     ensures torn_put { Answers (PutUnder named) to_put put_torn (ends 12) }
     ensures unmade_put { Answers (PutUnder named) to_put put_unmade (ends 70) }
     ensures other_put { Answers (PutUnder other_name) to_put_other stored_other (ends 0) }
-    ensures hidden_put { Answers (PutUnder named) hidden hidden (ends 0) }
-    ensures hidden_get { Answers (GetOf named) hidden hidden_fetched (ends_hearing 4 no_blocks) }
-    ensures drop { Answers (DropOf named) kept dropped (ends 0) }
-    ensures cut_drop { Answers (DropOf named) kept drop_cut (ends 12) }
+    ensures hidden_put { Answers (PutUnder named) all_hidden all_hidden (ends 0) }
+    ensures hidden_get { Answers (GetOf named) all_hidden hidden_fetched (ends_hearing 4 no_blocks) }
+    ensures drop { Answers (DropOf named) byte_kept dropped (ends 0) }
+    ensures cut_drop { Answers (DropOf named) byte_kept drop_cut (ends 12) }
     ensures lost_get { Answers (GetOf named) all_lost found_lost (ends_hearing 4 no_blocks) }
     ensures lost_repair { Answers RepairDue due_lost repair_lost (ends 4) }
-    ensures audit { Answers AuditAll damaged audited (ends_hearing 0 answers_heard) }
+    ensures audit { Answers AuditAll damaged byte_audited (ends_hearing 0 answers_heard) }
     ensures cut_audit { Answers AuditAll damaged audit_cut (ends_hearing 12 answers_heard) }
     ensures cut_repair { Answers RepairDue due repair_cut (ends 12) }
     ensures repair { Answers RepairDue due repaired (ends 0) }
     ensures failed_repair { Answers RepairDue due repair_failed (ends_at 13 2) }
-    ensures get { Answers (GetOf named) mended got (ends_hearing 0 blocks_heard) }
+    ensures get { Answers (GetOf named) mended got (ends_hearing 0 own_blocks_heard) }
 {}

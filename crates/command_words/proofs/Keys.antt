@@ -1,26 +1,16 @@
 -- What the form of a key says of its text.
-use Rattle.std.proofs.Common.{◌≡◌, ℕ, ◌≤◌, List, ◌++◌, length, take, drop, refl, sym, ◌∙◌, ap, subst, arith, length-append, take-append-drop}
-use Rattle.std.proofs.Math.Seq.{take-append_seam, drop-append_seam}
+use Rattle.std.proofs.Common.{◌≡◌, ℕ, ◌≤◌, List, ◌++◌, length, drop, refl, sym, ◌∙◌, ap, subst, arith, length-append, take-append-drop}
+use Rattle.std.proofs.Math.Seq.{drop-append_seam}
 use Rattle.std.specs.Prelude.{◌↔◌, true, false, Ok, Option, Some, None, MatchOption, IfSome, IsSome}
 use Rattle.std.specs.List.{AllPass, IsSplitAt}
 use Rattle.hex.specs.Hex.{decode_of, is_hex_digit}
 use Rattle.hail_commands.specs.Keys.{IsKeyForm, IsLineEnd}
-
--- the digits are the front of the text
-pub digits-IsKeyForm : (text key : List ℕ) (form : IsKeyForm text key) → form.digits ≡ take 64 text
-digits-IsKeyForm text key form = subst (λ (t : List ℕ). form.digits ≡ take 64 t) (sym form.text_is)
-    (subst (λ (n : ℕ). form.digits ≡ take n (form.digits ++ form.behind)) form.size (sym (take-append_seam form.digits form.behind)))
+use Rattle.hail_commands.proofs.Keys.{digits-IsKeyForm}
 
 -- and what is behind them the rest
 pub behind-IsKeyForm : (text key : List ℕ) (form : IsKeyForm text key) → form.behind ≡ drop 64 text
 behind-IsKeyForm text key form = subst (λ (t : List ℕ). form.behind ≡ drop 64 t) (sym form.text_is)
     (subst (λ (n : ℕ). form.behind ≡ drop n (form.digits ++ form.behind)) form.size (sym (drop-append_seam form.digits form.behind)))
-
--- a text spells one key at most
-pub IsKeyForm-once : (text key other : List ℕ) → IsKeyForm text key → IsKeyForm text other → key ≡ other
-IsKeyForm-once text key other first second =
-    let same : first.digits ≡ second.digits = digits-IsKeyForm text key first ∙ sym (digits-IsKeyForm text other second) in
-    cc (sym first.spelled ∙ ap (λ (ds : List ℕ). decode_of ds) same ∙ second.spelled)
 
 -- a text of the form is long enough
 pub length-IsKeyForm : (text key : List ℕ) → IsKeyForm text key → 64 ≤ length text

@@ -66,7 +66,8 @@ pub fn read_setup(numbers: &Numbers) -> Option<Setup>
     ensures found { MatchOption result
         (is_setup (setup_with (numbers_of numbers.now) []) ≡ false)
         (λ setup. is_setup (setup_with (numbers_of numbers.now) []) ≡ true) }
-    ensures value { IfSome result (λ setup. (key : List ℕ) → with_master setup key ≡ setup_with (numbers_of numbers.now) key) }
+    ensures value { IfSome result (λ setup. (key : List ℕ) → with_master setup key ≡ setup_with
+        (numbers_of numbers.now) key) }
 {
     let setup = in_fields(numbers)?;
     if setup.check() { Some(setup) } else { None }

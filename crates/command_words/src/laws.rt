@@ -12,7 +12,8 @@ pub fn number_word_is_short()
 
 /// Words spell at most one command.
 pub fn words_spell_one_command()
-    ensures { (words : List (String Global)) (command other : Command) → IsForm words command → IsForm words other → command ≡ other }
+    ensures { (words : List (String Global)) (command other : Command) → IsForm words command
+        → IsForm words other → command ≡ other }
 {}
 
 /// A text is the form of at most one master key.

@@ -5,15 +5,16 @@ use Rattle.std.specs.List.{list_all}
 use Rattle.std.proofs.lemmas.Bool.{cases_Bool, and_parts, leb-true, false≢true}
 use Rattle.hail_columns.specs.Columns.{columns, is_wrong}
 use Rattle.hail_columns.specs.Verdicts.{is_flagged}
-use Rattle.hail_records.specs.Table.{File}
+use Rattle.column_laws.proofs.Worked.{column-right}
+use Rattle.hail_records.specs.Table.{File, file_as}
 use Rattle.hail_machine.specs.Jobs.{Job, job_of}
 use Rattle.hail_machine.specs.States.{State, setup_in, file_in}
 use Rattle.hail_machine.specs.Runs.{Moment, first_moments}
 use Rattle.hail_machine.specs.Calm.{Mark, since, relies, replaced_count, IsCalm}
 use Rattle.hail_machine.specs.Missed.{is_wrong_told, is_wrong_now, NoneMissed}
-use Rattle.hail_machine.specs.Examples.{four, set_up}
+use Rattle.hail_machine.specs.Examples.{set_up}
+use Rattle.hail_records.specs.Examples.{four}
 use Rattle.hail_machine.proofs.JobLists.{cond_true, cond_false, same_value}
-use Rattle.step_laws.proofs.GivesRight.{own_not_wrong}
 use Rattle.damage_run.specs.Schedule.{byte, IsOutright}
 use Rattle.damage_run.proofs.Values.{thing}
 use Rattle.damage_run.proofs.Steps.{counts, state_21}
@@ -49,14 +50,15 @@ unfolding setup_in
 calm = calm_by_test (since set_up) moments refl
 
 -- the only file in effect is that of the put
-only_file : (b : Bool) (name : List ℕ) (file : File) → (if b then Some (record { name = name; id = 1; size = 1 }) else None) ≡ Some file → file.id ≡ 1
-only_file true name file h = (let e : record { name = name; id = 1; size = 1 } ≡ file = cc in sym (ap (λ (f : File). f.id) e))
+only_file : (b : Bool) (name : List ℕ) (file : File) →
+    (if b then Some (file_as name 1 1 0) else None) ≡ Some file → file.id ≡ 1
+only_file true name file h = (let e : file_as name 1 1 0 ≡ file = cc in sym (ap (λ (f : File). f.id) e))
 only_file false name file h = (let e : None ≡ Some file = h in cc)
 
 -- at the audit's begin each provider but the flagged one is right for it
 right_then : (j : ℕ) → is_wrong thing byte j (λ stripe. if (1 == 1) && (stripe == 0) then Some (columns thing byte j 0) else None) ≡ false
 unfolding is_wrong
-right_then j = rw (own_not_wrong thing byte j 0) refl
+right_then j = rw (column-right thing byte j 0) refl
 
 unmissed : (j : ℕ) → j < 4 → is_flagged 0 counts j ≡ false → (name : List ℕ) (file : File) → file_in state_21 name ≡ Some file → is_wrong_now state_21 file j ≡ true → ⊥
 unfolding setup_in

@@ -15,9 +15,10 @@ use Rattle.hail_machine.specs.Machine.{Happens}
 use Rattle.hail_machine.specs.Runs.{Moment, IsRun}
 use Rattle.hail_machine.specs.Examples.{set_up}
 use Rattle.hail_machine.proofs.RunParts.{begun, job_at, stepped}
+use Rattle.step_laws.proofs.ByteSteps.{block_sized, block}
 use Rattle.damage_run.specs.Schedule.{name}
 use Rattle.damage_run.specs.Points.{EndsBy}
-use Rattle.damage_run.proofs.Values.{thing, block, block_sized, shown, opens_one}
+use Rattle.damage_run.proofs.Values.{thing, shown, opens_one}
 use Rattle.damage_run.proofs.Steps.{state_57}
 use Rattle.damage_run.proofs.Run.{moments, is_run}
 use Rattle.damage_run.proofs.InRepair.{robbed}

@@ -35,7 +35,7 @@ last_of (m ∷ ms) = m
 
 -- the file of the put
 abbrev pub the_file : File
-the_file = record { name = name; id = 1; size = 1 }
+the_file = record { name = name; id = 1; size = 1; profile = 0 }
 
 pub points : HasPoints moments
 unfolding setup_in is_wrong

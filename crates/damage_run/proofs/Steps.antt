@@ -12,10 +12,11 @@ use Rattle.hail_machine.specs.States.{State, Append, Doubt, setup_in, with_provi
 use Rattle.hail_machine.specs.Begins.{new_job}
 use Rattle.hail_machine.specs.Audits.{HasSums}
 use Rattle.hail_machine.specs.Machine.{Happens}
-use Rattle.hail_machine.specs.Examples.{four}
+use Rattle.hail_records.specs.Examples.{four}
 use Rattle.hail_machine.proofs.PutSteps.{state_15}
+use Rattle.step_laws.proofs.ByteSteps.{block_sized, block}
 use Rattle.damage_run.specs.Schedule.{name, byte}
-use Rattle.damage_run.proofs.Values.{block, block_sized, symbols, byte_back, all_give, without_two_give, without_zero_give, right, same_first, no_answer, sums, judged}
+use Rattle.damage_run.proofs.Values.{symbols, byte_back, all_give, without_two_give, without_zero_give, right, same_first, no_answer, sums, judged}
 
 -- the counts of the audit
 abbrev pub counts : List ℕ

@@ -1,43 +1,33 @@
 -- What the providers hold and answer in the run: the blocks of a file of one byte over four providers, one of which is lost.
 use Rattle.hail_columns.specs.Forgeries.{count_of}
-use Rattle.std.proofs.Common.{◌≡◌, ℕ, ◌/◌, ◌%◌, ◌<◌, ◌==◌, true, false, ◌&&◌, List, [], ◌∷◌, length, Option, Some, None, refl, ap, sym, ◌∙◌, inl, arith, zero, suc, ◌≤◌}
+use Rattle.std.proofs.Common.{◌≡◌, ℕ, ◌/◌, ◌%◌, ◌<◌, true, false, ◌&&◌, List, [], ◌∷◌, Option, Some, None, refl, ap, sym, ◌∙◌, inl, arith, zero, suc, ◌≤◌}
 use Rattle.std.specs.Prelude.{take, is_some, unwrap_or, if◌then◌else◌}
 use Rattle.std.specs.List.{flat_map}
-use Rattle.std.proofs.lemmas.Bool.{eq-eqb}
 use Rattle.hail_field.specs.Nim.{nim_add, nim_mul, nim_pow}
 use Rattle.hail_field.proofs.AllNumbers.{nim_laws}
 use Rattle.poly_laws.specs.Poly.{is_seen as is_seen_over, agree as agree_over}
 use Rattle.hail_codes.specs.Polynomials.{value, agree, is_seen}
 use Rattle.hail_codes.specs.Points.{upto}
 use Rattle.hail_columns.specs.Objects.{Object, symbols_in, bytes_of_symbols, point}
-use Rattle.hail_columns.specs.Columns.{columns, is_wrong_block}
+use Rattle.hail_columns.specs.Columns.{is_wrong_block}
 use Rattle.hail_columns.specs.Opened.{SeenBlock, bare, OpensTo, GivesSymbols, OpensFile, block_at}
 use Rattle.hail_columns.specs.Challenges.{Challenge, challenge_of, alpha, picked_row, sum_over, all_held, held_symbol, honest_answer, right_answer, bare_answer}
 use Rattle.hail_columns.specs.Verdicts.{Sums, counts_after, Judges}
-use Rattle.hail_columns.proofs.ColumnLaws.{length-column_of_symbols}
 use Rattle.column_laws.proofs.RightBlocks.{opens-right}
-use Rattle.hail_devices.specs.Providers.{sized}
+use Rattle.column_laws.proofs.Worked.{column-right}
 use Rattle.hail_machine.specs.Setups.{object_of}
-use Rattle.hail_machine.specs.Examples.{four}
-use Rattle.hail_machine.proofs.JobLists.{cond_true}
+use Rattle.hail_records.specs.Examples.{four}
 use Rattle.run_laws.proofs.SymbolBytes.{bytes_back}
-use Rattle.step_laws.proofs.GivesRight.{own_not_wrong, few_give}
+use Rattle.step_laws.proofs.GivesRight.{few_give}
 use Rattle.damage_run.specs.Schedule.{byte}
 use Rattle.damage_run.specs.Points.{without_two}
 use Rattle.calm_laws.specs.FewWrong.{is_wrong_seen}
+use Rattle.step_laws.proofs.ByteSteps.{block}
 use Rattle.aggregate.proofs.RightRow.{right_row, IsRightRow-right_row}
 
 -- the object of the file
 abbrev pub thing : Object
 thing = object_of four 1
-
--- the block that a provider is to hold
-abbrev pub block : ℕ → List ℕ
-block j = columns thing byte j 0
-
--- it has the size
-pub block_sized : (j : ℕ) → Some (block j) ≡ sized 6 (Some (block j))
-block_sized j = sym (cond_true (length (block j) == 6) (Some (block j)) None (eq-eqb (length (block j)) 6 (length-column_of_symbols thing (symbols_in thing byte 0) j 0)))
 
 -- the symbols of the only stripe
 abbrev pub symbols : List ℕ
@@ -53,7 +43,7 @@ abbrev pub shown : ℕ → SeenBlock
 shown j = Some (bare thing j 0 (block j))
 
 is_right : (j : ℕ) → is_wrong_block thing byte j 0 (Some (block j)) ≡ false
-is_right j = own_not_wrong thing byte j 0
+is_right j = column-right thing byte j 0
 
 pub opens_one : (j : ℕ) → j < 256 → OpensTo thing j 0 (Some (block j)) (shown j)
 opens_one j l = opens-right thing byte j 0 (Some (block j)) l (is_right j)

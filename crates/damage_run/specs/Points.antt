@@ -1,12 +1,15 @@
 -- Places in the run at which the premises of the laws over runs are met.
 --
 --   at k ms                     == the state after the first k events
---   Runs w number kind place    == a job of this number and kind runs, and has come to this place in its actions
+--   Runs w number kind place    == a job of this number and kind runs, and has come to this place in its
+--                                  actions
 --   InDoubt w entry             == a record is in doubt, and a job made it
 --   EndsBy ms k number answer   == event k is a step that ends the job so
 --   IsDamaged w j               == provider j is wrong for a file in effect
---   without_two stripe          == the own blocks of a stripe of the file, but for that of provider 2, which is absent
---   HasPoints ms                == what runs, ends, is in doubt, takes effect and is wrong in the run, and when
+--   without_two stripe          == the own blocks of a stripe of the file, but for that of provider 2,
+--                                  which is absent
+--   HasPoints ms                == what runs, ends, is in doubt, takes effect and is wrong in the run, and
+--                                  when
 use Rattle.std.specs.Prelude.{◌≡◌, ℕ, suc, true, List, [], ◌∷◌, Some, None}
 use Rattle.hail_columns.specs.Columns.{columns}
 use Rattle.hail_columns.specs.Opened.{SeenBlock}
@@ -20,7 +23,8 @@ use Rattle.hail_machine.specs.States.{State, Doubt, file_in}
 use Rattle.hail_machine.specs.Runs.{Moment, now, first_moments, came}
 use Rattle.hail_machine.specs.Calm.{since}
 use Rattle.hail_machine.specs.Missed.{is_wrong_now}
-use Rattle.hail_machine.specs.Examples.{four, set_up}
+use Rattle.hail_machine.specs.Examples.{set_up}
+use Rattle.hail_records.specs.Examples.{four}
 use Rattle.damage_run.specs.Schedule.{name, byte}
 
 -- the state after the first events

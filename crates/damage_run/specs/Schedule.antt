@@ -2,9 +2,9 @@
 --
 --   name, byte      == the name and the bytes of the file that is put
 --   schedule        == the commands, the newest first
---   written         == all that they write
---   IsOutright ms   == these moments carry it out, from a start of four providers that tell, at limit 8; two jobs run at once; the run is
---                      calm, and no audit missed damage
+--   written_lines         == all that they write
+--   IsOutright ms   == these moments carry it out, from a start of four providers that tell, at limit 8;
+--                      two jobs run at once; the run is calm, and no audit missed damage
 use Rattle.std.specs.Prelude.{◌≡◌, ℕ, List, [], ◌∷◌, length, codes}
 use Rattle.std.specs.List.{flat_map}
 use Rattle.hail_machine.specs.Jobs.{PutJob, GetJob, AuditJob, RepairJob}
@@ -15,7 +15,7 @@ use Rattle.hail_machine.specs.Calm.{IsCalm, since, relies}
 use Rattle.hail_machine.specs.Missed.{NoneMissed}
 use Rattle.hail_machine.specs.Halves.{AllTell}
 use Rattle.hail_machine.specs.Lines.{line}
-use Rattle.hail_machine.specs.Transcripts.{Command, Once, RunJob, CarriesOut}
+use Rattle.hail_machine.specs.Transcripts.{Instruction, Once, RunJob, CarriesOut}
 use Rattle.hail_machine.specs.Examples.{set_up}
 
 -- the file: its name is "a"
@@ -25,9 +25,10 @@ name = 97 ∷ []
 abbrev pub byte : List ℕ
 byte = 111 ∷ []
 
--- The commands, the newest first: a put; a get begins and fetches; a block of provider 2 is lost; an audit begins, and the get ends while it
--- runs; the audit ends; a repair; a block of provider 0 is lost; and another get.
-abbrev pub schedule : List Command
+-- The commands, the newest first: a put; a get begins and fetches; a block of provider 2 is lost; an audit
+-- begins, and the get ends while it runs; the audit ends; a repair; a block of provider 0 is lost; and
+-- another get.
+abbrev pub schedule : List Instruction
 schedule = RunJob 5
     ∷ Once (Begin (GetJob name))
     ∷ Once (Lose 0 1 0)
@@ -48,10 +49,11 @@ schedule = RunJob 5
     ∷ Once Reopen ∷ []
 
 -- all that they write
-abbrev pub written : List ℕ
-written = flat_map line (codes "opened" ∷ codes "job 1" ∷ codes "put"
+abbrev pub written_lines : List ℕ
+written_lines = flat_map line (codes "opened" ∷ codes "job 1" ∷ codes "put"
     ∷ codes "job 2" ∷ codes "more" ∷ codes "more" ∷ codes "more" ∷ codes "more"
-    ∷ codes "replaced" ∷ codes "job 3" ∷ codes "more" ∷ codes "got 6f" ∷ codes "audited 1 undecided 0 counts 0 0 1 0"
+    ∷ codes "replaced" ∷ codes "job 3" ∷ codes "more" ∷ codes "got 6f"
+    ∷ codes "audited 1 undecided 0 counts 0 0 1 0"
     ∷ codes "job 4" ∷ codes "repaired 1" ∷ codes "replaced" ∷ codes "job 5" ∷ codes "got 6f" ∷ [])
 
 -- these moments carry it out, and both halves speak of them
@@ -59,7 +61,7 @@ pub record IsOutright (ms : List Moment) : Type 0 where
   pub clean : IsStart set_up
   pub tell : AllTell set_up
   pub run : IsRun 8 set_up ms
-  pub carried_out : CarriesOut schedule ms written
+  pub carried_out : CarriesOut schedule ms written_lines
   pub two_jobs : length (now set_up (first_moments 22 ms)).jobs ≡ 2
   pub calm : IsCalm relies (since set_up) ms
   pub found : NoneMissed set_up ms

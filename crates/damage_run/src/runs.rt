@@ -10,7 +10,8 @@ ghost use Rattle.hail_machine.specs.Setups.{object_of};
 ghost use Rattle.hail_machine.specs.Runs.{Moment, IsRun, now};
 ghost use Rattle.hail_machine.specs.Answers.{Lost};
 ghost use Rattle.hail_machine.specs.Halves.{FirstHalf, SecondHalf};
-ghost use Rattle.hail_machine.specs.Examples.{four, set_up};
+ghost use Rattle.hail_machine.specs.Examples.{set_up};
+ghost use Rattle.hail_records.specs.Examples.{four};
 ghost use Rattle.headline.specs.Headline.{Headline};
 ghost use Rattle.damage_run.specs.Schedule.{byte, IsOutright};
 ghost use Rattle.damage_run.specs.Points.{without_two, EndsBy, InDoubt, IsDamaged, HasPoints};
@@ -22,7 +23,8 @@ ghost use Rattle.calm_laws.specs.FewWrong.{is_wrong_seen};
 /// a repair restores; another lost block, and a get over it. Two providers were damaged in all, where one may be wrong.
 pub fn damage_is_found_and_repaired()
     ensures run { (ms : List Moment) × IsOutright ms }
-    ensures halves { (ms : List Moment) → IsOutright ms → Headline set_up ms × FirstHalf set_up ms × SecondHalf set_up ms }
+    ensures halves { (ms : List Moment) → IsOutright ms
+        → Headline set_up ms × FirstHalf set_up ms × SecondHalf set_up ms }
 {}
 
 /// The premises of the laws over runs are met: of the same moments, where a put, a get, an audit and a repair run, end, are in doubt and
@@ -34,7 +36,8 @@ pub fn premises_are_met()
 /// So are those of the laws on what blocks open to: of the file's four blocks one is absent, and the others open to the file.
 pub fn blocks_with_one_absent_open()
     ensures opens { OpensFile (object_of four 1) 1 without_two byte }
-    ensures few { count_of (λ j. is_wrong_seen (object_of four 1) byte j 0 (block_at (without_two 0) j)) (upto 4) ≤ 1 }
+    ensures few { count_of (λ j. is_wrong_seen (object_of four 1) byte j 0 (block_at (without_two 0) j))
+        (upto 4) ≤ 1 }
     ensures shape { IsShape 4 1 1 }
     ensures profile { (object_of four 1).profile ≡ profile_of 0 }
     ensures row { IsRow (object_of four 1) byte 0 0 }
@@ -44,7 +47,8 @@ pub fn blocks_with_one_absent_open()
 /// And so are those of the law on damage that is new while a repair's record is in doubt: up to there the moments are those of the run,
 /// and then a block that the repair had stored is lost once more.
 pub fn a_block_is_lost_while_a_repair_ends()
-    ensures { (ms : List Moment) × IsCalmRun 8 set_up ms × InDoubt (now set_up ms) (RepairDone 1) × IsDamaged (now set_up ms) 2 }
+    ensures { (ms : List Moment) × IsCalmRun 8 set_up ms × InDoubt (now set_up ms) (RepairDone 1)
+        × IsDamaged (now set_up ms) 2 }
 {}
 
 /// And so are those of the laws on gets that are lost: after the run a second block is lost, and a get over the two that are left ends lost.

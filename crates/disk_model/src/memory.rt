@@ -24,7 +24,7 @@ impl Model for MemDisk {
 
     ghost Value = { DiskInMemory };
 
-    ghost view = { λ disk. record { cells = disk.inner; calls = disk.calls } };
+    ghost view = { λ disk. record { cells = disk.inner.cells; calls = disk.calls } };
 }
 
 impl MemDisk {
@@ -52,6 +52,8 @@ impl Disk for MemDisk {
 
     ghost faults = { λ disk. disk.calls.failed };
 
+    ghost calls = { λ disk. disk.calls.made };
+
     fn len(&mut self) -> Result<u64, Failed>
         ensures len { IfOk result (λ n. n ≡ length self.old.cells) }
         ensures same { self.new.cells ≡ self.old.cells }
@@ -67,7 +69,8 @@ impl Disk for MemDisk {
 
     fn read_at(&mut self, at: u64, out: &mut [u8]) -> Result<usize, Failed>
         ensures at_most { IfOk result (λ n. n ≤ length out.old) }
-        ensures bytes { IfOk result (λ n. take n out.new ≡ take (length out.old) (drop at (reads self.old.cells))) }
+        ensures bytes { IfOk result (λ n. take n out.new ≡ take (length out.old)
+            (drop at (reads self.old.cells))) }
         ensures same { self.new.cells ≡ self.old.cells }
         ensures cause { HasCause self.old.calls.failed self.new.calls.failed (IsErr result) }
         ensures fails { IsErr result ↔ IsTrue (fails_next self.old.calls) }
@@ -85,10 +88,13 @@ impl Disk for MemDisk {
         requires { at + length bytes.now ≤ 2 ^ 24 }
         ensures ok { OnOk result (self.new.cells ≡ written at bytes.now self.old.cells) }
         ensures failed { IsErrOf result write_fault.Failed
-            → (self.new.cells ≡ halved at bytes.now self.old.cells) ⊎ (self.new.cells ≡ marked at (length bytes.now) self.old.cells) }
-        ensures torn { IsErrOf result write_fault.Failed → Torn at (length bytes.now) self.old.cells self.new.cells }
+            → (self.new.cells ≡ halved at bytes.now self.old.cells)
+            ⊎ (self.new.cells ≡ marked at (length bytes.now) self.old.cells) }
+        ensures torn { IsErrOf result write_fault.Failed
+            → Torn at (length bytes.now) self.old.cells self.new.cells }
         ensures memory { IsErrOf result write_fault.Memory → self.new.cells ≡ self.old.cells }
-        ensures cause { HasCause self.old.calls.failed self.new.calls.failed (IsErrOf result write_fault.Failed) }
+        ensures cause { HasCause self.old.calls.failed self.new.calls.failed
+            (IsErrOf result write_fault.Failed) }
         ensures fails { IsErrOf result write_fault.Failed ↔ IsTrue (fails_next self.old.calls) }
         ensures counted { self.new.calls ≡ called self.old.calls }
     {

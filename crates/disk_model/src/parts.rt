@@ -8,7 +8,8 @@ use std::alloc::AllocError;
 
 /// Makes room up to a length, with the value in each new place.
 fn grow<T: Copy>(items: &mut Vec<T>, len: usize, value: T) -> Result<(), AllocError>
-    ensures ok { OnOk result (items.new.items ≡ items.old.items ++ replicate (len - length items.old.items) value) }
+    ensures ok { OnOk result (items.new.items ≡ items.old.items ++ replicate (len - length items.old.items)
+        value) }
     ensures err { OnErr result (items.new.items ≡ items.old.items) }
 {
     if items.len() < len {
@@ -45,7 +46,8 @@ pub fn put(
     requires room { at + length bytes.now ≤ 2 ^ 24 }
     requires same_len { length marks.old.items ≡ length held.old.items }
     ensures same_len { length marks.new.items ≡ length held.new.items }
-    ensures ok { OnOk result (zip held.new.items marks.new.items ≡ written at bytes.now (zip held.old.items marks.old.items)) }
+    ensures ok { OnOk result (zip held.new.items marks.new.items ≡ written at bytes.now
+        (zip held.old.items marks.old.items)) }
     ensures err_held { OnErr result (held.new.items ≡ held.old.items) }
     ensures err_marks { OnErr result (marks.new.items ≡ marks.old.items) }
 {
@@ -70,8 +72,10 @@ pub fn tear(held: &mut Vec<u8>, marks: &mut Vec<bool>, at: usize, bytes: &[u8])
     requires room { at + length bytes.now ≤ 2 ^ 24 }
     requires same_len { length marks.old.items ≡ length held.old.items }
     ensures same_len { length marks.new.items ≡ length held.new.items }
-    ensures torn { (zip held.new.items marks.new.items ≡ halved at bytes.now (zip held.old.items marks.old.items))
-        ⊎ (zip held.new.items marks.new.items ≡ marked at (length bytes.now) (zip held.old.items marks.old.items)) }
+    ensures torn { (zip held.new.items marks.new.items
+        ≡ halved at bytes.now (zip held.old.items marks.old.items))
+        ⊎ (zip held.new.items marks.new.items
+        ≡ marked at (length bytes.now) (zip held.old.items marks.old.items)) }
 {
     let len = held.len();
     let from = at.min(len);

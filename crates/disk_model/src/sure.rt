@@ -2,6 +2,7 @@ ghost use Rattle.std.specs.Prelude.{◌≡◌, ◌+◌, ◌^◌, ◌≤◌, Some
 ghost use Rattle.stream_model.specs.declared.fault.WriteFault.TheVariants as write_fault;
 ghost use Rattle.hail_devices.specs.Cells.{reads, firm};
 ghost use Rattle.hail_devices.specs.Disks.{written, halved, marked, synced, Stopped};
+ghost use Rattle.hail_devices.specs.Faults.{one_more};
 ghost use Rattle.hail_devices.specs.Picks.{picked};
 
 use crate::disk::Disk;
@@ -10,21 +11,22 @@ use std::alloc::Global;
 use std::marker::Model;
 use stream_model::{Failed, Memory, WriteFault};
 
-/// A disk in memory that never fails.
+/// A disk in memory that never fails. It counts its calls, but for `stop`.
 #[derive(Drop)]
 pub struct SureDisk {
     held: Vec<u8>,
     marks: Vec<bool>,
+    calls: u64,
 }
 
 impl Model for SureDisk {
     ghost use Rattle.std.specs.Prelude.{◌≡◌, vec_len};
     ghost use Rattle.std.specs.List.{zip};
-    ghost use Rattle.hail_devices.specs.Cells.{Cells};
+    ghost use Rattle.disk_model.specs.InMemory.{SureInMemory};
 
-    ghost Value = { Cells };
+    ghost Value = { SureInMemory };
 
-    ghost view = { λ disk. zip disk.held.items disk.marks.items };
+    ghost view = { λ disk. record { cells = zip disk.held.items disk.marks.items; made = disk.calls } };
 
     ghost invariant = { λ disk. vec_len disk.marks ≡ vec_len disk.held };
 }
@@ -36,16 +38,21 @@ impl SureDisk {
 
     /// A disk that reads these bytes, none of them loose.
     pub fn new(alloc: Global, bytes: &[u8]) -> Result<SureDisk, Memory>
-        ensures { IfOk result (λ disk. disk ≡ firm bytes.now) }
+        ensures cells { IfOk result (λ disk. disk.cells ≡ firm bytes.now) }
+        ensures calls { IfOk result (λ disk. disk.made ≡ 0) }
     {
         let held = bytes.to_vec(alloc)?;
         let marks = vec![in alloc; false; bytes.len()]?;
-        Ok(SureDisk { held, marks })
+        Ok(SureDisk {
+            held,
+            marks,
+            calls: 0,
+        })
     }
 
     /// The bytes that the disk reads.
     pub fn bytes(&self) -> &[u8]
-        ensures { result.now ≡ reads self.now }
+        ensures { result.now ≡ reads self.now.cells }
     {
         &self.held
     }
@@ -54,31 +61,40 @@ impl SureDisk {
     /// room, and none otherwise.
     pub(crate) fn tear_at(&mut self, at: u64, bytes: &[u8])
         requires { at + length bytes.now ≤ 2 ^ 24 }
-        ensures { (self.new ≡ halved at bytes.now self.old) ⊎ (self.new ≡ marked at (length bytes.now) self.old) }
+        ensures torn { (self.new.cells ≡ halved at bytes.now self.old.cells)
+            ⊎ (self.new.cells ≡ marked at (length bytes.now) self.old.cells) }
+        ensures calls { self.new.made ≡ self.old.made }
     {
         tear(&mut self.held, &mut self.marks, at as usize, bytes);
     }
 }
 
 impl Disk for SureDisk {
-    ghost holds = { λ disk. Some disk };
+    ghost holds = { λ disk. Some disk.cells };
 
     ghost faults = { λ _. 0 };
 
+    ghost calls = { λ disk. disk.made };
+
     fn len(&mut self) -> Result<u64, Failed>
-        ensures len { IfOk result (λ n. n ≡ length self.old) }
-        ensures same { self.new ≡ self.old }
+        ensures len { IfOk result (λ n. n ≡ length self.old.cells) }
+        ensures same { self.new.cells ≡ self.old.cells }
         ensures sure { IsOk result }
+        ensures counted { self.new.made ≡ one_more self.old.made }
     {
+        self.calls = self.calls.saturating_add(1);
         Ok(self.held.len() as u64)
     }
 
     fn read_at(&mut self, at: u64, out: &mut [u8]) -> Result<usize, Failed>
         ensures at_most { IfOk result (λ n. n ≤ length out.old) }
-        ensures bytes { IfOk result (λ n. take n out.new ≡ take (length out.old) (drop at (reads self.old))) }
-        ensures same { self.new ≡ self.old }
+        ensures bytes { IfOk result (λ n. take n out.new ≡ take (length out.old)
+            (drop at (reads self.old.cells))) }
+        ensures same { self.new.cells ≡ self.old.cells }
         ensures sure { IsOk result }
+        ensures counted { self.new.made ≡ one_more self.old.made }
     {
+        self.calls = self.calls.saturating_add(1);
         let len = self.held.len();
         if at >= len as u64 {
             return Ok(0);
@@ -91,25 +107,30 @@ impl Disk for SureDisk {
 
     fn write_at(&mut self, at: u64, bytes: &[u8]) -> Result<(), WriteFault>
         requires { at + length bytes.now ≤ 2 ^ 24 }
-        ensures ok { OnOk result (self.new ≡ written at bytes.now self.old) }
-        ensures memory { OnErr result (self.new ≡ self.old) }
+        ensures ok { OnOk result (self.new.cells ≡ written at bytes.now self.old.cells) }
+        ensures memory { OnErr result (self.new.cells ≡ self.old.cells) }
         ensures sure { IfErr result (λ e. e ≡ write_fault.Memory) }
+        ensures counted { self.new.made ≡ one_more self.old.made }
     {
+        self.calls = self.calls.saturating_add(1);
         Ok(put(&mut self.held, &mut self.marks, at as usize, bytes)?)
     }
 
     fn sync(&mut self) -> Result<(), Failed>
-        ensures ok { self.new ≡ synced self.old }
+        ensures ok { self.new.cells ≡ synced self.old.cells }
         ensures sure { IsOk result }
+        ensures counted { self.new.made ≡ one_more self.old.made }
     {
+        self.calls = self.calls.saturating_add(1);
         self.marks.fill(false);
         Ok(())
     }
 
     /// The picks stand for the loose bytes in order; loose bytes past the end of the picks stay.
     fn stop(&mut self, picks: &[u8])
-        ensures picked { self.new ≡ firm (picked self.old picks.now) }
-        ensures image { Stopped self.old self.new }
+        ensures picked { self.new.cells ≡ firm (picked self.old.cells picks.now) }
+        ensures image { Stopped self.old.cells self.new.cells }
+        ensures calls { self.new.made ≡ self.old.made }
     {
         pick(&mut self.held, &mut self.marks, picks);
     }

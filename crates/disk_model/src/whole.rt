@@ -12,7 +12,8 @@ const LIMIT: u64 = 1 << 24;
 
 /// The first 2^24 bytes of a disk, or all where there are fewer, by two calls of it.
 pub fn read_front<D: Disk>(alloc: Global, disk: &mut D) -> Result<Vec<u8>, WriteFault>
-    ensures bytes { IfOk result (λ v. IfSome (D.holds disk.old) (λ cells. v.items ≡ take (2 ^ 24) (reads cells))) }
+    ensures bytes { IfOk result (λ v. IfSome (D.holds disk.old)
+        (λ cells. v.items ≡ take (2 ^ 24) (reads cells))) }
     ensures same { D.holds disk.new ≡ D.holds disk.old }
     ensures cause { HasCause (D.faults disk.old) (D.faults disk.new) (IsErrOf result write_fault.Failed) }
 {

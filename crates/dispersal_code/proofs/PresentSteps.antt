@@ -1,13 +1,7 @@
 -- The steps of `present_of`.
 use Rattle.std.proofs.Common.{◌≡◌, ◌≤◌, ◌<◌, ◌+◌, ◌++◌, [], ◌∷◌, ℕ, zero, suc, List, length, drop, get_or, add-one, Option, Some, None, refl, sym, ◌∙◌, ap, subst, arith}
-use Rattle.std.proofs.lemmas.List.{append_assoc, drop_all}
+use Rattle.std.proofs.lemmas.List.{append_assoc, drop_all, get_or_default}
 use Rattle.dispersal_code.specs.Present.{Chosen, present_points, present_symbols}
-
--- the element at a place within a list is read alike by any default
-read_any : {A : Type 0} (xs : List A) (k : ℕ) (d e : A) → k < length xs → get_or xs k d ≡ get_or xs k e
-read_any [] k d e h = absurd (omega arith)
-read_any (x ∷ xs) zero d e h = refl
-read_any (x ∷ xs) (suc k) d e h = read_any xs k d e (omega arith)
 
 -- the point of an absent symbol is passed over
 points-none : (xs : List ℕ) (ss : List (Option ℕ)) (k : ℕ) → k < length xs → k < length ss → get_or ss k None ≡ None →
@@ -49,11 +43,11 @@ symbols-some (s ∷ ss) (suc k) y e is = symbols-some ss k y (omega arith) is
 pub points_passed : (xs start total : List ℕ) (ss : List (Option ℕ)) (k : ℕ) (d : Option ℕ) → k < length xs → length xs ≡ length ss → get_or ss k d ≡ None →
     start ++ present_points (drop k xs) (drop k ss) ≡ total → start ++ present_points (drop (k + 1) xs) (drop (k + 1) ss) ≡ total
 points_passed xs start total ss k d h even is sum =
-    ap (λ t. start ++ t) (rw add-one (sym (points-none xs ss k h (omega arith) (read_any ss k None d (omega arith) ∙ is)))) ∙ sum
+    ap (λ t. start ++ t) (rw add-one (sym (points-none xs ss k h (omega arith) (get_or_default ss k None d (omega arith) ∙ is)))) ∙ sum
 
 pub symbols_passed : (start total : List ℕ) (ss : List (Option ℕ)) (k : ℕ) (d : Option ℕ) → k < length ss → get_or ss k d ≡ None →
     start ++ present_symbols (drop k ss) ≡ total → start ++ present_symbols (drop (k + 1) ss) ≡ total
-symbols_passed start total ss k d h is sum = ap (λ t. start ++ t) (rw add-one (sym (symbols-none ss k h (read_any ss k None d h ∙ is)))) ∙ sum
+symbols_passed start total ss k d h is sum = ap (λ t. start ++ t) (rw add-one (sym (symbols-none ss k h (get_or_default ss k None d h ∙ is)))) ∙ sum
 
 -- one item more at the end
 one_more : (start rest whole total : List ℕ) (a : ℕ) → rest ≡ a ∷ whole → start ++ rest ≡ total → (start ++ a ∷ []) ++ whole ≡ total
@@ -64,14 +58,14 @@ pub points_taken : (xs start total : List ℕ) (ss : List (Option ℕ)) (k x y :
     get_or ss k d ≡ Some y → start ++ present_points (drop k xs) (drop k ss) ≡ total → (start ++ x ∷ []) ++ present_points (drop (k + 1) xs) (drop (k + 1) ss) ≡ total
 points_taken xs start total ss k x y d h even read is sum =
     one_more start (present_points (drop k xs) (drop k ss)) (present_points (drop (k + 1) xs) (drop (k + 1) ss)) total x
-    (rw (read, add-one) (points-some xs ss k y h (omega arith) (read_any ss k None d (omega arith) ∙ is))) sum
+    (rw (read, add-one) (points-some xs ss k y h (omega arith) (get_or_default ss k None d (omega arith) ∙ is))) sum
 
 -- and the symbol
 pub symbols_taken : (start total : List ℕ) (ss : List (Option ℕ)) (k y : ℕ) (d : Option ℕ) → k < length ss →
     get_or ss k d ≡ Some y → start ++ present_symbols (drop k ss) ≡ total → (start ++ y ∷ []) ++ present_symbols (drop (k + 1) ss) ≡ total
 symbols_taken start total ss k y d h is sum =
     one_more start (present_symbols (drop k ss)) (present_symbols (drop (k + 1) ss)) total y
-    (rw add-one (symbols-some ss k y h (read_any ss k None d h ∙ is))) sum
+    (rw add-one (symbols-some ss k y h (get_or_default ss k None d h ∙ is))) sum
 
 -- what follows nothing is nothing
 append-none : (start rest : List ℕ) → rest ≡ [] → start ++ rest ≡ start

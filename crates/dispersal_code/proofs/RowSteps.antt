@@ -1,6 +1,5 @@
 -- The steps of `encode_row`.
-use Rattle.std.proofs.Common.{◌≡◌, ◌≢◌, ◌≤◌, ◌<◌, ◌+◌, ◌++◌, [], ◌∷◌, ℕ, zero, suc, List, length, take, get_or, refl, ap, sym, ◌∙◌, arith}
-use Rattle.field_laws.specs.Field.{Each, Apart}
+use Rattle.std.proofs.Common.{◌≡◌, ◌≤◌, ◌<◌, ◌+◌, ◌++◌, [], ◌∷◌, ℕ, List, length, take, get_or, refl, ap, sym, ◌∙◌, arith}
 use Rattle.std.proofs.lemmas.List.{take_more, take_all, get_or_read, map-append}
 use Rattle.hail_field.specs.Nim.{nim}
 use Rattle.hail_field.proofs.AllNumbers.{nim_laws}
@@ -30,15 +29,3 @@ row_is points primary out rest k past even is_rest done =
     let all_out : take k out ≡ out = take_all k out (omega arith) in
     sym all_out ∙ done ∙ ap (λ (ps : List ℕ). values_at ps rest) all_points ∙ ap (values_at points) is_rest ∙
     values-trim (interpolate (take (length primary) points) primary) points
-
--- the first of numbers that each have a property have it
-Each-take : (P : ℕ → Type 0) (k : ℕ) (xs : List ℕ) → Each P xs → Each P (take k xs)
-Each-take P zero xs h = tt
-Each-take P (suc k) [] h = tt
-Each-take P (suc k) (x ∷ xs) h = (h.0, Each-take P k xs h.1)
-
--- the first points are apart
-pub Apart-take : (k : ℕ) (xs : List ℕ) → Apart xs → Apart (take k xs)
-Apart-take zero xs h = tt
-Apart-take (suc k) [] h = tt
-Apart-take (suc k) (x ∷ xs) h = (Each-take (λ y. x ≢ y) k xs h.0, Apart-take k xs h.1)

@@ -1,6 +1,7 @@
 -- At most one polynomial is accepted.
 use Rattle.std.proofs.Common.{◌≡◌, ◌≤◌, ℕ, List, [], ◌∷◌, length, Option, Some, None, arith}
-use Rattle.field_laws.specs.Field.{Apart, Each}
+use Rattle.plain_facts.specs.Lists.{Each}
+use Rattle.field_laws.specs.Field.{Apart}
 use Rattle.hail_field.specs.Nim.{nim}
 use Rattle.hail_field.specs.Shape.{IsShape}
 use Rattle.hail_field.proofs.AllNumbers.{nim_laws}

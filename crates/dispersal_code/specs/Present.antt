@@ -1,9 +1,8 @@
 -- The symbols of a row that are present, each with its point.
 --
--- Chosen                     == symbols, each with its point
--- present_points points seen == the points at whose places a symbol is present
--- present_symbols seen       == these symbols
--- room_for n b m             == how many of m present symbols may be wrong, where all but b of n symbols are to agree
+-- Chosen == symbols, each with its point present_points points seen == the points at whose places a symbol
+-- is present present_symbols seen == these symbols room_for n b m == how many of m present symbols may be
+-- wrong, where all but b of n symbols are to agree
 use Rattle.std.specs.Prelude.{◌≡◌, ◌≤◌, ◌-◌, ℕ, List, [], ◌∷◌, Option, Some, None, length}
 
 -- symbols, each with its point
@@ -12,7 +11,7 @@ pub record Chosen : Type 0 where
   pub symbols : List ℕ
 
 -- a count of symbols, kept with their points in two arrays of 16 places
-pub record IsKept (points symbols : List ℕ) (count : ℕ) : Type 0 where
+pub record HoldsPresent (points symbols : List ℕ) (count : ℕ) : Type 0 where
   pub few : count ≤ 16
   pub points_room : length points ≡ 16
   pub symbols_room : length symbols ≡ 16

@@ -10,7 +10,8 @@ ghost use Rattle.dispersal_code.specs.Present.{present_points, present_symbols, 
 
 /// At most one polynomial is accepted: two have one value everywhere, and the same coefficients but for zeros at the end.
 pub fn accepted_polynomial_is_unique()
-    ensures coefficients { (n l b : ℕ) (points : List ℕ) (seen : List (Option ℕ)) (p q : List ℕ) → IsShape n l b
+    ensures coefficients { (n l b : ℕ) (points : List ℕ) (seen : List (Option ℕ)) (p q : List ℕ)
+        → IsShape n l b
         → Apart points → length points ≡ length seen → length seen ≡ n
         → Accepts points seen l b p → Accepts points seen l b q → trim p ≡ trim q }
     ensures values { (n l b : ℕ) (points : List ℕ) (seen : List (Option ℕ)) (p q : List ℕ) → IsShape n l b
@@ -25,7 +26,8 @@ pub fn present_symbols_decide()
     ensures decided { (n l b : ℕ) (points : List ℕ) (seen : List (Option ℕ)) (p : List ℕ) → IsShape n l b
         → length points ≡ length seen → length seen ≡ n → n ≤ length (present_symbols seen) + b
         → Accepts points seen l b p
-        ↔ Decodes nim (present_points points seen) (present_symbols seen) l (room_for n b (length (present_symbols seen))) p }
+        ↔ Decodes nim (present_points points seen) (present_symbols seen) l
+        (room_for n b (length (present_symbols seen))) p }
     ensures few { (n l b : ℕ) (points : List ℕ) (seen : List (Option ℕ)) → length points ≡ n
         → length (present_symbols seen) + b < n → AcceptsNone points seen l b }
 {}

@@ -14,13 +14,13 @@ pub struct Present {
 
 impl Model for Present {
     ghost use Rattle.std.specs.Prelude.{take};
-    ghost use Rattle.dispersal_code.specs.Present.{Chosen, IsKept};
+    ghost use Rattle.dispersal_code.specs.Present.{Chosen, HoldsPresent};
 
     ghost Value = { Chosen };
 
     ghost view = { λ w. record { points = take w.count w.points; symbols = take w.count w.symbols } };
 
-    ghost invariant = { λ w. IsKept w.points w.symbols w.count };
+    ghost invariant = { λ w. HoldsPresent w.points w.symbols w.count };
 }
 
 impl Present {

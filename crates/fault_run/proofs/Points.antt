@@ -2,9 +2,10 @@
 use Rattle.std.proofs.Common.{◌≡◌, ℕ, suc, Bool, true, false, ◌&&◌, List, [], ◌∷◌, Option, Some, None, refl, ap, sym, subst, ◌∙◌, inl, arith}
 use Rattle.std.specs.Prelude.{not, take}
 use Rattle.std.specs.Option.{option_map}
-use Rattle.std.proofs.lemmas.Bool.{and_parts, false≢true}
+use Rattle.std.proofs.lemmas.Bool.{and_parts, false≢true, not-true}
 use Rattle.poly_laws.specs.Poly.{is_seen as is_seen_over}
 use Rattle.hail_codes.specs.Polynomials.{value, is_seen}
+use Rattle.hail_codes.proofs.Values.{is_seen-none}
 use Rattle.hail_columns.specs.Objects.{point}
 use Rattle.hail_columns.specs.Challenges.{bare_answer}
 use Rattle.hail_devices.specs.Providers.{Held}
@@ -19,9 +20,10 @@ use Rattle.hail_machine.specs.Failures.{OfOthers}
 use Rattle.hail_machine.specs.Heard.{NoneContinues}
 use Rattle.hail_machine.specs.Survival.{takes_out, NeverTakenOut}
 use Rattle.hail_machine.proofs.RunParts.{job_at, append_at}
+use Rattle.step_laws.proofs.ByteSteps.{block_sized, block}
 use Rattle.damage_run.specs.Schedule.{name, byte}
 use Rattle.damage_run.specs.Points.{at}
-use Rattle.damage_run.proofs.Values.{thing, block, block_sized, right, same_first, asked, decider, agrees_at}
+use Rattle.damage_run.proofs.Values.{thing, right, same_first, asked, decider, agrees_at}
 use Rattle.damage_run.proofs.CalmRun.{calm_by_test, outright}
 use Rattle.damage_run.proofs.Points.{doubt_at, maker_of, the_file, last_of}
 use Rattle.fault_run.specs.Faults.{IsFaulty}
@@ -76,13 +78,8 @@ fetch_fails = record {
   };
 }
 
--- the right answer is there
-seen_none : (v : ℕ) → is_seen v None ≡ false
-unfolding is_seen_over
-seen_none v = refl
-
 some_right : right 2 ≡ None → ⊥
-some_right none = false≢true (sym (seen_none (value decider (point thing 2))) ∙ subst (λ s. is_seen (value decider (point thing 2)) (bare_answer thing asked 2 s) ≡ true) none (agrees_at 2))
+some_right none = false≢true (sym (is_seen-none (value decider (point thing 2))) ∙ subst (λ s. is_seen (value decider (point thing 2)) (bare_answer thing asked 2 s) ≡ true) none (agrees_at 2))
 
 ask_fails : Fails moments 55 (OfOthers 2)
 unfolding setup_in actions_of
@@ -118,23 +115,19 @@ removal_fails = record {
 
 -- ---- the first file stays
 
-abbrev is_left : List ℕ → List Record → Option Doubt → Bool
+abbrev pub is_left : List ℕ → List Record → Option Doubt → Bool
 is_left called rs None = true
 is_left called rs (Some d) = not (takes_out rs called d.entry)
 
-abbrev is_never_out : List ℕ → List Moment → Bool
+abbrev pub is_never_out : List ℕ → List Moment → Bool
 is_never_out called [] = true
 is_never_out called (m ∷ ms) = is_left called m.state.records m.state.doubt && is_never_out called ms
 
-from_not : (b : Bool) → not b ≡ true → b ≡ false
-from_not true h = absurd (false≢true h)
-from_not false h = refl
-
-left_by_test : (called : List ℕ) (rs : List Record) (doubt : Option Doubt) → is_left called rs doubt ≡ true → (d : Doubt) → doubt ≡ Some d → takes_out rs called d.entry ≡ false
+pub left_by_test : (called : List ℕ) (rs : List Record) (doubt : Option Doubt) → is_left called rs doubt ≡ true → (d : Doubt) → doubt ≡ Some d → takes_out rs called d.entry ≡ false
 left_by_test called rs None h d e = (let f : None ≡ Some d = e in cc)
-left_by_test called rs (Some c) h d e = (let f : c ≡ d = cc in subst (λ (x : Doubt). takes_out rs called x.entry ≡ false) f (from_not (takes_out rs called c.entry) h))
+left_by_test called rs (Some c) h d e = (let f : c ≡ d = cc in subst (λ (x : Doubt). takes_out rs called x.entry ≡ false) f (not-true (takes_out rs called c.entry) h))
 
-never_by_test : (called : List ℕ) (ms : List Moment) → is_never_out called ms ≡ true → NeverTakenOut called ms
+pub never_by_test : (called : List ℕ) (ms : List Moment) → is_never_out called ms ≡ true → NeverTakenOut called ms
 never_by_test called [] h = tt
 never_by_test called (m ∷ ms) h = (let p = and_parts (is_left called m.state.records m.state.doubt) (is_never_out called ms) h in
     (left_by_test called m.state.records m.state.doubt p.0, never_by_test called ms p.1))
@@ -152,7 +145,7 @@ goes_on (m ∷ ms) = not (continues m.event) && goes_on ms
 none_by_test : (ms : List Moment) → goes_on ms ≡ true → NoneContinues ms
 none_by_test [] h = tt
 none_by_test (m ∷ ms) h = (let p = and_parts (not (continues m.event)) (goes_on ms) h in
-    (λ e. false≢true (sym (from_not (continues m.event) p.0) ∙ ap continues e), none_by_test ms p.1))
+    (λ e. false≢true (sym (not-true (continues m.event) p.0) ∙ ap continues e), none_by_test ms p.1))
 
 -- ---- all of them
 
@@ -185,7 +178,7 @@ faults = record {
   later = after_first;
   came_moment = event_at 13;
   first_split = refl;
-  first_came = record { done = refl; started = refl; named = refl };
+  first_came = record { version = 1; done = refl; profiled = refl; started = refl; named = refl };
   never_out = never_by_test name after_first refl;
   first_got = record { moment = event_at 47; is = refl; event = refl; outcome = refl };
   has_stored = inl (record {

@@ -14,11 +14,12 @@ use Rattle.hail_machine.specs.States.{State, Append, Doubt, setup_in, given_up, 
 use Rattle.hail_machine.specs.Begins.{new_job}
 use Rattle.hail_machine.specs.Audits.{HasSums}
 use Rattle.hail_machine.specs.Machine.{Happens}
-use Rattle.hail_machine.specs.Examples.{four}
+use Rattle.hail_records.specs.Examples.{four}
 use Rattle.hail_machine.proofs.PutSteps.{state_15}
+use Rattle.step_laws.proofs.ByteSteps.{block_sized, block}
 use Rattle.damage_run.specs.Schedule.{name, byte}
 use Rattle.damage_run.specs.Points.{counts}
-use Rattle.damage_run.proofs.Values.{block, block_sized, symbols, byte_back, all_give, right, same_first, sums, judged}
+use Rattle.damage_run.proofs.Values.{symbols, byte_back, all_give, right, same_first, sums, judged}
 use Rattle.damage_run.proofs.LostGet.{loses_row}
 use Rattle.fault_run.specs.Faults.{other}
 

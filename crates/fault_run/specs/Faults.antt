@@ -2,8 +2,9 @@
 --
 --   other           == the name of the second file
 --   told ms         == the events of some moments, with what came of them, the newest first
---   schedule        == those of the run
---   IsFaulty ms     == these moments are the run: from a start of four providers that tell, at limit 8, and nothing is ever replaced
+--   faulty_schedule        == those of the run
+--   IsFaulty ms     == these moments are the run: from a start of four providers that tell, at limit 8, and
+--                      nothing is ever replaced
 use Rattle.std.specs.Prelude.{◌≡◌, ℕ, List, [], ◌∷◌, ◌++◌, replicate}
 use Rattle.hail_machine.specs.Jobs.{PutJob, GetJob, DropJob, AuditJob}
 use Rattle.hail_machine.specs.Answers.{Put, Got, Dropped, Audited, Lost, ProviderFault, DiskFault}
@@ -39,12 +40,13 @@ once event outcome = record { event = event; outcome = outcome } ∷ []
 abbrev pub steps : ℕ → ℕ → List Told
 steps job count = replicate count (record { event = Step job; outcome = More })
 
--- The events, the newest first: a put of the first file; a get, two of whose fetches fail, so that it is lost; a put whose first store
--- fails; a put that a fault of the disk cuts off at its last move; a begin is refused; a stop settles what is in doubt; a reopening that
--- cannot read the disk, and one that can; a begin finds no memory; a get gives the first file; an audit, one of whose asks fails, so that
--- it flags a provider; a begin is refused; a drop, one of whose removals fails; and a later call of the program.
-abbrev pub schedule : List Told
-schedule = once (Step 1) Closed
+-- The events, the newest first: a put of the first file; a get, two of whose fetches fail, so that it is
+-- lost; a put whose first store fails; a put that a fault of the disk cuts off at its last move; a begin is
+-- refused; a stop settles what is in doubt; a reopening that cannot read the disk, and one that can; a
+-- begin finds no memory; a get gives the first file; an audit, one of whose asks fails, so that it flags a
+-- provider; a begin is refused; a drop, one of whose removals fails; and a later call of the program.
+abbrev pub faulty_schedule : List Told
+faulty_schedule = once (Step 1) Closed
     ++ once Continue Continued
     ++ once (Step 7) (Ended Dropped)
     ++ steps 7 8
@@ -81,4 +83,4 @@ pub record IsFaulty (ms : List Moment) : Type 0 where
   pub tell : AllTell set_up
   pub run : IsRun 8 set_up ms
   pub calm : IsCalm relies (λ moments. 0) ms
-  pub happens : told ms ≡ schedule
+  pub happens : told ms ≡ faulty_schedule

@@ -5,7 +5,8 @@
 --   HasMissed w number j      == a get of the file runs that a fetch from provider j gave nothing
 --   RefusesGet ms k why       == event k is a begin of a get of the file, and is refused so
 --   IsInFlight w entry        == a running job is appending this record
---   HasReported ms k later    == before event k a step ended a job, and no later call of the program began since, in these moments
+--   HasReported ms k later    == before event k a step ended a job, and no later call of the program began
+--                                since, in these moments
 --   HasFaults ms              == what fails, is refused, cut off and settled in the run, and when
 use Rattle.std.specs.Prelude.{◌≡◌, ℕ, suc, ◌<◌, List, [], ◌∷◌, ◌++◌, length, Some, None}
 use Rattle.std.specs.List.{Contains}
@@ -97,12 +98,14 @@ pub record HasFaults (ms : List Moment) : Type 0 where
   pub stop : Moment
   pub stopped : Happened ms 37 stop
   pub cut_settled : came (at 37 ms) stop.state ≡ Some (PutDone 3 0)
-  pub cut_in_effect : file_in (at 38 ms) other ≡ Some (record { name = other; id = 3; size = 0 })
-  -- the first file came in, and is not taken out until its drop is in doubt: past the fault, the stop and the reopening
+  pub cut_in_effect : file_in (at 38 ms) other ≡ Some (record { name = other; id = 3; size = 0; profile = 0 })
+  -- the first file came in, and is not taken out until its drop is in doubt: past the fault, the stop and
+  -- the reopening
   pub later : List Moment
   pub came_moment : Moment
   pub first_split : first_moments 63 ms ≡ later ++ came_moment ∷ first_moments 13 ms
-  pub first_came : ComesIn (at 13 ms) came_moment.state name (record { name = name; id = 1; size = 1 })
+  pub first_came :
+      ComesIn (at 13 ms) came_moment.state name (record { name = name; id = 1; size = 1; profile = 0 })
   pub never_out : NeverTakenOut name later
   pub first_got : EndsBy ms 47 5 (Got byte)
   -- the first put has stored, the audit has asked, and its end is in flight

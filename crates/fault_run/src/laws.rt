@@ -36,12 +36,18 @@ use step_laws::laws::{done_audits_are_whole, done_puts_are_whole};
 
 /// Each failed call raised its count.
 pub fn failed_calls_raise_counts()
-    ensures fetch { (ms : List Moment) → IsFaulty ms → HasFaults ms → RoseBy (count_in (OfOthers 0) (at 16 ms)) (count_in (OfOthers 0) (at 17 ms)) 1 }
-    ensures store { (ms : List Moment) → IsFaulty ms → HasFaults ms → RoseBy (count_in (OfStores 0) (at 26 ms)) (count_in (OfStores 0) (at 27 ms)) 1 }
-    ensures sync { (ms : List Moment) → IsFaulty ms → HasFaults ms → RoseBy (count_in OfDisk (at 35 ms)) (count_in OfDisk (at 36 ms)) 1 }
-    ensures reopening { (ms : List Moment) → IsFaulty ms → HasFaults ms → RoseBy (count_in OfDisk (at 38 ms)) (count_in OfDisk (at 39 ms)) 1 }
-    ensures ask { (ms : List Moment) → IsFaulty ms → HasFaults ms → RoseBy (count_in (OfOthers 2) (at 55 ms)) (count_in (OfOthers 2) (at 56 ms)) 1 }
-    ensures removal { (ms : List Moment) → IsFaulty ms → HasFaults ms → RoseBy (count_in (OfOthers 3) (at 71 ms)) (count_in (OfOthers 3) (at 72 ms)) 1 }
+    ensures fetch { (ms : List Moment) → IsFaulty ms → HasFaults ms
+        → RoseBy (count_in (OfOthers 0) (at 16 ms)) (count_in (OfOthers 0) (at 17 ms)) 1 }
+    ensures store { (ms : List Moment) → IsFaulty ms → HasFaults ms
+        → RoseBy (count_in (OfStores 0) (at 26 ms)) (count_in (OfStores 0) (at 27 ms)) 1 }
+    ensures sync { (ms : List Moment) → IsFaulty ms → HasFaults ms
+        → RoseBy (count_in OfDisk (at 35 ms)) (count_in OfDisk (at 36 ms)) 1 }
+    ensures reopening { (ms : List Moment) → IsFaulty ms → HasFaults ms
+        → RoseBy (count_in OfDisk (at 38 ms)) (count_in OfDisk (at 39 ms)) 1 }
+    ensures ask { (ms : List Moment) → IsFaulty ms → HasFaults ms
+        → RoseBy (count_in (OfOthers 2) (at 55 ms)) (count_in (OfOthers 2) (at 56 ms)) 1 }
+    ensures removal { (ms : List Moment) → IsFaulty ms → HasFaults ms
+        → RoseBy (count_in (OfOthers 3) (at 71 ms)) (count_in (OfOthers 3) (at 72 ms)) 1 }
 {
     failed_calls_are_counted();
 }
@@ -51,9 +57,11 @@ pub fn failed_calls_raise_counts()
 pub fn gets_are_refused_or_lost_by_faults()
     ensures must_reopen { (ms : List Moment) → IsFaulty ms → HasFaults ms → IsGetRefusal refusal.MustReopen }
     ensures no_memory { (ms : List Moment) → IsFaulty ms → HasFaults ms → IsGetRefusal refusal.Memory }
-    ensures lost { (ms : List Moment) → IsFaulty ms → HasFaults ms → (begun : State) × IsLostByFaults begun (at 21 ms) (Lost 0 0) }
+    ensures lost { (ms : List Moment) → IsFaulty ms → HasFaults ms
+        → (begun : State) × IsLostByFaults begun (at 21 ms) (Lost 0 0) }
     ensures missed { (ms : List Moment) → IsFaulty ms → (h : HasFaults ms) →
-        IsReplaced 0 0 (first_moments 20 ms) ⊎ RoseSince (at h.get_missed.job.begun (first_moments 20 ms)) (at 20 ms) 0 }
+        IsReplaced 0 0 (first_moments 20 ms)
+        ⊎ RoseSince (at h.get_missed.job.begun (first_moments 20 ms)) (at 20 ms) 0 }
 {
     stored_names_begin();
     the_start_is_a_mark();
@@ -64,9 +72,12 @@ pub fn gets_are_refused_or_lost_by_faults()
 /// The put that was cut off is whole, though its job ended in a fault: while its record is in doubt, and when a stop brings it into effect. The
 /// first file is kept past the fault, the stop and the reopenings.
 pub fn puts_survive_faults()
-    ensures in_doubt { (ms : List Moment) → IsFaulty ms → HasFaults ms → (job : Job) × PutIsWhole set_up (first_moments 37 ms) job 3 0 }
-    ensures settled { (ms : List Moment) → IsFaulty ms → HasFaults ms → (job : Job) × PutIsWhole set_up (first_moments 37 ms) job 3 0 }
-    ensures first { (ms : List Moment) → IsFaulty ms → HasFaults ms → IsKept (at 63 ms) name (record { name = name; id = 1; size = 1 }) }
+    ensures in_doubt { (ms : List Moment) → IsFaulty ms → HasFaults ms
+        → (job : Job) × PutIsWhole set_up (first_moments 37 ms) job 3 0 }
+    ensures settled { (ms : List Moment) → IsFaulty ms → HasFaults ms
+        → (job : Job) × PutIsWhole set_up (first_moments 37 ms) job 3 0 }
+    ensures first { (ms : List Moment) → IsFaulty ms → HasFaults ms
+        → IsKept (at 63 ms) name (record { name = name; id = 1; size = 1; profile = 0 }) }
 {
     done_puts_are_whole();
     acknowledged_files_survive();
@@ -74,7 +85,8 @@ pub fn puts_survive_faults()
 
 /// The report has what the second get heard, while later jobs run.
 pub fn reports_have_it()
-    ensures { (ms : List Moment) → IsFaulty ms → (h : HasFaults ms) → given_to h.reported.job.number (heard_in set_up (first_moments 60 ms))
+    ensures { (ms : List Moment) → IsFaulty ms → (h : HasFaults ms)
+        → given_to h.reported.job.number (heard_in set_up (first_moments 60 ms))
         ≡ given_to h.reported.job.number (heard_by (Some h.reported.job)) }
 {
     reports_have_what_jobs_heard();
@@ -96,9 +108,12 @@ pub fn headline_of_it()
 pub fn numbers_are_drawn_once()
     ensures object { (ms : List Moment) → IsFaulty ms → HasFaults ms → 1 < next_id (at 7 ms).records }
     ensures audit { (ms : List Moment) → IsFaulty ms → HasFaults ms → 1 < next_audit (at 54 ms).records }
-    ensures one_put { (ms : List Moment) (other : ℕ) → IsFaulty ms → HasFaults ms → HasStored set_up (first_moments 7 ms) other 1 → 1 ≡ other }
-    ensures one_audit { (ms : List Moment) (other : ℕ) → IsFaulty ms → HasFaults ms → HasAsked set_up (first_moments 54 ms) other 1 1 0 → 48 ≡ other }
-    ensures whole { (ms : List Moment) → IsFaulty ms → (h : HasFaults ms) → AuditIsWhole set_up (first_moments 58 ms) h.end_in_flight.job 1 0 counts }
+    ensures one_put { (ms : List Moment) (other : ℕ) → IsFaulty ms → HasFaults ms
+        → HasStored set_up (first_moments 7 ms) other 1 → 1 ≡ other }
+    ensures one_audit { (ms : List Moment) (other : ℕ) → IsFaulty ms → HasFaults ms
+        → HasAsked set_up (first_moments 54 ms) other 1 1 0 → 48 ≡ other }
+    ensures whole { (ms : List Moment) → IsFaulty ms → (h : HasFaults ms)
+        → AuditIsWhole set_up (first_moments 58 ms) h.end_in_flight.job 1 0 counts }
 {
     used_numbers_are_below();
     stores_name_their_own_object();

@@ -1,33 +1,17 @@
 -- The number of bytes that zeros are put after.
 use Rattle.std.specs.Prelude.{◌≡◌, ℕ, zero, suc, ◌+◌, ◌-◌, ◌*◌, ◌≤◌, ◌<◌, Bool, true, false, nat_lt, List, [], ◌∷◌, ◌++◌, length, take, drop, replicate, min}
 use Rattle.std.proofs.Common.{arith, ap, sym, refl, ◌∙◌, get_or}
-use Rattle.std.specs.Int.{w128, from_le_bytes, byte_worth, sum_through}
+use Rattle.std.specs.Int.{w128, from_le_bytes}
 use Rattle.std.proofs.lemmas.List.{get_or-take, drop_min}
 use Rattle.std.proofs.Math.ListN.{length-drop}
 use Rattle.std.proofs.Math.ListN.{get_or-append}
 use Rattle.std.proofs.Math.Seq.{get_or-append_right}
-
--- sums of the same parts
-sum_through-same : (f g : ℕ → ℕ) (k : ℕ) → ((i : ℕ) → i ≤ k → f i ≡ g i) → sum_through f k ≡ sum_through g k
-sum_through-same f g zero same = same 0 (omega arith)
-sum_through-same f g (suc k) same =
-    (λ i. sum_through-same f g k (λ j below. same j (omega (arith, below))) i + same (suc k) (omega arith) i)
-
--- numbers of the same first 16 bytes
-from_le_bytes-same : (xs ys : List ℕ) → ((i : ℕ) → i < 16 → get_or xs i 0 ≡ get_or ys i 0) → from_le_bytes w128 xs ≡ from_le_bytes w128 ys
-from_le_bytes-same xs ys same =
-    sum_through-same (λ i. byte_worth i (get_or xs i 0)) (λ i. byte_worth i (get_or ys i 0)) 15
-    (λ i below. ap (byte_worth i) (same i (omega (arith, below))))
-
--- zeros are read as what lies past the end
-zeros : (n i : ℕ) → ◌≡◌ {A = ℕ} (get_or (replicate n 0) i 0) 0
-zeros zero i = refl
-zeros (suc n) zero = refl
-zeros (suc n) (suc i) = zeros n i
+use Rattle.plain_facts.proofs.Numbers.{from_le_bytes-same}
+use Rattle.plain_facts.proofs.Lists.{get_or-zeros}
 
 -- also after some of them
 drop-zeros : (k n i : ℕ) → ◌≡◌ {A = ℕ} (get_or (drop k (replicate n 0)) i 0) 0
-drop-zeros zero n i = zeros n i
+drop-zeros zero n i = get_or-zeros n i
 drop-zeros (suc k) zero i = refl
 drop-zeros (suc k) (suc n) i = drop-zeros k n i
 

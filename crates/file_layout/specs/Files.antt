@@ -5,8 +5,8 @@ use Rattle.file_layout.specs.declared.file.FileShape.{FileShape}
 use Rattle.hail_columns.specs.Objects.{Object}
 
 -- the object that a file's shape and a master key make
-abbrev pub object_of : List ℕ → FileShape → Object
-object_of master file = record {
+abbrev pub shaped_object : List ℕ → FileShape → Object
+shaped_object master file = record {
   shape = record { n = file.shape.n; l = file.shape.l; b = file.shape.b };
   profile = plain_profile file.profile;
   master = master;

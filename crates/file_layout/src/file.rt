@@ -27,11 +27,12 @@ fn first_symbol(bytes: &[u8]) -> Symbol
 impl FileShape {
     ghost use Rattle.std.specs.Prelude.{◌≡◌, ◌≤◌, ◌^◌, ◌*◌, ℕ, List};
     ghost use Rattle.hail_columns.specs.Objects as spec;
-    ghost use Rattle.file_layout.specs.Files.{object_of};
+    ghost use Rattle.file_layout.specs.Files.{shaped_object};
 
     /// How many stripes the file has: each holds 16 bytes for each kept symbol of each primary provider.
     pub fn stripes(&self) -> u32
-        ensures value { (master : List ℕ) → result ≡ spec.stripes (object_of master self.now) self.now.length }
+        ensures value { (master : List ℕ)
+            → result ≡ spec.stripes (shaped_object master self.now) self.now.length }
         ensures bound { result ≤ self.now.length }
     {
         let stripe = 16 * u32::from(self.shape.l) * self.profile.keep;
@@ -40,7 +41,9 @@ impl FileShape {
 
     /// How many rows the file has: as many for each stripe as a block has symbols.
     pub fn rows(&self) -> u64
-        ensures value { (master : List ℕ) → result ≡ spec.stripes (object_of master self.now) self.now.length * self.now.profile.size }
+        ensures value { (master : List ℕ)
+            → result ≡ spec.stripes (shaped_object master self.now) self.now.length *
+            self.now.profile.size }
         ensures bound { result ≤ 2 ^ 32 }
     {
         u64::from(self.stripes()) * u64::from(self.profile.size)

@@ -3,17 +3,11 @@ use Rattle.std.specs.Prelude.{◌≡◌, ℕ, ◌+◌, ◌*◌, ◌<◌, List, [
 use Rattle.std.specs.Int.{w128, to_le_bytes}
 use Rattle.std.proofs.Common.{arith, ap, sym, ◌∙◌, get_or, set}
 use Rattle.std.proofs.Math.Seq.{take-add}
-use Rattle.std.proofs.lemmas.Grind.{flat_map-append}
-use Rattle.std.proofs.lemmas.List.{take_more, take_more_set, append-nil}
+use Rattle.std.proofs.lemmas.List.{take_more, take_more_set}
 use Rattle.std.proofs.lemmas.Slice.{take-put_mid}
 use Rattle.hail_columns.specs.Objects.{bytes_of_symbols}
+use Rattle.hail_columns.proofs.SymbolBytes.{bytes_of_symbols-push}
 use borrow.Rule.Slice.PartMut.{put_mid}
-
--- one symbol more
-pub bytes_of_symbols-push : (symbols : List ℕ) (x : ℕ) → bytes_of_symbols (symbols ++ x ∷ []) ≡ bytes_of_symbols symbols ++ to_le_bytes w128 x
-bytes_of_symbols-push symbols x =
-    flat_map-append (λ y. to_le_bytes w128 y) symbols (x ∷ [])
-    ∙ ap (λ (l : List ℕ). bytes_of_symbols symbols ++ l) (append-nil (to_le_bytes w128 x))
 
 -- the bytes of one symbol more are written
 pub written_more : (block out piece : List ℕ) (k n symbol : ℕ) → k < length block → symbol ≡ get_or block k symbol → length out ≡ 16 * length block →

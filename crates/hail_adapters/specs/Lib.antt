@@ -1,3 +1,4 @@
 pub mod BlockNames
+pub mod DiskCounts
 pub mod FolderCounts
 pub mod SeenRows

@@ -5,7 +5,7 @@ ghost use Rattle.hail_adapters.specs.BlockNames.{new_block};
 use crate::block_bytes::{BLOCK_BYTES, SYMBOL_BYTES, put_symbols, take_symbols};
 use crate::block_name::{NAME_BYTES, put_path};
 use crate::found::{found, is_missing};
-use crate::plain::{folder_of, open_plain, sync_folder, to_make, to_read, to_write};
+use crate::plain::{folder_of, open_plain, open_sized, sync_folder, to_make, to_write};
 use crate::provider_folders::Mark;
 use crate::seen_rows::answer_of;
 use crate::transfer::fill;
@@ -72,10 +72,10 @@ impl<R: Files + Clone + Drop> Folder<R> {
         })
     }
 
-    /// Opens the file of a block to read it; none where there is no plain file.
-    fn open(&mut self, object: u64, stripe: u32) -> io::Result<Option<R::File>> {
+    /// Opens the file of a block to read it; none where there is no plain file of so many bytes.
+    fn open(&mut self, object: u64, stripe: u32, size: usize) -> io::Result<Option<R::File>> {
         put_path(&mut self.block_path, &self.path, object, stripe)?;
-        open_plain(&self.rt, &self.block_path, &to_read())
+        open_sized(&self.rt, &self.block_path, size)
     }
 
     /// Makes the folder for its owner alone, and brings its name to the medium.
@@ -140,13 +140,12 @@ impl<R: Files + Clone + Drop> Folder<R> {
         ensures not_found { IfOk result (λ found. found ≡ false → out.new ≡ out.old) }
         ensures err { OnErr result (out.new ≡ out.old) }
     {
-        let Some(mut file) = self.open(object, stripe)? else {
+        let size = SYMBOL_BYTES * out.len();
+        let Some(mut file) = self.open(object, stripe, size)? else {
             return Ok(false);
         };
-        // One byte more than a block of this size has, to tell a longer file from it.
-        let mut buffer = [0; BLOCK_BYTES + 1];
-        let size = SYMBOL_BYTES * out.len();
-        if fill(&mut file, &mut buffer[..size + 1])? != size {
+        let mut buffer = [0; BLOCK_BYTES];
+        if fill(&mut file, &mut buffer[..size])? != size {
             return Ok(false);
         }
         take_symbols(&buffer[..size], out);
@@ -177,16 +176,18 @@ impl<R: Files + Clone + Drop> Folder<R> {
 
     /// Answers a challenge by what stands in the picked rows; none where one of them has no symbol.
     pub fn answer(&mut self, object: u64, challenge: &Challenge) -> io::Result<Option<Symbol>> {
+        let drawn = challenge.draw();
+        let picks = challenge.picks as usize;
         let mut rows = [(0, Symbol::ZERO); 64];
         let mut last = LastBlock::new();
-        for k in 0..challenge.picks {
-            let row = challenge.row(k);
+        for k in 0..picks {
+            let row = drawn.rows[k];
             let Some(symbol) = self.symbol_in(object, challenge, row, &mut last)? else {
                 return Ok(None);
             };
-            rows[k as usize] = (row, symbol);
+            rows[k] = (row, symbol);
         }
-        Ok(answer_of(challenge, &rows[..challenge.picks as usize]))
+        Ok(answer_of(&drawn, &rows[..picks]))
     }
 
     /// Removes the file of a block, and says whether there was one.

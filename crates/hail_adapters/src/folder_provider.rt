@@ -1,6 +1,6 @@
 ghost use Rattle.std.specs.Prelude.{◌≡◌, ◌≤◌, ◌⊎◌, None, false, length, IfOk, OnOk, OnErr, IsErrOf, IsTrue};
 ghost use Rattle.provider_model.specs.declared.fault.StoreFault.TheVariants as store_fault;
-ghost use Rattle.hail_adapters.specs.FolderCounts.{no_counts, with_store_fault, with_other_fault, with_fetch};
+ghost use Rattle.hail_adapters.specs.FolderCounts.{fresh_counts, with_store_fault, with_other_fault, with_fetch, with_call};
 
 use crate::folder::Folder;
 use crate::provider_folders::Mark;
@@ -21,6 +21,7 @@ pub struct FolderProvider<R: Files + Clone + Drop> {
     store_faults: u64,
     other_faults: u64,
     fetches: u64,
+    calls: u64,
 }
 
 impl<R: Files + Clone + Drop> Model for FolderProvider<R> {
@@ -32,6 +33,7 @@ impl<R: Files + Clone + Drop> Model for FolderProvider<R> {
       store_faults = provider.store_faults;
       other_faults = provider.other_faults;
       fetches = provider.fetches;
+      calls = provider.calls;
     } };
 }
 
@@ -39,7 +41,7 @@ impl<R: Files + Clone + Drop> FolderProvider<R> {
     /// The folder at this path, which the first store makes. Each store syncs it. Opens nothing; want of memory is its one
     /// refusal.
     pub fn new(rt: &R, alloc: Global, path: &str) -> Result<FolderProvider<R>, Memory>
-        ensures { IfOk result (λ provider. provider ≡ no_counts) }
+        ensures { IfOk result (λ provider. provider ≡ fresh_counts) }
     {
         FolderProvider::marking(rt, alloc, path, None)
     }
@@ -51,13 +53,14 @@ impl<R: Files + Clone + Drop> FolderProvider<R> {
         path: &str,
         unsynced: Option<Mark>,
     ) -> Result<FolderProvider<R>, Memory>
-        ensures { IfOk result (λ provider. provider ≡ no_counts) }
+        ensures { IfOk result (λ provider. provider ≡ fresh_counts) }
     {
         Ok(FolderProvider {
             folder: Folder::new(rt, alloc, path, unsynced)?,
             store_faults: 0,
             other_faults: 0,
             fetches: 0,
+            calls: 0,
         })
     }
 }
@@ -71,12 +74,16 @@ impl<R: Files + Clone + Drop> Provider for FolderProvider<R> {
 
     ghost fetches = { λ provider. provider.fetches };
 
+    ghost calls = { λ provider. provider.calls };
+
     fn store(&mut self, object: u64, stripe: u32, block: &[Symbol]) -> Result<(), StoreFault>
         requires { length block.now ≤ 128 }
-        ensures ok { OnOk result (self.new ≡ self.old) }
-        ensures failed { IsErrOf result store_fault.Failed → self.new ≡ with_store_fault self.old }
-        ensures memory { IsErrOf result store_fault.Memory → self.new ≡ self.old }
+        ensures ok { OnOk result (self.new ≡ with_call self.old) }
+        ensures failed { IsErrOf result store_fault.Failed
+            → self.new ≡ with_store_fault (with_call self.old) }
+        ensures memory { IsErrOf result store_fault.Memory → self.new ≡ with_call self.old }
     {
+        self.calls = self.calls.saturating_add(1);
         let stored = self.folder.store(object, stripe, block);
         match tried_writing(stored, &mut self.store_faults) {
             Ok(()) => Ok(()),
@@ -89,26 +96,29 @@ impl<R: Files + Clone + Drop> Provider for FolderProvider<R> {
         requires { length out.old ≤ 128 }
         ensures not_found { IfOk result (λ found. found ≡ false → out.new ≡ out.old) }
         ensures err { OnErr result (out.new ≡ out.old) }
-        ensures ok { OnOk result (self.new ≡ with_fetch self.old) }
-        ensures failed { OnErr result (self.new ≡ with_other_fault (with_fetch self.old)) }
+        ensures ok { OnOk result (self.new ≡ with_fetch (with_call self.old)) }
+        ensures failed { OnErr result (self.new ≡ with_other_fault (with_fetch (with_call self.old))) }
     {
+        self.calls = self.calls.saturating_add(1);
         self.fetches = self.fetches.saturating_add(1);
         let fetched = self.folder.fetch(object, stripe, out);
         tried(fetched, &mut self.other_faults)
     }
 
     fn ask(&mut self, object: u64, challenge: &Challenge) -> Result<Option<Symbol>, Failed>
-        ensures ok { OnOk result (self.new ≡ self.old) }
-        ensures failed { OnErr result (self.new ≡ with_other_fault self.old) }
+        ensures ok { OnOk result (self.new ≡ with_call self.old) }
+        ensures failed { OnErr result (self.new ≡ with_other_fault (with_call self.old)) }
     {
+        self.calls = self.calls.saturating_add(1);
         let answered = self.folder.answer(object, challenge);
         tried(answered, &mut self.other_faults)
     }
 
     fn remove(&mut self, object: u64) -> Result<(), Failed>
-        ensures ok { OnOk result (self.new ≡ self.old) }
-        ensures failed { OnErr result (self.new ≡ with_other_fault self.old) }
+        ensures ok { OnOk result (self.new ≡ with_call self.old) }
+        ensures failed { OnErr result (self.new ≡ with_other_fault (with_call self.old)) }
     {
+        self.calls = self.calls.saturating_add(1);
         let removed = self.folder.remove(object);
         tried(removed, &mut self.other_faults)
     }

@@ -15,7 +15,8 @@ pub fn is_missing(kind: ErrorKind) -> bool
 pub fn found<T: Drop>(answer: io::Result<T>) -> io::Result<Option<T>>
     ensures there { IfOk answer (λ value. result ≡ Ok (Some value)) }
     ensures no_file { IfErr answer (λ error. error_kind error ≡ ErrorKind.NotFound → result ≡ Ok None) }
-    ensures no_folder { IfErr answer (λ error. error_kind error ≡ ErrorKind.NotADirectory → result ≡ Ok None) }
+    ensures no_folder { IfErr answer
+        (λ error. error_kind error ≡ ErrorKind.NotADirectory → result ≡ Ok None) }
     ensures missing { result ≡ Ok None → IsErr answer }
 {
     match answer {

@@ -1,6 +1,7 @@
 // The devices of a home, which is a folder that its user has made.
 ghost use Rattle.std.specs.Prelude.{◌≡◌, replicate, IfOk};
-ghost use Rattle.hail_adapters.specs.FolderCounts.{no_counts};
+ghost use Rattle.hail_adapters.specs.DiskCounts.{not_called};
+ghost use Rattle.hail_adapters.specs.FolderCounts.{fresh_counts};
 
 use crate::block_name::put_folder;
 use crate::file_disk::FileDisk;
@@ -18,7 +19,7 @@ pub fn journal_disk<R: Files + Clone + Drop>(
     home: &str,
     unsynced: &Unsynced,
 ) -> Result<FileDisk<R>, Memory>
-    ensures { IfOk result (λ disk. disk ≡ 0) }
+    ensures { IfOk result (λ disk. disk ≡ not_called) }
 {
     let path = format!(in alloc; "{home}/journal")?;
     let folders = ProviderFolders::new(rt, alloc, home, unsynced)?;
@@ -33,7 +34,7 @@ fn folder_provider<R: Files + Clone + Drop>(
     k: u8,
     unsynced: &Unsynced,
 ) -> Result<FolderProvider<R>, Memory>
-    ensures { IfOk result (λ provider. provider ≡ no_counts) }
+    ensures { IfOk result (λ provider. provider ≡ fresh_counts) }
 {
     let mut path = String::new(alloc);
     put_folder(&mut path, home, k)?;
@@ -48,7 +49,7 @@ pub fn folder_providers<R: Files + Clone + Drop>(
     home: &str,
     unsynced: &Unsynced,
 ) -> Result<Vec<FolderProvider<R>>, Memory>
-    ensures { IfOk result (λ providers. providers.items ≡ replicate 16 no_counts) }
+    ensures { IfOk result (λ providers. providers.items ≡ replicate 16 fresh_counts) }
 {
     let mut providers = Vec::new(alloc);
     for k in 0..16u8 {

@@ -12,20 +12,27 @@ use std::path::Path;
 /// Only the owner of a file that is made reads and writes it.
 const OWN_FILE: u32 = 0o600;
 
-/// Whether a plain file is at a path, and no link to one.
-fn is_plain<R: Files>(rt: &R, path: &str) -> io::Result<bool> {
+/// How many bytes the plain file at a path has; none where there is none, but a link to one, say.
+fn plain_len<R: Files>(rt: &R, path: &str) -> io::Result<Option<u64>> {
     match found(fs::symlink_metadata(rt, path))? {
-        Some(metadata) => Ok(metadata.is_file()),
-        None => Ok(false),
+        Some(metadata) if metadata.is_file() => Ok(Some(metadata.len())),
+        _ => Ok(None),
     }
 }
 
 /// Opens a plain file; none where there is none.
 pub fn open_plain<R: Files>(rt: &R, path: &str, how: &OpenOptions) -> io::Result<Option<R::File>> {
-    if is_plain(rt, path)? {
-        found(how.open(rt, path))
-    } else {
-        Ok(None)
+    match plain_len(rt, path)? {
+        Some(_) => found(how.open(rt, path)),
+        None => Ok(None),
+    }
+}
+
+/// Opens a plain file of so many bytes to read it; none where there is none.
+pub fn open_sized<R: Files>(rt: &R, path: &str, size: usize) -> io::Result<Option<R::File>> {
+    match plain_len(rt, path)? {
+        Some(len) if len == size as u64 => found(to_read().open(rt, path)),
+        _ => Ok(None),
     }
 }
 

@@ -3,8 +3,8 @@ ghost use Rattle.hail_columns.specs.Challenges.{honest_answer};
 ghost use Rattle.challenge.specs.Asked.{asked};
 ghost use Rattle.hail_adapters.specs.SeenRows.{seen_symbol, seen_blocks};
 
-use aggregate::{Blocks, answer};
-use challenge::Challenge;
+use aggregate::{Blocks, answer_drawn};
+use challenge::Drawn;
 use hail_field::Symbol;
 
 /// The rows of an object's blocks that were read, each with its symbol. The blocks are of `size` symbols.
@@ -38,10 +38,11 @@ impl<'a> Blocks for SeenRows<'a> {
     }
 }
 
-/// The honest answer of the blocks of which these rows were read.
-pub fn answer_of(challenge: &Challenge, rows: &[(u64, Symbol)]) -> Option<Symbol>
-    ensures { result ≡ honest_answer (asked challenge.now) (seen_blocks challenge.now.size rows.now) }
+/// The honest answer of the blocks of which these rows were read, to a challenge that was drawn.
+pub fn answer_of(drawn: &Drawn, rows: &[(u64, Symbol)]) -> Option<Symbol>
+    ensures { result ≡ honest_answer (asked drawn.now.challenge)
+        (seen_blocks drawn.now.challenge.size rows.now) }
 {
-    let size = challenge.size;
-    answer(challenge, &SeenRows { size, rows })
+    let size = drawn.challenge.size;
+    answer_drawn(drawn, &SeenRows { size, rows })
 }

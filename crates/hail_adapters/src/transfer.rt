@@ -22,7 +22,8 @@ pub fn read_some<F: Read>(reader: &mut F, out: &mut [u8]) -> io::Result<usize>
 /// Reads as many bytes as fit or are left, and says how many.
 pub fn fill<F: Read>(reader: &mut F, out: &mut [u8]) -> io::Result<usize>
     ensures at_most { IfOk result (λ n. n ≤ length out.old) }
-    ensures given { IfOk result (λ n. Consumes (F.remaining reader.old) (F.remaining reader.new) (take n out.new)) }
+    ensures given { IfOk result (λ n. Consumes (F.remaining reader.old) (F.remaining reader.new)
+        (take n out.new)) }
     ensures as_many { IfOk result (λ n. n < length out.old → IsAtEnd (F.remaining reader.new)) }
 {
     let mut done = 0;

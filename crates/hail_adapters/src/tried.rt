@@ -38,7 +38,8 @@ pub fn tried_writing<T: Drop>(answer: io::Result<T>, faults: &mut u64) -> Result
     ensures ok { OnOk result (faults.new ≡ faults.old) }
     ensures failed { IsErrOf result write_fault.Failed → faults.new ≡ one_more faults.old }
     ensures memory { IsErrOf result write_fault.Memory → faults.new ≡ faults.old }
-    ensures cause { IsErrOf result write_fault.Memory → IsErrAnd answer (λ error. error_kind error ≡ ErrorKind.OutOfMemory) }
+    ensures cause { IsErrOf result write_fault.Memory
+        → IsErrAnd answer (λ error. error_kind error ≡ ErrorKind.OutOfMemory) }
 {
     match answer {
         Ok(value) => Ok(value),

@@ -22,12 +22,12 @@ use Rattle.column_laws.proofs.RightRows.{symbols-right}
 use Rattle.column_codec.specs.PresentBlocks.{present_blocks}
 use Rattle.column_codec.proofs.PresentLemmas.{length-present_blocks, get_or-present_blocks}
 use Rattle.hail_bench.specs.Blocks.{mixed_all}
-use Rattle.hail_bench.specs.Checksum.{number_at, number_after}
+use Rattle.hail_bench.specs.Checksum.{drawn_number, number_after}
 use Rattle.hail_bench.specs.Stripes.{mixed_blocks, making_checksum, opening_checksum, HoldsNear}
 
 -- the next number
-pub next_number : (n next : ℕ) → next ≡ number_at n → number_after next ≡ number_at (n + 1)
-next_number n next e = ap number_after e ∙ ap number_at (sym (add-one n))
+pub next_number : (n next : ℕ) → next ≡ drawn_number n → number_after next ≡ drawn_number (n + 1)
+next_number n next e = ap number_after e ∙ ap drawn_number (sym (add-one n))
 
 -- one place more is filled
 pub place_more : (xs : List ℕ) (i k x : ℕ) (f : ℕ → ℕ) → i < length xs → ((j : ℕ) → j < i → get_or xs j 0 ≡ f j) → x ≡ f i → k < i + 1 → get_or (set xs i x) k 0 ≡ f k

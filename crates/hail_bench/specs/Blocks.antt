@@ -22,10 +22,12 @@ mixed_all sum (symbol ∷ block) = mixed (mixed_all sum block) symbol
 -- the checksum of the codewords of the first n blocks
 abbrev pub encoding_checksum : Profile → ℕ → ℕ
 encoding_checksum profile zero = 0
-encoding_checksum profile (suc n) = mixed_all (encoding_checksum profile n) (codeword profile (kept_symbols n profile.keep))
+encoding_checksum profile (suc n) =
+    mixed_all (encoding_checksum profile n) (codeword profile (kept_symbols n profile.keep))
 
 -- the checksum of n times how many symbols were wrong, and of the codeword of the first block
 abbrev pub decoding_checksum : Profile → ℕ → ℕ → ℕ
 decoding_checksum profile errors zero = 0
 decoding_checksum profile errors (suc n) =
-    mixed_all (mixed (decoding_checksum profile errors n) errors) (codeword profile (kept_symbols 0 profile.keep))
+    mixed_all (mixed (decoding_checksum profile errors n) errors)
+    (codeword profile (kept_symbols 0 profile.keep))

@@ -9,9 +9,9 @@ abbrev pub number_after : ℕ → ℕ
 number_after n = (n * 290_540_817_353_171_031_345_215_227_939_350_468_789 + 1) % 2 ^ 128
 
 -- the n-th number of the row, which begins with 1
-abbrev pub number_at : ℕ → ℕ
-number_at zero = 1
-number_at (suc n) = number_after (number_at n)
+abbrev pub drawn_number : ℕ → ℕ
+drawn_number zero = 1
+drawn_number (suc n) = number_after (drawn_number n)
 
 -- what an operation gives at a number, before the next one
 abbrev pub answer : Operation → ℕ → ℕ → ℕ
@@ -22,4 +22,5 @@ answer Inverse a next = nim_inv a
 -- the sum of the answers at the first n numbers
 abbrev pub checksum_of : Operation → ℕ → ℕ
 checksum_of operation zero = 0
-checksum_of operation (suc n) = nim_add (checksum_of operation n) (answer operation (number_at n) (number_at (suc n)))
+checksum_of operation (suc n) =
+    nim_add (checksum_of operation n) (answer operation (drawn_number n) (drawn_number (suc n)))

@@ -1,23 +1,24 @@
 -- What the checksums of the works on the stripes of a file are.
 --
--- byte_at n                        == the n-th byte of the file: the highest byte of the n-th number of the fixed row
--- file_bytes size                  == the file of so many bytes
--- mixed_blocks sum blocks          == a checksum, after each of these blocks
--- making_checksum o bytes stripes  == the checksum of the blocks of all providers in the first stripes
--- opening_checksum o bytes stripes == the checksum of the symbols of the first stripes
--- HoldsNear o bytes count liars seen == the first count blocks of a file, by stripe and then by provider, lie one after the other; all but those
---                                     of the first liars differ from the provider's own at no more places than are corrected
+-- byte_at n == the n-th byte of the file: the highest byte of the n-th number of the fixed row file_bytes
+-- size == the file of so many bytes mixed_blocks sum blocks == a checksum, after each of these blocks
+-- making_checksum o bytes stripes == the checksum of the blocks of all providers in the first stripes
+-- opening_checksum o bytes stripes == the checksum of the symbols of the first stripes HoldsNear o bytes
+-- count liars seen == the first count blocks of a file, by stripe and then by provider, lie one after the
+-- other; all but those
+--                                     of the first liars differ from the provider's own at no more places
+--                                         than are corrected
 use Rattle.std.specs.Prelude.{◌≡◌, ℕ, zero, suc, ◌+◌, ◌*◌, ◌/◌, ◌%◌, ◌^◌, ◌<◌, ◌≤◌, List, [], ◌∷◌, length, map, take, drop}
 use Rattle.hail_codes.specs.Points.{upto}
 use Rattle.hail_columns.specs.Objects.{Object, symbols_in}
 use Rattle.hail_columns.specs.Columns.{columns}
 use Rattle.hail_codes.specs.ServerCode.{differences}
 use Rattle.hail_bench.specs.Blocks.{mixed_all}
-use Rattle.hail_bench.specs.Checksum.{number_at}
+use Rattle.hail_bench.specs.Checksum.{drawn_number}
 
 -- the n-th byte of the file
 abbrev pub byte_at : ℕ → ℕ
-byte_at n = number_at n / 2 ^ 120
+byte_at n = drawn_number n / 2 ^ 120
 
 -- the file of so many bytes
 abbrev pub file_bytes : ℕ → List ℕ
@@ -31,15 +32,19 @@ mixed_blocks sum (block ∷ blocks) = mixed_blocks (mixed_all sum block) blocks
 -- the checksum of the blocks of all providers in the first stripes
 abbrev pub making_checksum : Object → List ℕ → ℕ → ℕ
 making_checksum o bytes zero = 0
-making_checksum o bytes (suc stripe) = mixed_blocks (making_checksum o bytes stripe) (map (λ j. columns o bytes j stripe) (upto o.shape.n))
+making_checksum o bytes (suc stripe) =
+    mixed_blocks (making_checksum o bytes stripe) (map (λ j. columns o bytes j stripe) (upto o.shape.n))
 
 -- the checksum of the symbols of the first stripes
 abbrev pub opening_checksum : Object → List ℕ → ℕ → ℕ
 opening_checksum o bytes zero = 0
-opening_checksum o bytes (suc stripe) = mixed_all (opening_checksum o bytes stripe) (symbols_in o bytes stripe)
+opening_checksum o bytes (suc stripe) =
+    mixed_all (opening_checksum o bytes stripe) (symbols_in o bytes stripe)
 
--- the first blocks of a file, by stripe and then by provider, lie one after the other, and but for the first providers' they open to their own
+-- the first blocks of a file, by stripe and then by provider, lie one after the other, and but for the
+-- first providers' they open to their own
 pub record HoldsNear (o : Object) (bytes : List ℕ) (count liars : ℕ) (seen : List ℕ) : Type 0 where
   pub whole : length seen ≡ count * o.profile.size
   pub each : (i : ℕ) → i < count → liars ≤ i % o.shape.n →
-      differences (take o.profile.size (drop (i * o.profile.size) seen)) (columns o bytes (i % o.shape.n) (i / o.shape.n)) ≤ o.profile.fix
+      differences (take o.profile.size (drop (i * o.profile.size) seen))
+      (columns o bytes (i % o.shape.n) (i / o.shape.n)) ≤ o.profile.fix

@@ -2,7 +2,7 @@
 ghost use Rattle.std.specs.Prelude.{◌≡◌, ◌≤◌, ◌<◌, ◌+◌, ◌*◌, ℕ, IfOk, length, slice_get, slice_index};
 ghost use Rattle.hail_columns.specs.Objects.{stripes};
 ghost use Rattle.hail_columns.specs.Challenges.{symbol_at as symbol_at_of};
-ghost use Rattle.file_layout.specs.Files.{object_of};
+ghost use Rattle.file_layout.specs.Files.{shaped_object};
 ghost use Rattle.hail_bench.specs.declared.stripes.TheConstants.{MASTER};
 
 use crate::blocks::mix;
@@ -62,7 +62,7 @@ pub struct AuditWork {
     rounds: u32,
     picks: u32,
     ghost all: { length providers.items ≡ coded.file.shape.n },
-    ghost some_rows: { 1 ≤ stripes (object_of MASTER.0 coded.file) coded.file.length * coded.file.profile.size },
+    ghost some_rows: { 1 ≤ stripes (shaped_object MASTER.0 coded.file) coded.file.length * coded.file.profile.size },
     ghost few_rounds: { rounds ≤ 64 },
     ghost some_picks: { 1 ≤ picks },
     ghost few_picks: { picks ≤ 64 },

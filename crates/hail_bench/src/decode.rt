@@ -2,7 +2,7 @@
 ghost use Rattle.std.specs.Prelude.{◌≡◌, ◌≢◌, ◌≤◌, IfOk, length};
 ghost use Rattle.hail_codes.specs.ServerCode.{IsCodeword, differences};
 ghost use Rattle.code_points.specs.Profile.{plain_profile};
-ghost use Rattle.server_code.specs.Any.{profile_of};
+ghost use Rattle.server_code.specs.Any.{code_profile};
 ghost use Rattle.hail_bench.specs.Blocks.{decoding_checksum};
 
 use crate::blocks::{fill, mix, mix_all, profile_named};
@@ -20,7 +20,7 @@ pub struct DecodeWork {
     code: AnyCode,
     count: u32,
     errors: u32,
-    ghost errors_fit: { errors ≤ (profile_of code).fix },
+    ghost errors_fit: { errors ≤ (code_profile code).fix },
 }
 
 /// Adds an error to each of the first symbols of a block, as many as there are errors.
@@ -65,9 +65,9 @@ impl DecodeWork {
 
     /// Spoils the first symbols of a codeword and corrects them. The answer is how many were changed.
     fn correct(&self, block: &mut [Symbol], error: Symbol, work: &mut Work) -> u32
-        requires codeword { IsCodeword (plain_profile (profile_of self.now.code)) block.old }
+        requires codeword { IsCodeword (plain_profile (code_profile self.now.code)) block.old }
         requires error { error ≢ 0 }
-        requires room { (profile_of self.now.code).size ≤ work.old.size }
+        requires room { (code_profile self.now.code).size ≤ work.old.size }
         ensures changed { result ≡ self.now.errors }
         ensures restored { block.new ≡ block.old }
         ensures work { work.new.size ≡ work.old.size }
@@ -82,10 +82,11 @@ impl DecodeWork {
     /// Encodes the first block, with room for its kept symbols and for its codeword, spoils and corrects it again and again, and gives the
     /// checksum.
     fn correct_all(&self, kept: &mut [Symbol], block: &mut [Symbol], work: &mut Work) -> u128
-        requires kept { length kept.old ≡ (profile_of self.now.code).keep }
-        requires block { length block.old ≡ (profile_of self.now.code).size }
-        requires room { (profile_of self.now.code).size ≤ work.old.size }
-        ensures { result ≡ decoding_checksum (plain_profile (profile_of self.now.code)) self.now.errors self.now.count }
+        requires kept { length kept.old ≡ (code_profile self.now.code).keep }
+        requires block { length block.old ≡ (code_profile self.now.code).size }
+        requires room { (code_profile self.now.code).size ≤ work.old.size }
+        ensures { result ≡ decoding_checksum (plain_profile (code_profile self.now.code)) self.now.errors
+            self.now.count }
     {
         fill(0, kept);
         self.code.encode_into(kept, block);
@@ -103,7 +104,7 @@ impl DecodeWork {
         ensures count { IfOk result (λ outcome. outcome.count ≡ self.now.count) }
         ensures checksum { IfOk result (λ outcome.
             outcome.checksum ≡
-            decoding_checksum (plain_profile (profile_of self.now.code)) self.now.errors self.now.count) }
+            decoding_checksum (plain_profile (code_profile self.now.code)) self.now.errors self.now.count) }
     {
         let profile = self.code.profile();
         let zero = Symbol::ZERO;

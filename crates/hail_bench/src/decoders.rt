@@ -3,7 +3,7 @@ ghost use Rattle.std.specs.Prelude.{◌≡◌, ◌≤◌, ◌<◌, ◌++◌, suc
 ghost use Rattle.hail_codes.specs.Points.{upto};
 ghost use Rattle.hail_poly.specs.Decoding.{IsDecoded, NoneDecodes};
 ghost use Rattle.code_points.specs.Profile.{plain_profile};
-ghost use Rattle.server_code.specs.Any.{profile_of};
+ghost use Rattle.server_code.specs.Any.{code_profile};
 ghost use Rattle.hail_bench.specs.Blocks.{kept_symbols};
 ghost use Rattle.hail_bench.specs.Words.{IsDecodersChecksum, MixesWord};
 
@@ -53,7 +53,7 @@ pub struct DecodersWork {
     code: AnyCode,
     count: u32,
     errors: u32,
-    ghost errors_fit: { errors ≤ (profile_of code).size },
+    ghost errors_fit: { errors ≤ (code_profile code).size },
 }
 
 /// The points 0 to count - 1.
@@ -97,13 +97,15 @@ impl DecodersWork {
 
     /// Decodes a word: where there is a polynomial near to it, that is then the rest of `work`.
     fn decode(&self, points: &[Symbol], word: &[Symbol], work: &mut Work) -> Option<()>
-        requires points { points.now ≡ upto (profile_of self.now.code).size }
-        requires word { length word.now ≡ (profile_of self.now.code).size }
-        requires room { (profile_of self.now.code).size ≤ work.old.size }
+        requires points { points.now ≡ upto (code_profile self.now.code).size }
+        requires word { length word.now ≡ (code_profile self.now.code).size }
+        requires room { (code_profile self.now.code).size ≤ work.old.size }
         ensures size { work.new.size ≡ work.old.size }
         ensures decoded { MatchOption result
-            (NoneDecodes points.now word.now (profile_of self.now.code).keep (profile_of self.now.code).fix)
-            (λ _. IsDecoded points.now word.now (profile_of self.now.code).keep (profile_of self.now.code).fix work.new.rest) }
+            (NoneDecodes points.now word.now (code_profile self.now.code).keep
+            (code_profile self.now.code).fix)
+            (λ _. IsDecoded points.now word.now (code_profile self.now.code).keep
+            (code_profile self.now.code).fix work.new.rest) }
     {
         let profile = self.code.profile();
         let keep = profile.keep as usize;
@@ -117,11 +119,11 @@ impl DecodersWork {
     /// A checksum after one more word: after whether a polynomial is found, and then after its coefficients.
     #[tactic(auto, using(crate::proofs::WordSteps::word_found, crate::proofs::WordSteps::word_lost))]
     fn mix_word(&self, points: &[Symbol], word: &[Symbol], work: &mut Work, sum: u128) -> u128
-        requires points { points.now ≡ upto (profile_of self.now.code).size }
-        requires word { length word.now ≡ (profile_of self.now.code).size }
-        requires room { (profile_of self.now.code).size ≤ work.old.size }
+        requires points { points.now ≡ upto (code_profile self.now.code).size }
+        requires word { length word.now ≡ (code_profile self.now.code).size }
+        requires room { (code_profile self.now.code).size ≤ work.old.size }
         ensures size { work.new.size ≡ work.old.size }
-        ensures mixed { MixesWord (plain_profile (profile_of self.now.code)) word.now sum result }
+        ensures mixed { MixesWord (plain_profile (code_profile self.now.code)) word.now sum result }
     {
         match self.decode(points, word, work) {
             Some(()) => mix_all(mix(sum, Symbol(1)), work.rest()),
@@ -132,9 +134,10 @@ impl DecodersWork {
     /// Puts numbers of the row in place of the first symbols of a block.
     fn next_word(&self, number: u32, block: &mut [Symbol])
         requires number { number < self.now.count }
-        requires block { length block.old ≡ (profile_of self.now.code).size }
+        requires block { length block.old ≡ (code_profile self.now.code).size }
         ensures size { length block.new ≡ length block.old }
-        ensures word { block.new ≡ kept_symbols (suc number) self.now.errors ++ drop self.now.errors block.old }
+        ensures word { block.new ≡ kept_symbols (suc number) self.now.errors ++ drop self.now.errors
+            block.old }
     {
         let _profile = self.code.profile();
         let errors = self.errors as usize;
@@ -151,11 +154,12 @@ impl DecodersWork {
         block: &mut [Symbol],
         work: &mut Work,
     ) -> u128
-        requires points { points.now ≡ upto (profile_of self.now.code).size }
-        requires kept { length kept.old ≡ (profile_of self.now.code).keep }
-        requires block { length block.old ≡ (profile_of self.now.code).size }
-        requires room { (profile_of self.now.code).size ≤ work.old.size }
-        ensures { IsDecodersChecksum (plain_profile (profile_of self.now.code)) self.now.errors self.now.count result }
+        requires points { points.now ≡ upto (code_profile self.now.code).size }
+        requires kept { length kept.old ≡ (code_profile self.now.code).keep }
+        requires block { length block.old ≡ (code_profile self.now.code).size }
+        requires room { (code_profile self.now.code).size ≤ work.old.size }
+        ensures { IsDecodersChecksum (plain_profile (code_profile self.now.code)) self.now.errors
+            self.now.count result }
     {
         fill(0, kept);
         self.code.encode_into(kept, block);
@@ -171,7 +175,8 @@ impl DecodersWork {
     pub fn run(&self, alloc: Global) -> Result<Outcome, Failure>
         ensures count { IfOk result (λ outcome. outcome.count ≡ self.now.count) }
         ensures checksum { IfOk result (λ outcome.
-            IsDecodersChecksum (plain_profile (profile_of self.now.code)) self.now.errors self.now.count outcome.checksum) }
+            IsDecodersChecksum (plain_profile (code_profile self.now.code)) self.now.errors self.now.count
+            outcome.checksum) }
     {
         let profile = self.code.profile();
         let zero = Symbol::ZERO;

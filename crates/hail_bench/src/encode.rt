@@ -1,7 +1,7 @@
 //! Encoding of blocks.
 ghost use Rattle.std.specs.Prelude.{◌≡◌, IfOk, length};
 ghost use Rattle.code_points.specs.Profile.{plain_profile};
-ghost use Rattle.server_code.specs.Any.{profile_of};
+ghost use Rattle.server_code.specs.Any.{code_profile};
 ghost use Rattle.hail_bench.specs.Blocks.{encoding_checksum};
 
 use crate::blocks::{fill, mix_all, profile_named};
@@ -37,9 +37,9 @@ impl EncodeWork {
 
     /// Encodes each block, with room for its kept symbols and for its codeword, and gives the checksum.
     fn encode_all(&self, kept: &mut [Symbol], block: &mut [Symbol]) -> u128
-        requires kept { length kept.old ≡ (profile_of self.now.code).keep }
-        requires block { length block.old ≡ (profile_of self.now.code).size }
-        ensures { result ≡ encoding_checksum (plain_profile (profile_of self.now.code)) self.now.count }
+        requires kept { length kept.old ≡ (code_profile self.now.code).keep }
+        requires block { length block.old ≡ (code_profile self.now.code).size }
+        ensures { result ≡ encoding_checksum (plain_profile (code_profile self.now.code)) self.now.count }
     {
         let mut sum = 0;
         for number in 0..self.count {
@@ -54,7 +54,8 @@ impl EncodeWork {
     pub fn run(&self, alloc: Global) -> Result<Outcome, Failure>
         ensures count { IfOk result (λ outcome. outcome.count ≡ self.now.count) }
         ensures checksum { IfOk result (λ outcome.
-            outcome.checksum ≡ encoding_checksum (plain_profile (profile_of self.now.code)) self.now.count) }
+            outcome.checksum ≡ encoding_checksum (plain_profile (code_profile self.now.code))
+            self.now.count) }
     {
         let profile = self.code.profile();
         let zero = Symbol::ZERO;

@@ -2,7 +2,7 @@
 ghost use Rattle.std.specs.Prelude.{◌≡◌, ◌≤◌, ◌<◌, ◌+◌, ◌*◌, IfOk, OnOk, All, [], length, take, drop};
 ghost use Rattle.hail_columns.specs.Objects.{stripes, symbols_in};
 ghost use Rattle.hail_columns.specs.Columns.{columns};
-ghost use Rattle.file_layout.specs.Files.{object_of};
+ghost use Rattle.file_layout.specs.Files.{shaped_object};
 ghost use Rattle.hail_bench.specs.Stripes.{file_bytes, opening_checksum, HoldsNear};
 ghost use Rattle.hail_bench.specs.declared.stripes.TheConstants.{MASTER};
 
@@ -24,8 +24,8 @@ pub struct GetWork {
     coded: Coded,
     spoilt: Spoilt,
     seen: Vec<Symbol>,
-    ghost seen_are: { HoldsNear (object_of MASTER.0 coded.file) (file_bytes coded.file.length)
-        (stripes (object_of MASTER.0 coded.file) coded.file.length * coded.file.shape.n) spoilt.liars seen.items },
+    ghost seen_are: { HoldsNear (shaped_object MASTER.0 coded.file) (file_bytes coded.file.length)
+        (stripes (shaped_object MASTER.0 coded.file) coded.file.length * coded.file.shape.n) spoilt.liars seen.items },
     ghost few: { spoilt.liars ≤ coded.file.shape.b },
 }
 
@@ -51,7 +51,7 @@ fn make(
     requires provider { provider < coded.now.file.shape.n }
     requires rows { length rows.old ≡ coded.now.file.shape.l * coded.now.file.profile.keep }
     requires block { length block.old ≡ coded.now.file.profile.size }
-    ensures { block.new ≡ columns (object_of keys.now.master.0 coded.now.file) bytes.now provider stripe }
+    ensures { block.new ≡ columns (shaped_object keys.now.master.0 coded.now.file) bytes.now provider stripe }
 {
     keys.symbols_into(stripe, bytes, rows);
     keys.column_into(&coded.code, stripe, rows, provider as usize, block);
@@ -72,8 +72,9 @@ fn append_all(
     requires rows { length rows.old ≡ coded.now.file.shape.l * coded.now.file.profile.keep }
     requires block { length block.old ≡ coded.now.file.profile.size }
     requires seen { seen.old.items ≡ [] }
-    ensures { OnOk result (HoldsNear (object_of keys.now.master.0 coded.now.file) bytes.now
-        (stripes (object_of keys.now.master.0 coded.now.file) coded.now.file.length * coded.now.file.shape.n) spoilt.liars seen.new.items) }
+    ensures { OnOk result (HoldsNear (shaped_object keys.now.master.0 coded.now.file) bytes.now
+        (stripes (shaped_object keys.now.master.0 coded.now.file) coded.now.file.length *
+        coded.now.file.shape.n) spoilt.liars seen.new.items) }
 {
     let n = u32::from(coded.file.shape.n);
     for i in 0..coded.file.stripes() * n {
@@ -86,8 +87,10 @@ fn append_all(
 
 /// The blocks of all stripes of a file, by stripe and then by provider.
 fn made_all(alloc: Global, coded: &Coded, spoilt: Spoilt) -> Result<Vec<Symbol>, Failure>
-    ensures { IfOk result (λ seen. HoldsNear (object_of MASTER.0 coded.now.file) (file_bytes coded.now.file.length)
-        (stripes (object_of MASTER.0 coded.now.file) coded.now.file.length * coded.now.file.shape.n) spoilt.liars seen.items) }
+    ensures { IfOk result (λ seen. HoldsNear (shaped_object MASTER.0 coded.now.file)
+        (file_bytes coded.now.file.length)
+        (stripes (shaped_object MASTER.0 coded.now.file) coded.now.file.length * coded.now.file.shape.n)
+        spoilt.liars seen.items) }
 {
     let bytes = coded.bytes(alloc)?;
     let keys = ObjectKeys::new(&MASTER, &coded.file);
@@ -137,10 +140,11 @@ impl GetWork {
 
     /// The blocks of a stripe, one after the other.
     fn blocks(&self, stripe: u32) -> &[Symbol]
-        requires { stripe < stripes (object_of MASTER.0 self.now.coded.file) self.now.coded.file.length }
+        requires { stripe < stripes (shaped_object MASTER.0 self.now.coded.file) self.now.coded.file.length }
         ensures size { length result.now ≡ self.now.coded.file.shape.n * self.now.coded.file.profile.size }
         ensures part { result.now ≡ take (self.now.coded.file.shape.n * self.now.coded.file.profile.size)
-            (drop (stripe * (self.now.coded.file.shape.n * self.now.coded.file.profile.size)) self.now.seen.items) }
+            (drop (stripe * (self.now.coded.file.shape.n * self.now.coded.file.profile.size))
+            self.now.seen.items) }
     {
         let whole = usize::from(self.coded.file.shape.n) * self.coded.file.profile.size as usize;
         part(&self.seen, stripe as usize * whole, whole)
@@ -158,13 +162,15 @@ impl GetWork {
     ) -> Result<(), Failure>
         requires master { keys.now.master ≡ MASTER }
         requires file { keys.now.file ≡ self.now.coded.file }
-        requires stripe { stripe < stripes (object_of MASTER.0 self.now.coded.file) self.now.coded.file.length }
+        requires stripe { stripe < stripes (shaped_object MASTER.0 self.now.coded.file)
+            self.now.coded.file.length }
         requires rows { length rows.old ≡ self.now.coded.file.shape.l * self.now.coded.file.profile.keep }
         requires scratch { length scratch.old ≡ self.now.coded.file.shape.n }
         requires blocks { All (λ block. length block ≡ self.now.coded.file.profile.size) scratch.old }
         requires room { 128 ≤ work.old.size }
         ensures symbols { OnOk result (rows.new
-            ≡ symbols_in (object_of MASTER.0 self.now.coded.file) (file_bytes self.now.coded.file.length) stripe) }
+            ≡ symbols_in (shaped_object MASTER.0 self.now.coded.file)
+            (file_bytes self.now.coded.file.length) stripe) }
         ensures blocks { All (λ block. length block ≡ self.now.coded.file.profile.size) scratch.new }
         ensures room { work.new.size ≡ work.old.size }
     {
@@ -197,13 +203,15 @@ impl GetWork {
     ) -> Result<u128, Failure>
         requires master { keys.now.master ≡ MASTER }
         requires file { keys.now.file ≡ self.now.coded.file }
-        requires count { count ≤ stripes (object_of MASTER.0 self.now.coded.file) self.now.coded.file.length }
+        requires count { count ≤ stripes (shaped_object MASTER.0 self.now.coded.file)
+            self.now.coded.file.length }
         requires rows { length rows.old ≡ self.now.coded.file.shape.l * self.now.coded.file.profile.keep }
         requires scratch { length scratch.old ≡ self.now.coded.file.shape.n }
         requires blocks { All (λ block. length block ≡ self.now.coded.file.profile.size) scratch.old }
         requires room { 128 ≤ work.old.size }
         ensures { IfOk result (λ sum. sum
-            ≡ opening_checksum (object_of MASTER.0 self.now.coded.file) (file_bytes self.now.coded.file.length) count) }
+            ≡ opening_checksum (shaped_object MASTER.0 self.now.coded.file)
+            (file_bytes self.now.coded.file.length) count) }
     {
         let mut trust = Trust::new();
         let mut sum = 0;
@@ -217,9 +225,10 @@ impl GetWork {
     /// Opens each stripe. The checksum is of each symbol of its rows.
     pub fn run(&self, alloc: Global) -> Result<Outcome, Failure>
         ensures count { IfOk result (λ outcome.
-            outcome.count ≡ stripes (object_of MASTER.0 self.now.coded.file) self.now.coded.file.length) }
+            outcome.count ≡ stripes (shaped_object MASTER.0 self.now.coded.file) self.now.coded.file.length) }
         ensures checksum { IfOk result (λ outcome. outcome.checksum
-            ≡ opening_checksum (object_of MASTER.0 self.now.coded.file) (file_bytes self.now.coded.file.length) outcome.count) }
+            ≡ opening_checksum (shaped_object MASTER.0 self.now.coded.file)
+            (file_bytes self.now.coded.file.length) outcome.count) }
     {
         let keys = ObjectKeys::with_tables(alloc, &MASTER, &self.coded.file)?;
         let mut work = Work::new(alloc, 128)?;

@@ -1,7 +1,7 @@
 //! Making of the blocks of a file's stripes.
 ghost use Rattle.std.specs.Prelude.{◌≡◌, IfOk, All, length};
 ghost use Rattle.hail_columns.specs.Objects.{stripes};
-ghost use Rattle.file_layout.specs.Files.{object_of};
+ghost use Rattle.file_layout.specs.Files.{shaped_object};
 ghost use Rattle.hail_bench.specs.Stripes.{file_bytes, making_checksum};
 ghost use Rattle.hail_bench.specs.declared.stripes.TheConstants.{MASTER};
 
@@ -41,7 +41,8 @@ impl PutWork {
         requires file { keys.now.file ≡ self.now.coded.file }
         requires blocks { length blocks.old ≡ self.now.coded.file.shape.n }
         requires sizes { All (λ block. length block ≡ self.now.coded.file.profile.size) blocks.old }
-        ensures { result ≡ making_checksum (object_of keys.now.master.0 self.now.coded.file) (file_bytes self.now.coded.file.length) count }
+        ensures { result ≡ making_checksum (shaped_object keys.now.master.0 self.now.coded.file)
+            (file_bytes self.now.coded.file.length) count }
     {
         let mut sum = 0;
         for stripe in 0..count {
@@ -54,9 +55,10 @@ impl PutWork {
     /// Makes the blocks of each stripe. The checksum is of each symbol of each block.
     pub fn run(&self, alloc: Global) -> Result<Outcome, Failure>
         ensures count { IfOk result (λ outcome.
-            outcome.count ≡ stripes (object_of MASTER.0 self.now.coded.file) self.now.coded.file.length) }
+            outcome.count ≡ stripes (shaped_object MASTER.0 self.now.coded.file) self.now.coded.file.length) }
         ensures checksum { IfOk result (λ outcome. outcome.checksum
-            ≡ making_checksum (object_of MASTER.0 self.now.coded.file) (file_bytes self.now.coded.file.length) outcome.count) }
+            ≡ making_checksum (shaped_object MASTER.0 self.now.coded.file)
+            (file_bytes self.now.coded.file.length) outcome.count) }
     {
         let keys = ObjectKeys::with_tables(alloc, &MASTER, &self.coded.file)?;
         let mut blocks = self.coded.zeros(alloc)?;

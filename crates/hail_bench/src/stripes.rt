@@ -1,6 +1,6 @@
 //! What the works on stripes have in common: the file, the blocks with room for a stripe, and the checksum of blocks.
 ghost use Rattle.std.specs.Prelude.{◌≡◌, ◌≤◌, ◌*◌, IfOk, replicate, length};
-ghost use Rattle.server_code.specs.Any.{profile_of};
+ghost use Rattle.server_code.specs.Any.{code_profile};
 ghost use Rattle.hail_bench.specs.Stripes.{file_bytes, mixed_blocks};
 
 use crate::blocks::{mix_all, profile_named};
@@ -25,7 +25,7 @@ pub const MASTER: Master = Master([7; 32]);
 pub struct Coded {
     pub file: FileShape,
     pub code: AnyCode,
-    pub ghost same: { profile_of code ≡ file.profile },
+    pub ghost same: { code_profile code ≡ file.profile },
 }
 
 impl Coded {
@@ -47,7 +47,8 @@ impl Coded {
 
     /// Blocks of zeros, one a provider.
     pub fn zeros(&self, alloc: Global) -> Result<Vec<Block>, Failure>
-        ensures { IfOk result (λ blocks. blocks.items ≡ replicate self.now.file.shape.n (replicate self.now.file.profile.size 0)) }
+        ensures { IfOk result (λ blocks. blocks.items ≡ replicate self.now.file.shape.n
+            (replicate self.now.file.profile.size 0)) }
     {
         let count = usize::from(self.file.shape.n);
         zeros(alloc, count, self.file.profile.size as usize)
@@ -55,7 +56,8 @@ impl Coded {
 
     /// Zeros, as many as a stripe of the file has symbols.
     pub fn rows(&self, alloc: Global) -> Result<Vec<Symbol>, Failure>
-        ensures { IfOk result (λ rows. rows.items ≡ replicate (self.now.file.shape.l * self.now.file.profile.keep) 0) }
+        ensures { IfOk result (λ rows. rows.items ≡ replicate
+            (self.now.file.shape.l * self.now.file.profile.keep) 0) }
     {
         let zero = Symbol::ZERO;
         let count = usize::from(self.file.shape.l) * self.file.profile.keep as usize;

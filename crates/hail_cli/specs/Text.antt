@@ -1,8 +1,8 @@
 -- The line on standard error.
 --
 --   status_text status      == its text; every other status than these is that of no memory
---   speaks_of_place status  == it is followed by a place: a row, a byte of the journal, a provider, a line of the
---                             schedule, a byte of the requests
+--   speaks_of_place status  == it is followed by a place: a row, a byte of the journal, a provider, a line
+--                             of the schedule, a byte of the requests
 use Rattle.std.specs.Prelude.{ℕ, Bool, List, codes, ◌==◌, ◌||◌, if◌then◌else◌}
 
 -- the text of a status other than 0

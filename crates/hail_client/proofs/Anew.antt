@@ -1,8 +1,8 @@
 -- Clients over a disk of no known state: a run begins at each reopening.
-use Rattle.std.proofs.Common.{◌≡◌, ℕ, ◌<◌, ◌≤◌, true, false, List, [], length, Option, Some, None, Result, Ok, Err, refl, ap, sym, subst, ◌∙◌, inl, inr, arith}
+use Rattle.std.proofs.Common.{◌≡◌, ℕ, ◌<◌, ◌≤◌, true, false, List, [], length, Option, Some, None, Result, Err, refl, sym, subst, inl, arith}
 use Rattle.std.specs.Prelude.{IsSome, IfSome, IsTrue, IsErrAnd, is_some}
 use Rattle.std.specs.List.{list_all}
-use Rattle.std.proofs.lemmas.Bool.{cases_Bool, false≢true}
+use Rattle.std.proofs.lemmas.Bool.{false≢true}
 use Rattle.hail_devices.specs.Cells.{Cells}
 use Rattle.hail_devices.specs.Faults.{Rose}
 use Rattle.hail_devices.specs.Images.{EachImage}
@@ -22,19 +22,18 @@ use Rattle.sound_states.proofs.Resting.{rest-sound}
 use Rattle.vault.specs.declared.fault.StartFault.{StartFault}
 use Rattle.vault.specs.declared.fault.StartFault.TheVariants as start_fault
 use Rattle.vault.specs.declared.vault.Vault.{Vault}
-use Rattle.hail_openings.specs.Opened.{AreHanded, IsJustOpened}
-use Rattle.vault.specs.Devices.{Devices, devices}
+use Rattle.hail_openings.specs.Opened.{IsJustOpened}
+use Rattle.vault.specs.Devices.{devices}
 use Rattle.hail_openings.specs.Journals.{IsRead, IsResynced, MayBeLeft}
 use Rattle.vault.specs.Seen.{provider_count}
 use Rattle.vault.specs.Stands.{Stands}
 use Rattle.hail_client.specs.declared.client.Client.{Client}
 use Rattle.hail_client.specs.declared.fault.ReopenFault.{ReopenFault}
 use Rattle.hail_client.specs.declared.fault.ReopenFault.TheVariants as reopen_fault
-use Rattle.hail_client.specs.Client.{next_job_of}
+use Rattle.hail_client.specs.Client.{client_next_job}
 use Rattle.hail_client.specs.Outcomes.{start_refusal, reopen_outcome, UnlessBadJournal}
 use Rattle.hail_client.specs.Start.{provider_or_empty}
-use Rattle.hail_client.specs.Stands.{StandsClosed, ClientStands, IsMadeAnew, IsStanding, OpensOver}
-use Rattle.hail_client.proofs.Settled.{settled, settles}
+use Rattle.hail_client.specs.Stands.{StandsClosed, IsMadeAnew, IsStanding, OpensOver}
 use Rattle.hail_client.proofs.Held.{zeros, zeros-held}
 use Rattle.hail_client.proofs.Fresh.{each-at}
 use Rattle.hail_client.proofs.Reopened.{without_vault, stands-opened, count-is, has-setup, opened}
@@ -204,54 +203,50 @@ module _ (told : Option Cells) (rs : List Record) (is_read : IsRead told rs) (v 
 
 -- ---- by the client
 
-module _ (c left : Client) (left_is : left ≡ without_vault (next_job_of c)) (old new : Option Cells) (f g : ℕ) where
+module _ (c left : Client) (left_is : left ≡ without_vault (client_next_job c)) (old new : Option Cells) (f g : ℕ) where
   module _ (moment : ℕ) (ps : List Provider) (none : is_some old ≡ false) (goes : Goes IsResynced old new) (never : f ≤ g) where
     pub refused-anew : (why : StartFault) (result : Result Unit ReopenFault) → IsErrAnd result (λ e. e ≡ reopen_fault.NotOpened why) → (why ≡ start_fault.DiskFault → Rose f g) →
-        UnlessBadJournal result (IsMadeAnew moment (next_job_of c) Reopen (reopen_outcome result) left (devices old f ps) (devices new g ps))
+        UnlessBadJournal result (IsMadeAnew moment (client_next_job c) Reopen (reopen_outcome result) left (devices old f ps) (devices new g ps))
     refused-anew why result is rose =
-        subst (λ (x : Client). UnlessBadJournal result (IsMadeAnew moment (next_job_of c) Reopen (reopen_outcome result) x (devices old f ps) (devices new g ps))) (sym left_is)
-        (subst (λ (r : Result Unit ReopenFault). UnlessBadJournal r (IsMadeAnew moment (next_job_of c) Reopen (reopen_outcome r) (without_vault (next_job_of c)) (devices old f ps) (devices new g ps)))
+        subst (λ (x : Client). UnlessBadJournal result (IsMadeAnew moment (client_next_job c) Reopen (reopen_outcome result) x (devices old f ps) (devices new g ps))) (sym left_is)
+        (subst (λ (r : Result Unit ReopenFault). UnlessBadJournal r (IsMadeAnew moment (client_next_job c) Reopen (reopen_outcome r) (without_vault (client_next_job c)) (devices old f ps) (devices new g ps)))
         (sym (err-is result (reopen_fault.NotOpened why) is))
-        (fault-anew moment (next_job_of c) f g ps old new (untold old none) (untold-goes IsResynced old new none goes) never why rose))
+        (fault-anew moment (client_next_job c) f g ps old new (untold old none) (untold-goes IsResynced old new none goes) never why rose))
 
     pub few-are : (v : Vault) → WasOpened v old new g left.next_job → length ps < provider_count v →
-        IsMadeAnew moment (next_job_of c) Reopen (events.Refused refusal.TooFewProviders) left (devices old f ps) (devices new g ps)
+        IsMadeAnew moment (client_next_job c) Reopen (events.Refused refusal.TooFewProviders) left (devices old f ps) (devices new g ps)
     few-are v was few =
-        (let all : WasOpened v old new g (next_job_of c) = subst (λ (x : Client). WasOpened v old new g x.next_job) left_is was in
-        subst (λ (x : Client). IsMadeAnew moment (next_job_of c) Reopen (events.Refused refusal.TooFewProviders) x (devices old f ps) (devices new g ps)) (sym left_is)
-        (few-anew old all.0 all.1 v new g (next_job_of c) all.2 f ps moment old (untold old none) (untold-goes IsResynced old new none goes) never few))
+        (let all : WasOpened v old new g (client_next_job c) = subst (λ (x : Client). WasOpened v old new g x.next_job) left_is was in
+        subst (λ (x : Client). IsMadeAnew moment (client_next_job c) Reopen (events.Refused refusal.TooFewProviders) x (devices old f ps) (devices new g ps)) (sym left_is)
+        (few-anew old all.0 all.1 v new g (client_next_job c) all.2 f ps moment old (untold old none) (untold-goes IsResynced old new none goes) never few))
 
     pub enough-are : (v : Vault) → WasOpened v old new g left.next_job → provider_count v ≤ length ps →
-        IsMadeAnew moment (next_job_of c) Reopen events.Opened (record { vault = Some v; next_job = left.next_job }) (devices old f ps) (devices new g ps)
+        IsMadeAnew moment (client_next_job c) Reopen events.Opened (record { vault = Some v; next_job = left.next_job }) (devices old f ps) (devices new g ps)
     enough-are v was enough =
-        (let all : WasOpened v old new g (next_job_of c) = subst (λ (x : Client). WasOpened v old new g x.next_job) left_is was in
-        subst (λ (x : Client). IsMadeAnew moment (next_job_of c) Reopen events.Opened (record { vault = Some v; next_job = x.next_job }) (devices old f ps) (devices new g ps)) (sym left_is)
-        (opened-anew old all.0 all.1 v new g (next_job_of c) all.2 f ps moment old (untold old none) (untold-goes IsResynced old new none goes) never enough))
+        (let all : WasOpened v old new g (client_next_job c) = subst (λ (x : Client). WasOpened v old new g x.next_job) left_is was in
+        subst (λ (x : Client). IsMadeAnew moment (client_next_job c) Reopen events.Opened (record { vault = Some v; next_job = x.next_job }) (devices old f ps) (devices new g ps)) (sym left_is)
+        (opened-anew old all.0 all.1 v new g (client_next_job c) all.2 f ps moment old (untold old none) (untold-goes IsResynced old new none goes) never enough))
 
     pub left-standing : IsStanding left (devices new g ps)
     left-standing =
         subst (λ (x : Client). IsStanding x (devices new g ps)) (sym left_is)
-        (closed-standing None (next_job_of c) g ps new refl (untold-goes IsResynced old new none goes))
+        (closed-standing None (client_next_job c) g ps new refl (untold-goes IsResynced old new none goes))
 
   pub opens-over : (v : Vault) (handed : ℕ) → WasOpened v old new g left.next_job → provider_count v ≤ handed →
-      OpensOver old (next_job_of c) handed (record { vault = Some v; next_job = left.next_job }) new g
+      OpensOver old (client_next_job c) handed (record { vault = Some v; next_job = left.next_job }) new g
   opens-over v handed was enough =
-      (let all : WasOpened v old new g (next_job_of c) = subst (λ (x : Client). WasOpened v old new g x.next_job) left_is was in
+      (let all : WasOpened v old new g (client_next_job c) = subst (λ (x : Client). WasOpened v old new g x.next_job) left_is was in
       record {
         records = all.0;
         is_read = all.1;
         each = λ w providers just. all.2 w providers just;
         one = λ providers as_many. (
-          record (closed-over all.0 (next_job_of c) g providers) { is_open = true },
-          just-opened old all.0 all.1 v new g (next_job_of c) all.2 g providers (omega (arith, enough, as_many)),
+          record (closed-over all.0 (client_next_job c) g providers) { is_open = true },
+          just-opened old all.0 all.1 v new g (client_next_job c) all.2 g providers (omega (arith, enough, as_many)),
         );
       })
 
 -- ---- inits
-
-pub goes-same : (told : Option Cells) → Goes IsResynced told told
-goes-same None = tt
-goes-same (Some cells) = inl refl
 
 pub left-same : (s : Setup) (told : Option Cells) → IfSome told (λ cells. EachImage told (MayBeLeft s cells))
 left-same s None = tt

@@ -56,10 +56,10 @@ hidden-stands = start-stands hidden (start_of hidden []) hidden-start.0 hidden-s
 
 one-held : AreHeld (λ id. hundred) one_file
 one-held name file is = elim (cases_Bool (is_same_name (codes "notes.txt") name)) [
-  | inl t ↦ (let e : Some (record { name = name; id = 1; size = 100 }) ≡ Some file = sym (cond_true (is_same_name (codes "notes.txt") name) (Some (record { name = name; id = 1; size = 100 })) None t) ∙ is in
-      let f : record { name = name; id = 1; size = 100 } ≡ file = (let z : ◌≡◌ {A = File} (record { name = name; id = 1; size = 100 }) file = cc in z) in
+  | inl t ↦ (let e : Some (record { name = name; id = 1; size = 100; profile = 1 }) ≡ Some file = sym (cond_true (is_same_name (codes "notes.txt") name) (Some (record { name = name; id = 1; size = 100; profile = 1 })) None t) ∙ is in
+      let f : record { name = name; id = 1; size = 100; profile = 1 } ≡ file = (let z : ◌≡◌ {A = File} (record { name = name; id = 1; size = 100; profile = 1 }) file = cc in z) in
       (refl, ap (λ (z : File). z.size) f))
-  | inr n ↦ absurd (let e : None ≡ Some file = sym (cond_false (is_same_name (codes "notes.txt") name) (Some (record { name = name; id = 1; size = 100 })) None n) ∙ is in cc)
+  | inr n ↦ absurd (let e : None ≡ Some file = sym (cond_false (is_same_name (codes "notes.txt") name) (Some (record { name = name; id = 1; size = 100; profile = 1 })) None n) ∙ is in cc)
 ]
 
 stored-rests : IsAtRest stored_state

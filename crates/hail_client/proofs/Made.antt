@@ -20,12 +20,12 @@ use Rattle.vault.specs.Seen.{table_of}
 use Rattle.vault.specs.Stands.{Stands, MakesBegin}
 use Rattle.vault.specs.Stands as vault
 use Rattle.hail_client.specs.declared.client.Client.{Client}
-use Rattle.hail_client.specs.Outcomes.{begin_outcome, names_outcome}
-use Rattle.hail_client.specs.Stands.{StandsBy, ClientStands, MakesEvent, MakesStep}
+use Rattle.hail_client.specs.Outcomes.{client_begin_outcome, names_outcome}
+use Rattle.hail_client.specs.Stands.{StandsBy, ClientStands, MakesEvent, ClientMakesStep}
 
 -- an open vault makes them
 pub begin-of : (c : Client) (v next : Vault) (kind : Kind) (result : Result ℕ BeginFault) → c.vault ≡ Some v → IsSpelledKind kind → ((w : State) (d : Devices) (moment : ℕ) → Stands v d w → MakesBegin w moment kind result next d) →
-    (w : State) (d : Devices) (moment : ℕ) → ClientStands c d w → MakesEvent w moment (Begin kind) (begin_outcome (Some result)) (record { vault = Some next; next_job = c.next_job }) d
+    (w : State) (d : Devices) (moment : ℕ) → ClientStands c d w → MakesEvent w moment (Begin kind) (client_begin_outcome (Some result)) (record { vault = Some next; next_job = c.next_job }) d
 begin-of c v next kind result is spelled makes w d moment S =
     (let M = makes w d moment (subst (λ (o : Option Vault). StandsBy o c.next_job d w) is S) in
     record { state = M.state; spelled = spelled; happens = M.begins; stands = M.stands })
@@ -34,7 +34,7 @@ module _ (c : Client) (v next : Vault) (number : ℕ) (turn : Turn) (old new : D
   opened : (w : State) → ClientStands c old w → Stands v old w
   opened w S = subst (λ (o : Option Vault). StandsBy o c.next_job old w) is S
 
-  pub step-of : number < 2 ^ 32 → (w : State) (moment : ℕ) → ClientStands c old w → MakesStep w moment number (Some turn) (record { vault = Some next; next_job = c.next_job }) old new
+  pub step-of : number < 2 ^ 32 → (w : State) (moment : ℕ) → ClientStands c old w → ClientMakesStep w moment number (Some turn) (record { vault = Some next; next_job = c.next_job }) old new
   step-of spelled w moment S = (let M = makes w moment (opened w S) in
       record { makes = record { state = M.state; spelled = spelled; happens = M.happens; stands = M.stands }; beyond = M.beyond; torn = M.torn })
 
@@ -46,7 +46,7 @@ closed-by : (o : Option Vault) (next : ℕ) (w : State) (d : Devices) → o ≡ 
 closed-by (Some v) next w d none S = absurd cc
 closed-by None next w d none S = S.closed
 
-pub step-closed : (c : Client) (number : ℕ) (d : Devices) → c.vault ≡ None → number < 2 ^ 32 → (w : State) (moment : ℕ) → ClientStands c d w → MakesStep w moment number None c d d
+pub step-closed : (c : Client) (number : ℕ) (d : Devices) → c.vault ≡ None → number < 2 ^ 32 → (w : State) (moment : ℕ) → ClientStands c d w → ClientMakesStep w moment number None c d d
 step-closed c number d none spelled w moment S = record {
   makes = record {
     state = w;

@@ -13,7 +13,7 @@ use Rattle.hail_records.specs.Records.{Record, Setup, largest_journal}
 use Rattle.hail_records.specs.Journal.{StandsFor, StandsOrIsEmpty}
 use Rattle.hail_records.specs.Table.{setup_of}
 use Rattle.hail_machine.specs.Events as events
-use Rattle.hail_machine.specs.Events.{Outcome, Reopen}
+use Rattle.hail_machine.specs.Events.{Reopen}
 use Rattle.hail_machine.specs.Refusals as refusal
 use Rattle.hail_machine.specs.States.{State, setup_in, given_up}
 use Rattle.hail_machine.specs.Stands.{StandsForState, StandsWithDoubt}
@@ -30,7 +30,6 @@ use Rattle.hail_openings.specs.Journals.{journal_read, IsRead, IsResynced}
 use Rattle.vault.specs.Causes.{IsStartFault, LiesInJournal}
 use Rattle.vault.specs.Seen.{provider_count}
 use Rattle.vault.specs.Stands.{Stands}
-use Rattle.vault.proofs.Emptied.{image-firm}
 use Rattle.vault.proofs.Ways.{images_on}
 use Rattle.hail_client.specs.declared.client.Client.{Client}
 use Rattle.hail_client.specs.Outcomes.{start_refusal}
@@ -39,7 +38,8 @@ use Rattle.hail_client.specs.Stands.{StandsClosed, MakesEvent}
 use Rattle.hail_client.proofs.Settled.{AreKept, settled, settles, settled-sound, read-kept, kept-accepted, kept-fits, firm-stands, short-read, whole-read}
 use Rattle.hail_openings.proofs.Readings.{bad-none}
 use Rattle.hail_devices.proofs.PickLaws.{IsImage-reads}
-use Rattle.vault.proofs.Texts.{stands-take}
+use Rattle.hail_devices.proofs.Lasting.{image-firm}
+use Rattle.hail_records.proofs.Standing.{stands-take}
 
 each-anyone : (n j : ℕ) → j < n → slice_get (replicate n anyone) j ≡ Some anyone
 each-anyone zero j l = absurd (omega (arith, l))

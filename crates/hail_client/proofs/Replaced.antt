@@ -2,6 +2,7 @@
 use Rattle.std.proofs.Common.{◌≡◌, ◌↔◌, ℕ, ◌<◌, ◌≤◌, Bool, true, false, List, length, Option, Some, None, refl, sym, subst, ◌∙◌, arith}
 use Rattle.std.specs.Prelude.{IsTrue, IsSome, IfSome, nat_lt, slice_get, slice_set, if◌then◌else◌}
 use Rattle.std.specs.Option.{option_map}
+use Rattle.std.proofs.lemmas.Bool.{lt-ltb, le-ltb}
 use Rattle.hail_devices.specs.Cells.{Cells}
 use Rattle.hail_devices.specs.Providers.{Held, Provider}
 use Rattle.hail_devices.specs.ProviderCalls.{Replaces}
@@ -20,12 +21,6 @@ use Rattle.hail_client.specs.declared.client.Client.{Client}
 use Rattle.hail_client.specs.Outcomes.{replace_outcome}
 use Rattle.hail_client.specs.Stands.{StandsBy, ClientStands, MakesEvent}
 use Rattle.hail_client.proofs.Standing.{devices-of, sound-of}
-
-lt-is : (a b : ℕ) → a < b → nat_lt a b ≡ true
-lt-is a b h = grind (arith, h)
-
-lt-not : (a b : ℕ) → b ≤ a → nat_lt a b ≡ false
-lt-not a b h = grind (arith, h)
 
 -- what a provider that tells goes to, or one that does not
 pub replaces : (IsThere : Held → Type 0) (change : Held → Held) (answer : Bool) (told : Option Held) (stores others fetches : ℕ) (new : Provider) → IfSome told (λ held. IsTrue answer ↔ IsThere held) →
@@ -84,7 +79,7 @@ pub not-handed : (event : Event) (w : State) (moment j : ℕ) (IsThere : Held �
     ClientStands c (devices holds faults ps) w → MakesEvent w moment event NothingHeld c (devices holds faults ps)
 not-handed event w moment j IsThere change c holds faults ps spelled is beyond S =
     let count = (devices-of c.vault c.next_job (devices holds faults ps) w S).providers.count in
-    let out : nat_lt j w.handed ≡ false = lt-not j w.handed (omega (arith, count, beyond)) in
+    let out : nat_lt j w.handed ≡ false = le-ltb j w.handed (omega (arith, count, beyond)) in
     record { state = w; spelled = spelled; happens = is NothingHeld w (subst (λ b. ReplacesIf b w j IsThere change NothingHeld w) (sym out) refl); stands = S }
 
 -- one that is handed in goes by the answer
@@ -94,7 +89,7 @@ pub handed : (event : Event) (w : State) (moment j : ℕ) (IsThere : Held → Ty
     ClientStands c (devices holds faults ps) w → MakesEvent w moment event (replace_outcome answer) c (devices holds faults qs)
 handed event w moment j IsThere change c holds faults ps qs p q answer spelled is within p_is qs_are made S =
     let are = (devices-of c.vault c.next_job (devices holds faults ps) w S).providers in
-    let inside : nat_lt j w.handed ≡ true = lt-is j w.handed (let count = are.count in omega (arith, count, within)) in
+    let inside : nat_lt j w.handed ≡ true = lt-ltb j w.handed (let count = are.count in omega (arith, count, within)) in
     let seen : p ≡ w.providers j = (let e : Some p ≡ Some (w.providers j) = sym p_is ∙ are.each j within in cc) in
     let changed : ℕ → Provider = with_provider w.providers j q in
     let after_is : AreHanded qs (after holds faults ps qs w changed) = subst (λ (l : List Provider). AreHanded l (after holds faults ps qs w changed)) (sym qs_are) (handed_on ps w (after holds faults ps qs w changed) j q are within refl (λ k. refl)) in

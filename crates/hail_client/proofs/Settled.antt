@@ -1,9 +1,11 @@
 -- What a disk that tells reads, of the records in effect and the one in doubt.
-use Rattle.std.proofs.Common.{◌≡◌, ◌⊎◌, inl, inr, ℕ, ◌+◌, ◌-◌, ◌≤◌, List, [], ◌∷◌, ◌++◌, length, Some, None, refl, ap, sym, subst, ◌∙◌, arith, length-take}
+use Rattle.std.proofs.Common.{◌≡◌, ◌⊎◌, inl, inr, ℕ, ◌-◌, ◌≤◌, List, [], ◌∷◌, length, Some, None, refl, ap, sym, subst, ◌∙◌, arith, length-take}
 use Rattle.hail_devices.specs.Cells.{Cells, reads, firm}
+use Rattle.hail_devices.proofs.Lasting.{image-firm}
 use Rattle.hail_records.specs.Records.{Record, largest_journal}
 use Rattle.hail_records.specs.Journal.{text_size, StandsFor, StandsOrIsEmpty}
 use Rattle.hail_records.specs.Acceptance.{AreAccepted}
+use Rattle.hail_records.proofs.Standing.{stands-front}
 use Rattle.hail_machine.specs.Events.{Stop, Stopped}
 use Rattle.hail_machine.specs.States.{State, Doubt, given_up, Settles}
 use Rattle.hail_machine.specs.Stands.{StandsForState, StandsWithDoubt}
@@ -11,8 +13,7 @@ use Rattle.journal_core.proofs.Meanings.{one_meaning}
 use Rattle.sound_states.specs.Sound.{IsSound}
 use Rattle.sound_states.proofs.Events.{events-sound}
 use Rattle.hail_openings.specs.Journals.{journal_read}
-use Rattle.vault.proofs.Emptied.{image-firm}
-use Rattle.vault.proofs.Texts.{stands-front, short-none}
+use Rattle.vault.proofs.Texts.{short-none}
 
 -- ---- what bytes stand for
 

@@ -12,7 +12,7 @@ use Rattle.hail_machine.specs.Stands.{StandsForState}
 use Rattle.sound_states.specs.Sound.{IsSound}
 use Rattle.vault.specs.Devices.{devices, AreDevices}
 use Rattle.hail_client.specs.declared.client.Client.{Client}
-use Rattle.hail_client.specs.Client.{next_job_of}
+use Rattle.hail_client.specs.Client.{client_next_job}
 use Rattle.hail_client.specs.Stands.{StandsClosed, ClientStands, MakesEvent}
 use Rattle.hail_client.proofs.Standing.{devices-of, sound-of, next-of}
 use Rattle.hail_client.proofs.Settled.{AreKept, settled, settles, settled-sound, image-kept, firm-stands}
@@ -31,7 +31,7 @@ stopped-kept w (Some old) (Some new) (image, is, new_is) stands =
     (let k = image-kept w image (stands image is) in
     (k.0, k.1, subst (λ (c : Cells). StandsForState (Some c) (settled w k.0)) (sym new_is) (firm-stands image (settled w k.0) k.2)))
 
-pub stops : (w : State) (moment : ℕ) (picks : List ℕ) (c next : Client) (old new : Option Cells) (f g : ℕ) (ps : List Provider) → AreBytes picks → next ≡ record { vault = None; next_job = next_job_of c } →
+pub stops : (w : State) (moment : ℕ) (picks : List ℕ) (c next : Client) (old new : Option Cells) (f g : ℕ) (ps : List Provider) → AreBytes picks → next ≡ record { vault = None; next_job = client_next_job c } →
     Goes Stopped old new → g ≡ f → ClientStands c (devices old f ps) w → MakesEvent w moment (Stop picks) events.Stopped next (devices new g ps)
 stops w moment picks c next old new f g ps spelled next_is goes same S =
     let are = devices-of c.vault c.next_job (devices old f ps) w S in
@@ -42,6 +42,6 @@ stops w moment picks c next old new f g ps spelled next_is goes same S =
       spelled = spelled;
       happens = settles w k.0 k.1;
       stands = subst (λ (x : Client). ClientStands x (devices new g ps) (settled w k.0)) (sym next_is)
-          (closed-stands w k.0 new g (next_job_of c) ps sound k.1 (next-of c.vault c.next_job (devices old f ps) w S) (are.faults ∙ sym same)
+          (closed-stands w k.0 new g (client_next_job c) ps sound k.1 (next-of c.vault c.next_job (devices old f ps) w S) (are.faults ∙ sym same)
           (record { images = k.2; faults = are.faults ∙ sym same; providers = record { count = are.providers.count; each = are.providers.each } }));
     }

@@ -1,13 +1,14 @@
 -- What a client tells of itself.
 --
---   next_job_of c  == the number of the next job
+--   client_next_job c  == the number of the next job
 --   uses c         == how many providers a step uses; 0 where no vault is open
---   left_of c job  == how many steps of a job may remain at most; 0 where it does not run
+--   client_left c job  == how many steps of a job may remain at most; 0 where it does not run
 --   is_open c      == a vault is open
 --   names_of c     == the table that has the files in effect; None where no vault is open
---   coming_of c job == what comes next for a job; it is no job where no vault is open
---   entry_of c job == the record that its append writes, by the open vault
---   closed_gate_of c == the offset of the closed gate behind the records in effect; 0 where no vault is open
+--   client_coming c job == what comes next for a job; it is no job where no vault is open
+--   client_entry c job == the record that its append writes, by the open vault
+--   client_closed_gate c == the offset of the closed gate behind the records in effect; 0 where no vault is
+--                           open
 --   IsSame old new == nothing changed but spare room of the open vault
 use Rattle.std.specs.Prelude.{◌≡◌, ℕ, Bool, Option, Some, None, is_some}
 use Rattle.hail_records.specs.Records.{Record}
@@ -25,8 +26,8 @@ next_job_by (Some v) next = seen.next_job_of v
 next_job_by None next = next
 
 -- the number of the next job
-abbrev pub next_job_of : Client → ℕ
-next_job_of c = next_job_by c.vault c.next_job
+abbrev pub client_next_job : Client → ℕ
+client_next_job c = next_job_by c.vault c.next_job
 
 -- how many providers an open vault uses
 abbrev pub uses_by : Option Vault → ℕ
@@ -43,8 +44,8 @@ left_by (Some v) job = seen.left_of v job
 left_by None job = 0
 
 -- how many steps of a job may remain at most
-abbrev pub left_of : Client → ℕ → ℕ
-left_of c job = left_by c.vault job
+abbrev pub client_left : Client → ℕ → ℕ
+client_left c job = left_by c.vault job
 
 -- what comes next for a job of an open vault; it is no job where none is open
 abbrev pub coming_by : Option Vault → ℕ → Coming
@@ -52,17 +53,17 @@ coming_by (Some v) job = seen.coming_of v job
 coming_by None job = IsNoJob
 
 -- what comes next for a job
-abbrev pub coming_of : Client → ℕ → Coming
-coming_of c job = coming_by c.vault job
+abbrev pub client_coming : Client → ℕ → Coming
+client_coming c job = coming_by c.vault job
 
 -- the record that the append of a job of an open vault writes
 abbrev pub entry_by : Option Vault → ℕ → Option Record
-entry_by (Some v) job = seen.entry_of v job
+entry_by (Some v) job = seen.vault_entry v job
 entry_by None job = None
 
 -- the record that the append of a job writes
-abbrev pub entry_of : Client → ℕ → Option Record
-entry_of c job = entry_by c.vault job
+abbrev pub client_entry : Client → ℕ → Option Record
+client_entry c job = entry_by c.vault job
 
 -- the offset of the closed gate of an open vault
 abbrev pub closed_gate_by : Option Vault → ℕ
@@ -70,8 +71,8 @@ closed_gate_by (Some v) = seen.closed_gate_of v
 closed_gate_by None = 0
 
 -- the offset of the closed gate behind the records in effect
-abbrev pub closed_gate_of : Client → ℕ
-closed_gate_of c = closed_gate_by c.vault
+abbrev pub client_closed_gate : Client → ℕ
+client_closed_gate c = closed_gate_by c.vault
 
 -- a vault is open
 abbrev pub is_open : Client → Bool

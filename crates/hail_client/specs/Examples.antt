@@ -3,7 +3,8 @@
 --   closed_client  == a client with no vault open, whose next job is the first
 --   fresh          == a disk that reads nothing, and four providers that hold nothing
 --   hidden         == a disk and four providers of no known state
---   stored         == a disk that reads a journal with one file of 100 bytes, and six providers that hold nothing
+--   stored         == a disk that reads a journal with one file of 100 bytes, and six providers that hold
+--                     nothing
 --   notes          == that file
 --   stored_state   == the state at rest over that journal, with no vault open
 use Rattle.std.specs.Prelude.{ℕ, false, List, [], replicate, codes, length, Some, None}
@@ -39,8 +40,10 @@ stored = devices (Some (firm (text one_file))) 0 (replicate 6 empty_provider)
 
 -- the file of that journal
 abbrev pub notes : File
-notes = record { name = codes "notes.txt"; id = 1; size = 100 }
+notes = record { name = codes "notes.txt"; id = 1; size = 100; profile = 1 }
 
 -- the state at rest over that journal
 abbrev pub stored_state : State
-stored_state = record (opened one_file hundred) { providers = provider_or_empty stored.providers; handed = 6; is_open = false }
+stored_state =
+    record (opened one_file
+    hundred) { providers = provider_or_empty stored.providers; handed = 6; is_open = false }

@@ -1,11 +1,12 @@
 -- What the answers of the calls are as outcomes of the machine. An answer is None where no vault is open.
 --
---   begin_outcome result   == of a begin
+--   client_begin_outcome result   == of a begin
 --   UnlessBegun result P   == P holds unless the begin was accepted
 --   step_outcome result    == of a step
 --   is_more result         == the job of a step goes on
 --   reopen_outcome result  == of a reopening
---   UnlessBadJournal result P == P holds unless what the reopening read was no journal, which is no outcome of the machine
+--   UnlessBadJournal result P == P holds unless what the reopening read was no journal, which is no outcome
+--                                of the machine
 --   replace_outcome result == of an alteration or a loss
 --   names_outcome files    == of a list of the files in effect, by the table that has them
 use Rattle.std.specs.Prelude.{ℕ, Bool, true, false, Option, Some, None, Result, Ok, Err}
@@ -24,9 +25,9 @@ use Rattle.hail_client.specs.declared.fault.ReopenFault.{ReopenFault}
 use Rattle.hail_client.specs.declared.fault.ReopenFault.TheVariants as reopen_fault
 
 -- the outcome of a begin
-abbrev pub begin_outcome : Option (Result ℕ BeginFault) → Outcome
-begin_outcome None = events.Closed
-begin_outcome (Some result) = vault.begin_outcome result
+abbrev pub client_begin_outcome : Option (Result ℕ BeginFault) → Outcome
+client_begin_outcome None = events.Closed
+client_begin_outcome (Some result) = vault.begin_outcome result
 
 -- a fact of a begin that was not accepted
 abbrev pub UnlessBegun : Option (Result ℕ BeginFault) → Type 0 → Type 0

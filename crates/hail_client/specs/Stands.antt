@@ -1,19 +1,23 @@
 -- How a client and its devices stand for a state of the machine, and how a call is one event of it.
 --
---   ClientStands c d w   == client and devices stand for a state: a vault is open in both, and stands for it, or none is open; the state
---                           is sound
---   MakesEvent w moment event outcome c d == from a state, after so many events, an event has this outcome, and client and devices stand for
---                           the state after it
---   MakesStep w moment job answer c old new == a step is an event of the machine, and past the text of the records the disk reads as before
+--   ClientStands c d w   == client and devices stand for a state: a vault is open in both, and stands for
+--                           it, or none is open; the state is sound
+--   MakesEvent w moment event outcome c d == from a state, after so many events, an event has this outcome,
+--                           and client and devices stand for the state after it
+--   ClientMakesStep w moment job answer c old new == a step is an event of the machine, and past the text
+--                                          of the records the disk reads as before
 --   moment_of m          == this event as a moment of a run
 --   IsStanding c d       == client and devices stand for some state
---   IsMadeAnew moment next event outcome c old new == from some closed state over the devices, the next job having this number, an
---                           event has this outcome: a run begins there
---   OpensOver read next handed c holds faults == a vault is open over some records that the disk, where it tells, reads: client and
---                           devices stand for each state that was just opened over them, and there is one
+--   IsMadeAnew moment next event outcome c old new == from some closed state over the devices, the next job
+--                           having this number, an event has this outcome: a run begins there
+--   OpensOver read next handed c holds faults == a vault is open over some records that the disk, where it
+--                           tells, reads: client and devices stand for each state that was just opened over
+--                           them, and there is one
 --   ImageHasFile name file image == an image stands for records that have this file under a name
---   IsReached start ms c d == the moments are a run from a state, and client and devices stand for the last state of it
---   RunsJobOn start ms job turn c d == behind these moments a job was stepped until this turn, at which it did not go on
+--   IsReached start ms c d == the moments are a run from a state, and client and devices stand for the last
+--                             state of it
+--   RunsJobOn start ms job turn c d == behind these moments a job was stepped until this turn, at which it
+--                                      did not go on
 use Rattle.std.specs.Prelude.{◌≡◌, ◌≢◌, ℕ, false, List, ◌∷◌, ◌++◌, length, Option, Some, None, IfSome}
 use Rattle.hail_devices.specs.Cells.{Cells}
 use Rattle.hail_devices.specs.Providers.{Provider}
@@ -27,7 +31,7 @@ use Rattle.hail_machine.specs.Machine.{Happens}
 use Rattle.hail_machine.specs.Heard.{heard_by}
 use Rattle.hail_machine.specs.Jobs.{job_of}
 use Rattle.hail_machine.specs.Runs.{Moment, now, IsRun}
-use Rattle.hail_machine.specs.Transcripts.{RunsJob}
+use Rattle.hail_machine.specs.Transcripts.{RunsToEnd}
 use Rattle.sound_states.specs.Sound.{IsSound}
 use Rattle.vault.specs.declared.turn.Turn.{Turn}
 use Rattle.vault.specs.declared.vault.Vault.{Vault}
@@ -61,32 +65,38 @@ pub record IsStanding (c : Client) (d : Devices) : Type 0 where
   pub stands : ClientStands c d state
 
 -- an event is one of the machine, and client and devices stand for the state after it
-pub record MakesEvent (w : State) (moment : ℕ) (event : Event) (outcome : Outcome) (c : Client) (d : Devices) : Type 0 where
+pub record MakesEvent (w : State) (moment : ℕ) (event : Event) (outcome : Outcome) (c : Client)
+    (d : Devices) : Type 0 where
   pub state : State
   pub spelled : IsSpelled event
   pub happens : Happens 8 moment w event outcome state
   pub stands : ClientStands c d state
 
--- a step is an event of the machine; past the text with the record in flight the disk reads as before, and where a call of it failed, past
--- the text with the record that was being appended
-pub record MakesStep (w : State) (moment job : ℕ) (answer : Option Turn) (c : Client) (old new : Devices) : Type 0 where
+-- a step is an event of the machine; past the text with the record in flight the disk reads as before, and
+-- where a call of it failed, past the text with the record that was being appended
+pub record ClientMakesStep (w : State) (moment job : ℕ) (answer : Option Turn) (c : Client)
+    (old new : Devices) : Type 0 where
   pub makes : MakesEvent w moment (Step job) (step_outcome answer) c new
   pub beyond : step_outcome answer ≢ Ended answers.DiskFault → IsSameBeyond makes.state old new
   pub torn : step_outcome answer ≡ Ended answers.DiskFault → IsSamePast w job old new
 
 -- from some closed state over these devices an event is one of the machine
-pub record IsMadeAnew (moment next : ℕ) (event : Event) (outcome : Outcome) (c : Client) (old new : Devices) : Type 0 where
+pub record IsMadeAnew (moment next : ℕ) (event : Event) (outcome : Outcome) (c : Client)
+    (old new : Devices) : Type 0 where
   pub before : State
   pub stands_before : StandsClosed next old before
   pub makes : MakesEvent before moment event outcome c new
 
--- client and devices stand for each state that was just opened over some records that were read, and there is one
-pub record OpensOver (read : Option Cells) (next handed : ℕ) (c : Client) (holds : Option Cells) (faults : ℕ) : Type 0 where
+-- client and devices stand for each state that was just opened over some records that were read, and there
+-- is one
+pub record OpensOver (read : Option Cells) (next handed : ℕ) (c : Client) (holds : Option Cells)
+    (faults : ℕ) : Type 0 where
   pub records : List Record
   pub is_read : IsRead read records
   pub each : (w : State) (providers : List Provider) → IsJustOpened w records next faults providers →
       ClientStands c (devices holds faults providers) w
-  pub one : (providers : List Provider) → length providers ≡ handed → (w : State) × IsJustOpened w records next faults providers
+  pub one : (providers : List Provider) → length providers ≡ handed
+      → (w : State) × IsJustOpened w records next faults providers
 
 -- an image stands for records that have this file under a name
 pub record ImageHasFile (name : List ℕ) (file : File) (image : List ℕ) : Type 0 where
@@ -95,8 +105,10 @@ pub record ImageHasFile (name : List ℕ) (file : File) (image : List ℕ) : Typ
   pub has : file_of records name ≡ Some file
 
 -- an event as a moment of a run
-abbrev pub moment_of : {w : State} {moment : ℕ} {event : Event} {outcome : Outcome} {c : Client} {d : Devices} → MakesEvent w moment event outcome c d → Moment
-moment_of {w} {moment} {event} {outcome} {c} {d} m = record { event = event; outcome = outcome; state = m.state }
+abbrev pub moment_of : {w : State} {moment : ℕ} {event : Event} {outcome : Outcome} {c : Client}
+    {d : Devices} → MakesEvent w moment event outcome c d → Moment
+moment_of {w} {moment} {event} {outcome} {c} {d} m =
+    record { event = event; outcome = outcome; state = m.state }
 
 -- client and devices stand for the last state of a run
 pub record IsReached (start : State) (ms : List Moment) (c : Client) (d : Devices) : Type 0 where
@@ -104,10 +116,12 @@ pub record IsReached (start : State) (ms : List Moment) (c : Client) (d : Device
   pub stands : ClientStands c d (now start ms)
 
 -- behind a run a job was stepped until it did not go on, and what it heard is told at its end
-pub record RunsJobOn (start : State) (ms : List Moment) (job : ℕ) (turn : Option Turn) (c : Client) (d : Devices) : Type 0 where
+pub record RunsJobOn (start : State) (ms : List Moment) (job : ℕ) (turn : Option Turn) (c : Client)
+    (d : Devices) : Type 0 where
   pub steps : List Moment
   pub last : Moment
-  pub runs : RunsJob job last steps
+  pub runs : RunsToEnd job last steps
   pub outcome_is : last.outcome ≡ step_outcome turn
   pub reached : IsReached start (last ∷ (steps ++ ms)) c d
-  pub heard : IfSome turn (λ t. IfEnded t (λ ended. ended.heard ≡ heard_by (job_of (now start (steps ++ ms)).jobs job)))
+  pub heard : IfSome turn (λ t. IfEnded t (λ ended. ended.heard ≡ heard_by
+      (job_of (now start (steps ++ ms)).jobs job)))

@@ -1,7 +1,9 @@
 -- The state at the start of a run over devices.
 --
---   provider_or_empty ps j  == what is seen of the provider of a number; one that tells that it holds nothing where none is handed in
---   start_of d rs     == the state before the first event over these devices, where the disk stands for these records
+--   provider_or_empty ps j  == what is seen of the provider of a number; one that tells that it holds
+--                              nothing where none is handed in
+--   start_of d rs     == the state before the first event over these devices, where the disk stands for
+--                        these records
 --   TellAll ps        == each provider handed in tells what it holds
 use Rattle.std.specs.Prelude.{◌≡◌, ℕ, zero, suc, false, List, [], ◌∷◌, length, slice_get, None, Some, IsSome}
 use Rattle.hail_devices.specs.Providers.{Provider}
@@ -9,7 +11,8 @@ use Rattle.hail_records.specs.Records.{Record}
 use Rattle.hail_machine.specs.States.{State}
 use Rattle.vault.specs.Devices.{Devices}
 
--- a provider that tells that it holds nothing, and counts nothing: it stands at each place past those handed in
+-- a provider that tells that it holds nothing, and counts nothing: it stands at each place past those
+-- handed in
 abbrev pub anyone : Provider
 anyone = record { held = Some (λ object stripe. None); store_faults = 0; other_faults = 0; fetches = 0 }
 

@@ -3,8 +3,8 @@ ghost use Rattle.hail_machine.specs.Events.{Begin, AreBytes};
 ghost use Rattle.hail_machine.specs.Jobs.{PutJob, GetJob, DropJob, AuditJob, RepairJob};
 ghost use Rattle.hail_machine.specs.States.{State};
 ghost use Rattle.vault.specs.Devices.{Devices};
-ghost use Rattle.hail_client.specs.Client.{next_job_of, IsSame};
-ghost use Rattle.hail_client.specs.Outcomes.{begin_outcome, UnlessBegun};
+ghost use Rattle.hail_client.specs.Client.{client_next_job, IsSame};
+ghost use Rattle.hail_client.specs.Outcomes.{client_begin_outcome, UnlessBegun};
 ghost use Rattle.hail_client.specs.Stands.{ClientStands, MakesEvent};
 
 use crate::client::Client;
@@ -19,9 +19,9 @@ pub(crate) fn bytes_are_bytes(bytes: &[u8])
 impl Client {
     /// Begins to put a file under a name; None where no vault is open, as at each begin.
     pub fn begin_put(&mut self, name: &[u8], bytes: Bytes) -> Option<Result<u32, BeginFault>>
-        requires { next_job_of self.old < 2 ^ 32 - 1 }
+        requires { client_next_job self.old < 2 ^ 32 - 1 }
         ensures machine { (w : State) (d : Devices) (moment : ℕ) → ClientStands self.old d w
-            → MakesEvent w moment (Begin (PutJob name.now bytes)) (begin_outcome result) self.new d }
+            → MakesEvent w moment (Begin (PutJob name.now bytes)) (client_begin_outcome result) self.new d }
         ensures unchanged { UnlessBegun result (IsSame self.old self.new) }
     {
         bytes_are_bytes(name);
@@ -34,9 +34,9 @@ impl Client {
 
     /// Begins to get the file of a name.
     pub fn begin_get(&mut self, name: &[u8]) -> Option<Result<u32, BeginFault>>
-        requires { next_job_of self.old < 2 ^ 32 - 1 }
+        requires { client_next_job self.old < 2 ^ 32 - 1 }
         ensures machine { (w : State) (d : Devices) (moment : ℕ) → ClientStands self.old d w
-            → MakesEvent w moment (Begin (GetJob name.now)) (begin_outcome result) self.new d }
+            → MakesEvent w moment (Begin (GetJob name.now)) (client_begin_outcome result) self.new d }
         ensures unchanged { UnlessBegun result (IsSame self.old self.new) }
     {
         bytes_are_bytes(name);
@@ -48,9 +48,9 @@ impl Client {
 
     /// Begins to drop the file of a name.
     pub fn begin_drop(&mut self, name: &[u8]) -> Option<Result<u32, BeginFault>>
-        requires { next_job_of self.old < 2 ^ 32 - 1 }
+        requires { client_next_job self.old < 2 ^ 32 - 1 }
         ensures machine { (w : State) (d : Devices) (moment : ℕ) → ClientStands self.old d w
-            → MakesEvent w moment (Begin (DropJob name.now)) (begin_outcome result) self.new d }
+            → MakesEvent w moment (Begin (DropJob name.now)) (client_begin_outcome result) self.new d }
         ensures unchanged { UnlessBegun result (IsSame self.old self.new) }
     {
         bytes_are_bytes(name);
@@ -62,9 +62,9 @@ impl Client {
 
     /// Begins to audit all files in effect.
     pub fn begin_audit(&mut self) -> Option<Result<u32, BeginFault>>
-        requires { next_job_of self.old < 2 ^ 32 - 1 }
+        requires { client_next_job self.old < 2 ^ 32 - 1 }
         ensures machine { (w : State) (d : Devices) (moment : ℕ) → ClientStands self.old d w
-            → MakesEvent w moment (Begin AuditJob) (begin_outcome result) self.new d }
+            → MakesEvent w moment (Begin AuditJob) (client_begin_outcome result) self.new d }
         ensures unchanged { UnlessBegun result (IsSame self.old self.new) }
     {
         match &mut self.vault {
@@ -75,9 +75,9 @@ impl Client {
 
     /// Begins to rebuild the providers that the last audit flagged.
     pub fn begin_repair(&mut self) -> Option<Result<u32, BeginFault>>
-        requires { next_job_of self.old < 2 ^ 32 - 1 }
+        requires { client_next_job self.old < 2 ^ 32 - 1 }
         ensures machine { (w : State) (d : Devices) (moment : ℕ) → ClientStands self.old d w
-            → MakesEvent w moment (Begin RepairJob) (begin_outcome result) self.new d }
+            → MakesEvent w moment (Begin RepairJob) (client_begin_outcome result) self.new d }
         ensures unchanged { UnlessBegun result (IsSame self.old self.new) }
     {
         match &mut self.vault {

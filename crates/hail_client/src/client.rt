@@ -3,7 +3,7 @@ ghost use Rattle.hail_machine.specs.Events.{Names};
 ghost use Rattle.hail_machine.specs.States.{State, IsStart, continued};
 ghost use Rattle.sound_states.specs.Sound.{IsSound};
 ghost use Rattle.vault.specs.Devices.{Devices, AreDevices};
-ghost use Rattle.hail_client.specs.Client.{is_open, next_job_of, names_of, uses};
+ghost use Rattle.hail_client.specs.Client.{is_open, client_next_job, names_of, uses};
 ghost use Rattle.hail_client.specs.Outcomes.{names_outcome};
 ghost use Rattle.hail_client.specs.Stands.{ClientStands, MakesEvent};
 
@@ -25,8 +25,9 @@ impl Client {
     pub fn new() -> Client
         ensures start { (d : Devices) (w : State) → IsStart w → AreDevices d w → ClientStands result d w }
         ensures closed { is_open result ≡ false }
-        ensures first { next_job_of result ≡ 1 }
-        ensures continued { (d : Devices) (w : State) → IsSound 8 w → AreDevices d w → ClientStands result d (continued w) }
+        ensures first { client_next_job result ≡ 1 }
+        ensures continued { (d : Devices) (w : State) → IsSound 8 w → AreDevices d w
+            → ClientStands result d (continued w) }
     {
         Client {
             vault: None,
@@ -43,7 +44,7 @@ impl Client {
 
     /// The number that the next accepted begin gets.
     pub fn next_job(&self) -> u32
-        ensures { result ≡ next_job_of self.now }
+        ensures { result ≡ client_next_job self.now }
     {
         match &self.vault {
             Some(vault) => vault.next_job(),

@@ -13,7 +13,7 @@ ghost use Rattle.hail_machine.specs.Survival.{IsKept};
 ghost use Rattle.sound_states.specs.Sound.{IsSound};
 ghost use Rattle.vault.specs.Devices.{Devices, AreDevices};
 ghost use Rattle.hail_client.specs.declared.client.Client.{Client};
-ghost use Rattle.hail_client.specs.Client.{next_job_of, uses};
+ghost use Rattle.hail_client.specs.Client.{client_next_job, uses};
 ghost use Rattle.hail_client.specs.Examples.{closed_client, fresh, hidden, stored, stored_state, notes};
 ghost use Rattle.hail_client.specs.Start.{start_of, TellAll};
 ghost use Rattle.hail_client.specs.Stands.{ClientStands, MakesEvent, IsReached, ImageHasFile, moment_of};
@@ -23,34 +23,43 @@ ghost use Rattle.hail_client.specs.Stands.{ClientStands, MakesEvent, IsReached, 
 pub fn what_a_client_stands_for()
     ensures devices { (c : Client) (d : Devices) (w : State) → ClientStands c d w → AreDevices d w }
     ensures sound { (c : Client) (d : Devices) (w : State) → ClientStands c d w → IsSound 8 w }
-    ensures enough { (c : Client) (d : Devices) (w : State) → ClientStands c d w → uses c ≤ length d.providers }
-    ensures next_job { (c : Client) (d : Devices) (w : State) → ClientStands c d w → w.next_job ≡ next_job_of c }
+    ensures enough { (c : Client) (d : Devices) (w : State) → ClientStands c d w
+        → uses c ≤ length d.providers }
+    ensures next_job { (c : Client) (d : Devices) (w : State) → ClientStands c d w
+        → w.next_job ≡ client_next_job c }
 {}
 
 /// Each image of the disk of a client stands for records that have every file which is kept: in effect, also with the record in
 /// doubt added.
 pub fn images_have_the_files()
-    ensures { (c : Client) (d : Devices) (w : State) (name : List ℕ) (file : File) → ClientStands c d w → IsKept w name file →
+    ensures { (c : Client) (d : Devices) (w : State) (name : List ℕ) (file : File) → ClientStands c d w
+        → IsKept w name file →
         EachImage d.holds (ImageHasFile name file) }
 {}
 
 /// A disk before its first use stands for each state over the records that it reads.
 pub fn fresh_disks_stand()
-    ensures { (cells : Cells) (rs : List Record) (w : State) → IsFresh cells rs → w.records ≡ rs → StandsForState (Some cells) w }
+    ensures { (cells : Cells) (rs : List Record) (w : State) → IsFresh cells rs → w.records ≡ rs
+        → StandsForState (Some cells) w }
 {}
 
 /// So there is a state before the first event for every disk that tells, before its first use, and for all providers; for a disk that
 /// tells nothing there is one over each list of first records.
 pub fn there_is_a_start()
-    ensures start { (d : Devices) (cells : Cells) (rs : List Record) → d.holds ≡ Some cells → IsFresh cells rs → IsStart (start_of d rs) }
-    ensures devices { (d : Devices) (cells : Cells) (rs : List Record) → d.holds ≡ Some cells → IsFresh cells rs → AreDevices d (start_of d rs) }
-    ensures untold { (d : Devices) (rs : List Record) → d.holds ≡ None → AreFirst rs → IsStart (start_of d rs) × AreDevices d (start_of d rs) }
+    ensures start { (d : Devices) (cells : Cells) (rs : List Record) → d.holds ≡ Some cells
+        → IsFresh cells rs → IsStart (start_of d rs) }
+    ensures devices { (d : Devices) (cells : Cells) (rs : List Record) → d.holds ≡ Some cells
+        → IsFresh cells rs → AreDevices d (start_of d rs) }
+    ensures untold { (d : Devices) (rs : List Record) → d.holds ≡ None → AreFirst rs
+        → IsStart (start_of d rs) × AreDevices d (start_of d rs) }
 {}
 
 /// A client that stands for a state has made the run of no event from there, and a run goes on by each call that is an event.
 pub fn runs_go_on()
-    ensures starts { (start : State) (c : Client) (d : Devices) → ClientStands c d start → IsReached start [] c d }
-    ensures goes_on { (start : State) (ms : List Moment) (c next : Client) (old new : Devices) (event : Event) (outcome : Outcome)
+    ensures starts { (start : State) (c : Client) (d : Devices) → ClientStands c d start
+        → IsReached start [] c d }
+    ensures goes_on { (start : State) (ms : List Moment) (c next : Client) (old new : Devices)
+        (event : Event) (outcome : Outcome)
         → IsReached start ms c old → (m : MakesEvent (now start ms) (length ms) event outcome next new)
         → IsReached start (moment_of m ∷ ms) next new }
 {}
@@ -68,7 +77,8 @@ pub fn a_fresh_disk_has_a_start()
     ensures tell { TellAll fresh.providers × AllTell (start_of fresh []) }
     ensures stands { ClientStands closed_client fresh (start_of fresh []) }
     ensures run { (m : Moment) × IsReached (start_of fresh []) (m ∷ []) closed_client fresh }
-    ensures hidden { IsStart (start_of hidden []) × AreDevices hidden (start_of hidden []) × ClientStands closed_client hidden (start_of hidden []) }
+    ensures hidden { IsStart (start_of hidden []) × AreDevices hidden (start_of hidden [])
+        × ClientStands closed_client hidden (start_of hidden []) }
 {}
 
 /// A client with no vault open over a disk that reads a journal with one file stands for a state in which the file is kept, so each

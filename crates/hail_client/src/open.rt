@@ -17,7 +17,7 @@ ghost use Rattle.vault.specs.declared.fault.StartFault.{StartFault as StartFault
 ghost use Rattle.vault.specs.declared.fault.StartFault.TheVariants as start_fault;
 ghost use Rattle.hail_client.specs.declared.fault.ReopenFault.TheVariants as reopen_fault;
 ghost use Rattle.vault.specs.Outcomes.{init_outcome};
-ghost use Rattle.hail_client.specs.Client.{is_open, next_job_of};
+ghost use Rattle.hail_client.specs.Client.{is_open, client_next_job};
 ghost use Rattle.hail_client.specs.Outcomes.{reopen_outcome, UnlessBadJournal};
 ghost use Rattle.hail_client.specs.Stands.{ClientStands, MakesEvent, IsMadeAnew, IsStanding, OpensOver};
 
@@ -65,17 +65,26 @@ impl Client {
             → ClientStands self.now (devices (D.holds disk.old) (D.faults disk.old) providers) w
             → MakesEvent w moment (Init (with_master setup.now master.now.0)) (init_outcome result) self.now
             (devices (D.holds disk.new) (D.faults disk.new) providers) }
-        ensures already { is_open self.now ≡ true → (result ≡ Err init_fault.Already) × (disk.new ≡ disk.old) }
-        ensures ok { OnOk result (Goes (IsSetUpOn (with_master setup.now master.now.0)) (D.holds disk.old) (D.holds disk.new)) }
+        ensures already { is_open self.now ≡ true
+            → (result ≡ Err init_fault.Already) × (disk.new ≡ disk.old) }
+        ensures ok { OnOk result (Goes (IsSetUpOn (with_master setup.now master.now.0)) (D.holds disk.old)
+            (D.holds disk.new)) }
         ensures refused { is_open self.now ≡ false
-            → IfErr result (λ why. IfSome (D.holds disk.old) (λ cells. IsInitFault (journal_read cells) (with_master setup.now master.now.0) why)) }
-        ensures bad_setup { is_open self.now ≡ false → IsErrOf result init_fault.BadSetup ↔ (is_setup (with_master setup.now master.now.0) ≡ false) }
-        ensures looked { IfErr result (λ why. IsNoWrite why → Goes IsResynced (D.holds disk.old) (D.holds disk.new)) }
-        ensures left { OnErr result (IfSome (D.holds disk.old) (λ cells. EachImage (D.holds disk.new) (MayBeLeft (with_master setup.now master.now.0) cells))) }
-        ensures standing { (providers : List Provider) → IsStanding self.now (devices (D.holds disk.old) (D.faults disk.old) providers)
+            → IfErr result (λ why. IfSome (D.holds disk.old)
+            (λ cells. IsInitFault (journal_read cells) (with_master setup.now master.now.0) why)) }
+        ensures bad_setup { is_open self.now ≡ false
+            → IsErrOf result init_fault.BadSetup ↔ (is_setup (with_master setup.now master.now.0) ≡ false) }
+        ensures looked { IfErr result
+            (λ why. IsNoWrite why → Goes IsResynced (D.holds disk.old) (D.holds disk.new)) }
+        ensures left { OnErr result (IfSome (D.holds disk.old)
+            (λ cells. EachImage (D.holds disk.new)
+            (MayBeLeft (with_master setup.now master.now.0) cells))) }
+        ensures standing { (providers : List Provider)
+            → IsStanding self.now (devices (D.holds disk.old) (D.faults disk.old) providers)
             → IsStanding self.now (devices (D.holds disk.new) (D.faults disk.new) providers) }
         ensures tells { is_some (D.holds disk.new) ≡ is_some (D.holds disk.old) }
-        ensures cause { HasCause (D.faults disk.old) (D.faults disk.new) (IsErrOf result init_fault.DiskFault) }
+        ensures cause { HasCause (D.faults disk.old) (D.faults disk.new)
+            (IsErrOf result init_fault.DiskFault) }
     {
         setup_is_spelled(*setup, master);
         if self.vault.is_some() {
@@ -92,25 +101,36 @@ impl Client {
         disk: &mut D,
         handed: usize,
     ) -> Result<(), ReopenFault>
-        ensures machine { (w : State) (providers : List Provider) (moment : ℕ) → IsSome (D.holds disk.old) → length providers ≡ handed
+        ensures machine { (w : State) (providers : List Provider) (moment : ℕ) → IsSome (D.holds disk.old)
+            → length providers ≡ handed
             → ClientStands self.old (devices (D.holds disk.old) (D.faults disk.old) providers) w
-            → MakesEvent w moment Reopen (reopen_outcome result) self.new (devices (D.holds disk.new) (D.faults disk.new) providers) }
-        ensures opened { OnOk result (OpensOver (D.holds disk.old) (next_job_of self.old) handed self.new (D.holds disk.new) (D.faults disk.new)) }
-        ensures anew { (providers : List Provider) (moment : ℕ) → is_some (D.holds disk.old) ≡ false → length providers ≡ handed
-            → UnlessBadJournal result (IsMadeAnew moment (next_job_of self.old) Reopen (reopen_outcome result) self.new
-            (devices (D.holds disk.old) (D.faults disk.old) providers) (devices (D.holds disk.new) (D.faults disk.new) providers)) }
+            → MakesEvent w moment Reopen (reopen_outcome result) self.new
+            (devices (D.holds disk.new) (D.faults disk.new) providers) }
+        ensures opened { OnOk result
+            (OpensOver (D.holds disk.old) (client_next_job self.old) handed self.new (D.holds disk.new)
+            (D.faults disk.new)) }
+        ensures anew { (providers : List Provider) (moment : ℕ) → is_some (D.holds disk.old) ≡ false
+            → length providers ≡ handed
+            → UnlessBadJournal result
+            (IsMadeAnew moment (client_next_job self.old) Reopen (reopen_outcome result) self.new
+            (devices (D.holds disk.old) (D.faults disk.old) providers)
+            (devices (D.holds disk.new) (D.faults disk.new) providers)) }
         ensures standing { (providers : List Provider) → length providers ≡ handed
             → IsStanding self.old (devices (D.holds disk.old) (D.faults disk.old) providers)
             → IsStanding self.new (devices (D.holds disk.new) (D.faults disk.new) providers) }
         ensures opens { is_open self.new ≡ is_ok result }
-        ensures next_job { next_job_of self.new ≡ next_job_of self.old }
-        ensures refused { (why : StartFaultData) → IsErrOf result (reopen_fault.NotOpened why) → IfSome (D.holds disk.old) (λ cells. IsStartFault (journal_read cells) why) }
+        ensures next_job { client_next_job self.new ≡ client_next_job self.old }
+        ensures refused { (why : StartFaultData) → IsErrOf result (reopen_fault.NotOpened why)
+            → IfSome (D.holds disk.old) (λ cells. IsStartFault (journal_read cells) why) }
         ensures synced { OnOk result (D.holds disk.new ≡ option_map synced (D.holds disk.old)) }
-        ensures resynced { (why : StartFaultData) → IsErrOf result (reopen_fault.NotOpened why) → LiesInJournal why
+        ensures resynced { (why : StartFaultData) → IsErrOf result (reopen_fault.NotOpened why)
+            → LiesInJournal why
             → D.holds disk.new ≡ option_map synced (D.holds disk.old) }
-        ensures few { IsErrOf result reopen_fault.TooFewProviders → D.holds disk.new ≡ option_map synced (D.holds disk.old) }
+        ensures few { IsErrOf result reopen_fault.TooFewProviders
+            → D.holds disk.new ≡ option_map synced (D.holds disk.old) }
         ensures disk { Goes IsResynced (D.holds disk.old) (D.holds disk.new) }
-        ensures cause { HasCause (D.faults disk.old) (D.faults disk.new) (IsErrOf result (reopen_fault.NotOpened start_fault.DiskFault)) }
+        ensures cause { HasCause (D.faults disk.old) (D.faults disk.new)
+            (IsErrOf result (reopen_fault.NotOpened start_fault.DiskFault)) }
     {
         self.give_up();
         let vault = Vault::start(alloc, disk, self.next_job)?;
@@ -126,9 +146,10 @@ impl Client {
     pub fn stop<D: Disk>(&mut self, disk: &mut D, picks: &[u8])
         ensures machine { (w : State) (providers : List Provider) (moment : ℕ)
             → ClientStands self.old (devices (D.holds disk.old) (D.faults disk.old) providers) w
-            → MakesEvent w moment (Stop picks.now) Stopped self.new (devices (D.holds disk.new) (D.faults disk.new) providers) }
+            → MakesEvent w moment (Stop picks.now) Stopped self.new
+            (devices (D.holds disk.new) (D.faults disk.new) providers) }
         ensures closed { is_open self.new ≡ false }
-        ensures next_job { next_job_of self.new ≡ next_job_of self.old }
+        ensures next_job { client_next_job self.new ≡ client_next_job self.old }
         ensures count { D.faults disk.new ≡ D.faults disk.old }
         ensures tells { is_some (D.holds disk.new) ≡ is_some (D.holds disk.old) }
     {
@@ -139,7 +160,7 @@ impl Client {
 
     /// Gives up an open vault with its jobs.
     fn give_up(&mut self)
-        ensures closed { self.new ≡ record { vault = None; next_job = next_job_of self.old } }
+        ensures closed { self.new ≡ record { vault = None; next_job = client_next_job self.old } }
     {
         self.next_job = self.next_job();
         self.vault = None;

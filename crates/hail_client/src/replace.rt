@@ -4,7 +4,8 @@ ghost use Rattle.hail_devices.specs.ProviderCalls.{Replaces};
 ghost use Rattle.hail_devices.specs.Providers.{HasPlace, with_symbol, without_block};
 ghost use Rattle.hail_machine.specs.Events.{Alter, Lose};
 ghost use Rattle.hail_machine.specs.States.{State};
-ghost use Rattle.vault.specs.Devices.{as_seen, devices};
+ghost use Rattle.vault.specs.Devices.{devices};
+ghost use Rattle.provider_model.specs.Seen.{provider_seen};
 ghost use Rattle.hail_client.specs.Outcomes.{replace_outcome};
 ghost use Rattle.hail_client.specs.Stands.{ClientStands, MakesEvent};
 
@@ -15,8 +16,9 @@ use provider_model::Tamper;
 
 /// Replaces one symbol of a block.
 fn alter_of<P: Tamper>(held: &mut P, object: u64, stripe: u32, place: u32, symbol: Symbol) -> bool
-    ensures { Replaces (λ blocks. HasPlace (blocks object stripe) place) (with_symbol object stripe place symbol) result
-        (as_seen P.held P.store_faults P.other_faults P.fetches held.old) (as_seen P.held P.store_faults P.other_faults P.fetches held.new) }
+    ensures { Replaces (λ blocks. HasPlace (blocks object stripe) place)
+        (with_symbol object stripe place symbol) result
+        (provider_seen P.Provider held.old) (provider_seen P.Provider held.new) }
 {
     held.alter(object, stripe, place, symbol)
 }
@@ -24,7 +26,7 @@ fn alter_of<P: Tamper>(held: &mut P, object: u64, stripe: u32, place: u32, symbo
 /// Takes away one block.
 fn lose_of<P: Tamper>(held: &mut P, object: u64, stripe: u32) -> bool
     ensures { Replaces (λ blocks. IsSome (blocks object stripe)) (without_block object stripe) result
-        (as_seen P.held P.store_faults P.other_faults P.fetches held.old) (as_seen P.held P.store_faults P.other_faults P.fetches held.new) }
+        (provider_seen P.Provider held.old) (provider_seen P.Provider held.new) }
 {
     held.lose(object, stripe)
 }
@@ -42,9 +44,10 @@ impl Client {
         symbol: Symbol,
     ) -> bool
         ensures machine { (w : State) (holds : Option Cells) (faults moment : ℕ)
-            → ClientStands self.now (devices holds faults (map (as_seen P.held P.store_faults P.other_faults P.fetches) providers.old)) w
-            → MakesEvent w moment (Alter provider object stripe place symbol) (replace_outcome result) self.now
-            (devices holds faults (map (as_seen P.held P.store_faults P.other_faults P.fetches) providers.new)) }
+            → ClientStands self.now (devices holds faults (map (provider_seen P.Provider) providers.old)) w
+            → MakesEvent w moment (Alter provider object stripe place symbol) (replace_outcome result)
+            self.now
+            (devices holds faults (map (provider_seen P.Provider) providers.new)) }
     {
         symbol_is_number(symbol);
         let index = provider as usize;
@@ -63,9 +66,9 @@ impl Client {
         stripe: u32,
     ) -> bool
         ensures machine { (w : State) (holds : Option Cells) (faults moment : ℕ)
-            → ClientStands self.now (devices holds faults (map (as_seen P.held P.store_faults P.other_faults P.fetches) providers.old)) w
+            → ClientStands self.now (devices holds faults (map (provider_seen P.Provider) providers.old)) w
             → MakesEvent w moment (Lose provider object stripe) (replace_outcome result) self.now
-            (devices holds faults (map (as_seen P.held P.store_faults P.other_faults P.fetches) providers.new)) }
+            (devices holds faults (map (provider_seen P.Provider) providers.new)) }
     {
         let index = provider as usize;
         if index >= providers.len() {

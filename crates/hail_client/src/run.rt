@@ -2,7 +2,7 @@ ghost use Rattle.std.specs.Prelude.{◌≡◌, ◌≢◌, List, true, Some, IfSo
 ghost use Rattle.hail_machine.specs.Runs.{Moment};
 ghost use Rattle.hail_machine.specs.States.{State};
 ghost use Rattle.vault.specs.declared.turn.Turn.TheVariants as turn;
-ghost use Rattle.vault.specs.Devices.{as_seen, devices};
+ghost use Rattle.vault.specs.Devices.{devices, devices_seen};
 ghost use Rattle.vault.specs.Outcomes.{IfEnded, HasPaddedCounts};
 ghost use Rattle.hail_client.specs.Client.{is_open};
 ghost use Rattle.hail_client.specs.Outcomes.{is_more};
@@ -29,11 +29,12 @@ impl Client {
         disk: &mut D,
         providers: &mut [P],
     ) -> Option<Turn>
-        requires standing { is_open self.old ≡ true → IsStanding self.old (devices (D.holds disk.old) (D.faults disk.old) (map (as_seen P.held P.store_faults P.other_faults P.fetches) providers.old)) }
+        requires standing { is_open self.old ≡ true
+            → IsStanding self.old (devices_seen D.Disk P.Provider disk.old providers.old) }
         ensures machine { (start : State) (ms : List Moment)
-            → IsReached start ms self.old (devices (D.holds disk.old) (D.faults disk.old) (map (as_seen P.held P.store_faults P.other_faults P.fetches) providers.old))
+            → IsReached start ms self.old (devices_seen D.Disk P.Provider disk.old providers.old)
             → RunsJobOn start ms job result self.new
-            (devices (D.holds disk.new) (D.faults disk.new) (map (as_seen P.held P.store_faults P.other_faults P.fetches) providers.new)) }
+            (devices_seen D.Disk P.Provider disk.new providers.new) }
         ensures over { result ≢ Some turn.More }
         ensures count { length providers.new ≡ length providers.old }
         ensures tells { is_some (D.holds disk.new) ≡ is_some (D.holds disk.old) }

@@ -1,16 +1,17 @@
 ghost use Rattle.std.specs.Prelude.{◌≡◌, ◌≢◌, ◌<◌, ◌≤◌, ◌++◌, ◌∷◌, [], ℕ, true, false, Some, None, IfSome, is_some, length, map, slice_get};
+ghost use Rattle.hail_devices.specs.Faults.{one_more};
 ghost use Rattle.hail_machine.specs.Heard.{heard_by};
 ghost use Rattle.hail_machine.specs.Jobs.{job_of};
 ghost use Rattle.hail_machine.specs.States.{State};
 ghost use Rattle.hail_records.specs.Records.{Record as Entry};
 ghost use Rattle.hail_records.specs.Spellings.{spelling};
 ghost use Rattle.vault.specs.declared.turn.Turn.TheVariants as turn;
-ghost use Rattle.vault.specs.Calls.{calls_disk, called_provider, moves_before_next, MovesCells};
-ghost use Rattle.vault.specs.Devices.{as_seen, devices};
+ghost use Rattle.vault.specs.Calls.{calls_disk, called_provider, moves_before_next, CalledOnce, MovesCells};
+ghost use Rattle.vault.specs.Devices.{devices_seen};
 ghost use Rattle.vault.specs.Outcomes.{IfEnded, IsNoAction, HasPaddedCounts};
 ghost use Rattle.vault_core.specs.Coming.{IsNoJob};
-ghost use Rattle.hail_client.specs.Client.{uses, is_open, left_of, coming_of, entry_of, closed_gate_of, IsSame};
-ghost use Rattle.hail_client.specs.Stands.{ClientStands, MakesStep};
+ghost use Rattle.hail_client.specs.Client.{uses, is_open, client_left, client_coming, client_entry, client_closed_gate, IsSame};
+ghost use Rattle.hail_client.specs.Stands.{ClientStands, ClientMakesStep};
 
 use crate::client::Client;
 use disk_model::Disk;
@@ -18,8 +19,9 @@ use provider_model::Provider;
 use vault::Turn;
 
 impl Client {
-    /// Makes the next action of a job, with at most one call of a device; None where no vault is open. Conditions: as many
-    /// providers as the open vault uses, or more, of which only these are used; and the disk is the one that it was opened over.
+    /// Makes the next action of a job, with its one call of a device, if it has one; None where no vault is open. Conditions:
+    /// as many providers as the open vault uses, or more, of which only these are used; and the disk is the one that it was
+    /// opened over.
     pub fn step<D: Disk, P: Provider>(
         &mut self,
         job: u32,
@@ -28,34 +30,44 @@ impl Client {
     ) -> Option<Turn>
         requires { uses self.old ≤ length providers.old }
         ensures machine { (w : State) (moment : ℕ)
-            → ClientStands self.old (devices (D.holds disk.old) (D.faults disk.old) (map (as_seen P.held P.store_faults P.other_faults P.fetches) providers.old)) w
-            → MakesStep w moment job result self.new
-            (devices (D.holds disk.old) (D.faults disk.old) (map (as_seen P.held P.store_faults P.other_faults P.fetches) providers.old))
-            (devices (D.holds disk.new) (D.faults disk.new) (map (as_seen P.held P.store_faults P.other_faults P.fetches) providers.new)) }
+            → ClientStands self.old (devices_seen D.Disk P.Provider disk.old providers.old) w
+            → ClientMakesStep w moment job result self.new
+            (devices_seen D.Disk P.Provider disk.old providers.old)
+            (devices_seen D.Disk P.Provider disk.new providers.new) }
         ensures heard { (w : State)
-            → ClientStands self.old (devices (D.holds disk.old) (D.faults disk.old) (map (as_seen P.held P.store_faults P.other_faults P.fetches) providers.old)) w
+            → ClientStands self.old (devices_seen D.Disk P.Provider disk.old providers.old) w
             → IfSome result (λ turn. IfEnded turn (λ ended. ended.heard ≡ heard_by (job_of w.jobs job))) }
         ensures tells { is_some (D.holds disk.new) ≡ is_some (D.holds disk.old) }
-        ensures left { result ≡ Some turn.More → left_of self.new job < left_of self.old job }
+        ensures left { result ≡ Some turn.More → client_left self.new job < client_left self.old job }
         ensures padded { IfSome result (λ turn. IfEnded turn (λ ended. HasPaddedCounts ended.answer)) }
         ensures stays_open { is_open self.new ≡ is_open self.old }
         ensures count { length providers.new ≡ length providers.old }
-        ensures still { calls_disk (coming_of self.old job) ≡ false → disk.new ≡ disk.old }
+        ensures still { calls_disk (client_coming self.old job) ≡ false → disk.new ≡ disk.old }
         ensures moves { (w : State) (entry : Entry)
-            → ClientStands self.old (devices (D.holds disk.old) (D.faults disk.old) (map (as_seen P.held P.store_faults P.other_faults P.fetches) providers.old)) w
-            → entry_of self.old job ≡ Some entry → calls_disk (coming_of self.old job) ≡ true
-            → IfSome result (λ turn. MovesCells (moves_before_next (coming_of self.old job)) (closed_gate_of self.old) (spelling entry ++ 0 ∷ []) turn (D.holds disk.old) (D.holds disk.new)) }
-        ensures away { called_provider (coming_of self.old job) ≡ None → providers.new ≡ providers.old }
-        ensures others { (j k : ℕ) → called_provider (coming_of self.old job) ≡ Some j → k ≢ j
+            → ClientStands self.old (devices_seen D.Disk P.Provider disk.old providers.old) w
+            → client_entry self.old job ≡ Some entry → calls_disk (client_coming self.old job) ≡ true
+            → IfSome result (λ turn. MovesCells (moves_before_next (client_coming self.old job))
+            (client_closed_gate self.old) (spelling entry ++ 0 ∷ []) turn (D.holds disk.old)
+            (D.holds disk.new)) }
+        ensures away { called_provider (client_coming self.old job) ≡ None → providers.new ≡ providers.old }
+        ensures others { (j k : ℕ) → called_provider (client_coming self.old job) ≡ Some j → k ≢ j
             → slice_get providers.new k ≡ slice_get providers.old k }
-        ensures no_job { coming_of self.old job ≡ IsNoJob → IsSame self.old self.new × (disk.new ≡ disk.old) × (providers.new ≡ providers.old) }
+        ensures one_disk_call { calls_disk (client_coming self.old job) ≡ true
+            → result ≢ Some turn.NoSuchJob → D.calls disk.new ≡ one_more (D.calls disk.old) }
+        ensures one_provider_call { (j : ℕ) → called_provider (client_coming self.old job) ≡ Some j
+            → result ≢ Some turn.NoSuchJob
+            → CalledOnce P.calls j providers.old providers.new }
+        ensures no_job { client_coming self.old job ≡ IsNoJob
+            → IsSame self.old self.new × (disk.new ≡ disk.old) × (providers.new ≡ providers.old) }
         ensures gone { (w : State)
-            → ClientStands self.old (devices (D.holds disk.old) (D.faults disk.old) (map (as_seen P.held P.store_faults P.other_faults P.fetches) providers.old)) w
-            → result ≡ Some turn.NoSuchJob → coming_of self.old job ≡ IsNoJob }
+            → ClientStands self.old (devices_seen D.Disk P.Provider disk.old providers.old) w
+            → result ≡ Some turn.NoSuchJob → client_coming self.old job ≡ IsNoJob }
         ensures waits { (w : State)
-            → ClientStands self.old (devices (D.holds disk.old) (D.faults disk.old) (map (as_seen P.held P.store_faults P.other_faults P.fetches) providers.old)) w
-            → IfSome result (λ turn. IsNoAction turn → IsSame self.old self.new × (disk.new ≡ disk.old) × (providers.new ≡ providers.old)) }
-        ensures closed { result ≡ None → (self.new ≡ self.old) × (disk.new ≡ disk.old) × (providers.new ≡ providers.old) }
+            → ClientStands self.old (devices_seen D.Disk P.Provider disk.old providers.old) w
+            → IfSome result (λ turn. IsNoAction turn
+            → IsSame self.old self.new × (disk.new ≡ disk.old) × (providers.new ≡ providers.old)) }
+        ensures closed { result ≡ None
+            → (self.new ≡ self.old) × (disk.new ≡ disk.old) × (providers.new ≡ providers.old) }
     {
         match &mut self.vault {
             Some(vault) => Some(vault.step(job, disk, providers)),

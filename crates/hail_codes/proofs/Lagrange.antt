@@ -1,6 +1,7 @@
 -- Lagrange's formula for the value of the interpolating polynomial at another point.
 use Rattle.std.proofs.Common.{◌≡◌, ◌≢◌, ℕ, Bool, true, false, cond, nat_eq, sym, ◌∙◌, ap, refl, arith, List, [], ◌∷◌, length, map}
-use Rattle.field_laws.specs.Field.{Each, Apart}
+use Rattle.plain_facts.specs.Lists.{Each}
+use Rattle.field_laws.specs.Field.{Apart}
 use Rattle.field_laws.proofs.Solve.{v, ◌⊞◌, ◌⊡◌, solve}
 use Rattle.field_laws.proofs.Ring.{one_mul, add_swap, sum_zero, mul_left_comm, add_mul}
 use Rattle.hail_field.specs.Nim.{nim, nim_add, nim_mul, nim_inv}

@@ -1,3 +1,4 @@
+pub mod Values
 pub mod Points
 pub mod Lagrange
 pub mod Profiles

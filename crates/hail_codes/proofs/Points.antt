@@ -1,14 +1,15 @@
 -- Points that are apart, and the products of their sums.
-use Rattle.std.proofs.Common.{◌≡◌, ◌≢◌, ◌≤◌, ◌<◌, ◌+◌, ◌++◌, ◌⊎◌, inl, inr, ℕ, zero, suc, sym, ◌∙◌, ap, refl, arith, List, [], ◌∷◌, Bool, true, false, cond, nat_eq, eqb-true}
+use Rattle.std.proofs.Common.{◌≡◌, ◌≢◌, ◌≤◌, ◌<◌, ◌+◌, ◌++◌, ◌⊎◌, inl, inr, ℕ, zero, suc, sym, ◌∙◌, ap, refl, arith, List, [], ◌∷◌, Bool, true, false, cond, nat_eq, eqb-true, zero-add}
 use Rattle.std.specs.List.{range_with_len}
-use Rattle.field_laws.specs.Field.{Each, Apart}
+use Rattle.plain_facts.specs.Lists.{Each}
+use Rattle.field_laws.specs.Field.{Apart}
 use Rattle.field_laws.proofs.Ring.{one_mul}
 use Rattle.hail_field.specs.Nim.{nim, nim_add, nim_mul}
 use Rattle.hail_field.proofs.AllNumbers.{nim_laws, nim_ring}
 use Rattle.poly_laws.proofs.Interpolate.{value-vanish}
 use Rattle.poly_laws.specs.Poly.{value as value_over, vanish as vanish_over}
 use Rattle.hail_codes.specs.Polynomials.{value, vanish}
-use Rattle.hail_codes.specs.Points.{others_product}
+use Rattle.hail_codes.specs.Points.{others_product, upto}
 
 -- 1 is not 0
 pub one_not_zero : ◌≡◌ {A = ℕ} 1 0 → ⊥
@@ -66,3 +67,7 @@ others_product-append x (p ∷ ps) qs = go (nat_eq p x) (others_product-append x
         nim_mul (cond b (others_product x ps) (nim_mul (nim_add x p) (others_product x ps))) (others_product x qs)
     go true h = h
     go false h = cc (h, nim_ring.mul_assoc (nim_add x p) (others_product x ps) (others_product x qs))
+
+-- one point more
+pub upto-more : (n : ℕ) → upto (n + 1) ≡ upto n ++ n ∷ []
+upto-more n = range_with_len-append 0 n 1 ∙ ap (λ a. upto n ++ a ∷ []) (zero-add n)

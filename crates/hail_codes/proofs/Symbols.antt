@@ -2,22 +2,24 @@
 use Rattle.std.specs.Prelude.{◌≡◌, ℕ, zero, suc, ◌+◌, ◌≤◌, Bool, true, false, cond, All, List, [], ◌∷◌, length, map, Option, Some, None, IfSome}
 use Rattle.std.proofs.Common.{arith, ap, sym, refl, subst}
 use Rattle.std.proofs.lemmas.List.Elements.{All-nil, All-cons, All-head, All-tail}
-use Rattle.field_laws.specs.Field.{Each, Apart}
+use Rattle.field_laws.specs.Field.{Apart}
 use Rattle.field_laws.proofs.Ring.{sum_zero}
 use Rattle.hail_field.specs.Nim.{nim, nim_add, nim_mul, nim_inv, is_symbol}
 use Rattle.hail_field.proofs.AllNumbers.{nim_laws, nim_ring, nim_add-lt, nim_mul-lt, nim_inv-lt}
 use Rattle.poly_laws.specs.Poly.{value as value_over, plus as plus_over, scale as scale_over, times as times_over, vanish as vanish_over, interpolate as interpolate_over, agree as agree_over, is_seen as is_seen_over}
 use Rattle.poly_laws.proofs.Roots.{plus_zero}
 use Rattle.poly_laws.proofs.Interpolate.{length-interpolate, interpolate_takes}
-use Rattle.hail_codes.specs.Polynomials.{value, plus, scale, times, vanish, interpolate, agree, is_seen, Takes}
+use Rattle.hail_codes.specs.Polynomials.{value, plus, scale, times, vanish, interpolate, agree, is_seen}
 use Rattle.hail_codes.specs.Points.{upto, values_at}
 use Rattle.std.specs.List.{range_with_len}
 use Rattle.std.proofs.lemmas.List.FromFn.{length-range_with_len}
+use Rattle.plain_facts.specs.Lists.{Each}
 use Rattle.hail_codes.specs.Profiles.{profile_of}
 use Rattle.hail_codes.specs.ServerCode.{IsNear}
 use Rattle.hail_codes.specs.DispersalCode.{Accepts}
 use Rattle.hail_codes.proofs.Points.{one_not_zero, Apart-range}
 use Rattle.hail_codes.proofs.Profiles.{size_is, size-bound}
+use Rattle.hail_codes.proofs.Values.{takes_same}
 
 -- each is a symbol
 abbrev AreSymbols : List ℕ → Type 0
@@ -165,11 +167,6 @@ values-symbols p (x ∷ xs) (s ∷ ss) h = go (is_seen (value p x) s) (seen-symb
     go true f t = (f refl h.0, t)
     go false f t = t
 
--- a polynomial that takes its own values meets another that does
-meets : (p q xs : List ℕ) → Takes q xs (values_at xs p) → Each (λ x. value p x ≡ value q x) xs
-meets p q [] t = tt
-meets p q (x ∷ xs) t = (sym t.0, meets p q xs t.1)
-
 -- there are as many values as points
 length-values : (p xs : List ℕ) → length xs ≡ length (values_at xs p)
 length-values p [] = refl
@@ -184,7 +181,7 @@ coefficients_are_symbols p xs ss apart points seen short =
     let n = length-seen_points p xs ss in
     same-symbols p (interpolate (seen_points p xs ss) (values_at (seen_points p xs ss) p))
     (plus_zero nim nim_laws (seen_points p xs ss) p (interpolate (seen_points p xs ss) (values_at (seen_points p xs ss) p)) d
-    (meets p (interpolate (seen_points p xs ss) (values_at (seen_points p xs ss) p)) (seen_points p xs ss)
+    (takes_same p (interpolate (seen_points p xs ss) (values_at (seen_points p xs ss) p)) (seen_points p xs ss)
     (interpolate_takes nim nim_laws (seen_points p xs ss) (values_at (seen_points p xs ss) p) one_not_zero even d))
     (omega (arith, n, short))
     (omega (arith, length-interpolate nim nim_laws (seen_points p xs ss) (values_at (seen_points p xs ss) p) even)))

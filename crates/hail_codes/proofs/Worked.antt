@@ -14,6 +14,7 @@ use Rattle.hail_codes.specs.DispersalCode.{Accepts}
 use Rattle.hail_codes.proofs.Codewords.{near_itself}
 use Rattle.hail_codes.proofs.Symbols.{all_from_each, all_from_seen}
 use Rattle.hail_codes.specs.Polynomials.{value, vanish, interpolate, trim, agree, plus, times, Takes}
+use Rattle.hail_codes.proofs.Values.{value-constant}
 
 -- the points
 abbrev pub four : List ℕ
@@ -93,17 +94,12 @@ divided_line : plus (times (2 ∷ []) (1 ∷ 1 ∷ [])) (3 ∷ []) ≡ 1 ∷ 2 �
 unfolding times_over plus_over scale_over nim_mul nim_add product
 divided_line = refl
 
--- a polynomial of one coefficient is that number everywhere
-constant : (a x : ℕ) → value (a ∷ []) x ≡ a
-unfolding value_over
-constant a x = ap (nim_add a) (nim_laws.ring.mul_zero x) ∙ nim_laws.ring.add_zero a
-
 -- as values
 pub line_divided : (x : ℕ) → value (1 ∷ 2 ∷ []) x ≡ nim_add (nim_mul 2 (value (1 ∷ 1 ∷ []) x)) 3
 line_divided x =
     ap (λ p. value p x) (sym divided_line) ∙
     value-plus nim nim_laws (times (2 ∷ []) (1 ∷ 1 ∷ [])) (3 ∷ []) x ∙
-    cc (value-times nim nim_laws (2 ∷ []) (1 ∷ 1 ∷ []) x, constant 2 x, constant 3 x)
+    cc (value-times nim nim_laws (2 ∷ []) (1 ∷ 1 ∷ []) x, value-constant 2 x, value-constant 3 x)
 
 -- a zero at the end changes no value
 pub line_everywhere : (x : ℕ) → value (1 ∷ 2 ∷ 0 ∷ []) x ≡ value (1 ∷ 2 ∷ []) x
@@ -131,7 +127,7 @@ word_symbols =
 -- 1 is near a block of ones
 pub ones_near : IsNear (profile_of 0) (1 ∷ 1 ∷ 1 ∷ 1 ∷ 1 ∷ 1 ∷ []) (1 ∷ [])
 ones_near =
-    let same : values_at (upto 6) (1 ∷ []) ≡ 1 ∷ 1 ∷ 1 ∷ 1 ∷ 1 ∷ 1 ∷ [] = simp (constant 1) refl in
+    let same : values_at (upto 6) (1 ∷ []) ≡ 1 ∷ 1 ∷ 1 ∷ 1 ∷ 1 ∷ 1 ∷ [] = simp (value-constant 1) refl in
     subst (λ block. IsNear (profile_of 0) block (1 ∷ [])) same (near_itself (profile_of 0) (1 ∷ []) (omega arith))
 
 -- 1 is accepted

@@ -1,9 +1,11 @@
--- The dispersal code: the symbols of a row are the values, at the providers' points, of a polynomial of degree below l.
+-- The dispersal code: the symbols of a row are the values, at the providers' points, of a polynomial of
+-- degree below l.
 use Rattle.std.specs.Prelude.{◌≡◌, ℕ, ◌≤◌, ◌+◌, List, Option, length, take}
 use Rattle.hail_codes.specs.Polynomials.{agree, interpolate, trim}
 use Rattle.hail_codes.specs.Points.{values_at}
 
--- the row of primary symbols: the values at all points of the polynomial that takes them at the first points, one a symbol
+-- the row of primary symbols: the values at all points of the polynomial that takes them at the first
+-- points, one a symbol
 abbrev pub row_of : List ℕ → List ℕ → List ℕ
 row_of points primary = values_at points (interpolate (take (length primary) points) primary)
 

@@ -20,7 +20,8 @@ values_at points p = map (value p) points
 -- the product of x + point over the points that are not x
 unfoldable pub others_product : ℕ → List ℕ → ℕ
 others_product x [] = 1
-others_product x (p ∷ points) = cond (nat_eq p x) (others_product x points) (nim_mul (nim_add x p) (others_product x points))
+others_product x (p ∷ points) =
+    cond (nat_eq p x) (others_product x points) (nim_mul (nim_add x p) (others_product x points))
 
 -- the inverse of the product of x + point over the points that are not x
 abbrev pub multiplier : ℕ → List ℕ → ℕ

@@ -7,7 +7,8 @@ pub record Profile : Type 0 where
   pub keep : ℕ
   pub fix : ℕ
 
--- The table of profiles, by their numbers 0 to 4. A greater number gives the last row; find_profile refuses it.
+-- The table of profiles, by their numbers 0 to 4. A greater number gives the last row; find_profile refuses
+-- it.
 abbrev pub profile_of : ℕ → Profile
 profile_of zero = record { size = 6; keep = 2; fix = 2 }
 profile_of (suc zero) = record { size = 16; keep = 8; fix = 4 }

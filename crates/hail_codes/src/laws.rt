@@ -28,7 +28,8 @@ pub fn one_wrong_of_four_is_decoded()
     ensures apart { Apart {A = ℕ} (0 ∷ 1 ∷ 2 ∷ 3 ∷ []) }
     ensures decodes { Decodes nim (0 ∷ 1 ∷ 2 ∷ 3 ∷ []) (1 ∷ 1 ∷ 1 ∷ 2 ∷ []) 1 1 (1 ∷ []) }
     ensures near { agree (1 ∷ []) (0 ∷ 1 ∷ 2 ∷ 3 ∷ []) (Some 1 ∷ Some 1 ∷ Some 1 ∷ Some 2 ∷ []) ≡ 3 }
-    ensures row { FirstRow nim 2 (vanish (0 ∷ 1 ∷ 2 ∷ 3 ∷ [])) [] (trim (interpolate (0 ∷ 1 ∷ 2 ∷ 3 ∷ []) (1 ∷ 1 ∷ 1 ∷ 2 ∷ [])))
+    ensures row { FirstRow nim 2 (vanish (0 ∷ 1 ∷ 2 ∷ 3 ∷ [])) []
+        (trim (interpolate (0 ∷ 1 ∷ 2 ∷ 3 ∷ []) (1 ∷ 1 ∷ 1 ∷ 2 ∷ [])))
         (1 ∷ []) (1 ∷ 2 ∷ []) (1 ∷ 2 ∷ []) }
     ensures key { IsKeyEquation nim (0 ∷ 1 ∷ 2 ∷ 3 ∷ []) (1 ∷ 1 ∷ 1 ∷ 2 ∷ []) 2 (1 ∷ 2 ∷ []) (1 ∷ 2 ∷ []) }
     ensures divides { (x : ℕ) → value (1 ∷ 2 ∷ []) x ≡ nim_mul (value (1 ∷ 2 ∷ []) x) (value (1 ∷ []) x) }
@@ -37,9 +38,12 @@ pub fn one_wrong_of_four_is_decoded()
 /// The coefficients of a polynomial near a block of symbols are symbols, and so are those of one that is accepted for symbols seen at
 /// points that are symbols and apart: it takes symbols at as many points as it has coefficients.
 pub fn coefficients_are_symbols()
-    ensures near { (number : ℕ) (block p : List ℕ) → All is_symbol block → IsNear (profile_of number) block p → All is_symbol p }
-    ensures accepted { (points : List ℕ) (seen : List (Option ℕ)) (l b : ℕ) (p : List ℕ) → Apart points → All is_symbol points →
-        All (λ s. IfSome s is_symbol) seen → l + b ≤ length points → Accepts points seen l b p → All is_symbol p }
+    ensures near { (number : ℕ) (block p : List ℕ) → All is_symbol block
+        → IsNear (profile_of number) block p → All is_symbol p }
+    ensures accepted { (points : List ℕ) (seen : List (Option ℕ)) (l b : ℕ) (p : List ℕ) → Apart points
+        → All is_symbol points →
+        All (λ s. IfSome s is_symbol) seen → l + b ≤ length points → Accepts points seen l b p
+        → All is_symbol p }
 {}
 
 /// An instance: 1 is near the block of six symbols 1 of the first profile, and is accepted for the symbols 1, 1, 1, 2 at the points

@@ -1,3 +1,6 @@
+pub mod MaskLengths
+pub mod CountLaws
+pub mod SymbolBytes
 pub mod PointLaws
 pub mod ForgeryLaws
 pub mod ColumnLaws

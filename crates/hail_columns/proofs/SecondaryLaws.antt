@@ -5,7 +5,9 @@ use Rattle.std.specs.List.{range_with_len}
 use Rattle.std.proofs.lemmas.List.FromFn.{length-range_with_len, length-map-range_with_len, get_or-map-range_with_len}
 use Rattle.std.proofs.Math.ListN.{length-drop}
 use Rattle.std.proofs.Math.Nat.{mul-le-mul_right}
-use Rattle.field_laws.specs.Field.{Each}
+use Rattle.plain_facts.specs.Lists.{Each}
+use Rattle.plain_facts.proofs.Lists.{map-range_same}
+use Rattle.plain_facts.proofs.Each.{each_range}
 use Rattle.hail_field.specs.Nim.{nim, nim_add, nim_mul}
 use Rattle.hail_field.proofs.AllNumbers.{nim_laws, nim_ring}
 use Rattle.poly_laws.specs.Poly.{value as value_over}
@@ -48,11 +50,6 @@ length-combine (w ∷ ws) [] k short = omega arith
 length-combine (w ∷ ws) (p ∷ ps) k short =
     omega (arith, length-plus nim nim_laws (scale w p) (combine ws ps), length-scale nim nim_laws w p, short.0, length-combine ws ps k short.1)
 
--- a codeword of the values of a polynomial of few coefficients is all its values
-Each-upto : (P : ℕ → Type 0) (a n : ℕ) → ((j : ℕ) → j < a + n → P j) → Each P (range_with_len a n)
-Each-upto P a zero h = tt
-Each-upto P a (suc n) h = (h a (omega arith), Each-upto P (a + 1) n (λ j below. h j (omega (arith, below))))
-
 map-values : (f g : ℕ → ℕ) (xs : List ℕ) → ((x : ℕ) → f x ≡ g x) → map f xs ≡ map g xs
 map-values f g [] h = refl
 map-values f g (x ∷ xs) h = (λ i. h x i ∷ map-values f g xs h i)
@@ -65,7 +62,7 @@ codeword-values profile q short =
     map-values (value p) (value q) (upto profile.size)
     (same_values nim nim_laws p q
     (plus_zero nim nim_laws (upto profile.keep) p q (Apart-range 0 profile.keep)
-    (Each-upto (λ x. value p x ≡ value q x) 0 profile.keep (λ j below. value-interpolate_upto (value q) profile.keep j (omega (arith, below))))
+    (each_range (λ x. value p x ≡ value q x) 0 profile.keep (λ j below. value-interpolate_upto (value q) profile.keep j (omega (arith, below))))
     (omega (arith, codeword-short profile kept (length-map-range_with_len (value q) 0 profile.keep), length-range_with_len 0 profile.keep))
     (omega (arith, short, length-range_with_len 0 profile.keep))))
 
@@ -91,7 +88,7 @@ module _ (o : Object) (symbols : List ℕ) where
       (length-range_with_len 0 o.shape.l ∙ sym (length-map-range_with_len (λ j. slice_index (codeword o.profile (kept_by o symbols j)) place) 0 o.shape.l))
       (Apart-range 0 o.shape.l) out
       ∙ sym (dot-scaled (part xs x) (λ p. nim_mul (value (vanish xs) x) (part xs x p)) (value (vanish xs) x) xs ys
-      (Each-upto (λ p. nim_mul (value (vanish xs) x) (part xs x p) ≡ nim_mul (value (vanish xs) x) (part xs x p)) 0 o.shape.l (λ j below. refl)))
+      (each_range (λ p. nim_mul (value (vanish xs) x) (part xs x p) ≡ nim_mul (value (vanish xs) x) (part xs x p)) 0 o.shape.l (λ j below. refl)))
 
   primary_row-values : (place a n : ℕ) → place < o.profile.size →
       map (λ j. slice_index (codeword o.profile (kept_by o symbols j)) place) (range_with_len a n) ≡ map (λ p. value p place) (map kept_polynomial (range_with_len a n))
@@ -135,7 +132,7 @@ module _ (o : Object) (symbols : List ℕ) where
 -- the point of a secondary provider is none of the primary ones
 pub point-outside : (o : Object) (j : ℕ) → o.shape.l ≤ j → j < 256 → Each (λ p. point o j ≢ p) (upto o.shape.l)
 point-outside o j second below =
-    Each-upto (λ p. point o j ≢ p) 0 o.shape.l
+    each_range (λ p. point o j ≢ p) 0 o.shape.l
     (λ p less e. absurd (omega (arith, less, second, below, sym (point-low o j below) ∙ ap (λ n. n % 256) e)))
 
 -- masks put on twice are off
@@ -151,10 +148,6 @@ masked-off o j row f a (suc n) =
     off : (x m : ℕ) → nim_add (nim_add x m) m ≡ x
     off x m = nim_ring.add_assoc x m m ∙ ap (λ y. nim_add x y) (nim_ring.add_self m) ∙ nim_ring.add_zero x
 
-map-range-same : (f g : ℕ → ℕ) (a n : ℕ) → ((j : ℕ) → j < a + n → f j ≡ g j) → map f (range_with_len a n) ≡ map g (range_with_len a n)
-map-range-same f g a zero h = refl
-map-range-same f g a (suc n) h = (λ i. h a (omega arith) i ∷ map-range-same f g (a + 1) n (λ j below. h j (omega (arith, below))) i)
-
 -- a secondary column: the values of its polynomial with the masks
 pub secondary-column : (o : Object) (symbols : List ℕ) (j stripe : ℕ) → is_primary o j ≡ false → j < 256 →
     column_of_symbols o symbols j stripe
@@ -163,7 +156,7 @@ unfolding column_of_symbols
 secondary-column o symbols j stripe is below =
     let out = point-outside o j (grind (arith, is)) below in
     ap (λ b. if b then codeword o.profile (kept_by o symbols j) else map (secondary_symbol o symbols j stripe) (upto o.profile.size)) is
-    ∙ map-range-same (secondary_symbol o symbols j stripe)
+    ∙ map-range_same (secondary_symbol o symbols j stripe)
     (λ place. nim_add (value (column_polynomial o symbols (point o j)) place) (mask o.master o.id j (row_number o stripe place))) 0 o.profile.size
     (λ place within. ap (λ x. nim_add x (mask o.master o.id j (row_number o stripe place))) (value-column_polynomial o symbols place (point o j) (omega (arith, within)) out))
 

@@ -1,18 +1,18 @@
 -- Challenges, honest and right answers to them, and the sums of masks.
 --
--- c.seed, .rows, .size, .picks             == a challenge: its key, how many rows and symbols a block there are, and how many rows it picks
--- challenge_of o bytes picks number round  == the challenge of a round of audit number to a file of so many bytes
--- alpha seed                               == the weight of a challenge: the first symbol of its stream, and 1 in place of 0
--- picked_row seed rows k                   == the row that pick k falls on, below rows
--- sum_over c at k                          == the sum over the first k picks of alpha ^ (1 + pick) times what stands at the picked row
--- combined c at                            == the same over all picks
--- held_symbol size held row                == what stands in a row of the blocks held, by stripe; None where the block is absent or not size long
--- all_held c held k                        == there is a symbol in the row of each of the first k picks
--- honest_answer c held                     == the combined symbols held in the picked rows, and None where one is not there
--- right_answer o bytes j c                 == the honest answer of what provider j is to hold of a file
--- mask_sum_of key c, mask_sum o j c        == the combined masks of the picked rows, under a key of masks and of provider j
--- bare_answer o c j answer                 == an answer of provider j with its mask sum taken off, which a primary one has none of
--- bare_answers o c j answers               == the same for the answers of the providers from j on
+-- c.seed, .rows, .size, .picks == a challenge: its key, how many rows and symbols a block there are, and
+-- how many rows it picks challenge_of o bytes picks number round == the challenge of a round of audit
+-- number to a file of so many bytes alpha seed == the weight of a challenge: the first symbol of its
+-- stream, and 1 in place of 0 picked_row seed rows k == the row that pick k falls on, below rows sum_over c
+-- at k == the sum over the first k picks of alpha ^ (1 + pick) times what stands at the picked row combined
+-- c at == the same over all picks held_symbol size held row == what stands in a row of the blocks held, by
+-- stripe; None where the block is absent or not size long all_held c held k == there is a symbol in the row
+-- of each of the first k picks honest_answer c held == the combined symbols held in the picked rows, and
+-- None where one is not there right_answer o bytes j c == the honest answer of what provider j is to hold
+-- of a file mask_sum_of key c, mask_sum o j c == the combined masks of the picked rows, under a key of
+-- masks and of provider j bare_answer o c j answer == an answer of provider j with its mask sum taken off,
+-- which a primary one has none of bare_answers o c j answers == the same for the answers of the providers
+-- from j on
 use Rattle.std.specs.Prelude.{ℕ, zero, suc, ◌+◌, ◌*◌, ◌/◌, ◌%◌, ◌^◌, ◌==◌, ◌&&◌, Bool, true, List, [], ◌∷◌, length, slice_get, is_some, unwrap_or, Option, None, Some, if◌then◌else◌}
 use Rattle.std.specs.Option.{option_map}
 use Rattle.hail_field.specs.Nim.{nim_add, nim_mul, nim_pow}
@@ -47,7 +47,8 @@ picked_row key rows k = (stream_word key (4 + 2 * k) + stream_word key (5 + 2 * 
 -- the sum of alpha ^ (k + 1) times what stands in the row of pick k, over the first picks
 unfoldable pub sum_over : Challenge → (ℕ → ℕ) → ℕ → ℕ
 sum_over c at zero = 0
-sum_over c at (suc k) = nim_add (sum_over c at k) (nim_mul (nim_pow (alpha c.seed) (suc k)) (at (picked_row c.seed c.rows k)))
+sum_over c at (suc k) =
+    nim_add (sum_over c at k) (nim_mul (nim_pow (alpha c.seed) (suc k)) (at (picked_row c.seed c.rows k)))
 
 -- what a challenge makes of the symbols of all rows
 abbrev pub combined : Challenge → (ℕ → ℕ) → ℕ
@@ -88,7 +89,8 @@ mask_sum o j c = mask_sum_of (file_key o.master 77 o.id j) c
 
 -- an answer of a provider, with the mask sum taken off that of a secondary one
 abbrev pub bare_answer : Object → Challenge → ℕ → Option ℕ → Option ℕ
-bare_answer o c j answer = if is_primary o j then answer else option_map (λ x. nim_add x (mask_sum o j c)) answer
+bare_answer o c j answer =
+    if is_primary o j then answer else option_map (λ x. nim_add x (mask_sum o j c)) answer
 
 -- the answers of the providers from one on, with the mask sums taken off
 abbrev pub bare_answers : Object → Challenge → ℕ → List (Option ℕ) → List (Option ℕ)

@@ -1,10 +1,11 @@
 -- When seen blocks hold a forgery against a file.
 --
--- count_of passes numbers                              == how many of the numbers pass
--- is_agreeing o opened place p j                       == the opened symbol of provider j at a place is the value of p at its point
--- IsForgedBy o bytes stripe place opened wrong p       == p is a forgery of a row: another polynomial, accepted, with enough tags and wrong providers
--- IsForgery o bytes seen stripe place                  == the blocks seen of all stripes hold a forgery against the file at a row
--- IsStripeForgery o bytes seen stripe place            == the same where those providers are wrong in this very stripe
+-- count_of passes numbers == how many of the numbers pass is_agreeing o opened place p j == the opened
+-- symbol of provider j at a place is the value of p at its point IsForgedBy o bytes stripe place opened
+-- wrong p == p is a forgery of a row: another polynomial, accepted, with enough tags and wrong providers
+-- IsForgery o bytes seen stripe place == the blocks seen of all stripes hold a forgery against the file at
+-- a row IsStripeForgery o bytes seen stripe place == the same where those providers are wrong in this very
+-- stripe
 use Rattle.std.specs.Prelude.{◌≢◌, ℕ, ◌+◌, ◌<◌, ◌≤◌, ◌&&◌, Bool, List, [], ◌∷◌, length, not, if◌then◌else◌}
 use Rattle.hail_codes.specs.Polynomials.{value, is_seen}
 use Rattle.hail_codes.specs.Points.{upto, values_at}
@@ -22,10 +23,12 @@ abbrev pub is_agreeing : Object → List SeenBlock → ℕ → List ℕ → ℕ 
 is_agreeing o opened place p j = is_seen (value p (point o j)) (symbol_in place (block_at opened j))
 
 -- a polynomial that is forged in the opened blocks of a stripe, where some providers count as wrong
-pub record IsForgedBy (o : Object) (bytes : List ℕ) (stripe place : ℕ) (opened : List SeenBlock) (wrong : ℕ → Bool) (p : List ℕ) : Type 0 where
+pub record IsForgedBy (o : Object) (bytes : List ℕ) (stripe place : ℕ) (opened : List SeenBlock)
+    (wrong : ℕ → Bool) (p : List ℕ) : Type 0 where
   pub accepted : AcceptsRow o opened place p
   pub other : values_at (upto o.shape.l) p ≢ primary_row o (symbols_in o bytes stripe) place
-  pub tagged : o.shape.b + 1 ≤ count_of (λ j. is_agreeing o opened place p j && not (is_primary o j)) (upto o.shape.n)
+  pub tagged : o.shape.b + 1 ≤ count_of (λ j. is_agreeing o opened place p j && not (is_primary o j))
+      (upto o.shape.n)
   pub wrong_ones : o.shape.b + 2 ≤ count_of (λ j. is_agreeing o opened place p j && wrong j) (upto o.shape.n)
 
 -- a row of a file at a kept place
@@ -34,7 +37,8 @@ pub record IsRow (o : Object) (bytes : List ℕ) (stripe place : ℕ) : Type 0 w
   pub place_in : place < o.profile.keep
 
 -- seen blocks, by stripe and then by provider, hold a forgery against a file at a row
-pub record IsForgery (o : Object) (bytes : List ℕ) (seen : ℕ → List SeenBlock) (stripe place : ℕ) : Type 0 where
+pub record IsForgery (o : Object) (bytes : List ℕ) (seen : ℕ → List SeenBlock)
+    (stripe place : ℕ) : Type 0 where
   pub row_in : IsRow o bytes stripe place
   pub opened : List SeenBlock
   pub opens : AllOpen o stripe 0 (seen stripe) opened
@@ -42,9 +46,11 @@ pub record IsForgery (o : Object) (bytes : List ℕ) (seen : ℕ → List SeenBl
   pub forged : IsForgedBy o bytes stripe place opened (λ j. is_wrong o bytes j (λ s. block_at (seen s) j)) row
 
 -- the same where each wrong provider's block of this very stripe is wrong
-pub record IsStripeForgery (o : Object) (bytes : List ℕ) (seen : ℕ → List SeenBlock) (stripe place : ℕ) : Type 0 where
+pub record IsStripeForgery (o : Object) (bytes : List ℕ) (seen : ℕ → List SeenBlock)
+    (stripe place : ℕ) : Type 0 where
   pub row_in : IsRow o bytes stripe place
   pub opened : List SeenBlock
   pub opens : AllOpen o stripe 0 (seen stripe) opened
   pub row : List ℕ
-  pub forged : IsForgedBy o bytes stripe place opened (λ j. is_wrong_block o bytes j stripe (block_at (seen stripe) j)) row
+  pub forged : IsForgedBy o bytes stripe place opened
+      (λ j. is_wrong_block o bytes j stripe (block_at (seen stripe) j)) row

@@ -1,14 +1,15 @@
--- Keys, seeds, masks and secret points, over SHA-256 (FIPS 180-4) and ChaCha20 (RFC 8439, with a 64-bit block number and a 64-bit stream number).
+-- Keys, seeds, masks and secret points, over SHA-256 (FIPS 180-4) and ChaCha20 (RFC 8439, with a 64-bit
+-- block number and a 64-bit stream number).
 --
--- file_key master label id j      == 32 bytes: the key of object id at provider j under a label, which is M for masks and P for points
--- seed master number id round     == 32 bytes: the key of the challenge of a round of audit number to object id
--- stream_word key place           == a number below 2 ^ 32: the word at a place of stream 0 under a key of 32 bytes
--- stream_symbol key place         == a symbol: four words from a place on, the first one lowest
--- mask_of key row                 == a symbol: the mask of a row under the key of the masks
--- masks_from key row n            == n symbols: the masks of n rows from one on
--- mask master id j row            == a symbol: the mask of provider j in a row of object id
--- secret_point master id j        == a symbol: the point of a secondary provider j for object id, whose lowest byte is j
--- point_of l master id j          == a symbol: the point of provider j for object id, which has l primary providers; j itself for these
+-- file_key master label id j == 32 bytes: the key of object id at provider j under a label, which is M for
+-- masks and P for points seed master number id round == 32 bytes: the key of the challenge of a round of
+-- audit number to object id stream_word key place == a number below 2 ^ 32: the word at a place of stream 0
+-- under a key of 32 bytes stream_symbol key place == a symbol: four words from a place on, the first one
+-- lowest mask_of key row == a symbol: the mask of a row under the key of the masks masks_from key row n ==
+-- n symbols: the masks of n rows from one on mask master id j row == a symbol: the mask of provider j in a
+-- row of object id secret_point master id j == a symbol: the point of a secondary provider j for object id,
+-- whose lowest byte is j point_of l master id j == a symbol: the point of provider j for object id, which
+-- has l primary providers; j itself for these
 use Rattle.std.specs.Prelude.{ℕ, ◌+◌, ◌*◌, ◌^◌, List, ◌∷◌, ◌++◌, take, map, nat_lt, slice_set, if◌then◌else◌}
 use Rattle.std.specs.List.{range_with_len}
 use Rattle.std.specs.Int.{w32, w64, w128, to_le_bytes, from_le_bytes}
@@ -21,7 +22,8 @@ file_key master label id j = sha256 (master ++ label ∷ to_le_bytes w64 id ++ t
 
 -- the digest of the master key, the letter C (67), the audit's number, the object's and the round's
 unfoldable pub seed : List ℕ → ℕ → ℕ → ℕ → List ℕ
-seed master number id round = sha256 (master ++ 67 ∷ to_le_bytes w64 number ++ to_le_bytes w64 id ++ to_le_bytes w32 round)
+seed master number id round =
+    sha256 (master ++ 67 ∷ to_le_bytes w64 number ++ to_le_bytes w64 id ++ to_le_bytes w32 round)
 
 -- the word at a place of stream 0; ChaCha20 has ten double rounds
 abbrev pub stream_word : List ℕ → ℕ → ℕ
@@ -45,7 +47,8 @@ masks_from key row n = map (mask_of key) (range_with_len row n)
 abbrev pub mask : List ℕ → ℕ → ℕ → ℕ → ℕ
 mask master id j row = mask_of (file_key master 77 id j) row
 
--- the secret point of a secondary provider: the first 16 bytes of its key with the label P (80), the first one replaced by its number
+-- the secret point of a secondary provider: the first 16 bytes of its key with the label P (80), the first
+-- one replaced by its number
 unfoldable pub secret_point : List ℕ → ℕ → ℕ → ℕ
 secret_point master id j = from_le_bytes w128 (slice_set (take 16 (file_key master 80 id j)) 0 j)
 

@@ -1,11 +1,11 @@
 -- Verdicts on the rounds of an audit.
 --
--- s.counts, .undecided             == the sums of an audit so far: how often each provider was counted, and how many rounds were undecided
--- Decides o c heard p              == p decides a round: of degree below l, it agrees with all but b of the answers without their mask sums
--- counts_after p points answers counts == the counts after a round that p decides: one more where an answer is absent or does not agree
--- Judges o c heard old new         == a round turns these sums into those
--- is_flagged tolerance counts j    == the count of provider j exceeds the tolerance
--- flags_some tolerance counts      == some count does
+-- s.counts, .undecided == the sums of an audit so far: how often each provider was counted, and how many
+-- rounds were undecided Decides o c heard p == p decides a round: of degree below l, it agrees with all but
+-- b of the answers without their mask sums counts_after p points answers counts == the counts after a round
+-- that p decides: one more where an answer is absent or does not agree Judges o c heard old new == a round
+-- turns these sums into those is_flagged tolerance counts j == the count of provider j exceeds the
+-- tolerance flags_some tolerance counts == some count does
 use Rattle.std.specs.Prelude.{◌≡◌, ◌⊎◌, ℕ, ◌+◌, Bool, List, ◌∷◌, Option, nat_lt, slice_index, if◌then◌else◌}
 use Rattle.std.specs.List.{list_any}
 use Rattle.hail_codes.specs.Polynomials.{value, is_seen}
@@ -28,7 +28,8 @@ DecidesNone o c heard = AcceptsNone (points o) (bare_answers o c 0 heard) o.shap
 
 -- each provider whose answer is absent or does not agree counts one more
 abbrev pub counts_after : List ℕ → List ℕ → List (Option ℕ) → List ℕ → List ℕ
-counts_after p (x ∷ xs) (answer ∷ more) (n ∷ ns) = (if is_seen (value p x) answer then n else n + 1) ∷ counts_after p xs more ns
+counts_after p (x ∷ xs) (answer ∷ more) (n ∷ ns) =
+    (if is_seen (value p x) answer then n else n + 1) ∷ counts_after p xs more ns
 counts_after p xs heard counts = counts
 
 -- a round is decided by a polynomial, or by none and then nobody counts

@@ -33,16 +33,21 @@ pub record TouchesSink (old new : Seen) (end : Ending) : Type 0 where
 -- a `put`
 pub data AnswersPut (name : List ℕ) (old new : Seen) (end : Ending) : Type 0 where
   unstarted : Unstarted old new end → SameSource old new → AnswersPut name old new end
-  source_fault : (records : List Record) → IsOpened old records → Rose old.source_faults new.source_faults → IsSynced old new →
-      ReadsAtMost (largest_file + 1) old.source new.source → IsRefused 14 0 old new end → AnswersPut name old new end
-  no_memory : ReadsAtMost (largest_file + 1) old.source new.source → IsRefused 70 0 old new end → AnswersPut name old new end
-  begun : (records : List Record) (bytes : List ℕ) → IsOpened old records → ReadsUpTo (largest_file + 1) old.source new.source bytes →
+  source_fault : (records : List Record) → IsOpened old records → Rose old.source_faults new.source_faults
+      → IsSynced old new →
+      ReadsAtMost (largest_file + 1) old.source new.source → IsRefused 14 0 old new end
+      → AnswersPut name old new end
+  no_memory : ReadsAtMost (largest_file + 1) old.source new.source → IsRefused 70 0 old new end
+      → AnswersPut name old new end
+  begun : (records : List Record) (bytes : List ℕ) → IsOpened old records
+      → ReadsUpTo (largest_file + 1) old.source new.source bytes →
       AnswersJob (PutJob name bytes) records old new end → AnswersPut name old new end
 
 -- a command that runs a job and reads no source
 pub data AnswersAlone (kind : Kind) (old new : Seen) (end : Ending) : Type 0 where
   unstarted : Unstarted old new end → AnswersAlone kind old new end
-  begun : (records : List Record) → IsOpened old records → AnswersJob kind records old new end → AnswersAlone kind old new end
+  begun : (records : List Record) → IsOpened old records → AnswersJob kind records old new end
+      → AnswersAlone kind old new end
 
 -- the files in effect are written, or a part of them
 pub record ListsFiles (records : List Record) (old new : Seen) (end : Ending) : Type 0 where
@@ -56,11 +61,13 @@ pub record ListsFiles (records : List Record) (old new : Seen) (end : Ending) : 
 pub data AnswersList (old new : Seen) (end : Ending) : Type 0 where
   unstarted : Unstarted old new end → AnswersList old new end
   no_memory : IsRefused 70 0 old new end → AnswersList old new end
-  listed : (records : List Record) → IsOpened old records → ListsFiles records old new end → AnswersList old new end
+  listed : (records : List Record) → IsOpened old records → ListsFiles records old new end
+      → AnswersList old new end
 
 -- a command is answered, by its words
 abbrev pub Answers : Command → Seen → Seen → Ending → Type 0
-Answers (RowOf n l b seen) old new end = AnswersRow n l b seen end.status (sinking old new) × TouchesSink old new end
+Answers (RowOf n l b seen) old new end =
+    AnswersRow n l b seen end.status (sinking old new) × TouchesSink old new end
 Answers (InitWith numbers) old new end = AnswersInit numbers old new end
 Answers (PutUnder name) old new end = AnswersPut name old new end
 Answers (GetOf name) old new end = AnswersAlone (GetJob name) old new end × SameSource old new

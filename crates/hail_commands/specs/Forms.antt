@@ -1,7 +1,8 @@
 -- The words of the commands, after the place of the devices.
 --
 --   Numbers                    == the seven numbers of `init`, each below 2 ^ 128
---   IsInitForm words numbers   == the words are `init` and the seven numbers: n, l, b, profile, rounds, picks, tolerance
+--   IsInitForm words numbers   == the words are `init` and the seven numbers: n, l, b, profile, rounds,
+--                                 picks, tolerance
 --   IsPutForm words name, IsGetForm, IsDropForm   == the words are the command and a name, whatever it is
 --   IsListForm words, IsAuditForm, IsRepairForm   == the one word is the command
 --   Command                    == a command as plain data; IsForm words command == the words spell it
@@ -24,9 +25,11 @@ pub record Numbers : Type 0 where
 -- number words, one for each of the seven numbers
 abbrev pub AreNumbers : List (String Global) → Numbers → Type 0
 AreNumbers (n ∷ l ∷ b ∷ profile ∷ rounds ∷ picks ∷ tolerance ∷ []) numbers =
-    IsNumberWord (string_bytes n) numbers.n × IsNumberWord (string_bytes l) numbers.l × IsNumberWord (string_bytes b) numbers.b
+    IsNumberWord (string_bytes n) numbers.n × IsNumberWord (string_bytes l) numbers.l
+    × IsNumberWord (string_bytes b) numbers.b
     × IsNumberWord (string_bytes profile) numbers.profile × IsNumberWord (string_bytes rounds) numbers.rounds
-    × IsNumberWord (string_bytes picks) numbers.picks × IsNumberWord (string_bytes tolerance) numbers.tolerance
+    × IsNumberWord (string_bytes picks) numbers.picks
+    × IsNumberWord (string_bytes tolerance) numbers.tolerance
 AreNumbers words numbers = ⊥
 
 -- the words are `init` and seven numbers

@@ -1,11 +1,14 @@
 -- What a get leaves and gives whose job was the only one. What it heard decides alone on what it gives.
 --
---   block_heard x object stripe j   == the block that the fetch from provider j of a stripe gave, by what was heard
+--   block_heard x object stripe j   == the block that the fetch from provider j of a stripe gave, by what
+--                                      was heard
 --   blocks_heard x object stripe    == the same of all providers of the setup
---   fetch_entries x object count    == an entry for each stripe below the count and each provider of the setup, in order
---   HearsStripes x file count       == these entries were heard, and each provider that tells gave what it holds, or nothing where
---                                      its count rose
---   GetGives x file answer          == what was heard opens to the bytes of the answer, or loses the lowest row of a stripe
+--   fetch_entries x object count    == an entry for each stripe below the count and each provider of the
+--                                      setup, in order
+--   HearsStripes x file count       == these entries were heard, and each provider that tells gave what it
+--                                      holds, or nothing where its count rose
+--   GetGives x file answer          == what was heard opens to the bytes of the answer, or loses the lowest
+--                                      row of a stripe
 --   GetLeaves x name answer         == what a get leaves
 use Rattle.std.specs.Prelude.{◌≡◌, ℕ, ◌+◌, ◌<◌, List, map, None, Some, IfSome}
 use Rattle.std.specs.List.{flat_map}
@@ -32,20 +35,25 @@ blocks_heard x object stripe = blocks_given (given_to job_number x.heard) (setup
 -- one entry for each stripe and provider, in order
 abbrev pub fetch_entries : Ran → ℕ → ℕ → List Entry
 fetch_entries x object count =
-    flat_map (λ stripe. map (λ j. record { job = job_number; given = Fetched j object stripe (block_heard x object stripe j) }) (upto (setup_at_begin x).n)) (upto count)
+    flat_map (λ stripe. map
+    (λ j. record { job = job_number; given = Fetched j object stripe (block_heard x object stripe j) })
+    (upto (setup_at_begin x).n)) (upto count)
 
 -- the stripes of a file below the count were fetched from all providers
 pub record HearsStripes (x : Ran) (file : File) (count : ℕ) : Type 0 where
   pub heard : x.heard ≡ fetch_entries x file.id count
   pub truthful : (j : ℕ) → j < (setup_at_begin x).n → IfSome (x.old j).held (λ held.
-      IsTruthful (λ stripe. block_heard x file.id stripe j) (λ stripe. sized (object_of (setup_at_begin x) file.id).profile.size (held file.id stripe)) (upto count)
+      IsTruthful (λ stripe. block_heard x file.id stripe j)
+      (λ stripe. sized (object_of (setup_at_begin x) file.id).profile.size (held file.id stripe))
+      (upto count)
       (x.old j).other_faults (x.new j).other_faults)
 
 -- a stripe of the file has a row that is not accepted, and no stripe before it
 pub record LosesStripe (x : Ran) (file : File) (stripe row : ℕ) : Type 0 where
   pub within : stripe < stripes_of (setup_at_begin x) file.size
   pub hears : HearsStripes x file (stripe + 1)
-  pub before : (k : ℕ) → k < stripe → (symbols : List ℕ) × GivesSymbols (object_of (setup_at_begin x) file.id) k (blocks_heard x file.id k) symbols
+  pub before : (k : ℕ) → k < stripe → (symbols : List ℕ) × GivesSymbols
+      (object_of (setup_at_begin x) file.id) k (blocks_heard x file.id k) symbols
   pub loses : LosesRow (object_of (setup_at_begin x) file.id) stripe (blocks_heard x file.id stripe) row
 
 -- what a get gives of a file

@@ -47,22 +47,31 @@ pub record IsInitDone (s : Setup) (old new : Seen) (end : Ending) : Type 0 where
 -- an init with a key, on the disk
 pub data InitsDisk (s : Setup) (old new : Seen) (end : Ending) : Type 0 where
   disk_fault : Rose old.disk_faults new.disk_faults → FailsToInit 12 s old new end → InitsDisk s old new end
-  bad_journal : (at : ℕ) → IfSome old.disk (λ cells. (9 < length (journal_read cells)) × IsBadInit (journal_read cells) at) → IsRefused 8 at old new end → InitsDisk s old new end
-  already : IfSome old.disk (λ cells. (9 < length (journal_read cells)) × IsSetUpAlready (journal_read cells)) → IsRefused 10 0 old new end → InitsDisk s old new end
+  bad_journal : (at : ℕ) → IfSome old.disk (λ cells. (9 < length (journal_read cells)) × IsBadInit
+      (journal_read cells) at) → IsRefused 8 at old new end → InitsDisk s old new end
+  already : IfSome old.disk (λ cells. (9 < length (journal_read cells)) × IsSetUpAlready
+      (journal_read cells)) → IsRefused 10 0 old new end → InitsDisk s old new end
   no_memory : FailsToInit 70 s old new end → InitsDisk s old new end
   ready : IsInitDone s old new end → InitsDisk s old new end
 
 -- how `init` ends, in the order of its refusals
 pub data AnswersInit (numbers : Numbers) (old new : Seen) (end : Ending) : Type 0 where
-  bad_setup : is_setup (setup_with numbers []) ≡ false → SameSource old new → IsRefused 20 0 old new end → AnswersInit numbers old new end
-  too_few_providers : is_setup (setup_with numbers []) ≡ true → length old.providers < numbers.n → SameSource old new → IsRefused 22 0 old new end →
+  bad_setup : is_setup (setup_with numbers []) ≡ false → SameSource old new → IsRefused 20 0 old new end
+      → AnswersInit numbers old new end
+  too_few_providers : is_setup (setup_with numbers []) ≡ true → length old.providers < numbers.n
+      → SameSource old new → IsRefused 22 0 old new end →
       AnswersInit numbers old new end
-  source_fault : is_setup (setup_with numbers []) ≡ true → numbers.n ≤ length old.providers → Rose old.source_faults new.source_faults →
-      ReadsAtMost longest_key old.source new.source → IsRefused 14 0 old new end → AnswersInit numbers old new end
+  source_fault : is_setup (setup_with numbers []) ≡ true → numbers.n ≤ length old.providers
+      → Rose old.source_faults new.source_faults →
+      ReadsAtMost longest_key old.source new.source → IsRefused 14 0 old new end
+      → AnswersInit numbers old new end
   bad_key : (bytes : List ℕ) → is_setup (setup_with numbers []) ≡ true → numbers.n ≤ length old.providers →
-      ReadsUpTo longest_key old.source new.source bytes → ((key : List ℕ) → IsKeyForm bytes key → ⊥) → IsRefused 18 0 old new end →
+      ReadsUpTo longest_key old.source new.source bytes → ((key : List ℕ) → IsKeyForm bytes key → ⊥)
+      → IsRefused 18 0 old new end →
       AnswersInit numbers old new end
   keyed : (bytes key : List ℕ) → is_setup (setup_with numbers []) ≡ true → numbers.n ≤ length old.providers →
-      ReadsUpTo longest_key old.source new.source bytes → IsKeyForm bytes key → InitsDisk (setup_with numbers key) old new end →
+      ReadsUpTo longest_key old.source new.source bytes → IsKeyForm bytes key
+      → InitsDisk (setup_with numbers key) old new end →
       AnswersInit numbers old new end
-  no_memory : ReadsAtMost longest_key old.source new.source → IsRefused 70 0 old new end → AnswersInit numbers old new end
+  no_memory : ReadsAtMost longest_key old.source new.source → IsRefused 70 0 old new end
+      → AnswersInit numbers old new end

@@ -1,8 +1,9 @@
 -- The form in which `init` reads the master key.
 --
---   longest_key             == 67: one byte more than the form has, so that a longer source is seen to be none
---   IsKeyForm text key      == 64 hexadecimal digits of either case that spell the 32 bytes of the key, then nothing, a newline, or a
---                              carriage return and a newline
+--   longest_key             == 67: one byte more than the form has, so that a longer source is seen to be
+--                              none
+--   IsKeyForm text key      == 64 hexadecimal digits of either case that spell the 32 bytes of the key,
+--                              then nothing, a newline, or a carriage return and a newline
 use Rattle.std.specs.Prelude.{◌≡◌, ◌⊎◌, ℕ, List, [], ◌∷◌, ◌++◌, length, Ok}
 use Rattle.std.specs.List.{AllPass}
 use Rattle.hex.specs.Hex.{decode_of, is_hex_digit}

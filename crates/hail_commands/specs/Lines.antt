@@ -4,10 +4,12 @@
 --   stored_line name size                 == `stored NAME SIZE`
 --   dropped_line name                     == `dropped NAME`
 --   list_lines files                      == `NAME SIZE` for each file, in their order
---   audit_lines tolerance number undecided counts == `audit NUMBER undecided U`, then `provider J count C ok` or `.. flagged` for each
---                                            provider: flagged where its count exceeds the tolerance
+--   audit_lines tolerance number undecided counts == `audit NUMBER undecided U`, then `provider J count C
+--                                          ok` or `.. flagged` for each provider: flagged where its count
+--                                          exceeds the tolerance
 --   repaired_line number                  == `repaired NUMBER`
---   text_of tolerance kind answer         == what a job of this kind writes that ended with this answer; nothing at a fault
+--   text_of tolerance kind answer         == what a job of this kind writes that ended with this answer;
+--                                          nothing at a fault
 use Rattle.std.specs.Prelude.{ℕ, ◌+◌, List, [], ◌∷◌, ◌++◌, length, codes, nat_lt, if◌then◌else◌}
 use Rattle.std.specs.List.{flat_map}
 use Rattle.hail_records.specs.Table.{File}
@@ -34,17 +36,20 @@ list_lines files = flat_map file_line files
 -- the count of one provider, and whether it is flagged
 abbrev pub count_line : ℕ → ℕ → ℕ → List ℕ
 count_line tolerance j count =
-    line (codes "provider" ++ then_number j ++ codes " count" ++ then_number count ++ (if nat_lt tolerance count then codes " flagged" else codes " ok"))
+    line (codes "provider" ++ then_number j ++ codes " count" ++ then_number count
+    ++ (if nat_lt tolerance count then codes " flagged" else codes " ok"))
 
 -- the counts of the providers from j on
 abbrev pub count_lines : ℕ → ℕ → List ℕ → List ℕ
 count_lines tolerance j [] = []
-count_lines tolerance j (count ∷ counts) = count_line tolerance j count ++ count_lines tolerance (j + 1) counts
+count_lines tolerance j (count ∷ counts) =
+    count_line tolerance j count ++ count_lines tolerance (j + 1) counts
 
 -- after an audit
 abbrev pub audit_lines : ℕ → ℕ → ℕ → List ℕ → List ℕ
 audit_lines tolerance number undecided counts =
-    line (codes "audit" ++ then_number number ++ codes " undecided" ++ then_number undecided) ++ count_lines tolerance 0 counts
+    line (codes "audit" ++ then_number number ++ codes " undecided" ++ then_number undecided)
+    ++ count_lines tolerance 0 counts
 
 -- after a repair
 abbrev pub repaired_line : ℕ → List ℕ

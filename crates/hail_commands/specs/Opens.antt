@@ -1,34 +1,38 @@
 -- What stands before the begin of a command over a store that is set up. Records have the newest first.
 --
---   setup_at records              == the setup in effect
+--   setup_in_effect records              == the setup in effect
 --   IsOpened old records          == they are read, and enough providers are handed in
 --   Unstarted old new end         == the command ended before that, with its cause
 --
--- The causes exclude one another, and bytes that a start reads stand for one list of records: so each status comes exactly where its
--- cause applies, unless a counted fault of the disk or want of memory comes before.
+-- The causes exclude one another, and bytes that a start reads stand for one list of records: so each
+-- status comes exactly where its cause applies, unless a counted fault of the disk or want of memory comes
+-- before.
 use Rattle.std.specs.Prelude.{ℕ, ◌<◌, ◌≤◌, IfSome, List, length}
 use Rattle.hail_devices.specs.Faults.{Rose}
 use Rattle.hail_records.specs.Records.{Setup, Record}
 use Rattle.hail_records.specs.Table.{setup_of}
-use Rattle.hail_records.specs.Reading.{IsNotSetUp}
+use Rattle.hail_records.specs.Reading.{HasNoSetup}
 use Rattle.hail_machine.specs.Setups.{setup_or_none}
 use Rattle.hail_openings.specs.Journals.{journal_read, IsRead, IsBadStart}
 use Rattle.hail_commands.specs.Seen.{Seen, Ending, IsRefused, IsSynced}
 
 -- the setup in effect
-abbrev pub setup_at : List Record → Setup
-setup_at records = setup_or_none (setup_of records)
+abbrev pub setup_in_effect : List Record → Setup
+setup_in_effect records = setup_or_none (setup_of records)
 
 -- the records are read, and enough providers are handed in
 pub record IsOpened (old : Seen) (records : List Record) : Type 0 where
   pub read : IsRead old.disk records
-  pub enough : (setup_at records).n ≤ length old.providers
+  pub enough : (setup_in_effect records).n ≤ length old.providers
 
 -- a command over a store that is set up ends before its begin
 pub data Unstarted (old new : Seen) (end : Ending) : Type 0 where
   disk_fault : Rose old.disk_faults new.disk_faults → IsRefused 12 0 old new end → Unstarted old new end
-  not_set_up : IfSome old.disk (λ cells. IsNotSetUp (journal_read cells)) → IsRefused 9 0 old new end → Unstarted old new end
-  bad_journal : (at : ℕ) → IfSome old.disk (λ cells. (9 < length (journal_read cells)) × IsBadStart (journal_read cells) at) → IsRefused 8 at old new end → Unstarted old new end
-  too_few_providers : (records : List Record) → IsRead old.disk records → length old.providers < (setup_at records).n → IsSynced old new →
+  not_set_up : IfSome old.disk (λ cells. HasNoSetup (journal_read cells)) → IsRefused 9 0 old new end
+      → Unstarted old new end
+  bad_journal : (at : ℕ) → IfSome old.disk (λ cells. (9 < length (journal_read cells)) × IsBadStart
+      (journal_read cells) at) → IsRefused 8 at old new end → Unstarted old new end
+  too_few_providers : (records : List Record) → IsRead old.disk records
+      → length old.providers < (setup_in_effect records).n → IsSynced old new →
       IsRefused 22 0 old new end → Unstarted old new end
   no_memory : IsRefused 70 0 old new end → Unstarted old new end

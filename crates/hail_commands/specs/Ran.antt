@@ -1,13 +1,15 @@
 -- The run of the one job of a command: what it began with, and what it left. Records have the newest first.
 --
---   Ran                == the records in effect at its begin and at its end, the record in doubt, what is seen of each provider and
---                         counted of the disk before and after, and what the job heard
+--   Ran                == the records in effect at its begin and at its end, the record in doubt, what is
+--                         seen of each provider and counted of the disk before and after, and what the job
+--                         heard
 --   ran_from w new heard  == the same between two states of the machine
 --   ran_alone records old new heard faults after doubt  == the same as it is seen of the devices
 --   CountsRise x       == no count of faults fell
 --   providers_of x     == the numbers of the providers of the setup
 --   job_number         == 1, the number of the one job
---   EachHeldGoes x change   == so goes what each provider of the setup holds that tells it; one that doesn't still does not
+--   EachHeldGoes x change   == so goes what each provider of the setup holds that tells it; one that
+--                              doesn't still does not
 --   SameHeld x         == each provider of the setup holds what it held
 --   NoFetches x        == no provider of the setup was fetched from
 --   IsWhole x records  == these records came into effect, given the oldest first, and none is in doubt
@@ -21,7 +23,7 @@ use Rattle.hail_records.specs.Records.{Setup, Record}
 use Rattle.hail_machine.specs.States.{State, Doubt}
 use Rattle.hail_machine.specs.Heard.{Entry}
 use Rattle.hail_commands.specs.Seen.{Seen, provider_at}
-use Rattle.hail_commands.specs.Opens.{setup_at}
+use Rattle.hail_commands.specs.Opens.{setup_in_effect}
 
 -- what a run of one job began with, and what it left
 pub record Ran : Type 0 where
@@ -47,7 +49,8 @@ ran_from w new heard = record {
   heard = heard;
 }
 
--- what the run of a job began with and left, as it is seen, where the disk's count of faults was this one once the vault was opened
+-- what the run of a job began with and left, as it is seen, where the disk's count of faults was this one
+-- once the vault was opened
 abbrev pub ran_alone : List Record → Seen → Seen → List Entry → ℕ → List Record → Option Record → Ran
 ran_alone records old new heard faults after doubt = record {
   records = records;
@@ -62,7 +65,7 @@ ran_alone records old new heard faults after doubt = record {
 
 -- the setup in effect
 abbrev pub setup_at_begin : Ran → Setup
-setup_at_begin x = setup_at x.records
+setup_at_begin x = setup_in_effect x.records
 
 -- the number of the one job
 abbrev pub job_number : ℕ
@@ -70,7 +73,8 @@ job_number = 1
 
 -- so goes what each provider of the setup holds
 abbrev pub EachHeldGoes : Ran → (ℕ → Held → Held → Type 0) → Type 0
-EachHeldGoes x change = (j : ℕ) → j < (setup_at_begin x).n → told.Goes (change j) (x.old j).held (x.new j).held
+EachHeldGoes x change =
+    (j : ℕ) → j < (setup_at_begin x).n → told.Goes (change j) (x.old j).held (x.new j).held
 
 -- each provider of the setup holds what it held
 abbrev pub SameHeld : Ran → Type 0

@@ -9,16 +9,17 @@ use Rattle.std.specs.Prelude.{ℕ, ◌+◌, ◌-◌, ◌^◌, ◌&&◌, ◌||◌
 use Rattle.hail_records.specs.Records.{Record, is_name, largest_file, largest_journal, most_files}
 use Rattle.hail_records.specs.Journal.{text_size}
 use Rattle.hail_records.specs.Table.{next_id, next_audit, file_of, files_of, due_of}
-use Rattle.hail_machine.specs.Begins.{names_in, is_listed}
+use Rattle.hail_machine.specs.Begins.{names_in, is_name_among}
 use Rattle.hail_machine.specs.Jobs.{Kind, PutJob, GetJob, DropJob, AuditJob, RepairJob}
 use Rattle.hail_machine.specs.Space.{append_sizes}
 use Rattle.hail_machine.specs.Refusals as refusal
 use Rattle.hail_machine.specs.Refusals.{Refusal, Cause, first_refusal}
-use Rattle.hail_commands.specs.Opens.{setup_at}
+use Rattle.hail_commands.specs.Opens.{setup_in_effect}
 
 -- the records of a job find no room in the journal
 abbrev pub takes_too_much : List Record → Kind → Bool
-takes_too_much records kind = nat_lt largest_journal (text_size records + sum (append_sizes (setup_at records) kind))
+takes_too_much records kind =
+    nat_lt largest_journal (text_size records + sum (append_sizes (setup_in_effect records) kind))
 
 -- the numbers that a job draws come to their end
 abbrev pub has_no_number : List Record → Kind → Bool
@@ -33,7 +34,8 @@ is_full_for records kind = takes_too_much records kind || has_no_number records 
 -- no further name fits in beside those in effect
 abbrev pub is_crowded_by : List Record → List ℕ → Bool
 is_crowded_by records name =
-    nat_le most_files (length (names_in (files_of records))) && not (is_listed (names_in (files_of records)) name)
+    nat_le most_files (length (names_in (files_of records)))
+    && not (is_name_among (names_in (files_of records)) name)
 
 -- the causes of a refusal, in order; a get has no record
 abbrev pub causes_of : List Record → Kind → List Cause

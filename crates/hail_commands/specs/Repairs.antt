@@ -4,10 +4,11 @@
 --   places s files             == all of them, by number and stripe, in order
 --   Gave                       == what a fetch of a place from a provider gave
 --   blocks_at n gave place     == the same of all providers
---   IsTruth x gave asked       == each provider that tells gave, of these places, what it held, or nothing where its count rose
+--   IsTruth x gave asked       == each provider that tells gave, of these places, what it held, or nothing
+--                                 where its count rose
 --   GivesPlaces x gave symbols asked  == what was given opens to these symbols in each of these places
---   RewritesAll, RewritesPart  == the flagged providers hold the columns of these symbols in all places, or in some of these; all else
---                                 is as before
+--   RewritesAll, RewritesPart  == the flagged providers hold the columns of these symbols in all places, or
+--                                 in some of these; all else is as before
 --   RepairLeaves x answer      == what a repair leaves where it ended with this answer
 use Rattle.std.specs.Prelude.{◌≡◌, ◌⊎◌, ℕ, ◌<◌, Bool, true, false, List, [], ◌∷◌, ◌++◌, map, All, Contains, Some, IfSome}
 use Rattle.std.specs.List.{flat_map}
@@ -32,7 +33,9 @@ pub record Place : Type 0 where
 
 -- the stripes of files, by number and stripe
 abbrev pub places : Setup → List File → List Place
-places s files = flat_map (λ (f : File). map (λ stripe. record { object = f.id; stripe = stripe }) (upto (stripes_of s f.size))) (files_by_number files)
+places s files =
+    flat_map (λ (f : File). map (λ stripe. record { object = f.id; stripe = stripe })
+    (upto (stripes_of s f.size))) (files_by_number files)
 
 -- the places of a repair
 abbrev pub places_of : Ran → List Place
@@ -48,7 +51,8 @@ blocks_at x gave place = map (λ j. gave j place) (upto (setup_at_begin x).n)
 
 -- what a provider holds of a place, if it is a block of the size
 abbrev pub held_at : Ran → Held → Place → SeenBlock
-held_at x held place = sized (object_of (setup_at_begin x) place.object).profile.size (held place.object place.stripe)
+held_at x held place =
+    sized (object_of (setup_at_begin x) place.object).profile.size (held place.object place.stripe)
 
 -- each provider that tells gave what it held, or nothing where its count rose
 abbrev pub IsTruth : Ran → Gave → List Place → Type 0
@@ -58,18 +62,25 @@ IsTruth x gave asked = (j : ℕ) → j < (setup_at_begin x).n → IfSome (x.old 
 -- what was given opens to these symbols
 abbrev pub GivesPlace : Ran → Gave → (Place → List ℕ) → Place → Type 0
 GivesPlace x gave symbols place =
-    GivesSymbols (object_of (setup_at_begin x) place.object) place.stripe (blocks_at x gave place) (symbols place)
+    GivesSymbols (object_of (setup_at_begin x) place.object) place.stripe (blocks_at x gave place)
+    (symbols place)
 
 -- a provider's block of each of these places was made anew from symbols, and all else is as before
-pub record RewrittenOn (s : Setup) (symbols : Place → List ℕ) (all : List Place) (j : ℕ) (old new : Held) : Type 0 where
-  pub stored : All (λ place. new place.object place.stripe ≡ Some (column_of_symbols (object_of s place.object) (symbols place) j place.stripe)) all
-  pub others : (place : Place) → (Contains all place → ⊥) → new place.object place.stripe ≡ old place.object place.stripe
+pub record RewrittenOn (s : Setup) (symbols : Place → List ℕ) (all : List Place) (j : ℕ)
+    (old new : Held) : Type 0 where
+  pub stored : All (λ place. new place.object place.stripe
+      ≡ Some (column_of_symbols (object_of s place.object) (symbols place) j place.stripe)) all
+  pub others : (place : Place) → (Contains all place → ⊥)
+      → new place.object place.stripe ≡ old place.object place.stripe
 
 -- the same of some of these places
-pub record PartlyRewrittenOn (s : Setup) (symbols : Place → List ℕ) (all : List Place) (j : ℕ) (old new : Held) : Type 0 where
+pub record PartlyRewrittenOn (s : Setup) (symbols : Place → List ℕ) (all : List Place) (j : ℕ)
+    (old new : Held) : Type 0 where
   pub stored : All (λ place. (new place.object place.stripe ≡ old place.object place.stripe)
-      ⊎ (new place.object place.stripe ≡ Some (column_of_symbols (object_of s place.object) (symbols place) j place.stripe))) all
-  pub others : (place : Place) → (Contains all place → ⊥) → new place.object place.stripe ≡ old place.object place.stripe
+      ⊎ (new place.object place.stripe
+      ≡ Some (column_of_symbols (object_of s place.object) (symbols place) j place.stripe))) all
+  pub others : (place : Place) → (Contains all place → ⊥)
+      → new place.object place.stripe ≡ old place.object place.stripe
 
 -- only what a flagged provider holds goes so
 abbrev pub IfFlagged : Bool → (Held → Held → Type 0) → Held → Held → Type 0
@@ -86,14 +97,17 @@ pub record RewritesAll (x : Ran) (due : Due) : Type 0 where
   pub symbols : Place → List ℕ
   pub truth : IsTruth x gave (places_of x)
   pub gives : All (GivesPlace x gave symbols) (places_of x)
-  pub held : EachHeldGoes x (λ j. IfFlagged (flags x due j) (RewrittenOn (setup_at_begin x) symbols (places_of x) j))
+  pub held : EachHeldGoes x (λ j. IfFlagged (flags x due j)
+      (RewrittenOn (setup_at_begin x) symbols (places_of x) j))
 
 -- the same of the places before some place: the repair ended there
-pub record RewritesPart (x : Ran) (due : Due) (done rest : List Place) (gave : Gave) (symbols : Place → List ℕ) : Type 0 where
+pub record RewritesPart (x : Ran) (due : Due) (done rest : List Place) (gave : Gave)
+    (symbols : Place → List ℕ) : Type 0 where
   pub parts : places_of x ≡ done ++ rest
   pub truth : IsTruth x gave done
   pub gives : All (GivesPlace x gave symbols) done
-  pub held : EachHeldGoes x (λ j. IfFlagged (flags x due j) (PartlyRewrittenOn (setup_at_begin x) symbols done j))
+  pub held : EachHeldGoes x (λ j. IfFlagged (flags x due j)
+      (PartlyRewrittenOn (setup_at_begin x) symbols done j))
 
 -- the same, with no more said of the place
 pub record RewritesSome (x : Ran) (due : Due) : Type 0 where
@@ -117,11 +131,14 @@ pub record LosesAtPlace (x : Ran) (due : Due) (stripe row : ℕ) : Type 0 where
 
 -- what a repair leaves, by the audit that was due
 abbrev pub RepairGives : Ran → Due → Answer → Type 0
-RepairGives x due (Repaired number) = (number ≡ due.number) × IsWhole x (RepairDone due.number ∷ []) × RewritesAll x due
+RepairGives x due (Repaired number) =
+    (number ≡ due.number) × IsWhole x (RepairDone due.number ∷ []) × RewritesAll x due
 RepairGives x due (Lost stripe row) = IsWhole x [] × LosesAtPlace x due stripe row
 RepairGives x due (ProviderFault j) =
-    (j < (setup_at_begin x).n) × (flags x due j ≡ true) × Rose (x.old j).store_faults (x.new j).store_faults × IsWhole x [] × RewritesSome x due
-RepairGives x due DiskFault = Rose x.disk_before x.disk_after × IsCutInDoubt x (RepairDone due.number ∷ []) × RewritesAll x due
+    (j < (setup_at_begin x).n) × (flags x due j ≡ true) × Rose (x.old j).store_faults (x.new j).store_faults
+    × IsWhole x [] × RewritesSome x due
+RepairGives x due DiskFault =
+    Rose x.disk_before x.disk_after × IsCutInDoubt x (RepairDone due.number ∷ []) × RewritesAll x due
 RepairGives x due Memory = IsCut x (RepairDone due.number ∷ []) × RewritesSome x due
 RepairGives x due answer = ⊥
 

@@ -17,7 +17,8 @@ use Rattle.hail_commands.specs.Sinking.{Sinking, Refuses, WritesLine, TellsLine}
 abbrev pub IsRowForm : List (String Global) → ℕ → ℕ → ℕ → List (Option ℕ) → Type 0
 IsRowForm (command ∷ first ∷ second ∷ third ∷ words) n l b seen =
     (string_bytes command ≡ codes "row")
-    × IsNumberWord (string_bytes first) n × IsNumberWord (string_bytes second) l × IsNumberWord (string_bytes third) b
+    × IsNumberWord (string_bytes first) n × IsNumberWord (string_bytes second) l
+    × IsNumberWord (string_bytes third) b
     × (length words ≡ n) × AreSymbolWords words seen
 IsRowForm _ n l b seen = ⊥
 
@@ -27,8 +28,10 @@ pub record OpensRow (n l b : ℕ) (seen : List (Option ℕ)) (values : List ℕ)
   pub accepted : Accepts (upto n) seen l b polynomial
   pub values_are : values ≡ values_at (upto l) polynomial
 
--- the answer to a row, by what stands in it; its points are 0 to n - 1, and an accepted polynomial's line are its values at 0 to l - 1
+-- the answer to a row, by what stands in it; its points are 0 to n - 1, and an accepted polynomial's line
+-- are its values at 0 to l - 1
 pub record AnswersRow (n l b : ℕ) (seen : List (Option ℕ)) (status : ℕ) (sink : Sinking) : Type 0 where
   pub no_shape : (IsShape n l b → ⊥) → Refuses 20 status sink
   pub lost : IsShape n l b → AcceptsNone (upto n) seen l b → TellsLine 4 no_row_line status sink
-  pub held : IsShape n l b → (p : List ℕ) → Accepts (upto n) seen l b p → WritesLine (values_line (values_at (upto l) p)) status sink
+  pub held : IsShape n l b → (p : List ℕ) → Accepts (upto n) seen l b p
+      → WritesLine (values_line (values_at (upto l) p)) status sink

@@ -1,17 +1,21 @@
 -- What is seen of the devices of a command, and how it ended.
 --
---   Seen                   == the devices as they are seen: what each holds, has left or has written, where it tells it, and its counts
+--   Seen                   == the devices as they are seen: what each holds, has left or has written, where
+--                             it tells it, and its counts
 --   provider_at ps j       == what is seen of provider j; of one that was not handed in nothing is known
 --   sinking old new        == what the sink told and counted
 --   NoCountFalls old new   == no device's count of faults fell, and no provider came or went
---   KeepsDisk old new      == the disk was synced, or was left as it was; so all its images were images before
+--   KeepsDisk old new      == the disk was synced, or was left as it was; so all its images were images
+--                             before
 --   IsSynced old new       == the disk was synced, and nothing else was done to it
 --   SameSource old new     == the source was not read
 --   ReadsAtMost most old new == some bytes were read of a source, at most so many
---   ReadsUpTo most old new bytes  == these bytes were read of a source, at most so many; where they are fewer, it is at its end
---   Ending                 == how a command ended: its status, the place that the status speaks of, and what its job heard
---   IsRefused status at old new end  == the command ended so: nothing was heard or written, the disk was at most synced, and the
---                             providers are as before
+--   ReadsUpTo most old new bytes  == these bytes were read of a source, at most so many; where they are
+--                                    fewer, it is at its end
+--   Ending                 == how a command ended: its status, the place that the status speaks of, and
+--                             what its job heard
+--   IsRefused status at old new end  == the command ended so: nothing was heard or written, the disk was at
+--                             most synced, and the providers are as before
 use Rattle.std.specs.Prelude.{◌≡◌, ℕ, ◌<◌, ◌≤◌, List, [], length, slice_get, unwrap_or, Option, None, IfSome}
 use Rattle.std.specs.Option.{option_map}
 use Rattle.hail_devices.specs.Told.{Goes, then_told}
@@ -33,6 +37,18 @@ pub record Seen : Type 0 where
   pub sink : Option (List ℕ)
   pub sink_faults : ℕ
 
+-- what is seen of all devices, from the disk's to the sink's
+abbrev pub seen : Option Cells → ℕ → List Provider → Option (List ℕ) → ℕ → Option (List ℕ) → ℕ → Seen
+seen disk disk_faults providers left read_faults written write_faults = record {
+  disk = disk;
+  disk_faults = disk_faults;
+  providers = providers;
+  source = left;
+  source_faults = read_faults;
+  sink = written;
+  sink_faults = write_faults;
+}
+
 -- a provider of which nothing is known
 abbrev pub nobody : Provider
 nobody = record { held = None; store_faults = 0; other_faults = 0; fetches = 0 }
@@ -49,8 +65,10 @@ sinking old new = record { old = old.sink; new = new.sink; before = old.sink_fau
 pub record NoCountFalls (old new : Seen) : Type 0 where
   pub disk : old.disk_faults ≤ new.disk_faults
   pub handed : length new.providers ≡ length old.providers
-  pub stores : (j : ℕ) → (provider_at old.providers j).store_faults ≤ (provider_at new.providers j).store_faults
-  pub others : (j : ℕ) → (provider_at old.providers j).other_faults ≤ (provider_at new.providers j).other_faults
+  pub stores : (j : ℕ) → (provider_at old.providers j).store_faults
+      ≤ (provider_at new.providers j).store_faults
+  pub others : (j : ℕ) → (provider_at old.providers j).other_faults
+      ≤ (provider_at new.providers j).other_faults
   pub source : old.source_faults ≤ new.source_faults
   pub sink : old.sink_faults ≤ new.sink_faults
 

@@ -2,9 +2,10 @@
 --
 --   Sinking                    == what a sink told and counted, before and after
 --   Refuses due status sink    == nothing was written, and the status is the one due, or that of no memory
---   WritesLine line status sink    == the line was written at status 0; a counted fault of the sink, where it is not empty, or want of
---                                 memory cut it off
---   TellsLine due line status sink == the line was written at the status due, unless a counted fault, or want of memory, cut it off
+--   WritesLine line status sink    == the line was written at status 0; a counted fault of the sink, where
+--                                 it is not empty, or want of memory cut it off
+--   TellsLine due line status sink == the line was written at the status due, unless a counted fault, or
+--                                     want of memory, cut it off
 use Rattle.std.specs.Prelude.{◌≡◌, ◌≢◌, ◌⊎◌, ℕ, List, [], Option}
 use Rattle.hail_devices.specs.Faults.{Rose}
 use Rattle.hail_devices.specs.Told.{told_then, TakesFront}
@@ -27,7 +28,8 @@ WritesLine line status sink =
     ⊎ ((line ≢ []) × (status ≡ 15) × Rose sink.before sink.now × TakesFront sink.old sink.new line)
     ⊎ ((status ≡ 70) × TakesFront sink.old sink.new line)
 
--- the line was written, unless a counted fault of the sink, or want of memory, cut it off; a fault leaves the status due
+-- the line was written, unless a counted fault of the sink, or want of memory, cut it off; a fault leaves
+-- the status due
 abbrev pub TellsLine : ℕ → List ℕ → ℕ → Sinking → Type 0
 TellsLine due line status sink =
     ((status ≡ due) × (sink.new ≡ told_then sink.old line))

@@ -23,6 +23,7 @@ IsSymbolWord text (Some symbol) = IsNumberWord text symbol
 -- each word spells the symbol at its place
 abbrev pub AreSymbolWords : List (String Global) → List (Option ℕ) → Type 0
 AreSymbolWords [] [] = Unit {0}
-AreSymbolWords (word ∷ words) (symbol ∷ symbols) = IsSymbolWord (string_bytes word) symbol × AreSymbolWords words symbols
+AreSymbolWords (word ∷ words) (symbol ∷ symbols) =
+    IsSymbolWord (string_bytes word) symbol × AreSymbolWords words symbols
 AreSymbolWords [] (symbol ∷ symbols) = ⊥
 AreSymbolWords (word ∷ words) [] = ⊥

@@ -12,11 +12,13 @@ ghost use Rattle.hail_commands.specs.Refusals.{refusal_over};
 /// What the commands write.
 pub fn lines()
     ensures ready { ready_line ≡ codes "ready" ++ 10 ∷ [] }
-    ensures stored { text_of 0 (PutJob (codes "notes.txt") hundred) Put ≡ codes "stored notes.txt 100" ++ 10 ∷ [] }
+    ensures stored { text_of 0 (PutJob (codes "notes.txt") hundred) Put
+        ≡ codes "stored notes.txt 100" ++ 10 ∷ [] }
     ensures got { text_of 0 (GetJob (codes "notes.txt")) (Got hundred) ≡ hundred }
     ensures dropped { text_of 0 (DropJob (codes "a")) Dropped ≡ codes "dropped a" ++ 10 ∷ [] }
     ensures audited { text_of 0 AuditJob (Audited 1 0 (4 ∷ 0 ∷ []))
-        ≡ codes "audit 1 undecided 0" ++ 10 ∷ codes "provider 0 count 4 flagged" ++ 10 ∷ codes "provider 1 count 0 ok" ++ 10 ∷ [] }
+        ≡ codes "audit 1 undecided 0" ++ 10 ∷ codes "provider 0 count 4 flagged"
+        ++ 10 ∷ codes "provider 1 count 0 ok" ++ 10 ∷ [] }
     ensures repaired { text_of 0 RepairJob (Repaired 1) ≡ codes "repaired 1" ++ 10 ∷ [] }
     ensures listed { list_lines (files_of one_file) ≡ codes "notes.txt 100" ++ 10 ∷ [] }
     ensures fault { text_of 0 (GetJob (codes "notes.txt")) DiskFault ≡ [] }

@@ -1,3 +1,4 @@
+pub mod Lasting
 pub mod Splices
 pub mod ImageLaws
 pub mod PickLaws

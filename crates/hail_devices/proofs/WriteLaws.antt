@@ -14,7 +14,7 @@ reads-drop zero cells = refl
 reads-drop (suc n) [] = refl
 reads-drop (suc n) (c ∷ cells) = reads-drop n cells
 
-reads-loose : (bytes : List ℕ) → reads (loose bytes) ≡ bytes
+pub reads-loose : (bytes : List ℕ) → reads (loose bytes) ≡ bytes
 reads-loose [] = refl
 reads-loose (b ∷ bytes) = ap (λ (l : List ℕ). b ∷ l) (reads-loose bytes)
 

@@ -1,5 +1,5 @@
--- What a disk tells. A cell is a byte, and whether it is loose: whether it was written since the last successful sync,
--- so that a stop may leave any byte in its place.
+-- What a disk tells. A cell is a byte, and whether it is loose: whether it was written since the last
+-- successful sync, so that a stop may leave any byte in its place.
 --
 --   reads cells          == the bytes that the disk reads
 --   loose_offsets cells  == the offsets of the loose bytes, ascending

@@ -1,8 +1,10 @@
 -- What the calls of a disk do to its cells.
 --
---   spliced at new old      == new in place of as many elements of old from at on, or more where old ends first
+--   spliced at new old      == new in place of as many elements of old from at on, or more where old ends
+--                              first
 --   written at bytes cells  == the cells after a write: zero bytes in a gap, and the bytes, all of them loose
---   marked at n cells       == the cells with those in the range of a write of n bytes made loose, as far as they are there
+--   marked at n cells       == the cells with those in the range of a write of n bytes made loose, as far
+--                              as they are there
 --   halved at bytes cells   == marked, and the first half of the bytes, rounded down, written
 --   Torn at n old new       == how the cells may go where a write of n bytes failed
 --   synced cells            == the cells after a sync: none is loose
@@ -19,9 +21,9 @@ spliced at new old = take at old ++ (new ++ drop (at + length new) old)
 abbrev pub written : ℕ → List ℕ → Cells → Cells
 written at bytes old = spliced (min at (length old)) (loose (replicate (at - length old) 0 ++ bytes)) old
 
--- After a write of n bytes that failed. The range begins at its offset, or at the end where there is a gap. Some
--- bytes in it are loose, any ones, so that the length is between the old one and the one that was to be, and so that
--- all of the range up to the new end is loose.
+-- After a write of n bytes that failed. The range begins at its offset, or at the end where there is a gap.
+-- Some bytes in it are loose, any ones, so that the length is between the old one and the one that was to
+-- be, and so that all of the range up to the new end is loose.
 pub record Torn (at n : ℕ) (old new : Cells) : Type 0 where
   pub bytes : List ℕ
   pub held : new ≡ spliced (min at (length old)) (loose bytes) old

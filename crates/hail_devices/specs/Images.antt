@@ -1,6 +1,7 @@
 -- Images: what a stop may leave of a disk.
 --
---   IsImageOf bytes offsets image  == image is as long as the bytes, and equals them at every offset that is not listed
+--   IsImageOf bytes offsets image  == image is as long as the bytes, and equals them at every offset that
+--                                     is not listed
 --   IsImage cells image            == image is one of what the cells read, by the loose offsets (law images)
 --   EachImage told P               == P holds of each image, where the disk tells its cells
 use Rattle.std.specs.Prelude.{◌≡◌, ℕ, ◌<◌, ◌==◌, Bool, false, List, [], ◌∷◌, length, slice_get, Option, IfSome}

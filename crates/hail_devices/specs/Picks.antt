@@ -1,7 +1,7 @@
 -- How a disk in memory is stopped.
 --
---   picked cells picks     == the image in which the picks stand for the loose bytes, in order; loose bytes past the
---                             end of the picks stay, and spare picks do not count
+--   picked cells picks     == the image in which the picks stand for the loose bytes, in order; loose bytes
+--                             past the end of the picks stay, and spare picks do not count
 --   picks_for cells image  == the picks that give this image: its bytes at the loose offsets
 use Rattle.std.specs.Prelude.{ℕ, true, false, List, [], ◌∷◌}
 use Rattle.hail_devices.specs.Cells.{Cells}

@@ -2,9 +2,11 @@
 --
 --   Stores object stripe block           == a store that is done
 --   FailsToStore, FindsNoMemory          == a store that failed, or found no memory
---   Fetches size object stripe old g new == a fetch into room for size symbols, which gives the block g or none
---   Asks honest object old g new         == an ask, which gives the answer g or none; honest is the honest answer to
---                                           the challenge, as a function of the object's blocks by stripe
+--   Fetches size object stripe old g new == a fetch into room for size symbols, which gives the block g or
+--                                          none
+--   Asks honest object old g new         == an ask, which gives the answer g or none; honest is the honest
+--                                          answer to the challenge, as a function of the object's blocks by
+--                                          stripe
 --   Removes object                       == a removal, done or failed
 --   Replaces IsThere change answer       == an alteration or a loss that gave this answer
 use Rattle.std.specs.Prelude.{◌≡◌, ℕ, ◌<◌, ◌≤◌, ◌^◌, ◌⊎◌, ◌↔◌, Bool, List, length, All, Option, None, Some, IsTrue, IfSome, if◌then◌else◌}
@@ -62,7 +64,8 @@ abbrev pub FailsToGive : {G : Type 0} → Provider → Option G → Provider →
 FailsToGive old given new = (given ≡ None) × Rose old.other_faults new.other_faults
 
 -- a fetch: it gives a block or none, and none where it fails
-pub record Fetches (size object stripe : ℕ) (old : Provider) (given : Option (List ℕ)) (new : Provider) : Type 0 where
+pub record Fetches (size object stripe : ℕ) (old : Provider) (given : Option (List ℕ))
+    (new : Provider) : Type 0 where
   pub held : new.held ≡ old.held
   pub counts : FetchCounts old new
   pub gives : FetchGives size object stripe old.held given ⊎ FailsToGive old given new
@@ -73,7 +76,8 @@ AskGives honest object (Some held) given = given ≡ honest (held object)
 AskGives honest object None given = IfSome given (λ symbol. symbol < 2 ^ 128)
 
 -- an ask: it gives an answer or none, and none where it fails
-pub record Asks (honest : (ℕ → Option (List ℕ)) → Option ℕ) (object : ℕ) (old : Provider) (given : Option ℕ) (new : Provider) : Type 0 where
+pub record Asks (honest : (ℕ → Option (List ℕ)) → Option ℕ) (object : ℕ) (old : Provider) (given : Option ℕ)
+    (new : Provider) : Type 0 where
   pub held : new.held ≡ old.held
   pub counts : OtherCounts old new
   pub gives : AskGives honest object old.held given ⊎ FailsToGive old given new
@@ -93,12 +97,14 @@ pub record FailsToRemove (object : ℕ) (old new : Provider) : Type 0 where
 abbrev pub Removes : ℕ → Provider → Provider → Type 0
 Removes object old new = RemovesAll object old new ⊎ FailsToRemove object old new
 
--- An alteration or a loss. A provider that tells answers true exactly where the block is there, changes it so, and
--- keeps its counts. Of one that tells nothing no more is known than that it still tells nothing, and its counts.
+-- An alteration or a loss. A provider that tells answers true exactly where the block is there, changes it
+-- so, and keeps its counts. Of one that tells nothing no more is known than that it still tells nothing,
+-- and its counts.
 abbrev pub Replaces : (Held → Type 0) → (Held → Held) → Bool → Provider → Provider → Type 0
 Replaces IsThere change answer old new = by_told old.held
   where
     by_told : Option Held → Type 0
     by_told (Some held) =
-        (IsTrue answer ↔ IsThere held) × (new ≡ (record old { held = Some (if answer then change held else held) }))
+        (IsTrue answer ↔ IsThere held)
+        × (new ≡ (record old { held = Some (if answer then change held else held) }))
     by_told None = (new.held ≡ None) × OtherCounts old new

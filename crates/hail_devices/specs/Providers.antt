@@ -4,13 +4,15 @@
 --   with_block object stripe block held      == what is held after this one block is set
 --   without_block object stripe held         == what is held after this one block is lost
 --   without_object object held               == what is held after all blocks of an object are gone
---   with_symbol object stripe place s held   == what is held after the symbol s is put at a place of one block
+--   with_symbol object stripe place s held   == what is held after the symbol s is put at a place of one
+--                                          block
 --   HasPlace block place                     == a block is held, and is longer than the place
 --   HasSize size block                       == a block is held, and is that long
 --   sized size block                         == the held block if it is that long
 --   LosesPart object old new                 == any blocks of the object are gone, and all else stays
---   Provider                                 == what is seen of a provider: what it holds, where it tells it; its count of
---                                               failed stores, that of other failed calls, and that of fetches
+--   Provider                                 == what is seen of a provider: what it holds, where it tells
+--                                          it; its count of failed stores, that of other failed calls, and
+--                                          that of fetches
 use Rattle.std.specs.Prelude.{◌≡◌, ℕ, ◌<◌, ◌==◌, ◌&&◌, ◌⊎◌, List, length, slice_set, Option, None, Some, IsSomeAnd, if◌then◌else◌}
 use Rattle.std.specs.Option.{option_map}
 
@@ -33,7 +35,8 @@ without_object object held o s = if o == object then None else held o s
 -- one symbol of one block is replaced
 abbrev pub with_symbol : ℕ → ℕ → ℕ → ℕ → Held → Held
 with_symbol object stripe place symbol held o s =
-    if (o == object) && (s == stripe) then option_map (λ block. slice_set block place symbol) (held o s) else held o s
+    if (o == object) && (s == stripe) then option_map (λ block. slice_set block place symbol) (held o s)
+    else held o s
 
 -- a block is held and has this place
 abbrev pub HasPlace : Option (List ℕ) → ℕ → Type 0

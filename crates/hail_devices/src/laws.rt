@@ -8,7 +8,8 @@ ghost use Rattle.hail_devices.specs.Picks.{picked};
 
 /// An image is as long as what is read, and equals it at every offset that isn't loose.
 pub fn images()
-    ensures { (cells : Cells) (image : List ℕ) → IsImage cells image ↔ IsImageOf (reads cells) (loose_offsets cells) image }
+    ensures { (cells : Cells) (image : List ℕ)
+        → IsImage cells image ↔ IsImageOf (reads cells) (loose_offsets cells) image }
 {}
 
 /// What is read is an image.
@@ -19,7 +20,8 @@ pub fn what_is_read()
 /// Any picks give an image, and each image can be picked.
 pub fn picks()
     ensures gives { (cells : Cells) (picks : List ℕ) → IsImage cells (picked cells picks) }
-    ensures each { (cells : Cells) (image : List ℕ) → IsImage cells image → All IsByte image → (picks : List ℕ) × All IsByte picks × (picked cells picks ≡ image) }
+    ensures each { (cells : Cells) (image : List ℕ) → IsImage cells image → All IsByte image
+        → (picks : List ℕ) × All IsByte picks × (picked cells picks ≡ image) }
 {}
 
 /// The loose offsets ascend, and are those at which a byte is loose.
@@ -32,15 +34,20 @@ pub fn offsets()
 /// no other.
 pub fn writes()
     ensures reads { (at : ℕ) (bytes : List ℕ) (cells : Cells)
-        → reads (written at bytes cells) ≡ spliced (min at (length (reads cells))) (replicate (at - length (reads cells)) 0 ++ bytes) (reads cells) }
-    ensures loose { (at : ℕ) (bytes : List ℕ) (cells : Cells) (k : ℕ) → min at (length cells) ≤ k → k < at + length bytes
+        → reads (written at bytes cells)
+        ≡ spliced (min at (length (reads cells))) (replicate (at - length (reads cells)) 0 ++ bytes)
+        (reads cells) }
+    ensures loose { (at : ℕ) (bytes : List ℕ) (cells : Cells) (k : ℕ) → min at (length cells) ≤ k
+        → k < at + length bytes
         → is_loose_at (written at bytes cells) k ≡ true }
-    ensures as_before { (at : ℕ) (bytes : List ℕ) (cells : Cells) (k : ℕ) → (k < min at (length cells)) ⊎ (at + length bytes ≤ k)
+    ensures as_before { (at : ℕ) (bytes : List ℕ) (cells : Cells) (k : ℕ)
+        → (k < min at (length cells)) ⊎ (at + length bytes ≤ k)
         → is_loose_at (written at bytes cells) k ≡ is_loose_at cells k }
 {}
 
 /// A failing write may write the first half and make loose what the range had, or only make that loose.
 pub fn tears()
-    ensures halved { (at : ℕ) (bytes : List ℕ) (cells : Cells) → Torn at (length bytes) cells (halved at bytes cells) }
+    ensures halved { (at : ℕ) (bytes : List ℕ) (cells : Cells)
+        → Torn at (length bytes) cells (halved at bytes cells) }
     ensures marked { (at n : ℕ) (cells : Cells) → Torn at n cells (marked at n cells) }
 {}

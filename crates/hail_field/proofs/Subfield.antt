@@ -1,9 +1,10 @@
 -- The subfield of 256 acts on each byte of a number by itself
-use Rattle.std.proofs.Common.{◌≡◌, ℕ, zero, suc, ◌+◌, ◌-◌, ◌*◌, ◌/◌, ◌%◌, ◌^◌, ◌<◌, ◌≤◌, ◌⊎◌, inl, inr, refl, sym, ap, ap₂, ◌∙◌, arith, map, pow-add, pow-suc, mul_assoc, div-one, mod-eq_of_lt, zero-add, ◌∷◌}
+use Rattle.std.proofs.Common.{◌≡◌, ℕ, zero, suc, ◌+◌, ◌-◌, ◌*◌, ◌/◌, ◌%◌, ◌^◌, ◌<◌, ◌≤◌, inl, inr, refl, sym, ap, ap₂, ◌∙◌, arith, map, pow-add, pow-suc, mul_assoc, div-one, mod-eq_of_lt, zero-add, ◌∷◌}
 use Rattle.std.specs.Int.{w128, byte_at, bytes_low_first, to_le_bytes, from_le_bytes}
 use Rattle.std.specs.Int.Bits.{xor_zero_r}
 use Rattle.std.proofs.Math.Nat.{div-div-eq-div-mul, add-mul-div_right, add-mul-mod_self_right, div-eq_of_lt}
 use Rattle.std.proofs.lemmas.Nat.{shr_split, mod_below}
+use Rattle.std.proofs.lemmas.Bool.{cases_lt}
 use Rattle.hail_field.specs.Nim.{product, width, nim_mul}
 use Rattle.hail_field.proofs.Joined.{high-lt, low-lt}
 use Rattle.hail_field.proofs.Products.{product_step, product-lt, product_zero, half-lt}
@@ -11,7 +12,7 @@ use Rattle.hail_field.proofs.AllNumbers.{nim_mul_at, nim_mul-lt}
 use Rattle.hail_field.proofs.Bytes.{positive, byte_at_is, from_to}
 
 -- a factor of half the width acts on both halves
-product_of_half : (k a c : ℕ) → a < 2 ^ width (suc k) → c < 2 ^ width k →
+pub product_of_half : (k a c : ℕ) → a < 2 ^ width (suc k) → c < 2 ^ width k →
     product (suc k) a c ≡ product k (a / 2 ^ width k) c * 2 ^ width k + product k (a % 2 ^ width k) c
 product_of_half k a c ha hc =
     let y = 2 ^ width k in
@@ -46,10 +47,6 @@ byte_above m i n more =
 abbrev ActsOn : ℕ → ℕ → ℕ → Type 0
 ActsOn c k m = (a i : ℕ) → a < 2 ^ width k → i < m → product k a c / 256 ^ i % 256 ≡ product 3 (a / 256 ^ i % 256) c
 
--- a number is below m or not
-side : (i m : ℕ) → (i < m) ⊎ (m ≤ i)
-side i m = grind arith
-
 -- at twice the width
 acts_on_halves : (c k m : ℕ) → c < 2 ^ width k → 2 ^ width k ≡ 256 ^ m → ActsOn c k m → ActsOn c (suc k) (m + m)
 acts_on_halves c k m hc same acts a i ha hi =
@@ -62,7 +59,7 @@ acts_on_halves c k m hc same acts a i ha hi =
     let parts : a / y * 256 ^ m + a % y ≡ a = ap (λ n. a / y * n + a % y) (sym same) ∙ shr_split a (width k) in
     let upper : a / y ≡ a / 256 ^ m = ap (λ n. a / n) same in
     let small : l < 256 ^ m = rw (← same) (product-lt k (a % y) c low hc) in
-    elim (side i m) [
+    elim (cases_lt i m) [
       | inl less ↦
           ap (λ n. n / 256 ^ i % 256) whole ∙ byte_of_low m i h l less ∙ acts (a % y) i low less
           ∙ ap (λ n. product 3 n c) (sym (byte_of_low m i (a / y) (a % y) less) ∙ ap (λ n. n / 256 ^ i % 256) parts)

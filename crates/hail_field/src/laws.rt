@@ -5,7 +5,7 @@ ghost use Rattle.field_laws.specs.Field.{IsField, IsEndless};
 ghost use Rattle.hail_field.specs.Shape.{IsShape};
 ghost use Rattle.hail_field.specs.Nim.{product, width, nim, nim_add, nim_mul, nim_pow, nim_inv, is_symbol};
 
-use crate::tables::{EXP, LOG, SCALE};
+use crate::tables::{BY_16, EXP, LOG, MULTIPLES, SCALE};
 use crate::{Shape, Symbol};
 
 /// All numbers are a field under the sum and the product.
@@ -125,8 +125,10 @@ pub fn inverse_keeps_width()
 
 /// `F = 2^(2^level)`, the first number past a level, times a smaller number is their product as numbers, and F times F is F xor F / 2.
 pub fn products_by_level_bound()
-    ensures smaller { (level x : ℕ) → x < 2 ^ width level → nim_mul (2 ^ width level) x ≡ 2 ^ width level * x }
-    ensures square { (level : ℕ) → nim_mul (2 ^ width level) (2 ^ width level) ≡ nim_add (2 ^ width level) (2 ^ width level / 2) }
+    ensures smaller { (level x : ℕ) → x < 2 ^ width level
+        → nim_mul (2 ^ width level) x ≡ 2 ^ width level * x }
+    ensures square { (level : ℕ) → nim_mul (2 ^ width level) (2 ^ width level) ≡ nim_add (2 ^ width level)
+        (2 ^ width level / 2) }
 {}
 
 /// An instance: 2 is below 2^(2^1) and not 0, its inverse is 3; and 256 = 2^(2^3) times 200 is 51,200, 256 times 256 is 384.
@@ -176,4 +178,15 @@ pub fn log_is_exponent(byte: u8)
 /// Each entry of `SCALE` is 128 times its index.
 pub fn scale_is_multiple(byte: u8)
     ensures { slice_index SCALE byte ≡ nim_mul 128 byte }
+{}
+
+/// Each entry of `BY_16` is 16 times its index.
+pub fn by_16_is_multiple(byte: u8)
+    ensures { slice_index BY_16 byte ≡ nim_mul 16 byte }
+{}
+
+/// Each byte of an entry of `MULTIPLES`, lowest first, is the product of its place and the index of the entry.
+pub fn multiples_are_products(byte: u8, place: u8)
+    requires { place < 16 }
+    ensures { slice_index (to_le_bytes w128 (slice_index MULTIPLES byte)) place ≡ nim_mul place byte }
 {}

@@ -110,6 +110,22 @@ fn agrees_with_the_product_by_definition(rt: HostRuntime) {
 }
 
 #[test]
+fn looks_up_what_the_definition_gives(rt: HostRuntime) {
+    let mut number: u128 = 1;
+    for _ in 0..40 {
+        let next = number
+            .wrapping_mul(290_540_817_353_171_031_345_215_227_939_350_468_789)
+            .wrapping_add(1);
+        assert_eq!(rt;
+            Symbol(number).mul(Symbol(next)),
+            Symbol(plain_product(7, number, next)),
+            "{number} times {next}"
+        );
+        number = next;
+    }
+}
+
+#[test]
 fn makes_the_shapes_within_the_limits(rt: HostRuntime) {
     let rows: [(u8, u8, u8, bool); 8] = [
         (4, 1, 1, true),

@@ -1,21 +1,19 @@
 -- A put that ended well had brought its file in.
-use Rattle.std.proofs.Common.{◌≡◌, ℕ, zero, suc, ◌+◌, ◌≤◌, ◌==◌, Bool, true, false, List, [], ◌∷◌, length, Option, Some, None, refl, ap, sym, subst, ◌∙◌, inl, inr, arith}
+use Rattle.std.proofs.Common.{◌≡◌, ℕ, zero, suc, ◌+◌, ◌≤◌, ◌==◌, List, [], ◌∷◌, length, Some, None, refl, ap, sym, subst, ◌∙◌, inl, inr, arith}
 use Rattle.std.specs.Prelude.{slice_get}
 use Rattle.std.proofs.lemmas.Bool.{cases_eq, eq-eqb}
 use Rattle.hail_records.specs.Records.{Record}
-use Rattle.hail_records.specs.Table.{File, setup_of}
+use Rattle.hail_records.specs.Table.{File, file_as, setup_of, profile_in, version_of}
 use Rattle.hail_machine.specs.Jobs.{PutJob, Job, job_of}
-use Rattle.hail_machine.specs.Actions.{Action, WriteBody, SyncBody, WriteGate, SyncGate, Store, Fetch, Ask, Work, Remove, End, append_actions}
+use Rattle.hail_machine.specs.Actions.{Action, WriteBody, SyncBody, WriteGate, SyncGate, End, append_actions}
 use Rattle.hail_machine.specs.Answers as answer
-use Rattle.hail_machine.specs.Events.{Event, Step, Outcome, Ended}
 use Rattle.hail_machine.specs.States.{State, Append, IsStart}
-use Rattle.hail_machine.specs.Appends.{Moves}
-use Rattle.hail_machine.specs.Steps.{next_action, holder_of, Acts, ActsOrWaits, StepsOn, StepsJob, StepsOpen, Steps}
-use Rattle.hail_machine.specs.Machine.{Happens}
+use Rattle.hail_machine.specs.Steps.{next_action}
 use Rattle.hail_machine.specs.Runs.{Moment, now, newest, came, IsRun}
 use Rattle.hail_machine.specs.Survival.{HasComeIn, IsAcknowledged}
 use Rattle.hail_machine.proofs.JobLists.{cond_true, found_none}
 use Rattle.hail_machine.proofs.Changes.{IsPlain, Grown, Job_is, Changes}
+use Rattle.hail_machine.proofs.StepEnds.{event_end}
 use Rattle.hail_machine.proofs.Events.{changes}
 use Rattle.hail_machine.proofs.Numbers.{objects, first_above, drawn_later}
 use Rattle.hail_machine.proofs.Numbers as num
@@ -50,16 +48,22 @@ end_place w job name bytes kind h = elim (put_next w job name bytes End kind h) 
     no_end (suc (suc (suc zero))) e = (let f : Some SyncGate ≡ Some End = e in cc)
     no_end (suc (suc (suc (suc q)))) e = (let f : None ≡ Some End = e in cc)
 
-abbrev file_by : List ℕ → List ℕ → ℕ → File
-file_by name bytes id = record { name = name; id = id; size = length bytes }
+-- the file of a put, with the profile of the setup then
+abbrev file_by : State → List ℕ → List ℕ → ℕ → File
+file_by w name bytes id = file_as name id (length bytes) (profile_in (setup_of w.records))
 
 -- what has come in before an event has come in after it
 later_on : (start : State) (m : Moment) (ms : List Moment) (name : List ℕ) (file : File) → HasComeIn start ms name file → HasComeIn start (m ∷ ms) name file
 later_on start m ms name file h = record { later = m ∷ h.later; moment = h.moment; before = h.before; split = ap (λ l. m ∷ l) h.split; comes = h.comes }
 
+-- so it has of a put, where the setup stays
+put_on : (start : State) (m : Moment) (ms : List Moment) (name bytes : List ℕ) (id : ℕ) → setup_of m.state.records ≡ setup_of (now start ms).records →
+    HasComeIn start ms name (file_by (now start ms) name bytes id) → HasComeIn start (m ∷ ms) name (file_by m.state name bytes id)
+put_on start m ms name bytes id same h = later_on start m ms name (file_by m.state name bytes id) (subst (λ s. HasComeIn start ms name (file_as name id (length bytes) (profile_in s))) (sym same) h)
+
 abbrev Facts : State → List Moment → Type 0
 Facts start ms = (k : ℕ) (j : Job) (name bytes : List ℕ) → job_of (now start ms).jobs k ≡ Some j → j.kind ≡ PutJob name bytes → 8 + stores_count (now start ms) j bytes ≤ j.place →
-    HasComeIn start ms name (file_by name bytes j.subject)
+    HasComeIn start ms name (file_by (now start ms) name bytes j.subject)
 
 module _ (limit : ℕ) (start : State) (m : Moment) (ms : List Moment) (N : num.Facts objects start ms) (P : pin.Facts start ms) (F : Facts start ms) (X : Changes limit (length ms) (now start ms) m.event m.outcome m.state) where
   came_now : (r : Record) → m.state.records ≡ r ∷ (now start ms).records → came (now start ms) m.state ≡ Some r
@@ -67,9 +71,9 @@ module _ (limit : ℕ) (start : State) (m : Moment) (ms : List Moment) (N : num.
 
   step_facts : Facts start (m ∷ ms)
   step_facts k j name bytes h kind late = elim (X.job k j h) [
-    | Job_is.kept r (Grown.as_before rec) ↦ later_on start m ms name _ (F k j name bytes r kind (let e = count_same m.state (now start ms) j j bytes (ap setup_of rec) refl in omega arith))
+    | Job_is.kept r (Grown.as_before rec) ↦ put_on start m ms name bytes j.subject (ap setup_of rec) (F k j name bytes r kind (let e = count_same m.state (now start ms) j j bytes (ap setup_of rec) refl in omega arith))
     | Job_is.kept r (Grown.by_other x a runs next_is flight mine other rec) ↦
-        later_on start m ms name _ (F k j name bytes r kind (let e = count_same m.state (now start ms) j j bytes (setup_one limit start m ms N P X a x flight runs mine rec) refl in omega arith))
+        put_on start m ms name bytes j.subject (setup_one limit start m ms N P X a x flight runs mine rec) (F k j name bytes r kind (let e = count_same m.state (now start ms) j j bytes (setup_one limit start m ms N P X a x flight runs mine rec) refl in omega arith))
     | Job_is.begun kd is k_is allowed rec ↦ absurd (let e : j.place ≡ 0 = ap (λ (x : Job). x.place) is in omega arith)
     | Job_is.plain x action runs next_is is_plain goes rec stores_it ↦
         (let kx : x.kind ≡ PutJob name bytes = sym goes.kind ∙ kind in
@@ -77,7 +81,7 @@ module _ (limit : ℕ) (start : State) (m : Moment) (ms : List Moment) (N : num.
         let place = goes.place in
         elim (cases_eq x.place (7 + stores_count (now start ms) x bytes)) [
           | inl gate ↦ absurd (subst IsPlain (gate_at (now start ms) x name bytes action kx gate next_is) is_plain)
-          | inr other ↦ carried x kx goes.subject (F k x name bytes runs kx (omega arith))
+          | inr other ↦ carried x kx goes.subject (ap setup_of rec) (F k x name bytes runs kx (omega arith))
         ])
     | Job_is.drew x runs next_is none_ is rec ↦
         (let kx : x.kind ≡ PutJob name bytes = sym (ap (λ (y : Job). y.kind) is) ∙ kind in
@@ -87,7 +91,7 @@ module _ (limit : ℕ) (start : State) (m : Moment) (ms : List Moment) (N : num.
         let e = count_same m.state (now start ms) j x bytes (ap setup_of rec) subject in
         elim (cases_eq x.place (7 + stores_count (now start ms) x bytes)) [
           | inl gate ↦ absurd (let z : WriteBody ≡ SyncGate = gate_at (now start ms) x name bytes WriteBody kx gate next_is in cc)
-          | inr other ↦ carried x kx subject (F k x name bytes runs kx (omega arith))
+          | inr other ↦ carried x kx subject (ap setup_of rec) (F k x name bytes runs kx (omega arith))
         ])
     | Job_is.finished x a runs next_is flight mine is rec none_ ↦
         (let kx : x.kind ≡ PutJob name bytes = sym (ap (λ (y : Job). y.kind) is) ∙ kind in
@@ -96,22 +100,26 @@ module _ (limit : ℕ) (start : State) (m : Moment) (ms : List Moment) (N : num.
         comes_now x a runs kx next_is late_x (ap (λ (y : Job). y.subject) is) rec (subst (λ kd. Wrote x kd a.entry) kx (P.wrote a x flight (subst (λ n. job_of (now start ms).jobs n ≡ Some x) (sym mine) runs))))
   ]
     where
-      carried : (x : Job) → x.kind ≡ PutJob name bytes → j.subject ≡ x.subject → HasComeIn start ms name (file_by name bytes x.subject) → HasComeIn start (m ∷ ms) name (file_by name bytes j.subject)
-      carried x kx subject c = later_on start m ms name (file_by name bytes j.subject) (subst (λ n. HasComeIn start ms name (file_by name bytes n)) (sym subject) c)
+      carried : (x : Job) → x.kind ≡ PutJob name bytes → j.subject ≡ x.subject → setup_of m.state.records ≡ setup_of (now start ms).records →
+          HasComeIn start ms name (file_by (now start ms) name bytes x.subject) → HasComeIn start (m ∷ ms) name (file_by m.state name bytes j.subject)
+      carried x kx subject same c = put_on start m ms name bytes j.subject same (subst (λ n. HasComeIn start ms name (file_by (now start ms) name bytes n)) (sym subject) c)
 
       comes_now : (x : Job) (a : Append) → job_of (now start ms).jobs k ≡ Some x → x.kind ≡ PutJob name bytes → next_action (now start ms) x ≡ Some SyncGate → 4 ≤ x.place → j.subject ≡ x.subject →
-          m.state.records ≡ a.entry ∷ (now start ms).records → Wrote x (PutJob name bytes) a.entry → HasComeIn start (m ∷ ms) name (file_by name bytes j.subject)
+          m.state.records ≡ a.entry ∷ (now start ms).records → Wrote x (PutJob name bytes) a.entry → HasComeIn start (m ∷ ms) name (file_by m.state name bytes j.subject)
       comes_now x a runs kx next_is late_x subject rec (inl w) = absurd (let l = w.0 in omega arith)
       comes_now x a runs kx next_is late_x subject rec (inr w) =
           (let place = gate_place (now start ms) x name bytes kx next_is late_x in
-          subst (λ n. HasComeIn start (m ∷ ms) name (file_by name bytes n)) (sym subject)
+          let same : setup_of m.state.records ≡ setup_of (now start ms).records = ap setup_of (rec ∙ ap (λ (r : Record). r ∷ (now start ms).records) w.1) in
+          subst (λ n. HasComeIn start (m ∷ ms) name (file_by m.state name bytes n)) (sym subject)
           (record {
             later = [];
             moment = m;
             before = ms;
             split = refl;
             comes = record {
+              version = version_of (now start ms).records;
               done = came_now a.entry rec ∙ ap Some w.1;
+              profiled = ap profile_in same;
               started = P.started k x name bytes runs kx late_x (omega arith);
               named = refl;
             };
@@ -124,59 +132,8 @@ facts limit start clean (m ∷ ms) run =
     step_facts limit start m ms A.numbers A.pins (facts limit start clean ms run.2)
     (changes limit (length ms) (now start ms) m.event m.outcome m.state A.numbers.idle run.1))
 
--- a step that ends with the answer of a put is that of an end
-module _ (old : State) (job : Job) (new : State) where
-  moves_not : (action : Action) (flight : Option Append) → Moves old job action flight (Ended answer.Put) new → ⊥
-  moves_not WriteBody flight h = h
-  moves_not SyncBody None h = h
-  moves_not SyncBody (Some a) h = h
-  moves_not WriteGate None h = h
-  moves_not WriteGate (Some a) h = h
-  moves_not SyncGate None h = h
-  moves_not SyncGate (Some a) h = h
-  moves_not (Store j o s) flight h = h
-  moves_not (Fetch j o s) flight h = h
-  moves_not (Ask j o s) flight h = h
-  moves_not (Work o s) flight h = h
-  moves_not (Remove j o) flight h = h
-  moves_not End flight h = h
-
-  acts_end : (action : Action) → Acts old job action (Ended answer.Put) new → action ≡ End
-  acts_end End h = refl
-  acts_end (Store j o s) h = absurd (moves_not (Store j o s) old.append h)
-  acts_end (Fetch j o s) h = absurd (moves_not (Fetch j o s) old.append h)
-  acts_end (Ask j o s) h = absurd (moves_not (Ask j o s) old.append h)
-  acts_end (Work o s) h = absurd (moves_not (Work o s) old.append h)
-  acts_end (Remove j o) h = absurd (moves_not (Remove j o) old.append h)
-  acts_end WriteBody h = absurd (moves_not WriteBody old.append h)
-  acts_end SyncBody h = absurd (moves_not SyncBody old.append h)
-  acts_end WriteGate h = absurd (moves_not WriteGate old.append h)
-  acts_end SyncGate h = absurd (moves_not SyncGate old.append h)
-
-  waits_end : (action : Action) (holder : Option ℕ) → ActsOrWaits old job action holder (Ended answer.Put) new → action ≡ End
-  waits_end action None h = acts_end action h
-  waits_end action (Some n) h = absurd h
-
-  on_end : (action : Option Action) → next_action old job ≡ action → StepsOn old job action (Ended answer.Put) new → next_action old job ≡ Some End
-  on_end None is h = absurd h
-  on_end (Some action) is h = is ∙ ap Some (waits_end action (holder_of old.append action) h)
-
-  job_end : (found : Option Job) → found ≡ Some job → StepsJob old found (Ended answer.Put) new → next_action old job ≡ Some End
-  job_end None is h = absurd h
-  job_end (Some x) is h = on_end (next_action old job) refl (subst (λ (y : Job). StepsOn old y (next_action old y) (Ended answer.Put) new) (let e : x ≡ job = cc in e) h)
-
-  open_end : (is_barred : Bool) → job_of old.jobs job.number ≡ Some job → StepsOpen old job.number is_barred (Ended answer.Put) new → next_action old job ≡ Some End
-  open_end true runs h = absurd h
-  open_end false runs h = job_end (job_of old.jobs job.number) runs h
-
-  step_end : (is_open : Bool) → job_of old.jobs job.number ≡ Some job → Steps old job.number is_open (Ended answer.Put) new → next_action old job ≡ Some End
-  step_end true runs h = open_end old.is_barred runs h
-  step_end false runs h = absurd h
-
 pub acknowledged : IsAcknowledged
 acknowledged limit start m ms job name bytes clean run e =
-    (let h : Happens limit (length ms) (now start ms) (Step job.number) (Ended answer.Put) m.state =
-    subst (λ (x : Event). Happens limit (length ms) (now start ms) x (Ended answer.Put) m.state) e.event
-    (subst (λ (r : Outcome). Happens limit (length ms) (now start ms) m.event r m.state) e.outcome run.1) in
     facts limit start clean ms run.2 job.number job name bytes e.runs e.kind
-    (end_place (now start ms) job name bytes e.kind (step_end (now start ms) job m.state (now start ms).is_open e.runs h)))
+    (end_place (now start ms) job name bytes e.kind
+    (event_end limit (length ms) (now start ms) m.event m.outcome m.state job answer.Put (λ x. x) e.event e.outcome e.runs run.1).0)

@@ -6,7 +6,7 @@ use Rattle.hail_records.specs.Table.{next_id, setup_of}
 use Rattle.hail_machine.specs.Jobs.{Kind, Job, Fetched, Answered, Worked, job_of, with_job, without_job, advanced}
 use Rattle.hail_machine.specs.Actions.{Action, WriteBody, SyncGate, Store, Fetch, Ask, Work, Remove}
 use Rattle.hail_machine.specs.Events.{Event, Outcome}
-use Rattle.hail_machine.specs.States.{State, Append, Doubt, setup_in, object_in}
+use Rattle.hail_machine.specs.States.{State, Append, Doubt, setup_in, worked_object}
 use Rattle.hail_machine.specs.Given.{blocks_given}
 use Rattle.hail_columns.specs.Opened.{GivesSymbols}
 use Rattle.hail_machine.specs.Begins.{begin_refusal, new_job}
@@ -32,7 +32,7 @@ pub data Gave (old : State) (before : Job) (action : Action) (job : Job) : Type 
   nothing : IsQuiet action → job.given ≡ before.given → Gave old before action job
   fetched : (i o s : ℕ) (block : Option (List ℕ)) → action ≡ Fetch i o s → job.given ≡ Fetched i o s block ∷ before.given → Gave old before action job
   answered : (i o r : ℕ) (symbol : Option ℕ) → action ≡ Ask i o r → job.given ≡ Answered i o r symbol ∷ before.given → Gave old before action job
-  worked : (o s : ℕ) (symbols : List ℕ) → action ≡ Work o s → GivesSymbols (object_in old o) s (blocks_given before.given (setup_in old).n o s) symbols →
+  worked : (o s : ℕ) (symbols : List ℕ) → action ≡ Work o s → GivesSymbols (worked_object old before o) s (blocks_given before.given (setup_in old).n o s) symbols →
       job.given ≡ Worked o s symbols ∷ before.given → Gave old before action job
 
 -- a job that has made one more action, and is the same in all that this does not touch
@@ -113,6 +113,10 @@ IsIdle w = w.is_open ≡ false → (w.jobs ≡ []) × (w.append ≡ None)
 -- after the third move of the append in flight its record is in doubt
 abbrev pub IsGated : State → Type 0
 IsGated w = (a : Append) → w.append ≡ Some a → a.moves ≡ 3 → (d : Doubt) × (w.doubt ≡ Some d) × (d.entry ≡ a.entry)
+
+-- what is known of every state that a run reaches, and what the changes of an event hang on
+pub record IsQuietState (w : State) : Type 0 where
+  pub idle : IsIdle w
 
 -- what an event may change
 pub record Changes (limit moment : ℕ) (old : State) (e : Event) (r : Outcome) (new : State) : Type 0 where

@@ -11,20 +11,18 @@ use Rattle.hail_devices.specs.Told.{Goes}
 use Rattle.hail_machine.specs.Jobs.{Kind, PutJob, GetJob, DropJob, AuditJob, RepairJob, Job, Given, Fetched, Answered, Worked, job_of, with_job, without_job, advanced, advanced_with}
 use Rattle.hail_machine.specs.Actions.{Action, WriteBody, SyncBody, WriteGate, SyncGate, Store, Fetch, Ask, Work, Remove, End}
 use Rattle.hail_machine.specs.Refusals as refusal
-use Rattle.hail_machine.specs.Refusals.{Refusal}
 use Rattle.hail_machine.specs.Answers as answer
-use Rattle.hail_machine.specs.Answers.{Answer}
 use Rattle.hail_machine.specs.Events.{Event, Init, Begin, Step, Alter, Lose, Stop, Reopen, Names, Continue, Outcome, Ready, Refused, Opened, Begun, More, Waiting, Ended, Replaced, NothingHeld, Stopped, Listed, Closed, Continued}
-use Rattle.hail_machine.specs.States.{State, Append, Doubt, with_provider, going_on, ended, given_up, continued, DiskCall, ProviderCall, Settles}
+use Rattle.hail_machine.specs.States.{State, Append, Doubt, brought, with_provider, going_on, ended, given_up, continued, DiskCall, ProviderCall, Settles}
 use Rattle.hail_machine.specs.Begins.{new_job, Begins}
 use Rattle.hail_machine.specs.Appends.{Writes, begun_append, moved, doubted, done_append, barred, unappended, subject_drawn, bytes_drawn, is_first_append, taken_out, Moves}
 use Rattle.hail_machine.specs.Steps.{next_action, holder_of, block_to_store, FetchStep, AskStep, WorkStep, Acts, ActsOrWaits, StepsOn, StepsJob, StepsOpen, Steps}
-use Rattle.hail_machine.specs.Openings.{LeavesDoubt, Stops, Reopens, InitsClosed, InitsBy, Inits, Continues}
+use Rattle.hail_machine.specs.Openings.{LeavesDoubt, Rereads, Stops, Reopens, InitsClosed, InitsBy, Inits, Continues}
 use Rattle.hail_machine.specs.Replacements.{ReplacesAt, ReplacesIf}
 use Rattle.hail_machine.specs.Machine.{Lists, Happens}
 use Rattle.hail_machine.specs.Runs.{is_replacement}
 use Rattle.hail_machine.proofs.JobLists.{cond_true, cond_false, number_of, found_with, found_itself, found_more, found_none}
-use Rattle.hail_machine.proofs.Changes.{IsQuiet, Gave, IsPlain, GoesOn, Job_is, Append_is, Records_is, Block_is, Rest, Doubt_is, Grown, IsIdle, IsGated, Changes, only_devices, unchanged, gives_up, ends, steps_plainly}
+use Rattle.hail_machine.proofs.Changes.{IsQuiet, Gave, IsPlain, GoesOn, Job_is, Append_is, Records_is, Block_is, Rest, Doubt_is, Grown, IsIdle, IsGated, IsQuietState, Changes, only_devices, unchanged, gives_up, ends, steps_plainly}
 
 -- what a provider tells of a block
 abbrev told : Provider → ℕ → ℕ → Option (Option (List ℕ))
@@ -72,7 +70,7 @@ kept_told IsThere changed None old new o s e h = ap (λ (x : Option Held). optio
 kept_told IsThere changed (Some held) old new o s e h = ap (λ (p : Provider). told p o s) h.1 ∙ ap (λ (x : Option Held). option_map (λ (h : Held). h o s) x) (sym e)
 
 -- a number that is drawn leaves the bytes of those below it
-drawn_bytes : (w : State) (job : Job) (kind : Kind) (o : ℕ) → o < next_id w.records → bytes_drawn w job kind o ≡ w.bytes o
+pub drawn_bytes : (w : State) (job : Job) (kind : Kind) (o : ℕ) → o < next_id w.records → bytes_drawn w job kind o ≡ w.bytes o
 drawn_bytes w job (PutJob name bytes) o l =
     cond_false (is_first_append job && (o == next_id w.records)) bytes (w.bytes o)
     (go (is_first_append job) (ne_eqb o (next_id w.records) (λ e. omega arith)))
@@ -390,7 +388,7 @@ module _ (limit moment : ℕ) (old : State) where
   records_of mid new is (inr (d, in_doubt, e)) = Records_is.settled d in_doubt (is ∙ e)
 
   -- a reopening or a stop that settles
-  settles : (e : Event) (r : Outcome) (mid new : State) → Settles (given_up old) mid → new.jobs ≡ mid.jobs → new.append ≡ mid.append → new.providers ≡ mid.providers → new.records ≡ mid.records → new.bytes ≡ mid.bytes → new.doubt ≡ mid.doubt → Changes limit moment old e r new
+  settles : (e : Event) (r : Outcome) (mid new : State) → Rereads old mid → new.jobs ≡ mid.jobs → new.append ≡ mid.append → new.providers ≡ mid.providers → new.records ≡ mid.records → new.bytes ≡ mid.bytes → new.doubt ≡ mid.doubt → Changes limit moment old e r new
   settles e r mid new s jobs append providers records bytes doubt =
       let j = settled_jobs (given_up old) mid s in
       gives_up limit moment old e r new (jobs ∙ j.0) (append ∙ j.1) (records_of mid new records (settled_records (given_up old) mid refl refl s)) (providers ∙ j.2) (bytes ∙ j.3) (λ d h. absurd (let f : None ≡ Some d = sym (doubt ∙ settled_doubt (given_up old) mid s) ∙ h in cc))
@@ -432,8 +430,8 @@ module _ (limit moment : ℕ) (old : State) where
       (records_of mid (record mid { disk_faults = faults }) refl (settled_records old mid refl refl settled)) j.2 j.3 (λ d h. absurd (let f : None ≡ Some d = sym (settled_doubt old mid settled) ∙ h in cc))))
   inits_closed s Ready new idle (mid, settled, none, (faults, low, is)) = (let j = settled_jobs old mid settled in
       subst (λ (w : State). Changes limit moment old (Init s) Ready w) (sym is)
-      (gives_up limit moment old (Init s) Ready (record mid { records = SetUp s ∷ mid.records; disk_faults = faults }) (j.0 ∙ idle.0) (j.1 ∙ idle.1)
-      (set_up_of s mid (record mid { records = SetUp s ∷ mid.records; disk_faults = faults }) refl (none_setup (setup_of mid.records) none) (settled_records old mid refl refl settled)) j.2 j.3 (λ d h. absurd (let f : None ≡ Some d = sym (settled_doubt old mid settled) ∙ h in cc))))
+      (gives_up limit moment old (Init s) Ready (record (brought mid (SetUp s)) { disk_faults = faults }) (j.0 ∙ idle.0) (j.1 ∙ idle.1)
+      (set_up_of s mid (record (brought mid (SetUp s)) { disk_faults = faults }) refl (none_setup (setup_of mid.records) none) (settled_records old mid refl refl settled)) j.2 j.3 (λ d h. absurd (let f : None ≡ Some d = sym (settled_doubt old mid settled) ∙ h in cc))))
   inits_closed s r new idle h = absurd h
 
   inits_by : (s : Setup) (good : Bool) (r : Outcome) (new : State) → (old.jobs ≡ []) × (old.append ≡ None) → InitsBy old s good r new → Changes limit moment old (Init s) r new
@@ -476,15 +474,15 @@ module _ (limit moment : ℕ) (old : State) where
   continues Continued new is = subst (λ (w : State). Changes limit moment old Continue Continued w) (sym is) (gives_up limit moment old Continue Continued (continued old) refl refl (Records_is.same refl) refl refl (λ d h. Doubt_is.kept h refl))
   continues r new h = absurd h
 
-  pub changes : (e : Event) (r : Outcome) (new : State) → IsIdle old → Happens limit moment old e r new → Changes limit moment old e r new
-  changes (Init s) r new idle h = inits s old.is_open r new refl idle h
-  changes (Begin kind) r new idle h = begins kind r new h
-  changes (Step number) r new idle h = steps number old.is_open r new h
-  changes (Alter j object stripe place symbol) r new idle h =
+  pub changes : (e : Event) (r : Outcome) (new : State) → IsQuietState old → Happens limit moment old e r new → Changes limit moment old e r new
+  changes (Init s) r new quiet h = inits s old.is_open r new refl quiet.idle h
+  changes (Begin kind) r new quiet h = begins kind r new h
+  changes (Step number) r new quiet h = steps number old.is_open r new h
+  changes (Alter j object stripe place symbol) r new quiet h =
       replaces_if (nat_lt j old.handed) (Alter j object stripe place symbol) j (λ held. HasPlace (held object stripe) place) (with_symbol object stripe place symbol) r new (λ i is. eq-eqb j i (sym is)) h
-  changes (Lose j object stripe) r new idle h =
+  changes (Lose j object stripe) r new quiet h =
       replaces_if (nat_lt j old.handed) (Lose j object stripe) j (λ held. IsSome (held object stripe)) (without_block object stripe) r new (λ i is. eq-eqb j i (sym is)) h
-  changes (Stop picks) r new idle h = stops picks r new h
-  changes Reopen r new idle h = reopens r new h
-  changes Names r new idle h = lists old.is_open r new h
-  changes Continue r new idle h = continues r new h
+  changes (Stop picks) r new quiet h = stops picks r new h
+  changes Reopen r new quiet h = reopens r new h
+  changes Names r new quiet h = lists old.is_open r new h
+  changes Continue r new quiet h = continues r new h

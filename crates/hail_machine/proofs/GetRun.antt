@@ -6,7 +6,7 @@ use Rattle.hail_records.specs.Records.{PutDone}
 use Rattle.hail_machine.specs.Jobs.{PutJob, GetJob}
 use Rattle.hail_machine.specs.Answers.{Put, Got}
 use Rattle.hail_machine.specs.Events.{Begin, Step, Stop, Reopen, Opened, Begun, Ended, Stopped}
-use Rattle.hail_machine.specs.States.{State, given_up}
+use Rattle.hail_machine.specs.States.{State, brought, given_up}
 use Rattle.hail_machine.specs.Machine.{Happens}
 use Rattle.hail_machine.specs.Runs.{Moment, IsRun}
 use Rattle.hail_machine.specs.Transcripts.{Once, RunJob, CarriesOut}
@@ -73,7 +73,7 @@ doubted_run = (fits, happens_8, (fits, happens_7, (fits, happens_6, (fits, happe
 
 -- the states that a stop may leave: with the record in doubt in effect, and without it
 abbrev pub stopped_with : State
-stopped_with = record (given_up state_9) { doubt = None; records = PutDone 1 0 ∷ state_9.records }
+stopped_with = record (brought (given_up state_9) (PutDone 1 0)) { doubt = None }
 
 abbrev pub stopped_without : State
 stopped_without = record (given_up state_9) { doubt = None }

@@ -1,39 +1,38 @@
 -- A get gives what its fetches open to.
-use Rattle.std.proofs.Common.{◌≡◌, ℕ, ◌+◌, ◌<◌, ◌==◌, Bool, true, false, cond, ◌&&◌, List, [], ◌∷◌, ◌++◌, length, map, Option, Some, None, refl, ap, sym, subst, ◌∙◌, inl, inr, arith}
+use Rattle.std.proofs.Common.{◌≡◌, ℕ, ◌+◌, ◌<◌, ◌==◌, Bool, true, false, cond, ◌&&◌, List, [], ◌∷◌, ◌++◌, length, Option, Some, None, refl, ap, sym, subst, ◌∙◌, inl, inr, arith, map}
 use Rattle.std.specs.Prelude.{slice_get}
-use Rattle.std.proofs.lemmas.Bool.{cases_Bool, cases_lt, and_parts, and_from, eqb-true, eq-eqb}
+use Rattle.std.proofs.lemmas.Bool.{cases_Bool, cases_lt, and_parts, eqb-true}
+use Rattle.plain_facts.proofs.Each.{each_get}
+use Rattle.plain_facts.proofs.Lists.{map-same}
 use Rattle.hail_codes.specs.Points.{upto}
 use Rattle.hail_columns.specs.Opened.{GivesSymbols}
 use Rattle.hail_records.specs.Records.{Setup, is_name}
 use Rattle.hail_records.specs.Table.{File, setup_of}
 use Rattle.hail_machine.specs.Jobs.{GetJob, Pinned, Given, Fetched, Answered, Worked, Job, job_of}
-use Rattle.hail_machine.specs.Setups.{object_of, stripes_of}
-use Rattle.hail_machine.specs.Actions.{Action, WriteBody, SyncBody, WriteGate, SyncGate, Store, Fetch, Ask, Work, Remove, End, read_actions, actions_of}
+use Rattle.hail_machine.specs.Setups.{object_of, pinned_stripes}
+use Rattle.hail_machine.specs.Actions.{Action, WriteBody, SyncGate, Fetch, Ask, Work, End, read_actions, actions_of}
 use Rattle.hail_machine.specs.Refusals as refusal
-use Rattle.hail_machine.specs.Refusals.{Refusal}
 use Rattle.hail_machine.specs.Answers as answer
-use Rattle.hail_machine.specs.Events.{Event, Step, Outcome, Ended}
-use Rattle.hail_machine.specs.States.{State, Append, IsStart, setup_in, object_in, file_in}
+use Rattle.hail_machine.specs.States.{State, IsStart, setup_in, object_in, file_in}
 use Rattle.hail_machine.specs.Begins.{is_busy, begin_refusal, pinned_file, pin_one, pinned_for}
 use Rattle.hail_machine.specs.Given.{block_given, blocks_given, symbols_given, file_given}
-use Rattle.hail_machine.specs.Appends.{Moves}
-use Rattle.hail_machine.specs.Steps.{next_action, holder_of, GotBytes, Ends, Acts, ActsOrWaits, StepsOn, StepsJob, StepsOpen, Steps}
-use Rattle.hail_machine.specs.Machine.{Happens}
+use Rattle.hail_machine.specs.Steps.{next_action, GotBytes, Ends}
 use Rattle.hail_machine.specs.Runs.{Moment, now, first_moments, IsRun}
-use Rattle.hail_machine.specs.Heard.{Entry, entries_of, heard_by_kind, heard_by, given_to}
+use Rattle.hail_machine.specs.Heard.{entries_of, heard_by_kind, heard_by, given_to}
 use Rattle.hail_machine.specs.Halves.{GotIsOpened}
-use Rattle.hail_machine.proofs.JobLists.{cond_true, cond_false, same_value, found_none}
-use Rattle.hail_machine.proofs.ActionLists.{each_get}
+use Rattle.hail_machine.proofs.JobLists.{cond_false, same_value, found_none}
 use Rattle.hail_machine.proofs.Changes.{IsQuiet, Gave, Grown, Job_is, Changes}
+use Rattle.hail_machine.proofs.StepEnds.{event_end}
 use Rattle.hail_machine.proofs.Events.{changes}
 use Rattle.hail_machine.proofs.Numbers.{next_by, next_is_by}
 use Rattle.hail_machine.proofs.PinFacts.{Pins_is, pins_is, setup_same, setup_one, wrote_setup}
 use Rattle.hail_machine.proofs.Held.{All, all, actions_are, first_more, first_all}
 use Rattle.hail_machine.proofs.Stripes.{flat, From, from, order, once, worked_on, to_flat, from_flat, before_end}
+use Rattle.hail_machine.proofs.Given.{given_to-more, symbols_given-newest}
 
 -- ---- a get that begins has a file
 
-get_file : (limit : ℕ) (w : State) (name : List ℕ) (o : Option File) → file_in w name ≡ o → begin_refusal limit w (GetJob name) ≡ None → (f : File) × (file_in w name ≡ Some f)
+pub get_file : (limit : ℕ) (w : State) (name : List ℕ) (o : Option File) → file_in w name ≡ o → begin_refusal limit w (GetJob name) ≡ None → (f : File) × (file_in w name ≡ Some f)
 get_file limit w name (Some f) is h = (f, is)
 get_file limit w name None is h = absurd (elim (cases_Bool w.is_barred) [
   | inl a ↦ (let e = rw a at h in let f : Some refusal.MustReopen ≡ None = e in cc)
@@ -54,13 +53,6 @@ block_skips i o s2 block given object s j apart = elim (cases_Bool (((i == j) &&
   | inr f ↦ cond_false (((i == j) && (o == object)) && (s2 == s)) block (block_given given object s j) f
 ]
 
-map_same : {A B : Type 0} (f g : A → B) (xs : List A) → ((x : A) → f x ≡ g x) → map f xs ≡ map g xs
-map_same f g [] h = refl
-map_same f g (x ∷ xs) h = (let a = h x in let b = map_same f g xs h in (let e : f x ∷ map f xs ≡ g x ∷ map g xs = cc in e))
-
-symbols_here : (o s : ℕ) (symbols : List ℕ) (given : List Given) → symbols_given (Worked o s symbols ∷ given) o s ≡ symbols
-symbols_here o s symbols given = cond_true ((o == o) && (s == s)) symbols (symbols_given given o s) (and_from (o == o) (s == s) (eq-eqb o o refl) (eq-eqb s s refl))
-
 symbols_skip : (o s2 : ℕ) (symbols : List ℕ) (given : List Given) (object s : ℕ) → (s ≡ s2 → ⊥) → symbols_given (Worked o s2 symbols ∷ given) object s ≡ symbols_given given object s
 symbols_skip o s2 symbols given object s apart = elim (cases_Bool ((o == object) && (s2 == s))) [
   | inl t ↦ absurd (apart (sym (eqb-true s2 s (and_parts (o == object) (s2 == s) t).1)))
@@ -74,11 +66,11 @@ Opened t id given s = GivesSymbols (object_of t id) s (blocks_given given t.n id
 opened_by : (t : Setup) (id : ℕ) (given more : List Given) (s : ℕ) → ((j : ℕ) → block_given more id s j ≡ block_given given id s j) → symbols_given more id s ≡ symbols_given given id s → Opened t id given s → Opened t id more s
 opened_by t id given more s blocks symbols h =
     subst (GivesSymbols (object_of t id) s (blocks_given more t.n id s)) (sym symbols)
-    (subst (λ b. GivesSymbols (object_of t id) s b (symbols_given given id s)) (sym (map_same (block_given more id s) (block_given given id s) (upto t.n) blocks)) h)
+    (subst (λ b. GivesSymbols (object_of t id) s b (symbols_given given id s)) (sym (map-same (block_given more id s) (block_given given id s) (upto t.n) blocks)) h)
 
 -- ---- the actions of a get
 
-get_actions : (t : Setup) (job : Job) (name : List ℕ) (f : Pinned) → job.kind ≡ GetJob name → job.pinned ≡ f ∷ [] → actions_of t job ≡ (flat t f.id (upto (stripes_of t (length f.bytes))) ++ []) ++ End ∷ []
+get_actions : (t : Setup) (job : Job) (name : List ℕ) (f : Pinned) → job.kind ≡ GetJob name → job.pinned ≡ f ∷ [] → actions_of t job ≡ (flat t f.id (upto (pinned_stripes t f)) ++ []) ++ End ∷ []
 get_actions t job name f kind pinned = actions_are t job (GetJob name) kind ∙ ap (λ p. read_actions t p ++ End ∷ []) pinned
 
 get_next : (w : State) (job : Job) (name : List ℕ) → job.kind ≡ GetJob name → next_action w job ≡ slice_get (actions_of (setup_in w) job) job.place
@@ -86,9 +78,9 @@ get_next w job name kind = next_is_by w job ∙ (ap (λ kd. next_by w job kd job
 
 -- an action that opens a stripe stands among the stripes
 in_flat : (t : Setup) (job : Job) (name : List ℕ) (f : Pinned) (q : ℕ) (x : Action) → job.kind ≡ GetJob name → job.pinned ≡ f ∷ [] → (x ≡ End → ⊥) → slice_get (actions_of t job) q ≡ Some x →
-    slice_get (flat t f.id (upto (stripes_of t (length f.bytes)))) q ≡ Some x
+    slice_get (flat t f.id (upto (pinned_stripes t f))) q ≡ Some x
 in_flat t job name f q x kind pinned other h =
-    elim (to_flat t f.id (upto (stripes_of t (length f.bytes))) q x (ap (λ l. slice_get l q) (sym (get_actions t job name f kind pinned)) ∙ h)) [ inl p ↦ p | inr e ↦ absurd (other e.0) ]
+    elim (to_flat t f.id (upto (pinned_stripes t f)) q x (ap (λ l. slice_get l q) (sym (get_actions t job name f kind pinned)) ∙ h)) [ inl p ↦ p | inr e ↦ absurd (other e.0) ]
 
 -- ---- facts
 
@@ -168,7 +160,7 @@ module _ (limit : ℕ) (start : State) (m : Moment) (ms : List Moment) (A : All 
       not_end : Work o s ≡ End → ⊥
       not_end e = cc
 
-      stands : (x : Job) → x.kind ≡ GetJob name → x.pinned ≡ f ∷ [] → slice_get (flat (setup_in (now start ms)) f.id (upto (stripes_of (setup_in (now start ms)) (length f.bytes)))) q ≡ Some (Work o s)
+      stands : (x : Job) → x.kind ≡ GetJob name → x.pinned ≡ f ∷ [] → slice_get (flat (setup_in (now start ms)) f.id (upto (pinned_stripes (setup_in (now start ms)) f))) q ≡ Some (Work o s)
       stands x kx px = in_flat (setup_in (now start ms)) x name f q (Work o s) kx px not_end (at_x x kx px)
 
       here : (x : Job) (action : Action) → next_action (now start ms) x ≡ Some action → x.kind ≡ GetJob name → slice_get (actions_of (setup_in (now start ms)) x) x.place ≡ Some action
@@ -192,7 +184,7 @@ module _ (limit : ℕ) (start : State) (m : Moment) (ms : List Moment) (A : All 
       by_gave x action runs next_is kx px pp place (Gave.fetched i o2 s2 block act given) = elim (cases_lt q x.place) [
         | inl l ↦
             (let fetch = in_flat (setup_in (now start ms)) x name f x.place (Fetch i o2 s2) kx px (λ e. cc) (here x (Fetch i o2 s2) (next_is ∙ ap Some act) kx) in
-            let apart : s ≡ s2 → ⊥ = (λ e. (let r = order (setup_in (now start ms)) f.id (stripes_of (setup_in (now start ms)) (length f.bytes)) 0 q x.place i o o2 s2 (subst (λ n. slice_get (flat (setup_in (now start ms)) f.id (upto (stripes_of (setup_in (now start ms)) (length f.bytes)))) q ≡ Some (Work o n)) e (stands x kx px)) fetch in omega arith)) in
+            let apart : s ≡ s2 → ⊥ = (λ e. (let r = order (setup_in (now start ms)) f.id (pinned_stripes (setup_in (now start ms)) f) 0 q x.place i o o2 s2 (subst (λ n. slice_get (flat (setup_in (now start ms)) f.id (upto (pinned_stripes (setup_in (now start ms)) f))) q ≡ Some (Work o n)) e (stands x kx px)) fetch in omega arith)) in
             subst (λ g. Opened (setup_in (now start ms)) f.id g s) (sym given)
             (opened_by (setup_in (now start ms)) f.id x.given (Fetched i o2 s2 block ∷ x.given) s (λ n. block_skips i o2 s2 block x.given f.id s n apart) refl (before_now x l kx px runs)))
         | inr l ↦ absurd (let q_is : q ≡ x.place = omega arith in
@@ -206,7 +198,7 @@ module _ (limit : ℕ) (start : State) (m : Moment) (ms : List Moment) (A : All 
       by_gave x action runs next_is kx px pp place (Gave.worked o2 s2 symbols act gives given) = elim (cases_lt q x.place) [
         | inl l ↦
             (let work = in_flat (setup_in (now start ms)) x name f x.place (Work o2 s2) kx px (λ e. cc) (here x (Work o2 s2) (next_is ∙ ap Some act) kx) in
-            let apart : s ≡ s2 → ⊥ = (λ e. (let r = once (setup_in (now start ms)) f.id (stripes_of (setup_in (now start ms)) (length f.bytes)) 0 q x.place o o2 s2 (subst (λ n. slice_get (flat (setup_in (now start ms)) f.id (upto (stripes_of (setup_in (now start ms)) (length f.bytes)))) q ≡ Some (Work o n)) e (stands x kx px)) work in omega arith)) in
+            let apart : s ≡ s2 → ⊥ = (λ e. (let r = once (setup_in (now start ms)) f.id (pinned_stripes (setup_in (now start ms)) f) 0 q x.place o o2 s2 (subst (λ n. slice_get (flat (setup_in (now start ms)) f.id (upto (pinned_stripes (setup_in (now start ms)) f))) q ≡ Some (Work o n)) e (stands x kx px)) work in omega arith)) in
             subst (λ g. Opened (setup_in (now start ms)) f.id g s) (sym given)
             (opened_by (setup_in (now start ms)) f.id x.given (Worked o2 s2 symbols ∷ x.given) s (λ n. refl) (symbols_skip o2 s2 symbols x.given f.id s apart) (before_now x l kx px runs)))
         | inr l ↦
@@ -214,7 +206,7 @@ module _ (limit : ℕ) (start : State) (m : Moment) (ms : List Moment) (A : All 
             let e : Work o2 s2 ≡ Work o s = same_value _ (Work o2 s2) (Work o s) (here x (Work o2 s2) (next_is ∙ ap Some act) kx) (subst (λ n. slice_get (actions_of (setup_in (now start ms)) x) n ≡ Some (Work o s)) q_is (at_x x kx px)) in
             let o_is : o2 ≡ o = cc in
             let s_is : s2 ≡ s = cc in
-            let id_is : o ≡ f.id = (each_get (From (setup_in (now start ms)) f.id 0) (flat (setup_in (now start ms)) f.id (upto (stripes_of (setup_in (now start ms)) (length f.bytes)))) q (Work o s) (from (setup_in (now start ms)) f.id (stripes_of (setup_in (now start ms)) (length f.bytes)) 0) (stands x kx px)).1 in
+            let id_is : o ≡ f.id = (each_get (From (setup_in (now start ms)) f.id 0) (flat (setup_in (now start ms)) f.id (upto (pinned_stripes (setup_in (now start ms)) f))) q (Work o s) (from (setup_in (now start ms)) f.id (pinned_stripes (setup_in (now start ms)) f) 0) (stands x kx px)).1 in
             subst (λ g. Opened (setup_in (now start ms)) f.id g s) (sym given)
             (worked_here (o_is ∙ id_is) s_is gives))
       ]
@@ -223,8 +215,8 @@ module _ (limit : ℕ) (start : State) (m : Moment) (ms : List Moment) (A : All 
           worked_here a b g =
               subst (λ n. Opened (setup_in (now start ms)) f.id (Worked o2 s2 symbols ∷ x.given) n) b
               (subst (λ n. Opened (setup_in (now start ms)) n (Worked o2 s2 symbols ∷ x.given) s2) a
-              (subst (GivesSymbols (object_in (now start ms) o2) s2 (blocks_given (Worked o2 s2 symbols ∷ x.given) (setup_in (now start ms)).n o2 s2)) (sym (symbols_here o2 s2 symbols x.given))
-              (subst (λ l. GivesSymbols (object_in (now start ms) o2) s2 l symbols) (sym (map_same (block_given (Worked o2 s2 symbols ∷ x.given) o2 s2) (block_given x.given o2 s2) (upto (setup_in (now start ms)).n) (λ n. refl))) g)))
+              (subst (GivesSymbols (object_in (now start ms) o2) s2 (blocks_given (Worked o2 s2 symbols ∷ x.given) (setup_in (now start ms)).n o2 s2)) (sym (symbols_given-newest o2 s2 symbols x.given))
+              (subst (λ l. GivesSymbols (object_in (now start ms) o2) s2 l symbols) (sym (map-same (block_given (Worked o2 s2 symbols ∷ x.given) o2 s2) (block_given x.given o2 s2) (upto (setup_in (now start ms)).n) (λ n. refl))) g)))
 
   step_facts : Facts start (m ∷ ms)
   step_facts = record { file = file_step; opened = opened_step }
@@ -247,20 +239,11 @@ bare (Worked o s symbols ∷ more) = bare more
 bare (Fetched i o s block ∷ more) = Fetched i o s block ∷ bare more
 bare (Answered i o r symbol ∷ more) = Answered i o r symbol ∷ bare more
 
-given_last : (n : ℕ) (es : List Entry) (g : Given) → given_to n (es ++ record { job = n; given = g } ∷ []) ≡ g ∷ given_to n es
-given_last n [] g = cond_true (n == n) ([] ++ g ∷ []) [] (eq-eqb n n refl)
-given_last n (e ∷ es) g = elim (cases_Bool (e.job == n)) [
-  | inl t ↦ cond_true (e.job == n) (given_to n (es ++ record { job = n; given = g } ∷ []) ++ e.given ∷ []) (given_to n (es ++ record { job = n; given = g } ∷ [])) t
-      ∙ (ap (λ l. l ++ e.given ∷ []) (given_last n es g) ∙ ap (λ l. g ∷ l) (sym (cond_true (e.job == n) (given_to n es ++ e.given ∷ []) (given_to n es) t)))
-  | inr f ↦ cond_false (e.job == n) (given_to n (es ++ record { job = n; given = g } ∷ []) ++ e.given ∷ []) (given_to n (es ++ record { job = n; given = g } ∷ [])) f
-      ∙ (given_last n es g ∙ ap (λ l. g ∷ l) (sym (cond_false (e.job == n) (given_to n es ++ e.given ∷ []) (given_to n es) f)))
-]
-
 given_back : (n : ℕ) (given : List Given) → given_to n (entries_of n given) ≡ bare given
 given_back n [] = refl
 given_back n (Worked o s symbols ∷ more) = given_back n more
-given_back n (Fetched i o s block ∷ more) = given_last n (entries_of n more) (Fetched i o s block) ∙ ap (λ l. Fetched i o s block ∷ l) (given_back n more)
-given_back n (Answered i o r symbol ∷ more) = given_last n (entries_of n more) (Answered i o r symbol) ∙ ap (λ l. Answered i o r symbol ∷ l) (given_back n more)
+given_back n (Fetched i o s block ∷ more) = given_to-more n (entries_of n more) (Fetched i o s block) ∙ ap (λ l. Fetched i o s block ∷ l) (given_back n more)
+given_back n (Answered i o r symbol ∷ more) = given_to-more n (entries_of n more) (Answered i o r symbol) ∙ ap (λ l. Answered i o r symbol ∷ l) (given_back n more)
 
 bare_block : (given : List Given) (object s j : ℕ) → block_given (bare given) object s j ≡ block_given given object s j
 bare_block [] object s j = refl
@@ -268,80 +251,24 @@ bare_block (Worked o t symbols ∷ more) object s j = bare_block more object s j
 bare_block (Fetched i o t block ∷ more) object s j = ap (cond (((i == j) && (o == object)) && (t == s)) block) (bare_block more object s j)
 bare_block (Answered i o r symbol ∷ more) object s j = bare_block more object s j
 
-heard_blocks : (job : Job) (name : List ℕ) (n object s : ℕ) → job.kind ≡ GetJob name → blocks_given (given_to job.number (heard_by (Some job))) n object s ≡ blocks_given job.given n object s
+pub heard_blocks : (job : Job) (name : List ℕ) (n object s : ℕ) → job.kind ≡ GetJob name → blocks_given (given_to job.number (heard_by (Some job))) n object s ≡ blocks_given job.given n object s
 heard_blocks job name n object s kind =
     ap (λ es. blocks_given (given_to job.number es) n object s) (ap (heard_by_kind job) kind)
-    ∙ (ap (λ g. blocks_given g n object s) (given_back job.number job.given) ∙ map_same (block_given (bare job.given) object s) (block_given job.given object s) (upto n) (λ j. bare_block job.given object s j))
-
--- ---- a step that ends with bytes is the end of a get
-
-module _ (old : State) (job : Job) (new : State) (bytes : List ℕ) where
-  abbrev Result : Type 0
-  Result = (next_action old job ≡ Some End) × Ends old job job.kind (answer.Got bytes)
-
-  moves_not : (action : Action) (flight : Option Append) → Moves old job action flight (Ended (answer.Got bytes)) new → ⊥
-  moves_not WriteBody flight h = h
-  moves_not SyncBody None h = h
-  moves_not SyncBody (Some a) h = h
-  moves_not WriteGate None h = h
-  moves_not WriteGate (Some a) h = h
-  moves_not SyncGate None h = h
-  moves_not SyncGate (Some a) h = h
-  moves_not (Store j o s) flight h = h
-  moves_not (Fetch j o s) flight h = h
-  moves_not (Ask j o s) flight h = h
-  moves_not (Work o s) flight h = h
-  moves_not (Remove j o) flight h = h
-  moves_not End flight h = h
-
-  acts_end : (action : Action) → Acts old job action (Ended (answer.Got bytes)) new → (action ≡ End) × Ends old job job.kind (answer.Got bytes)
-  acts_end End h = (refl, h.0)
-  acts_end (Store j o s) h = absurd (moves_not (Store j o s) old.append h)
-  acts_end (Fetch j o s) h = absurd (moves_not (Fetch j o s) old.append h)
-  acts_end (Ask j o s) h = absurd (moves_not (Ask j o s) old.append h)
-  acts_end (Work o s) h = absurd (moves_not (Work o s) old.append h)
-  acts_end (Remove j o) h = absurd (moves_not (Remove j o) old.append h)
-  acts_end WriteBody h = absurd (moves_not WriteBody old.append h)
-  acts_end SyncBody h = absurd (moves_not SyncBody old.append h)
-  acts_end WriteGate h = absurd (moves_not WriteGate old.append h)
-  acts_end SyncGate h = absurd (moves_not SyncGate old.append h)
-
-  waits_end : (action : Action) (holder : Option ℕ) → ActsOrWaits old job action holder (Ended (answer.Got bytes)) new → (action ≡ End) × Ends old job job.kind (answer.Got bytes)
-  waits_end action None h = acts_end action h
-  waits_end action (Some n) h = absurd h
-
-  on_end : (action : Option Action) → next_action old job ≡ action → StepsOn old job action (Ended (answer.Got bytes)) new → (next_action old job ≡ Some End) × Ends old job job.kind (answer.Got bytes)
-  on_end None is h = absurd h
-  on_end (Some action) is h = (let r = waits_end action (holder_of old.append action) h in (is ∙ ap Some r.0, r.1))
-
-  job_end : (found : Option Job) → found ≡ Some job → StepsJob old found (Ended (answer.Got bytes)) new → (next_action old job ≡ Some End) × Ends old job job.kind (answer.Got bytes)
-  job_end None is h = absurd h
-  job_end (Some x) is h = on_end (next_action old job) refl (subst (λ (y : Job). StepsOn old y (next_action old y) (Ended (answer.Got bytes)) new) (let e : x ≡ job = cc in e) h)
-
-  open_end : (is_barred : Bool) → job_of old.jobs job.number ≡ Some job → StepsOpen old job.number is_barred (Ended (answer.Got bytes)) new → (next_action old job ≡ Some End) × Ends old job job.kind (answer.Got bytes)
-  open_end true runs h = absurd h
-  open_end false runs h = job_end (job_of old.jobs job.number) runs h
-
-  step_end : (is_open : Bool) → job_of old.jobs job.number ≡ Some job → Steps old job.number is_open (Ended (answer.Got bytes)) new → (next_action old job ≡ Some End) × Ends old job job.kind (answer.Got bytes)
-  step_end true runs h = open_end old.is_barred runs h
-  step_end false runs h = absurd h
+    ∙ (ap (λ g. blocks_given g n object s) (given_back job.number job.given) ∙ map-same (block_given (bare job.given) object s) (block_given job.given object s) (upto n) (λ j. bare_block job.given object s j))
 
 got_by : (w : State) (job : Job) (f : Pinned) (bytes : List ℕ) → job.pinned ≡ f ∷ [] → GotBytes w job job.pinned bytes → bytes ≡ file_given (setup_in w) job.given f
 got_by w job f bytes pinned h = subst (λ (p : List Pinned). GotBytes w job p bytes) pinned h
 
 pub got_is_opened : GotIsOpened
 got_is_opened limit start m ms job name bytes clean run e =
-    (let h : Happens limit (length ms) (now start ms) (Step job.number) (Ended (answer.Got bytes)) m.state =
-    subst (λ (x : Event). Happens limit (length ms) (now start ms) x (Ended (answer.Got bytes)) m.state) e.event
-    (subst (λ (r : Outcome). Happens limit (length ms) (now start ms) m.event r m.state) e.outcome run.1) in
-    let r = step_end (now start ms) job m.state bytes (now start ms).is_open e.runs h in
+    (let r = event_end limit (length ms) (now start ms) m.event m.outcome m.state job (answer.Got bytes) (λ x. x) e.event e.outcome e.runs run.1 in
     let F = facts limit start clean ms run.2 in
     let f = F.file job.number job name e.runs e.kind in
     let b : State = begin_of start ms job in
     let p : Pinned = pinned_file b f.file in
     let t = setup_same (now start ms) b f.setup in
     let ends : GotBytes (now start ms) job job.pinned bytes = subst (λ kd. Ends (now start ms) job kd (answer.Got bytes)) e.kind r.1 in
-    let end_at : slice_get ((flat (setup_in (now start ms)) p.id (upto (stripes_of (setup_in (now start ms)) (length p.bytes))) ++ []) ++ End ∷ []) job.place ≡ Some End =
+    let end_at : slice_get ((flat (setup_in (now start ms)) p.id (upto (pinned_stripes (setup_in (now start ms)) p)) ++ []) ++ End ∷ []) job.place ≡ Some End =
     ap (λ l. slice_get l job.place) (sym (get_actions (setup_in (now start ms)) job name p e.kind f.pinned)) ∙ (sym (get_next (now start ms) job name e.kind) ∙ r.0) in
     record {
       file = f.file;
@@ -349,10 +276,10 @@ got_is_opened limit start m ms job name bytes clean run e =
       opens = record {
         symbols = λ s. symbols_given job.given f.file.id s;
         given = λ s l.
-            (let at = worked_on (setup_in (now start ms)) p.id (stripes_of (setup_in (now start ms)) (length p.bytes)) 0 s (omega arith) (subst (λ (u : Setup). s < 0 + stripes_of u (length p.bytes)) (sym t) (let z : s < 0 + stripes_of (setup_in b) (length p.bytes) = omega (arith, l) in z)) in
-            let early = before_end (setup_in (now start ms)) p.id (stripes_of (setup_in (now start ms)) (length p.bytes)) at.0 job.place (Work p.id s) at.1 end_at in
+            (let at = worked_on (setup_in (now start ms)) p.id (pinned_stripes (setup_in (now start ms)) p) 0 s (omega arith) (subst (λ (u : Setup). s < 0 + pinned_stripes u p) (sym t) (let z : s < 0 + pinned_stripes (setup_in b) p = omega (arith, l) in z)) in
+            let early = before_end (setup_in (now start ms)) p.id (pinned_stripes (setup_in (now start ms)) p) at.0 job.place (Work p.id s) at.1 end_at in
             let o : Opened (setup_in (now start ms)) p.id job.given s = F.opened job.number job name p at.0 p.id s e.runs e.kind f.pinned early
-            (ap (λ l. slice_get l at.0) (get_actions (setup_in (now start ms)) job name p e.kind f.pinned) ∙ from_flat (setup_in (now start ms)) p.id (upto (stripes_of (setup_in (now start ms)) (length p.bytes))) at.0 (Work p.id s) at.1) in
+            (ap (λ l. slice_get l at.0) (get_actions (setup_in (now start ms)) job name p e.kind f.pinned) ∙ from_flat (setup_in (now start ms)) p.id (upto (pinned_stripes (setup_in (now start ms)) p)) at.0 (Work p.id s) at.1) in
             subst (λ l. GivesSymbols (object_in b f.file.id) s l (symbols_given job.given f.file.id s)) (sym (heard_blocks job name (setup_in b).n f.file.id s e.kind))
             (subst (λ (u : Setup). Opened u p.id job.given s) t o));
         cut = got_by (now start ms) job p bytes f.pinned ends ∙ ap (λ (u : Setup). file_given u job.given p) t;

@@ -3,6 +3,8 @@ use Rattle.std.proofs.Common.{◌≡◌, ℕ, zero, suc, ◌+◌, ◌<◌, ◌�
 use Rattle.std.specs.Prelude.{slice_get, slice_index_or, nat_le}
 use Rattle.std.specs.List.{Contains, flat_map}
 use Rattle.std.proofs.lemmas.Bool.{eq-eqb, cases_lt, or_parts, and_from, le-leb, lt-leb, false≢true}
+use Rattle.plain_facts.specs.Lists.{In}
+use Rattle.plain_facts.proofs.Each.{each_get}
 use Rattle.hail_columns.specs.Columns.{columns}
 use Rattle.hail_records.specs.Records.{Record, Setup}
 use Rattle.hail_records.specs.Table.{started_as, setup_of}
@@ -15,12 +17,11 @@ use Rattle.hail_machine.specs.Steps.{next_action, block_to_store}
 use Rattle.hail_machine.specs.Runs.{Moment, now, first_moments, is_replacement, is_replaced_since, IsRun}
 use Rattle.hail_machine.specs.Deeds.{told_block, HasMadeStore}
 use Rattle.hail_machine.proofs.JobLists.{cond_true, same_value, found_none}
-use Rattle.hail_machine.proofs.ActionLists.{each_get}
 use Rattle.hail_machine.proofs.Changes.{Grown, Job_is, Block_is, Changes}
 use Rattle.hail_machine.proofs.Events.{some_told, changes}
-use Rattle.hail_machine.proofs.Numbers.{objects, Draws, HasNumber, next_is_by, at_three, first_above, drawn_later}
+use Rattle.hail_machine.proofs.Numbers.{objects, Draws, next_is_by, first_above, drawn_later}
 use Rattle.hail_machine.proofs.Numbers as num
-use Rattle.hail_machine.proofs.RecordFacts.{In, started-less}
+use Rattle.hail_machine.proofs.RecordFacts.{started-less}
 use Rattle.hail_machine.proofs.Fair.{HasPin, IsFair, fair, is_fair, PutAt, put_at, store_place}
 use Rattle.hail_machine.proofs.Pins.{pinned_stands, check_alone, Wrote}
 use Rattle.hail_machine.proofs.PinFacts.{Pins_is, pins_is, stands_quiet, setup_same, setup_one}
@@ -45,11 +46,11 @@ replaced_now : (from j : ℕ) (m : Moment) (ms : List Moment) → from ≤ lengt
 replaced_now from j m ms l h none =
     false≢true (sym (or_parts (is_replacement m.event m.outcome j && nat_le from (length ms)) (is_replaced_since from j ms) none).0 ∙ and_from _ _ h (le-leb from (length ms) l))
 
-replaced_before : (from j : ℕ) (m : Moment) (ms : List Moment) → is_replaced_since from j (m ∷ ms) ≡ false → is_replaced_since from j ms ≡ false
+pub replaced_before : (from j : ℕ) (m : Moment) (ms : List Moment) → is_replaced_since from j (m ∷ ms) ≡ false → is_replaced_since from j ms ≡ false
 replaced_before from j m ms none = (or_parts (is_replacement m.event m.outcome j && nat_le from (length ms)) (is_replaced_since from j ms) none).1
 
 -- a store of another kind of job than a put or a repair there is not
-store_kinds : (job : Job) (kind : Kind) (i o s : ℕ) → job.kind ≡ kind → IsFair job kind (Store i o s) →
+pub store_kinds : (job : Job) (kind : Kind) (i o s : ℕ) → job.kind ≡ kind → IsFair job kind (Store i o s) →
     ((name : List ℕ) × (bytes : List ℕ) × (job.kind ≡ PutJob name bytes) × (o ≡ job.subject)) ⊎ ((job.kind ≡ RepairJob) × HasPin job o)
 store_kinds job (PutJob name bytes) i o s is h = inl (name, bytes, is, h)
 store_kinds job RepairJob i o s is h = inr (is, h)
@@ -57,7 +58,8 @@ store_kinds job (GetJob name) i o s is h = absurd h
 store_kinds job (DropJob name) i o s is h = absurd h
 store_kinds job AuditJob i o s is h = absurd h
 
-remove_kinds : (job : Job) (kind : Kind) (i o : ℕ) → job.kind ≡ kind → IsFair job kind (Remove i o) → In o job.older
+-- a removal is of an object that the job takes away
+pub remove_kinds : (job : Job) (kind : Kind) (i o : ℕ) → job.kind ≡ kind → IsFair job kind (Remove i o) → In o job.older
 remove_kinds job (PutJob name bytes) i o is h = h
 remove_kinds job (GetJob name) i o is h = h
 remove_kinds job (DropJob name) i o is h = h

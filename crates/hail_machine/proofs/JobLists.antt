@@ -103,3 +103,12 @@ found_more (y ∷ js) x k j h = elim (cases_Bool (y.number == k)) [
 
 pub found_none : (js : List Job) (k : ℕ) (j : Job) → js ≡ [] → job_of js k ≡ Some j → ⊥
 found_none js k j e h = let f : None ≡ Some j = ap (λ (l : List Job). job_of l k) (sym e) ∙ h in cc
+
+-- a job that was found is found among one more
+pub still_found : (js : List Job) (y : Job) (k : ℕ) (j : Job) → job_of js k ≡ Some j → job_of (js ++ y ∷ []) k ≡ Some j
+still_found [] y k j h = let e : None ≡ Some j = h in cc
+still_found (x ∷ js) y k j h = elim (cases_Bool (x.number == k)) [
+  | inl t ↦ cond_true (x.number == k) (Some x) (job_of (js ++ y ∷ []) k) t ∙ (sym (cond_true (x.number == k) (Some x) (job_of js k) t) ∙ h)
+  | inr f ↦ cond_false (x.number == k) (Some x) (job_of (js ++ y ∷ []) k) f
+      ∙ still_found js y k j (sym (cond_false (x.number == k) (Some x) (job_of js k) f) ∙ h)
+]

@@ -1,3 +1,5 @@
+pub mod NextActions
+pub mod Given
 pub mod RunParts
 pub mod PutSteps
 pub mod GetSteps
@@ -5,8 +7,12 @@ pub mod PutRun
 pub mod GetRun
 pub mod JobLists
 pub mod ActionLists
+pub mod Plans
 pub mod Changes
+pub mod StepEnds
 pub mod Events
+pub mod Done
+pub mod Written
 pub mod Numbers
 pub mod Uses
 pub mod RecordFacts

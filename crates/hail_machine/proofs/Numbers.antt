@@ -2,7 +2,7 @@
 use Rattle.std.proofs.Common.{◌≡◌, ℕ, suc, ◌+◌, ◌<◌, ◌≤◌, true, false, cond, ◌⊎◌, List, [], ◌∷◌, length, Option, Some, None, refl, ap, sym, subst, ◌∙◌, inl, inr, arith}
 use Rattle.std.specs.Prelude.{slice_get, nat_lt}
 use Rattle.std.proofs.lemmas.Bool.{cases_Bool, cases_eq, cases_lt, ltb-true, lt-ltb}
-use Rattle.hail_records.specs.Records.{Record, SetUp, PutStart, PutDone, Drop, AuditStart, AuditDone, RepairDone}
+use Rattle.hail_records.specs.Records.{Record, SetUp, PutStart, PutDone, Drop, AuditStart, AuditDone, RepairDone, PutDoneIn, Version, Resume, InEffect, RepairDue}
 use Rattle.hail_records.specs.Table.{next_id, next_audit}
 use Rattle.hail_machine.specs.Jobs.{Kind, PutJob, GetJob, DropJob, AuditJob, RepairJob, Job, job_of}
 use Rattle.hail_machine.specs.Actions.{Action, WriteBody, SyncGate, End, actions_by, actions_of}
@@ -11,8 +11,9 @@ use Rattle.hail_machine.specs.Appends.{Writes, is_first_append, subject_drawn}
 use Rattle.hail_machine.specs.Steps.{next_action, is_idle_drop}
 use Rattle.hail_machine.specs.Runs.{Moment, now, IsRun}
 use Rattle.hail_machine.proofs.JobLists.{cond_true, cond_false, same_value, found_none}
-use Rattle.hail_machine.proofs.Changes.{IsPlain, Job_is, Append_is, Records_is, IsIdle, Changes}
+use Rattle.hail_machine.proofs.Changes.{IsPlain, Job_is, Append_is, Records_is, IsQuietState, Changes}
 use Rattle.hail_machine.proofs.Events.{changes}
+use Rattle.hail_machine.proofs.Written.{IsAppended, IsWritten, written_on}
 
 -- the two series of numbers
 pub data Series : Type 0 where
@@ -33,36 +34,46 @@ Draws series kind = ⊥
 abbrev pub HasNumber : Series → Job → Type 0
 HasNumber series j = Draws series j.kind × (4 ≤ j.place)
 
-next_grows : (series : Series) (r : Record) (rs : List Record) → next series rs ≤ next series (r ∷ rs)
-next_grows objects (SetUp s) rs = omega arith
-next_grows objects (PutStart id name) rs = omega arith
-next_grows objects (PutDone id size) rs = omega arith
-next_grows objects (Drop name) rs = omega arith
-next_grows objects (AuditStart number) rs = omega arith
-next_grows objects (AuditDone number undecided counts) rs = omega arith
-next_grows objects (RepairDone number) rs = omega arith
-next_grows audits (SetUp s) rs = omega arith
-next_grows audits (PutStart id name) rs = omega arith
-next_grows audits (PutDone id size) rs = omega arith
-next_grows audits (Drop name) rs = omega arith
-next_grows audits (AuditStart number) rs = omega arith
-next_grows audits (AuditDone number undecided counts) rs = omega arith
-next_grows audits (RepairDone number) rs = omega arith
+next_grows : (series : Series) (r : Record) (rs : List Record) → IsAppended r → next series rs ≤ next series (r ∷ rs)
+next_grows objects (SetUp s) rs good = omega arith
+next_grows objects (PutStart id name) rs good = omega arith
+next_grows objects (PutDone id size) rs good = omega arith
+next_grows objects (Drop name) rs good = omega arith
+next_grows objects (AuditStart number) rs good = omega arith
+next_grows objects (AuditDone number undecided counts) rs good = omega arith
+next_grows objects (RepairDone number) rs good = omega arith
+next_grows objects (PutDoneIn id size profile) rs good = omega arith
+next_grows objects Version rs good = omega arith
+next_grows objects (Resume id audit) rs good = absurd good
+next_grows objects (InEffect id size profile name) rs good = absurd good
+next_grows objects (RepairDue number counts) rs good = absurd good
+next_grows audits (SetUp s) rs good = omega arith
+next_grows audits (PutStart id name) rs good = omega arith
+next_grows audits (PutDone id size) rs good = omega arith
+next_grows audits (Drop name) rs good = omega arith
+next_grows audits (AuditStart number) rs good = omega arith
+next_grows audits (AuditDone number undecided counts) rs good = omega arith
+next_grows audits (RepairDone number) rs good = omega arith
+next_grows audits (PutDoneIn id size profile) rs good = omega arith
+next_grows audits Version rs good = omega arith
+next_grows audits (Resume id audit) rs good = absurd good
+next_grows audits (InEffect id size profile name) rs good = absurd good
+next_grows audits (RepairDue number counts) rs good = absurd good
 
 on_top : (series : Series) (rs more : List Record) → more ≡ rs → next series rs ≤ next series more
 on_top series rs more is = (let e : next series more ≡ next series rs = ap (next series) is in omega arith)
 
-pub next_of_records : (series : Series) (old new : State) → Records_is old new → next series old.records ≤ next series new.records
-next_of_records series old new (Records_is.same is) = on_top series old.records new.records is
-next_of_records series old new (Records_is.finished before a runs next_is flight mine moves is) =
-    (let e = on_top series (a.entry ∷ old.records) new.records is in let g = next_grows series a.entry old.records in omega arith)
-next_of_records series old new (Records_is.settled d in_doubt is) =
-    (let e = on_top series (d.entry ∷ old.records) new.records is in let g = next_grows series d.entry old.records in omega arith)
-next_of_records series old new (Records_is.set_up s none is) =
-    (let e = on_top series (SetUp s ∷ old.records) new.records is in let g = next_grows series (SetUp s) old.records in omega arith)
-next_of_records series old new (Records_is.settled_set_up s d in_doubt none is) =
+pub next_of_records : (series : Series) (old new : State) → IsWritten old → Records_is old new → next series old.records ≤ next series new.records
+next_of_records series old new W (Records_is.same is) = on_top series old.records new.records is
+next_of_records series old new W (Records_is.finished before a runs next_is flight mine moves is) =
+    (let e = on_top series (a.entry ∷ old.records) new.records is in let g = next_grows series a.entry old.records (W.0 a flight) in omega arith)
+next_of_records series old new W (Records_is.settled d in_doubt is) =
+    (let e = on_top series (d.entry ∷ old.records) new.records is in let g = next_grows series d.entry old.records (W.1 d in_doubt) in omega arith)
+next_of_records series old new W (Records_is.set_up s none is) =
+    (let e = on_top series (SetUp s ∷ old.records) new.records is in let g = next_grows series (SetUp s) old.records tt in omega arith)
+next_of_records series old new W (Records_is.settled_set_up s d in_doubt none is) =
     (let e = on_top series (SetUp s ∷ d.entry ∷ old.records) new.records is in
-    let g = next_grows series (SetUp s) (d.entry ∷ old.records) in let f = next_grows series d.entry old.records in omega arith)
+    let g = next_grows series (SetUp s) (d.entry ∷ old.records) tt in let f = next_grows series d.entry old.records (W.1 d in_doubt) in omega arith)
 
 -- the next action, by kind and place
 abbrev pub next_by : State → Job → Kind → ℕ → Option Action
@@ -155,7 +166,8 @@ pub record Facts (series : Series) (start : State) (ms : List Moment) : Type 0 w
       (j.subject ≡ next series (now start ms).records) × Raises series a.entry
   pub holder : (a : Append) → (now start ms).append ≡ Some a → a.job < (now start ms).next_job
   pub jobs_below : (k : ℕ) (j : Job) → job_of (now start ms).jobs k ≡ Some j → k < (now start ms).next_job
-  pub idle : IsIdle (now start ms)
+  pub idle : IsQuietState (now start ms)
+  pub written : IsWritten (now start ms)
   pub used_below : (b n : ℕ) → HasUsed series start ms b n → n < next series (now start ms).records
   pub used_mine : (b n k : ℕ) (j : Job) → HasUsed series start ms b n → job_of (now start ms).jobs k ≡ Some j → HasNumber series j → j.subject ≡ n → b ≡ j.begun
   pub used_once : (b c n : ℕ) → HasUsed series start ms b n → HasUsed series start ms c n → b ≡ c
@@ -170,7 +182,7 @@ module _ (series : Series) (limit : ℕ) (start : State) (m : Moment) (ms : List
   before_state = now start ms
 
   grows : next series (now start ms).records ≤ next series m.state.records
-  grows = next_of_records series (now start ms) m.state X.records
+  grows = next_of_records series (now start ms) m.state F.written X.records
 
   draws_back : (i j : Job) → j.kind ≡ i.kind → Draws series j.kind → Draws series i.kind
   draws_back i j is d = subst (Draws series) is d
@@ -296,7 +308,8 @@ module _ (series : Series) (limit : ℕ) (start : State) (m : Moment) (ms : List
     fits = fits_step;
     holder = holder_step;
     jobs_below = jobs_below_step;
-    idle = X.idle F.idle;
+    idle = record { idle = X.idle F.idle.idle };
+    written = written_on limit (length ms) (now start ms) m.event m.outcome m.state X F.written;
     used_below = used_below_step;
     used_mine = used_mine_step;
     used_once = used_once_step;
@@ -309,7 +322,8 @@ start_facts series start clean = record {
   fits = λ a j h g d s. absurd (found_none start.jobs a.job j clean.jobs g);
   holder = λ a h. absurd (let e : None ≡ Some a = sym clean.append ∙ h in cc);
   jobs_below = λ k j h. absurd (found_none start.jobs k j clean.jobs h);
-  idle = λ closed. (clean.jobs, clean.append);
+  idle = record { idle = λ closed. (clean.jobs, clean.append) };
+  written = (λ a h. absurd (let e : None ≡ Some a = sym clean.append ∙ h in cc), λ d h. absurd (let e : None ≡ Some d = sym clean.doubt ∙ h in cc));
   used_below = λ b n u. absurd u;
   used_mine = λ b n k j u h has s. absurd u;
   used_once = λ b c n u v. absurd u;

@@ -1,8 +1,10 @@
 -- What holds at each moment of a run of the files in effect and of those that jobs work on.
 use Rattle.std.proofs.Common.{◌≡◌, ℕ, suc, ◌+◌, ◌<◌, ◌≤◌, ◌==◌, true, ◌⊎◌, List, [], ◌∷◌, length, Some, None, refl, ap, sym, subst, ◌∙◌, inl, inr, arith}
 use Rattle.std.proofs.lemmas.Bool.{eq-eqb, ne_eqb, cases_Bool, cases_eq, cases_lt, false≢true}
-use Rattle.hail_records.specs.Records.{Record, Setup, SetUp, PutStart, PutDone, Drop, AuditStart, AuditDone, RepairDone}
-use Rattle.hail_records.specs.Table.{File, setup_of, next_id, next_audit, started_as, is_start_of, is_same_name, file_of}
+use Rattle.plain_facts.specs.Lists.{In}
+use Rattle.hail_records.specs.Records.{Record, Setup, SetUp, PutStart, PutDone, Drop, AuditStart, AuditDone, RepairDone, PutDoneIn, Version, Resume, InEffect, RepairDue}
+use Rattle.hail_records.specs.Table.{File, setup_of, next_id, next_audit, started_as, is_start_of, is_same_name, file_of, file_as, profile_in}
+use Rattle.hail_records.proofs.FilesLaws.{same-refl}
 use Rattle.hail_machine.specs.Jobs.{Kind, PutJob, GetJob, DropJob, AuditJob, RepairJob, Pinned, Job, job_of}
 use Rattle.hail_machine.specs.Actions.{Action, WriteBody, SyncGate, Store, on_each_provider, on_each_stripe}
 use Rattle.hail_machine.specs.Setups.{setup_or_none}
@@ -13,9 +15,10 @@ use Rattle.hail_machine.specs.Steps.{next_action}
 use Rattle.hail_machine.specs.Runs.{Moment, now}
 use Rattle.hail_machine.proofs.JobLists.{cond_true, cond_false, same_value, found_none}
 use Rattle.hail_machine.proofs.Changes.{IsPlain, Grown, Job_is, Append_is, Records_is, Doubt_is, Changes}
-use Rattle.hail_machine.proofs.Numbers.{Series, objects, Draws, HasNumber, next_of_records, at_three, first_above, first_below, drawn_later, drawn_first}
+use Rattle.hail_machine.proofs.Numbers.{objects, Draws, next_of_records, at_three, first_above, first_below, drawn_later}
 use Rattle.hail_machine.proofs.Numbers as num
-use Rattle.hail_machine.proofs.RecordFacts.{IsProper, In, AreSound, sound-more, sound-none, not_started-more, file-more, same_name-refl}
+use Rattle.hail_machine.proofs.RecordFacts.{IsProper, AreSound, sound-more, sound-none, not_started-more, file-more}
+use Rattle.hail_machine.proofs.Done.{put_ended}
 use Rattle.hail_machine.proofs.Fair.{stores_count, gate_place}
 use Rattle.hail_machine.proofs.Pins.{Stands, pinned_stands, not_pinned, Taken, Takes, taken, check_alone, Wrote, writes_proper}
 
@@ -45,14 +48,14 @@ wrote_setup job AuditJob entry rs (inr h) = ap (λ (r : Record). setup_of (r ∷
 wrote_setup job RepairJob entry rs h = ap (λ (r : Record). setup_of (r ∷ rs)) h.1
 
 -- a put's end is written by a put that has its number
-wrote_done : (job : Job) (kind : Kind) (entry : Record) (id size : ℕ) → Wrote job kind entry → entry ≡ PutDone id size → Draws objects kind × (4 ≤ job.place) × (job.subject ≡ id)
-wrote_done job (PutJob name bytes) entry id size (inl h) e = (let f : PutStart job.subject name ≡ PutDone id size = sym h.1 ∙ e in cc)
-wrote_done job (PutJob name bytes) entry id size (inr h) e = (let f : PutDone job.subject (length bytes) ≡ PutDone id size = sym h.1 ∙ e in (tt, h.0, (let g : job.subject ≡ id = cc in g)))
-wrote_done job (GetJob name) entry id size h e = absurd h
-wrote_done job (DropJob name) entry id size h e = (let f : Drop name ≡ PutDone id size = sym h ∙ e in cc)
-wrote_done job AuditJob entry id size (inl h) e = (let f : AuditStart h.0 ≡ PutDone id size = sym h.1 ∙ e in cc)
-wrote_done job AuditJob entry id size (inr h) e = (let f : AuditDone h.0 h.1 h.2 ≡ PutDone id size = sym h.3 ∙ e in cc)
-wrote_done job RepairJob entry id size h e = (let f : RepairDone h.0 ≡ PutDone id size = sym h.1 ∙ e in cc)
+wrote_done : (job : Job) (kind : Kind) (entry : Record) (id : ℕ) → Wrote job kind entry → put_ended entry ≡ Some id → Draws objects kind × (4 ≤ job.place) × (job.subject ≡ id)
+wrote_done job (PutJob name bytes) entry id (inl h) e = (let f : None ≡ Some id = sym (ap put_ended h.1) ∙ e in cc)
+wrote_done job (PutJob name bytes) entry id (inr h) e = (let f : Some job.subject ≡ Some id = sym (ap put_ended h.1) ∙ e in (tt, h.0, (let g : job.subject ≡ id = cc in g)))
+wrote_done job (GetJob name) entry id h e = absurd h
+wrote_done job (DropJob name) entry id h e = (let f : None ≡ Some id = sym (ap put_ended h) ∙ e in cc)
+wrote_done job AuditJob entry id (inl h) e = (let f : None ≡ Some id = sym (ap put_ended h.1) ∙ e in cc)
+wrote_done job AuditJob entry id (inr h) e = (let f : None ≡ Some id = sym (ap put_ended h.3) ∙ e in cc)
+wrote_done job RepairJob entry id h e = (let f : None ≡ Some id = sym (ap put_ended h.1) ∙ e in cc)
 
 wrote_on : (i j : Job) (kind : Kind) (entry : Record) → j.subject ≡ i.subject → j.place ≡ i.place + 1 → (Draws objects kind → i.place ≡ 3 → ⊥) → Wrote i kind entry → Wrote j kind entry
 wrote_on i j (PutJob name bytes) entry subject place apart (inl h) = inl ((let l = h.0 in elim (cases_eq i.place 3) [ inl e ↦ absurd (apart tt e) | inr n ↦ (omega arith) ]), h.1 ∙ ap (λ x. PutStart x name) (sym subject))
@@ -84,14 +87,20 @@ writes_wrote w i j AuditJob entry subject place apart h = elim (cases_Bool (is_f
 writes_wrote w i j RepairJob entry subject place apart h = (i.subject, h)
 
 -- a started number stays so unless its put ends
-started_keeps : (rs : List Record) (r : Record) (id : ℕ) (name : List ℕ) → IsProper rs r → id < next_id rs → started_as rs id ≡ Some name → ((size : ℕ) → r ≡ PutDone id size → ⊥) → started_as (r ∷ rs) id ≡ Some name
+started_keeps : (rs : List Record) (r : Record) (id : ℕ) (name : List ℕ) → IsProper rs r → id < next_id rs → started_as rs id ≡ Some name → (put_ended r ≡ Some id → ⊥) →
+    started_as (r ∷ rs) id ≡ Some name
 started_keeps rs (SetUp s) id name proper l h other = h
 started_keeps rs (PutStart k n) id name proper l h other = cond_false (k == id) (Some n) (started_as rs id) (ne_eqb k id (λ e. omega arith)) ∙ h
-started_keeps rs (PutDone k size) id name proper l h other = cond_false (k == id) None (started_as rs id) (ne_eqb k id (λ e. other size (ap (λ x. PutDone x size) e))) ∙ h
+started_keeps rs (PutDone k size) id name proper l h other = cond_false (k == id) None (started_as rs id) (ne_eqb k id (λ e. other (ap Some e))) ∙ h
 started_keeps rs (Drop n) id name proper l h other = h
 started_keeps rs (AuditStart number) id name proper l h other = h
 started_keeps rs (AuditDone number undecided counts) id name proper l h other = h
 started_keeps rs (RepairDone number) id name proper l h other = h
+started_keeps rs (PutDoneIn k size profile) id name proper l h other = cond_false (k == id) None (started_as rs id) (ne_eqb k id (λ e. other (ap Some e))) ∙ h
+started_keeps rs Version id name proper l h other = h
+started_keeps rs (Resume next audit) id name proper l h other = absurd proper
+started_keeps rs (InEffect k size profile kept) id name proper l h other = absurd proper
+started_keeps rs (RepairDue number counts) id name proper l h other = absurd proper
 
 -- what holds
 pub record Facts (start : State) (ms : List Moment) : Type 0 where
@@ -121,7 +130,7 @@ module _ (limit : ℕ) (start : State) (m : Moment) (ms : List Moment) (N : num.
   quiet : Growth → (id : ℕ) → (id < next_id (now start ms).records) × (started_as (now start ms).records id ≡ None) → (id < next_id m.state.records) × (started_as m.state.records id ≡ None)
   quiet (none rec) id h = ((let e = ap next_id rec in let l = h.0 in omega arith), ap (λ rs. started_as rs id) rec ∙ h.1)
   quiet (one a flight rec) id h = (
-    (let e = next_of_records objects (now start ms) m.state X.records in let l = h.0 in omega arith),
+    (let e = next_of_records objects (now start ms) m.state N.written X.records in let l = h.0 in omega arith),
     ap (λ rs. started_as rs id) rec ∙ not_started-more (now start ms).records a.entry id (F.append_proper a flight) h.0 h.1,
   )
 
@@ -189,7 +198,7 @@ module _ (limit : ℕ) (start : State) (m : Moment) (ms : List Moment) (N : num.
         let wx = F.wrote a x flight (subst (λ n. job_of (now start ms).jobs n ≡ Some x) (sym mine) runs) in
         ap (λ rs. started_as rs j.subject) rec ∙
         started_keeps (now start ms).records a.entry j.subject name (F.append_proper a flight) (F.sound.started j.subject name s0) s0
-        (λ size e. (let d = wrote_done x x.kind a.entry j.subject size wx e in other (N.apart x.number k x j runs r (d.0, d.1) (subst (Draws objects) (sym kind) tt, late) d.2))))
+        (λ e. (let d = wrote_done x x.kind a.entry j.subject wx e in other (N.apart x.number k x j runs r (d.0, d.1) (subst (Draws objects) (sym kind) tt, late) d.2))))
     | Job_is.begun kd is k_is none_ rec ↦ absurd (let e : j.place ≡ 0 = ap (λ (x : Job). x.place) is in omega arith)
     | Job_is.plain i action runs next_is is_plain goes rec st ↦
         before_same i runs (sym goes.kind ∙ kind) (sym goes.subject) goes.place rec (λ three. not_three i action next_is (plain_not action is_plain) (subst (Draws objects) (sym (sym goes.kind ∙ kind)) tt) three)
@@ -277,7 +286,7 @@ module _ (limit : ℕ) (start : State) (m : Moment) (ms : List Moment) (N : num.
   -- a file in effect now was so before, or its number was started
   came_or_stood : Growth → (q : List ℕ) (f : File) → file_in m.state q ≡ Some f → (file_in (now start ms) q ≡ Some f) ⊎ (started_as (now start ms).records f.id ≡ Some q)
   came_or_stood (none rec) q f h = inl (ap (λ rs. file_of rs q) (sym rec) ∙ h)
-  came_or_stood (one a flight rec) q f h = file-more (now start ms).records a.entry q f (ap (λ rs. file_of rs q) (sym rec) ∙ h)
+  came_or_stood (one a flight rec) q f h = file-more (now start ms).records a.entry q f (F.append_proper a flight) (ap (λ rs. file_of rs q) (sym rec) ∙ h)
 
   -- what a job has just taken out of effect is out
   out_now : (k : ℕ) (x : Job) (a : Append) (name : List ℕ) (o : ℕ) (q : List ℕ) (f : File) → job_of (now start ms).jobs k ≡ Some x → next_action (now start ms) x ≡ Some SyncGate → (kind : Kind) → x.kind ≡ kind →
@@ -287,16 +296,17 @@ module _ (limit : ℕ) (start : State) (m : Moment) (ms : List Moment) (N : num.
       (let q_is : q ≡ name = F.sound.one_name q name f t.file stood t.in_effect (e ∙ sym t.id_is) in
       let place = gate_place (now start ms) x n bytes kind next_is w.0 in
       let st : started_as (now start ms).records x.subject ≡ Some n = F.started k x n bytes runs kind w.0 (omega arith) in
-      let new_file : file_of (PutDone x.subject (length bytes) ∷ (now start ms).records) q ≡ Some (record { name = q; id = x.subject; size = length bytes }) =
-      cond_true (is_start_of q (started_as (now start ms).records x.subject)) (Some (record { name = q; id = x.subject; size = length bytes })) (file_of (now start ms).records q)
-      (ap (is_start_of q) st ∙ (ap (is_same_name n) (q_is ∙ sym takes.1) ∙ same_name-refl n)) in
-      let same : f ≡ record { name = q; id = x.subject; size = length bytes } = same_value _ f _ h (ap (λ rs. file_of rs q) (rec ∙ ap (λ (r : Record). r ∷ (now start ms).records) w.1) ∙ new_file) in
+      let file : File = file_as q x.subject (length bytes) (profile_in (setup_of (now start ms).records)) in
+      let new_file : file_of (PutDone x.subject (length bytes) ∷ (now start ms).records) q ≡ Some file =
+      cond_true (is_start_of q (started_as (now start ms).records x.subject)) (Some file) (file_of (now start ms).records q)
+      (ap (is_start_of q) st ∙ (ap (is_same_name n) (q_is ∙ sym takes.1) ∙ same-refl n)) in
+      let same : f ≡ file = same_value _ f _ h (ap (λ rs. file_of rs q) (rec ∙ ap (λ (r : Record). r ∷ (now start ms).records) w.1) ∙ new_file) in
       let id_is : f.id ≡ x.subject = ap (λ (y : File). y.id) same in
       let quiet_f = (F.sound.file q f stood).1 in
       let z : None ≡ Some n = sym quiet_f ∙ (ap (started_as (now start ms).records) id_is ∙ st) in cc)
   out_now k x a name o q f runs next_is (DropJob n) kind w takes t rec stood h e =
       (let q_is : q ≡ name = F.sound.one_name q name f t.file stood t.in_effect (e ∙ sym t.id_is) in
-      let gone : file_of (Drop n ∷ (now start ms).records) q ≡ None = cond_true (is_same_name n q) None (file_of (now start ms).records q) (ap (is_same_name n) (q_is ∙ sym takes) ∙ same_name-refl n) in
+      let gone : file_of (Drop n ∷ (now start ms).records) q ≡ None = cond_true (is_same_name n q) None (file_of (now start ms).records q) (ap (is_same_name n) (q_is ∙ sym takes) ∙ same-refl n) in
       let z : None ≡ Some f = sym (ap (λ rs. file_of rs q) (rec ∙ ap (λ (r : Record). r ∷ (now start ms).records) w) ∙ gone) ∙ h in cc)
   out_now k x a name o q f runs next_is (GetJob n) kind w takes t rec stood h e = w
   out_now k x a name o q f runs next_is AuditJob kind w takes t rec stood h e = takes

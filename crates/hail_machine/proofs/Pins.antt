@@ -1,23 +1,25 @@
 -- Files in effect, files that jobs work on, and objects that they take away.
-use Rattle.std.proofs.Common.{◌≡◌, ℕ, ◌<◌, ◌≤◌, ◌==◌, Bool, true, false, ◌⊎◌, ◌||◌, List, [], ◌∷◌, length, Option, Some, None, refl, ap, sym, subst, ◌∙◌, inl, inr}
+use Rattle.std.proofs.Common.{◌≡◌, ℕ, ◌<◌, ◌≤◌, ◌==◌, Bool, true, false, ◌⊎◌, List, [], ◌∷◌, length, Option, Some, None, refl, ap, sym, subst, ◌∙◌, inl, inr}
 use Rattle.std.specs.Prelude.{nat_lt}
 use Rattle.std.specs.List.{list_any}
-use Rattle.std.proofs.lemmas.Bool.{eq-eqb, cases_Bool, cases_lt, false≢true}
+use Rattle.std.proofs.lemmas.Bool.{eq-eqb, cases_Bool, cases_lt, false≢true, or_parts}
+use Rattle.plain_facts.specs.Lists.{In}
 use Rattle.hail_records.specs.Records.{Record, PutStart, PutDone, Drop, AuditStart, AuditDone, RepairDone}
-use Rattle.hail_records.specs.Table.{File, next_id, files_of}
+use Rattle.hail_records.specs.Table.{File, version_of, next_id, files_of}
 use Rattle.hail_machine.specs.Jobs.{Kind, PutJob, GetJob, DropJob, AuditJob, RepairJob, Pinned, Job, job_of}
 use Rattle.hail_machine.specs.Refusals as refusal
+use Rattle.hail_machine.specs.States.{State, file_in, setup_in}
 use Rattle.hail_machine.specs.Refusals.{Cause, first_refusal}
-use Rattle.hail_machine.specs.States.{State, file_in}
 use Rattle.hail_machine.specs.Begins.{is_check, is_put_or_check, is_busy, begin_refusal, pinned_file, pin, pin_all, pin_one, pinned_for}
-use Rattle.hail_machine.specs.Appends.{Writes, is_first_append, is_pinned, removable, taken_out}
+use Rattle.hail_machine.specs.Appends.{Writes, is_first_append, is_pinned, removable, taken_out, done_record}
 use Rattle.hail_machine.proofs.JobLists.{cond_true, cond_false, same_value}
 use Rattle.hail_machine.proofs.Numbers.{first_above, first_below}
-use Rattle.hail_machine.proofs.RecordFacts.{IsProper, In, listed_file}
+use Rattle.hail_machine.proofs.RecordFacts.{IsProper, listed_file}
+use Rattle.hail_machine.proofs.Done.{by_version}
 
 -- ---- what begins pin
 
-in_pin : (p : Pinned) (ps : List Pinned) (f : Pinned) → In f (pin p ps) → (f ≡ p) ⊎ In f ps
+pub in_pin : (p : Pinned) (ps : List Pinned) (f : Pinned) → In f (pin p ps) → (f ≡ p) ⊎ In f ps
 in_pin p [] f (inl e) = inl e
 in_pin p [] f (inr i) = absurd i
 in_pin p (q ∷ qs) f h = elim (cases_Bool (nat_lt p.id q.id)) [
@@ -40,7 +42,7 @@ pub record Stands (w : State) (f : Pinned) : Type 0 where
   pub in_effect : file_in w name ≡ Some file
   pub is : f ≡ pinned_file w file
 
-in_all : (w : State) (fs : List File) (f : Pinned) → In f (pin_all w fs) → (g : File) × In g fs × (f ≡ pinned_file w g)
+pub in_all : (w : State) (fs : List File) (f : Pinned) → In f (pin_all w fs) → (g : File) × In g fs × (f ≡ pinned_file w g)
 in_all w [] f h = absurd h
 in_all w (g ∷ gs) f h = elim (in_pin (pinned_file w g) (pin_all w gs) f h) [
   | inl e ↦ (g, inl refl, e)
@@ -121,7 +123,7 @@ taken w job RepairJob o h = absurd h
 
 -- ---- begins of audits and repairs
 
-not_busy : (limit : ℕ) (w : State) (kind : Kind) → begin_refusal limit w kind ≡ None → is_busy limit w kind ≡ false
+pub not_busy : (limit : ℕ) (w : State) (kind : Kind) → begin_refusal limit w kind ≡ None → is_busy limit w kind ≡ false
 not_busy limit w kind h = elim (cases_Bool w.is_barred) [
   | inl t ↦ absurd (let e = rw t at h in let f : Some refusal.MustReopen ≡ None = e in cc)
   | inr o ↦ elim (cases_Bool (is_busy limit w kind)) [
@@ -130,13 +132,9 @@ not_busy limit w kind h = elim (cases_Bool w.is_barred) [
   ]
 ]
 
-right_false : (a b : Bool) → (a || b) ≡ false → b ≡ false
-right_false true b h = absurd (false≢true (sym h))
-right_false false b h = h
-
 pub check_alone : (limit : ℕ) (w : State) (kind : Kind) → begin_refusal limit w kind ≡ None → is_check kind ≡ true → (k : ℕ) (j : Job) → job_of w.jobs k ≡ Some j → is_check j.kind ≡ false
 check_alone limit w AuditJob none check k j runs =
-    not_put (any_job (λ (x : Job). is_put_or_check x.kind) w.jobs k j runs (right_false _ _ (not_busy limit w AuditJob none)))
+    not_put (any_job (λ (x : Job). is_put_or_check x.kind) w.jobs k j runs ((or_parts _ _ (not_busy limit w AuditJob none)).1))
   where
     not_put : is_put_or_check j.kind ≡ false → is_check j.kind ≡ false
     not_put h = by_kind j.kind h
@@ -147,7 +145,7 @@ check_alone limit w AuditJob none check k j runs =
         by_kind (DropJob name) h = h
         by_kind AuditJob h = h
         by_kind RepairJob h = h
-check_alone limit w RepairJob none check k j runs = any_job (λ (x : Job). is_check x.kind) w.jobs k j runs (right_false _ _ (not_busy limit w RepairJob none))
+check_alone limit w RepairJob none check k j runs = any_job (λ (x : Job). is_check x.kind) w.jobs k j runs ((or_parts _ _ (not_busy limit w RepairJob none)).1)
 check_alone limit w (PutJob name bytes) none check k j runs = absurd (false≢true check)
 check_alone limit w (GetJob name) none check k j runs = absurd (false≢true check)
 check_alone limit w (DropJob name) none check k j runs = absurd (false≢true check)
@@ -164,8 +162,9 @@ Wrote job (GetJob name) entry = ⊥
 
 pub writes_proper : (w : State) (job : Job) (kind : Kind) (entry : Record) → Writes w job kind entry → IsProper w.records entry
 writes_proper w job (PutJob name bytes) entry h = elim (cases_Bool (is_first_append job)) [
-  | inl t ↦ subst (IsProper w.records) (sym (h ∙ cond_true (is_first_append job) (PutStart (next_id w.records) name) (PutDone job.subject (length bytes)) t)) refl
-  | inr f ↦ subst (IsProper w.records) (sym (h ∙ cond_false (is_first_append job) (PutStart (next_id w.records) name) (PutDone job.subject (length bytes)) f)) tt
+  | inl t ↦ subst (IsProper w.records) (sym (h ∙ cond_true (is_first_append job) (PutStart (next_id w.records) name) (done_record (version_of w.records) job.subject (length bytes) (setup_in w).profile) t)) refl
+  | inr f ↦ subst (IsProper w.records) (sym (h ∙ cond_false (is_first_append job) (PutStart (next_id w.records) name) (done_record (version_of w.records) job.subject (length bytes) (setup_in w).profile) f))
+      (by_version (version_of w.records) job.subject (length bytes) (setup_in w).profile (IsProper w.records) tt tt)
 ]
 writes_proper w job (GetJob name) entry h = absurd h
 writes_proper w job (DropJob name) entry h = subst (IsProper w.records) (sym h) tt

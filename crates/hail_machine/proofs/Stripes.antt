@@ -5,27 +5,22 @@ use Rattle.std.specs.List.{flat_map, range_with_len}
 use Rattle.std.proofs.lemmas.Bool.{cases_eq}
 use Rattle.std.proofs.lemmas.Option.{slice_get_within}
 use Rattle.std.proofs.lemmas.List.{length-append}
+use Rattle.plain_facts.specs.Lists.{Each}
+use Rattle.plain_facts.proofs.Each.{each_get, each_append, each_map, each_mono}
+use Rattle.plain_facts.proofs.Lists.{get_behind}
 use Rattle.hail_codes.specs.Points.{upto}
 use Rattle.hail_records.specs.Records.{Setup}
 use Rattle.hail_machine.specs.Actions.{Action, WriteBody, SyncBody, WriteGate, SyncGate, Store, Fetch, Ask, Work, Remove, End, on_each_provider, open_actions}
-use Rattle.hail_machine.proofs.ActionLists.{Each, each_get, each_append, each_map, split_get}
+use Rattle.hail_machine.proofs.ActionLists.{split_get}
 
 pub get_left : {X : Type 0} (xs ys : List X) (k : ℕ) (x : X) → slice_get xs k ≡ Some x → slice_get (xs ++ ys) k ≡ Some x
 get_left [] ys k x h = (let e : None ≡ Some x = h in cc)
 get_left (z ∷ xs) ys zero x h = h
 get_left (z ∷ xs) ys (suc k) x h = get_left xs ys k x h
 
-get_right : {X : Type 0} (xs ys : List X) (k : ℕ) (x : X) → slice_get ys k ≡ Some x → slice_get (xs ++ ys) (length xs + k) ≡ Some x
-get_right [] ys k x h = subst (λ n. slice_get ys n ≡ Some x) (let e : k ≡ 0 + k = omega arith in e) h
-get_right (z ∷ xs) ys k x h = subst (λ n. slice_get (z ∷ xs ++ ys) n ≡ Some x) (let e : suc (length xs + k) ≡ suc (length xs) + k = omega arith in e) (get_right xs ys k x h)
-
 single : {X : Type 0} (w x : X) (k : ℕ) → slice_get (w ∷ []) k ≡ Some x → (k ≡ 0) × (w ≡ x)
 single w x zero h = (refl, (let e : Some w ≡ Some x = h in let f : w ≡ x = cc in f))
 single w x (suc k) h = (let e : None ≡ Some x = h in cc)
-
-each_imp : {X : Type 0} (P Q : X → Type 0) (xs : List X) → ((x : X) → P x → Q x) → Each P xs → Each Q xs
-each_imp P Q [] f h = tt
-each_imp P Q (x ∷ xs) f h = (f x h.0, each_imp P Q xs f h.1)
 
 module _ (s : Setup) (id : ℕ) where
   abbrev pub flat : List ℕ → List Action
@@ -54,7 +49,7 @@ module _ (s : Setup) (id : ℕ) where
   from zero a = tt
   from (suc n) a = each_append (From a) (open_actions s id a) (flat (range_with_len (a + 1) n))
       (each_append (From a) (on_each_provider s (λ j. Fetch j id a)) (Work id a ∷ []) (each_map (From a) (λ j. Fetch j id a) (upto s.n) (λ j. (omega arith, refl))) ((omega arith, refl), tt))
-      (each_imp (From (a + 1)) (From a) (flat (range_with_len (a + 1) n)) (λ x h. lower a x (subst (λ k. From k x) (let e : a + 1 ≡ suc a = omega arith in e) h)) (from n (a + 1)))
+      (each_mono (From (a + 1)) (From a) (flat (range_with_len (a + 1) n)) (λ x h. lower a x (subst (λ k. From k x) (let e : a + 1 ≡ suc a = omega arith in e) h)) (from n (a + 1)))
 
   piece_at : (a q : ℕ) (x : Action) → slice_get (open_actions s id a) q ≡ Some x →
       (((i : ℕ) × (x ≡ Fetch i id a)) × (q < length (on_each_provider s (λ j. Fetch j id a)))) ⊎ ((x ≡ Work id a) × (q ≡ length (on_each_provider s (λ j. Fetch j id a))))
@@ -120,10 +115,10 @@ module _ (s : Setup) (id : ℕ) where
     | inl e ↦ (
       length (on_each_provider s (λ j. Fetch j id a)) + 0,
       get_left (open_actions s id a) (flat (range_with_len (a + 1) n)) _ (Work id t)
-          (get_right (on_each_provider s (λ j. Fetch j id a)) (Work id a ∷ []) 0 (Work id t) (ap (λ x. Some (Work id x)) (sym e))),
+          (get_behind (on_each_provider s (λ j. Fetch j id a)) (Work id a ∷ []) 0 (Work id t) (ap (λ x. Some (Work id x)) (sym e))),
     )
     | inr e ↦ (let r = worked_on n (a + 1) t (omega arith) (omega arith) in
-        (length (open_actions s id a) + r.0, get_right (open_actions s id a) (flat (range_with_len (a + 1) n)) r.0 (Work id t) r.1))
+        (length (open_actions s id a) + r.0, get_behind (open_actions s id a) (flat (range_with_len (a + 1) n)) r.0 (Work id t) r.1))
   ]
 
   -- all of them, and then the end

@@ -1,9 +1,11 @@
 -- A file that came into effect stays until a record that takes it out is in doubt.
 use Rattle.std.proofs.Common.{◌≡◌, ℕ, suc, ◌==◌, Bool, false, List, [], ◌∷◌, ◌++◌, length, Some, None, refl, ap, sym, ◌∙◌, inl, inr, arith}
 use Rattle.std.proofs.lemmas.Bool.{cases_Bool, ne_eqb}
-use Rattle.hail_records.specs.Records.{Record, Setup, SetUp, PutStart, PutDone, Drop, AuditStart, AuditDone, RepairDone}
-use Rattle.hail_records.specs.Table.{File, started_as, is_start_of, is_same_name, file_of}
+use Rattle.hail_records.specs.Records.{Record, Setup, SetUp, PutStart, PutDone, Drop, AuditStart, AuditDone, RepairDone, PutDoneIn, Version, Resume, InEffect, RepairDue}
+use Rattle.hail_records.specs.Table.{File, started_as, is_start_of, is_same_name, file_of, file_as, setup_of, profile_in}
+use Rattle.hail_records.proofs.FilesLaws.{same-refl}
 use Rattle.hail_machine.specs.States.{State, Doubt, IsStart}
+use Rattle.hail_machine.specs.Appends.{done_record}
 use Rattle.hail_machine.specs.Runs.{Moment, now, newest, came, IsRun}
 use Rattle.hail_machine.specs.Survival.{ComesIn, takes_out, NoneTakesOut, IsKept, Survives}
 use Rattle.hail_machine.proofs.JobLists.{cond_true, cond_false}
@@ -11,7 +13,7 @@ use Rattle.hail_machine.proofs.Changes.{Records_is, Doubt_is, IsGated, Changes}
 use Rattle.hail_machine.proofs.Events.{changes}
 use Rattle.hail_machine.proofs.Numbers.{objects}
 use Rattle.hail_machine.proofs.Numbers as num
-use Rattle.hail_machine.proofs.RecordFacts.{same_name-refl}
+use Rattle.hail_machine.proofs.Done.{put_ended, done-ended, done-file}
 
 gated : (limit : ℕ) (start : State) → IsStart start → (ms : List Moment) → IsRun limit start ms → IsGated (now start ms)
 gated limit start clean [] run = λ a h three. absurd (let e : None ≡ Some a = sym clean.append ∙ h in cc)
@@ -22,11 +24,16 @@ gated limit start clean (m ∷ ms) run =
 file_kept : (rs : List Record) (r : Record) (name : List ℕ) → takes_out rs name r ≡ false → file_of (r ∷ rs) name ≡ file_of rs name
 file_kept rs (SetUp s) name h = refl
 file_kept rs (PutStart id n) name h = refl
-file_kept rs (PutDone id size) name h = cond_false (is_start_of name (started_as rs id)) (Some (record { name = name; id = id; size = size })) (file_of rs name) h
+file_kept rs (PutDone id size) name h = cond_false (is_start_of name (started_as rs id)) (Some (file_as name id size (profile_in (setup_of rs)))) (file_of rs name) h
 file_kept rs (Drop n) name h = cond_false (is_same_name n name) None (file_of rs name) h
 file_kept rs (AuditStart number) name h = refl
 file_kept rs (AuditDone number undecided counts) name h = refl
 file_kept rs (RepairDone number) name h = refl
+file_kept rs (PutDoneIn id size profile) name h = cond_false (is_start_of name (started_as rs id)) (Some (file_as name id size profile)) (file_of rs name) h
+file_kept rs Version name h = refl
+file_kept rs (Resume next audit) name h = refl
+file_kept rs (InEffect id size profile kept) name h = cond_false (is_same_name kept name) (Some (file_as name id size profile)) (file_of rs name) h
+file_kept rs (RepairDue number counts) name h = refl
 
 shorter : (r : Record) (rs : List Record) → rs ≡ r ∷ rs → ⊥
 shorter r rs e = (let l : length rs ≡ suc (length rs) = ap length e in omega arith)
@@ -49,22 +56,30 @@ module _ (limit : ℕ) (start : State) (m : Moment) (ms : List Moment) (G : IsGa
   comes : (name : List ℕ) (file : File) → ComesIn (now start ms) m.state name file → IsKept m.state name file
   comes name file c = record { in_effect = at; with_doubt = λ d h. doubt d h }
     where
-      done : (rs : List Record) → m.state.records ≡ PutDone file.id file.size ∷ rs → rs ≡ (now start ms).records → file_of m.state.records name ≡ Some file
-      done rs rec is =
-          ap (λ l. file_of l name) (rec ∙ ap (λ l. PutDone file.id file.size ∷ l) is)
-          ∙ (cond_true (is_start_of name (started_as (now start ms).records file.id)) (Some (record { name = name; id = file.id; size = file.size })) (file_of (now start ms).records name)
-          (ap (is_start_of name) c.started ∙ same_name-refl name)
-          ∙ ap Some (ap (λ (n : List ℕ). record { name = n; id = file.id; size = file.size }) (sym c.named)))
+      ended : Record
+      ended = done_record c.version file.id file.size file.profile
 
-      top : (r : Record) (rs : List Record) → m.state.records ≡ r ∷ rs → m.state.records ≡ PutDone file.id file.size ∷ rs
-      top r rs rec = rec ∙ ap (λ (x : Record). x ∷ rs) (came_one (now start ms) m.state (PutDone file.id file.size) r rs c.done rec)
+      done : (rs : List Record) → m.state.records ≡ ended ∷ rs → rs ≡ (now start ms).records → file_of m.state.records name ≡ Some file
+      done rs rec is =
+          ap (λ l. file_of l name) (rec ∙ ap (λ l. ended ∷ l) is)
+          ∙ (done-file c.version file.id file.size file.profile (now start ms).records name
+          ∙ (cond_true (is_start_of name (started_as (now start ms).records file.id)) _ (file_of (now start ms).records name)
+          (ap (is_start_of name) c.started ∙ same-refl name)
+          ∙ (ap (λ p. Some (file_as name file.id file.size p)) (sym c.profiled)
+          ∙ ap Some (ap (λ (n : List ℕ). file_as n file.id file.size file.profile) (sym c.named)))))
+
+      top : (r : Record) (rs : List Record) → m.state.records ≡ r ∷ rs → m.state.records ≡ ended ∷ rs
+      top r rs rec = rec ∙ ap (λ (x : Record). x ∷ rs) (came_one (now start ms) m.state ended r rs c.done rec)
+
+      not_setup : (s : Setup) → SetUp s ≡ ended → ⊥
+      not_setup s e = (let f : None ≡ Some file.id = ap put_ended e ∙ done-ended c.version file.id file.size file.profile in cc)
 
       no_setup : (s : Setup) (rs : List Record) → m.state.records ≡ SetUp s ∷ rs → ⊥
-      no_setup s rs rec = (let e : SetUp s ≡ PutDone file.id file.size = came_one (now start ms) m.state (PutDone file.id file.size) (SetUp s) rs c.done rec in cc)
+      no_setup s rs rec = not_setup s (came_one (now start ms) m.state ended (SetUp s) rs c.done rec)
 
       at : file_of m.state.records name ≡ Some file
       at = elim X.records [
-        | Records_is.same rec ↦ absurd (came_none (now start ms) m.state (PutDone file.id file.size) c.done rec)
+        | Records_is.same rec ↦ absurd (came_none (now start ms) m.state ended c.done rec)
         | Records_is.finished x a runs next_is flight mine moves rec ↦ done (now start ms).records (top a.entry (now start ms).records rec) refl
         | Records_is.settled d in_doubt rec ↦ done (now start ms).records (top d.entry (now start ms).records rec) refl
         | Records_is.set_up s out rec ↦ absurd (no_setup s (now start ms).records rec)
@@ -73,8 +88,8 @@ module _ (limit : ℕ) (start : State) (m : Moment) (ms : List Moment) (G : IsGa
 
       doubt : (d : Doubt) → m.state.doubt ≡ Some d → file_of (d.entry ∷ m.state.records) name ≡ Some file
       doubt d h = elim (X.doubt d h) [
-        | Doubt_is.kept before rec ↦ absurd (came_none (now start ms) m.state (PutDone file.id file.size) c.done rec)
-        | Doubt_is.gated a flight entry rec ↦ absurd (came_none (now start ms) m.state (PutDone file.id file.size) c.done rec)
+        | Doubt_is.kept before rec ↦ absurd (came_none (now start ms) m.state ended c.done rec)
+        | Doubt_is.gated a flight entry rec ↦ absurd (came_none (now start ms) m.state ended c.done rec)
         | Doubt_is.set_up s entry ↦ ap (λ (r : Record). file_of (r ∷ m.state.records) name) entry ∙ at
       ]
 

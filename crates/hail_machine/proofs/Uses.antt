@@ -1,18 +1,20 @@
 -- Stores of puts use object numbers, and asks of audits use audit numbers.
-use Rattle.std.proofs.Common.{◌≡◌, ℕ, ◌-◌, ◌<◌, ◌≤◌, List, [], ◌∷◌, ◌++◌, length, Some, refl, sym, subst, ◌∙◌, inl, inr}
+use Rattle.std.proofs.Common.{◌≡◌, ℕ, ◌-◌, ◌<◌, ◌≤◌, List, [], ◌∷◌, ◌++◌, Some, refl, sym, subst, ◌∙◌, inl, inr}
 use Rattle.std.specs.Prelude.{slice_get}
 use Rattle.std.specs.List.{flat_map}
+use Rattle.plain_facts.specs.Lists.{Each}
+use Rattle.plain_facts.proofs.Each.{each_get, each_append, each_map, each_flat}
 use Rattle.hail_codes.specs.Points.{upto}
 use Rattle.hail_records.specs.Records.{Setup}
 use Rattle.hail_records.specs.Table.{next_id, next_audit}
 use Rattle.hail_machine.specs.Jobs.{PutJob, AuditJob, Job}
 use Rattle.hail_machine.specs.Actions.{Action, Store, Ask, Remove, End, append_actions, on_each_provider, store_actions, ask_actions, remove_actions, actions_by}
-use Rattle.hail_machine.specs.Setups.{stripes_of}
+use Rattle.hail_machine.specs.Setups.{put_stripes}
 use Rattle.hail_machine.specs.States.{State, setup_in, IsStart}
 use Rattle.hail_machine.specs.Steps.{next_action}
 use Rattle.hail_machine.specs.Runs.{Moment, now, IsRun}
 use Rattle.hail_machine.specs.Deeds.{StoresFor, AsksFor, HasStored, HasAsked}
-use Rattle.hail_machine.proofs.ActionLists.{Each, each_get, each_append, each_map, each_flat, split_get}
+use Rattle.hail_machine.proofs.ActionLists.{split_get}
 use Rattle.hail_machine.proofs.Numbers.{objects, audits, next_is_by, Draws, Uses, HasUsed, facts}
 
 -- in the actions of a put, a store is on its own object
@@ -24,7 +26,7 @@ own_removals : (s : Setup) (job : Job) (older : List ℕ) → Each (IsOwn job) (
 own_removals s job older = each_flat (IsOwn job) (λ object. on_each_provider s (λ j. Remove j object)) older (λ object. each_map (IsOwn job) (λ j. Remove j object) (upto s.n) (λ j. tt))
 
 own_stores : (s : Setup) (job : Job) (bytes : List ℕ) → Each (IsOwn job) (store_actions s job bytes)
-own_stores s job bytes = each_flat (IsOwn job) (λ stripe. on_each_provider s (λ j. Store j job.subject stripe)) (upto (stripes_of s (length bytes)))
+own_stores s job bytes = each_flat (IsOwn job) (λ stripe. on_each_provider s (λ j. Store j job.subject stripe)) (upto (put_stripes s job bytes))
     (λ stripe. each_map (IsOwn job) (λ j. Store j job.subject stripe) (upto s.n) (λ j. refl))
 
 own_tail : (s : Setup) (job : Job) (bytes : List ℕ) → Each (IsOwn job) (store_actions s job bytes ++ (append_actions ++ (remove_actions s job ++ End ∷ [])))

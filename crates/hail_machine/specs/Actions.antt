@@ -1,13 +1,19 @@
 -- The actions of a job, in order.
 --
---   Action               == one action: a move of an append, one call of a provider, the work on a stripe, or the end
+--   Action               == one action: a move of an append, one call of a provider, the work on a stripe,
+--                           or the end
 --   append_actions       == the four moves of an append
+--   PinsOf P             == how a list of pinned files is read, whatever a pinned file is
+--   Plan P               == all that the actions of a job hang on, with pinned files of any kind
+--   plan_actions p s plan aim  == the actions of a plan
+--   plan_of job          == the plan of a job of the machine
 --   actions_of s job     == all actions of a job; its place is an index into them
 --   actions_left s job   == those that it has not yet made
 --   ends_append action   == the action is the fourth move of an append
 --   appends_left s job   == how many appends the job has not yet finished
 --
--- Files go in ascending order of their object numbers, stripes from 0 on, and in each stripe or round providers from 0 to n - 1.
+-- Files go in ascending order of their object numbers, stripes from 0 on, and in each stripe or round
+-- providers from 0 to n - 1.
 use Rattle.std.specs.Prelude.{ℕ, ◌==◌, Bool, true, false, List, [], ◌∷◌, ◌++◌, length, drop, map, count_by, if◌then◌else◌}
 use Rattle.std.specs.List.{flat_map}
 use Rattle.hail_codes.specs.Points.{upto}
@@ -40,47 +46,125 @@ on_each_provider s action = map action (upto s.n)
 abbrev pub on_each_stripe : Setup → ℕ → (ℕ → List Action) → List Action
 on_each_stripe s size actions = flat_map actions (upto (stripes_of s size))
 
--- the stores of a put: each stripe on each provider
+-- how a list of pinned files is read: by the machine, which has their bytes, and by a program that has
+-- their lengths
+pub record PinsOf (P : Type 0) : Type 0 where
+  pub id : P → ℕ
+  pub size : P → ℕ
+
+-- the machine's pinned files
+abbrev pub machine_pins : PinsOf Pinned
+machine_pins = record { id = λ f. f.id; size = λ f. length f.bytes }
+
+-- the stores of a put of so many bytes: each stripe on each provider
+abbrev pub store_plan : Setup → ℕ → ℕ → List Action
+store_plan s subject size = on_each_stripe s size (λ stripe. on_each_provider s (λ j. Store j subject stripe))
+
+-- those of a job
 abbrev pub store_actions : Setup → Job → List ℕ → List Action
-store_actions s job bytes = on_each_stripe s (length bytes) (λ stripe. on_each_provider s (λ j. Store j job.subject stripe))
+store_actions s job bytes = store_plan s job.subject (length bytes)
 
 -- a fetch from each provider, and the work on what they gave
 abbrev pub open_actions : Setup → ℕ → ℕ → List Action
 open_actions s object stripe = on_each_provider s (λ j. Fetch j object stripe) ++ Work object stripe ∷ []
 
 -- the fetches and the work of a get: stripe by stripe of its file
+abbrev pub read_plan : {P : Type 0} → PinsOf P → Setup → List P → List Action
+read_plan p s pins = flat_map (λ f. on_each_stripe s (p.size f) (open_actions s (p.id f))) pins
+
+-- those of a job
 abbrev pub read_actions : Setup → List Pinned → List Action
-read_actions s pinned = flat_map (λ (f : Pinned). on_each_stripe s (length f.bytes) (open_actions s f.id)) pinned
+read_actions s pinned = read_plan machine_pins s pinned
 
 -- a store on each provider that a repair rewrites
+abbrev pub rewrite_plan : Setup → (ℕ → Bool) → ℕ → ℕ → List Action
+rewrite_plan s flagged object stripe =
+    flat_map (λ j. if flagged j then Store j object stripe ∷ [] else []) (upto s.n)
+
+-- those of a job
 abbrev pub rewrite_actions : Setup → Job → ℕ → ℕ → List Action
-rewrite_actions s job object stripe = flat_map (λ j. if job.flagged j then Store j object stripe ∷ [] else []) (upto s.n)
+rewrite_actions s job object stripe = rewrite_plan s job.flagged object stripe
 
 -- the fetches, the work and the stores of a repair
+abbrev pub repair_plan : {P : Type 0} → PinsOf P → Setup → (ℕ → Bool) → List P → List Action
+repair_plan p s flagged pins =
+    flat_map (λ f. on_each_stripe s (p.size f)
+    (λ stripe. open_actions s (p.id f) stripe ++ rewrite_plan s flagged (p.id f) stripe)) pins
+
+-- those of a job
 abbrev pub repair_actions : Setup → Job → List Action
-repair_actions s job =
-    flat_map (λ (f : Pinned). on_each_stripe s (length f.bytes) (λ stripe. open_actions s f.id stripe ++ rewrite_actions s job f.id stripe)) job.pinned
+repair_actions s job = repair_plan machine_pins s job.flagged job.pinned
 
 -- a file of no stripes is asked for in no round
 abbrev pub rounds_of : Setup → ℕ → List ℕ
 rounds_of s size = if stripes_of s size == 0 then [] else upto s.rounds
 
 -- the asks of an audit: each file in each round of each provider
-abbrev pub ask_actions : Setup → Job → List Action
-ask_actions s job =
-    flat_map (λ (f : Pinned). flat_map (λ round. on_each_provider s (λ j. Ask j f.id round)) (rounds_of s (length f.bytes))) job.pinned
+abbrev pub ask_plan : {P : Type 0} → PinsOf P → Setup → List P → List Action
+ask_plan p s pins =
+    flat_map (λ f. flat_map (λ round. on_each_provider s (λ j. Ask j (p.id f) round))
+    (rounds_of s (p.size f))) pins
 
--- the removals of the object that a job takes away, if there is one
+-- those of a job
+abbrev pub ask_actions : Setup → Job → List Action
+ask_actions s job = ask_plan machine_pins s job.pinned
+
+-- the removals of the object that is taken away, if there is one
+abbrev pub remove_plan : Setup → List ℕ → List Action
+remove_plan s older = flat_map (λ object. on_each_provider s (λ j. Remove j object)) older
+
+-- those of a job
 abbrev pub remove_actions : Setup → Job → List Action
-remove_actions s job = flat_map (λ object. on_each_provider s (λ j. Remove j object)) job.older
+remove_actions s job = remove_plan s job.older
+
+-- what a job is for, with the length of a put's file in place of its bytes
+pub data Aim : Type 0 where
+  ToPut : (size : ℕ) → Aim
+  ToGet : Aim
+  ToDrop : Aim
+  ToAudit : Aim
+  ToRepair : Aim
+
+-- All that the actions of a job hang on. A program keeps one for each job, with its own kind of pinned files.
+pub record Plan (P : Type 0) : Type 0 where
+  pub aim : Aim
+  pub subject : ℕ
+  pub older : List ℕ
+  pub flagged : ℕ → Bool
+  pub pins : List P
+
+-- the actions of a plan
+abbrev pub plan_actions : {P : Type 0} → PinsOf P → Setup → Plan P → Aim → List Action
+plan_actions p s plan (ToPut size) =
+    append_actions ++ (store_plan s plan.subject size
+    ++ (append_actions ++ (remove_plan s plan.older ++ End ∷ [])))
+plan_actions p s plan ToGet = read_plan p s plan.pins ++ End ∷ []
+plan_actions p s plan ToDrop = append_actions ++ (remove_plan s plan.older ++ End ∷ [])
+plan_actions p s plan ToAudit = append_actions ++ (ask_plan p s plan.pins ++ (append_actions ++ End ∷ []))
+plan_actions p s plan ToRepair = repair_plan p s plan.flagged plan.pins ++ (append_actions ++ End ∷ [])
+
+-- the aim of a kind
+abbrev pub aim_of : Kind → Aim
+aim_of (PutJob name bytes) = ToPut (length bytes)
+aim_of (GetJob name) = ToGet
+aim_of (DropJob name) = ToDrop
+aim_of AuditJob = ToAudit
+aim_of RepairJob = ToRepair
+
+-- the plan of a job of the machine
+abbrev pub plan_of : Job → Plan Pinned
+plan_of job =
+    record {
+      aim = aim_of job.kind;
+      subject = job.subject;
+      older = job.older;
+      flagged = job.flagged;
+      pins = job.pinned;
+    }
 
 -- the actions of a job, by its kind
 abbrev pub actions_by : Setup → Job → Kind → List Action
-actions_by s job (PutJob name bytes) = append_actions ++ (store_actions s job bytes ++ (append_actions ++ (remove_actions s job ++ End ∷ [])))
-actions_by s job (GetJob name) = read_actions s job.pinned ++ End ∷ []
-actions_by s job (DropJob name) = append_actions ++ (remove_actions s job ++ End ∷ [])
-actions_by s job AuditJob = append_actions ++ (ask_actions s job ++ (append_actions ++ End ∷ []))
-actions_by s job RepairJob = repair_actions s job ++ (append_actions ++ End ∷ [])
+actions_by s job kind = plan_actions machine_pins s (plan_of job) (aim_of kind)
 
 -- the actions of a job
 unfoldable pub actions_of : Setup → Job → List Action

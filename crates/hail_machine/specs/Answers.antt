@@ -1,5 +1,5 @@
--- How jobs end: Put, Got with the bytes, Dropped, Audited with the sums, Repaired, Lost at the lowest row that was not
--- accepted, or a fault of a provider's store or of the disk, or want of memory.
+-- How jobs end: Put, Got with the bytes, Dropped, Audited with the sums, Repaired, Lost at the lowest row
+-- that was not accepted, or a fault of a provider's store or of the disk, or want of memory.
 use Rattle.std.specs.Prelude.{ℕ, List}
 
 -- the answer of a job that ended

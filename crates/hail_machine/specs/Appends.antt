@@ -1,45 +1,55 @@
 -- The four moves of an append, and what is in effect or in doubt after each.
 --
 --   Writes w job kind entry   == the record that a job's append writes, by which of its appends it is at
---   subject_drawn, bytes_drawn, audits_drawn  == the number that the first append of a put or an audit draws at its first move,
---                                and what the state keeps of it
+--   done_record version id size profile  == the record that ends a put
+--   subject_drawn, bytes_drawn, audits_drawn  == the number that the first append of a put or an audit
+--                                draws at its first move, and what the state keeps of it
 --   is_pinned w id            == a running get, audit or repair works on the object
 --   taken_out w job kind      == the object that a job takes away once its append has taken it out of effect
 --   IsAt a job moves          == the append in flight is this job's, with so many moves done
---   begun_append, moved, doubted, done_append, barred  == the states after a first, a second and a third move, after a fourth, and
---                                after a failed one
---   Moves old job action flight outcome new   == one move of an append may have this outcome and leave this state
+--   begun_append, moved, doubted, done_append, barred  == the states after a first, a second and a third
+--                                move, after a fourth, and after a failed one
+--   Moves old job action flight outcome new   == one move of an append may have this outcome and leave this
+--                                          state
 --
--- A record is in doubt from the third move until the fourth is done, and after a fault in either. A third move that found no
--- memory counts as not made. Numbers are drawn at the first move, so that they stand in the journal in order; an object to be
--- taken away is decided on at the fourth.
+-- A record is in doubt from the third move until the fourth is done, and after a fault in either. A third
+-- move that found no memory counts as not made. Numbers are drawn at the first move, so that they stand in
+-- the journal in order; an object to be taken away is decided on at the fourth.
 use Rattle.std.specs.Prelude.{◌≡◌, ℕ, ◌+◌, ◌==◌, ◌&&◌, Bool, true, List, [], ◌∷◌, length, Option, None, Some, nat_lt, if◌then◌else◌}
 use Rattle.std.specs.List.{list_any}
 use Rattle.hail_columns.specs.Verdicts.{Sums}
 use Rattle.hail_records.specs.Records.{Record, PutStart, PutDone, Drop, AuditStart, AuditDone, RepairDone}
-use Rattle.hail_records.specs.Table.{File, next_id, next_audit}
+use Rattle.hail_records.specs.Table.{File, version_of, next_id, next_audit}
 use Rattle.hail_machine.specs.Jobs.{Kind, PutJob, GetJob, DropJob, AuditJob, RepairJob, Pinned, Job, advanced}
 use Rattle.hail_machine.specs.Actions.{Action, WriteBody, SyncBody, WriteGate, SyncGate}
 use Rattle.hail_machine.specs.Answers.{DiskFault, Memory}
 use Rattle.hail_machine.specs.Events.{Outcome, More, Ended}
-use Rattle.hail_machine.specs.States.{State, Append, setup_in, file_in, going_on, ended, DiskCall, DiskFails}
+use Rattle.hail_machine.specs.States.{State, Append, setup_in, file_in, brought, going_on, ended, DiskCall, DiskFails}
 use Rattle.hail_machine.specs.Audits.{HasSums}
 
 -- a job is at its first append
 abbrev pub is_first_append : Job → Bool
 is_first_append job = nat_lt job.place 4
 
+-- the record that ends a put in a version of the journal: that of the first version, which is the only one
+-- that is written
+abbrev pub done_record : ℕ → ℕ → ℕ → ℕ → Record
+done_record version id size profile = PutDone id size
+
 -- the record that a job's append writes
 abbrev pub Writes : State → Job → Kind → Record → Type 0
 Writes w job (PutJob name bytes) entry =
-    entry ≡ (if is_first_append job then PutStart (next_id w.records) name else PutDone job.subject (length bytes))
+    entry ≡ (if is_first_append job then PutStart (next_id w.records) name
+    else done_record (version_of w.records) job.subject (length bytes) (setup_in w).profile)
 Writes w job (GetJob name) entry = ⊥
 Writes w job (DropJob name) entry = entry ≡ Drop name
 Writes w job AuditJob entry = by_append (is_first_append job)
   where
     by_append : Bool → Type 0
     by_append true = entry ≡ AuditStart (next_audit w.records)
-    by_append more = (sums : Sums) × HasSums (setup_in w) job sums × (entry ≡ AuditDone job.subject sums.undecided sums.counts)
+    by_append more =
+        (sums : Sums) × HasSums (setup_in w) job sums
+        × (entry ≡ AuditDone job.subject sums.undecided sums.counts)
 Writes w job RepairJob entry = entry ≡ RepairDone job.subject
 
 -- the number of a job from the first move of this append on
@@ -50,12 +60,14 @@ subject_drawn w job kind = job.subject
 
 -- the bytes of object numbers, with those of a put that draws one
 abbrev pub bytes_drawn : State → Job → Kind → ℕ → List ℕ
-bytes_drawn w job (PutJob name bytes) id = if is_first_append job && (id == next_id w.records) then bytes else w.bytes id
+bytes_drawn w job (PutJob name bytes) id =
+    if is_first_append job && (id == next_id w.records) then bytes else w.bytes id
 bytes_drawn w job kind id = w.bytes id
 
 -- the begins of audit numbers, with that of an audit that draws one
 abbrev pub audits_drawn : State → Job → Kind → ℕ → ℕ
-audits_drawn w job AuditJob number = if is_first_append job && (number == next_audit w.records) then job.begun else w.audits number
+audits_drawn w job AuditJob number =
+    if is_first_append job && (number == next_audit w.records) then job.begun else w.audits number
 audits_drawn w job kind number = w.audits number
 
 -- a running get, audit or repair has pinned an object; only these pin any
@@ -101,10 +113,9 @@ begun_append old job entry =
 -- a job's fourth move has put its record in effect and has decided which object it takes away
 abbrev pub done_append : State → Job → Append → State
 done_append old job a =
-    record (going_on old (record (advanced job) { older = taken_out old job job.kind })) {
+    record (brought (going_on old (record (advanced job) { older = taken_out old job job.kind })) a.entry) {
       append = None;
       doubt = None;
-      records = a.entry ∷ old.records;
     }
 
 -- the append in flight is this job's, with so many moves done
@@ -113,14 +124,21 @@ IsAt a job moves = (a.job ≡ job.number) × (a.moves ≡ moves)
 
 -- one move of the append in flight
 abbrev pub Moves : State → Job → Action → Option Append → Outcome → State → Type 0
-Moves old job WriteBody flight More new = (entry : Record) × Writes old job job.kind entry × DiskCall old (begun_append old job entry) new
+Moves old job WriteBody flight More new =
+    (entry : Record) × Writes old job job.kind entry × DiskCall old (begun_append old job entry) new
 Moves old job WriteBody flight (Ended DiskFault) new = DiskFails old (barred (ended old job)) new
 Moves old job WriteBody flight (Ended Memory) new = DiskCall old (ended old job) new
-Moves old job SyncBody (Some a) More new = IsAt a job 1 × DiskCall old (moved (going_on old (advanced job)) a) new
-Moves old job SyncBody (Some a) (Ended DiskFault) new = IsAt a job 1 × DiskFails old (barred (ended old job)) new
-Moves old job WriteGate (Some a) More new = IsAt a job 2 × DiskCall old (doubted (moved (going_on old (advanced job)) a) a job) new
-Moves old job WriteGate (Some a) (Ended DiskFault) new = IsAt a job 2 × DiskFails old (doubted (barred (ended old job)) a job) new
-Moves old job WriteGate (Some a) (Ended Memory) new = IsAt a job 2 × DiskCall old (unappended (ended old job)) new
+Moves old job SyncBody (Some a) More new =
+    IsAt a job 1 × DiskCall old (moved (going_on old (advanced job)) a) new
+Moves old job SyncBody (Some a) (Ended DiskFault) new =
+    IsAt a job 1 × DiskFails old (barred (ended old job)) new
+Moves old job WriteGate (Some a) More new =
+    IsAt a job 2 × DiskCall old (doubted (moved (going_on old (advanced job)) a) a job) new
+Moves old job WriteGate (Some a) (Ended DiskFault) new =
+    IsAt a job 2 × DiskFails old (doubted (barred (ended old job)) a job) new
+Moves old job WriteGate (Some a) (Ended Memory) new =
+    IsAt a job 2 × DiskCall old (unappended (ended old job)) new
 Moves old job SyncGate (Some a) More new = IsAt a job 3 × DiskCall old (done_append old job a) new
-Moves old job SyncGate (Some a) (Ended DiskFault) new = IsAt a job 3 × DiskFails old (barred (ended old job)) new
+Moves old job SyncGate (Some a) (Ended DiskFault) new =
+    IsAt a job 3 × DiskFails old (barred (ended old job)) new
 Moves old job action flight outcome new = ⊥

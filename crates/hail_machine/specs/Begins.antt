@@ -2,9 +2,10 @@
 --
 --   is_busy limit w kind      == the jobs that run leave no place for one of this kind
 --   names_taken w             == the names in effect and those of running puts, each once
---   is_crowded w name         == these are as many as can be, and this name is not among them
+--   is_crowded_state w name         == these are as many as can be, and this name is not among them
 --   begin_refusal limit w kind  == the first refusal in order whose cause applies; None where the job begins
---   pinned_for w kind         == the files that a job works on: a get's own, and for an audit or a repair all in effect, by number
+--   pinned_for w kind         == the files that a job works on: a get's own, and for an audit or a repair
+--                                all in effect, by number
 --   new_job w moment kind     == a job as it begins, after so many events
 --   Begins limit moment old kind outcome new  == a begin may have this outcome and leave this state
 use Rattle.std.specs.Prelude.{◌≡◌, ◌⊎◌, ℕ, ◌+◌, ◌&&◌, ◌||◌, Bool, true, false, not, List, [], ◌∷◌, ◌++◌, length, Option, None, Some, is_some, nat_lt, nat_le, if◌then◌else◌}
@@ -32,17 +33,18 @@ is_put_or_check kind = is_check kind
 
 -- the jobs that run leave no place for one of this kind
 abbrev pub is_busy : ℕ → State → Kind → Bool
-is_busy limit w AuditJob = nat_le limit (length w.jobs) || list_any (λ (j : Job). is_put_or_check j.kind) w.jobs
+is_busy limit w AuditJob =
+    nat_le limit (length w.jobs) || list_any (λ (j : Job). is_put_or_check j.kind) w.jobs
 is_busy limit w RepairJob = nat_le limit (length w.jobs) || list_any (λ (j : Job). is_check j.kind) w.jobs
 is_busy limit w kind = nat_le limit (length w.jobs)
 
 -- a name is one of these
-abbrev pub is_listed : List (List ℕ) → List ℕ → Bool
-is_listed names name = list_any (is_same_name name) names
+abbrev pub is_name_among : List (List ℕ) → List ℕ → Bool
+is_name_among names name = list_any (is_same_name name) names
 
 -- names with one more, unless it is among them
 abbrev pub with_name : List (List ℕ) → List ℕ → List (List ℕ)
-with_name names name = if is_listed names name then names else name ∷ names
+with_name names name = if is_name_among names name then names else name ∷ names
 
 -- names in effect
 abbrev pub names_in : List File → List (List ℕ)
@@ -63,8 +65,9 @@ abbrev pub names_taken : State → List (List ℕ)
 names_taken w = with_puts (names_in (files_of w.records)) w.jobs
 
 -- no further name fits in
-abbrev pub is_crowded : State → List ℕ → Bool
-is_crowded w name = nat_le most_files (length (names_taken w)) && not (is_listed (names_taken w) name)
+abbrev pub is_crowded_state : State → List ℕ → Bool
+is_crowded_state w name =
+    nat_le most_files (length (names_taken w)) && not (is_name_among (names_taken w) name)
 
 -- the causes for which a begin is refused, in order
 abbrev pub causes : ℕ → State → Kind → List Cause
@@ -77,7 +80,7 @@ causes limit w kind =
     by_kind (PutJob name bytes) =
         record { applies = not (is_name name); refusal = refusal.BadName }
         ∷ record { applies = nat_lt largest_file (length bytes); refusal = refusal.TooLong }
-        ∷ record { applies = is_crowded w name; refusal = refusal.TooManyFiles } ∷ []
+        ∷ record { applies = is_crowded_state w name; refusal = refusal.TooManyFiles } ∷ []
     by_kind (GetJob name) =
         record { applies = not (is_name name); refusal = refusal.BadName }
         ∷ record { applies = not (is_some (file_in w name)); refusal = refusal.NoSuchName } ∷ []
@@ -85,7 +88,8 @@ causes limit w kind =
         record { applies = not (is_name name); refusal = refusal.BadName }
         ∷ record { applies = not (is_some (file_in w name)); refusal = refusal.NoSuchName } ∷ []
     by_kind AuditJob = record { applies = is_some (due_of w.records); refusal = refusal.RepairDue } ∷ []
-    by_kind RepairJob = record { applies = not (is_some (due_of w.records)); refusal = refusal.NothingDue } ∷ []
+    by_kind RepairJob =
+        record { applies = not (is_some (due_of w.records)); refusal = refusal.NothingDue } ∷ []
 
 -- why a begin is refused
 abbrev pub begin_refusal : ℕ → State → Kind → Option Refusal

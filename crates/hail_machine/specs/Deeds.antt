@@ -1,11 +1,14 @@
 -- What the steps of a run did: which job made which action, and which numbers were used.
 --
---   Makes old m job action               == a moment after this state is a step in which the job made the action, or failed at it
+--   Makes old m job action               == a moment after this state is a step in which the job made the
+--                                          action, or failed at it
 --   StoresFor old m begun object         == it is a store of a put with that begin, on that object
---   AsksFor old m begun number object round  == it is an ask of an audit with that begin and number, for an object in a round
+--   AsksFor old m begun number object round  == it is an ask of an audit with that begin and number, for an
+--                                          object in a round
 --   HasStored start ms begun object      == one of these moments is such a store
 --   HasAsked start ms begun number object round  == one of these moments is such an ask
---   told_block w j object stripe         == the block that provider j holds, or none, where it tells what it holds
+--   told_block w j object stripe         == the block that provider j holds, or none, where it tells what
+--                                          it holds
 --   has_stored s job j object stripe     == the job has made its store of that block
 use Rattle.std.specs.Prelude.{◌≡◌, ◌⊎◌, ℕ, ◌<◌, true, false, List, [], ◌∷◌, Option, None, Some, slice_get}
 use Rattle.std.specs.Option.{option_map}
@@ -49,7 +52,8 @@ pub record AsksFor (old : State) (m : Moment) (begun number object round : ℕ) 
 -- some moment of a run is a store of the put with that begin, on that object
 abbrev pub HasStored : State → List Moment → ℕ → ℕ → Type 0
 HasStored start [] begun object = ⊥
-HasStored start (m ∷ ms) begun object = StoresFor (now start ms) m begun object ⊎ HasStored start ms begun object
+HasStored start (m ∷ ms) begun object =
+    StoresFor (now start ms) m begun object ⊎ HasStored start ms begun object
 
 -- some moment of a run is an ask of the audit with that begin and number, for that object in that round
 abbrev pub HasAsked : State → List Moment → ℕ → ℕ → ℕ → ℕ → Type 0

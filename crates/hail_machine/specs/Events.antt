@@ -4,8 +4,8 @@
 --   IsSpelled event    == its numbers fit their types, its bytes are bytes and its symbol is a symbol
 --   Outcome            == what comes of an event
 --
--- A stop within a call of a device is that call failing, and then a Stop. A provider that gives other symbols of a held block
--- in one answer is one that is altered before the call and altered again after it.
+-- A stop within a call of a device is that call failing, and then a Stop. A provider that gives other
+-- symbols of a held block in one answer is one that is altered before the call and altered again after it.
 use Rattle.std.specs.Prelude.{ℕ, ◌<◌, ◌^◌, List, IsTrue}
 use Rattle.std.specs.List.{list_all}
 use Rattle.hail_records.specs.Records.{Setup, is_byte, is_master}
@@ -14,7 +14,8 @@ use Rattle.hail_machine.specs.Jobs.{Kind, PutJob, GetJob, DropJob, AuditJob, Rep
 use Rattle.hail_machine.specs.Refusals.{Refusal}
 use Rattle.hail_machine.specs.Answers.{Answer}
 
--- An event. Continue is a later call of the program: vault and jobs are given up, and jobs are numbered from 1 again.
+-- An event. Continue is a later call of the program: vault and jobs are given up, and jobs are numbered
+-- from 1 again.
 pub data Event : Type 0 where
   Init : (setup : Setup) → Event
   Begin : (kind : Kind) → Event
@@ -41,7 +42,8 @@ IsSpelledKind RepairJob = Unit {0}
 -- the numbers of an event fit their types
 abbrev pub IsSpelled : Event → Type 0
 IsSpelled (Init s) =
-    (s.n < 256) × (s.l < 256) × (s.b < 256) × (s.profile < 256) × (s.rounds < 256) × (s.picks < 256) × (s.tolerance < 2 ^ 16)
+    (s.n < 256) × (s.l < 256) × (s.b < 256) × (s.profile < 256) × (s.rounds < 256) × (s.picks < 256)
+    × (s.tolerance < 2 ^ 16)
     × IsTrue (is_master s.master)
 IsSpelled (Begin kind) = IsSpelledKind kind
 IsSpelled (Step job) = job < 2 ^ 32

@@ -1,9 +1,11 @@
 -- Setups, records and states for the worked rows.
 --
---   six, four                  == a setup of six providers, three of them primary, and one of four, one of them primary
---   opened records bytes       == an open vault over these records, where each object number stands for these bytes
+--   six, four                  == a setup of six providers, three of them primary, and one of four, one of
+--                                 them primary
+--   opened records bytes       == an open vault over these records, where each object number stands for
+--                                 these bytes
 --   one_file, flagged_file     == a file of 100 bytes over six providers; then an audit that flags provider 0
---   job_in w kind              == a job of this kind that begins now
+--   beginning_job w kind              == a job of this kind that begins now
 --   set_up                     == the start over a journal whose only record is the setup of four providers
 use Rattle.std.specs.Prelude.{ℕ, true, false, List, [], ◌∷◌, replicate, codes, None, Some}
 use Rattle.hail_records.specs.Records.{Setup, Record, SetUp, PutStart, PutDone, AuditStart, AuditDone}
@@ -11,18 +13,26 @@ use Rattle.hail_devices.specs.Providers.{Provider}
 use Rattle.hail_machine.specs.Jobs.{Kind, Job}
 use Rattle.hail_machine.specs.States.{State}
 use Rattle.hail_machine.specs.Begins.{new_job}
+use Rattle.hail_records.specs.Examples.{four}
 
 -- six providers, three of them primary, and blocks of sixteen symbols
 abbrev pub six : Setup
-six = record { n = 6; l = 3; b = 1; profile = 1; rounds = 4; picks = 8; tolerance = 0; master = replicate 32 0 }
-
--- four providers, one of them primary, and blocks of six symbols
-abbrev pub four : Setup
-four = record { n = 4; l = 1; b = 1; profile = 0; rounds = 1; picks = 1; tolerance = 0; master = replicate 32 0 }
+six =
+    record {
+      n = 6;
+      l = 3;
+      b = 1;
+      profile = 1;
+      rounds = 4;
+      picks = 8;
+      tolerance = 0;
+      master = replicate 32 0;
+    }
 
 -- a provider that holds nothing and counts nothing
 abbrev pub empty_provider : Provider
-empty_provider = record { held = Some (λ object stripe. None); store_faults = 0; other_faults = 0; fetches = 0 }
+empty_provider =
+    record { held = Some (λ object stripe. None); store_faults = 0; other_faults = 0; fetches = 0 }
 
 -- an open vault over these records
 abbrev pub opened : List Record → List ℕ → State
@@ -54,8 +64,8 @@ abbrev pub hundred : List ℕ
 hundred = replicate 100 7
 
 -- the job that begins now
-abbrev pub job_in : State → Kind → Job
-job_in w kind = new_job w 0 kind
+abbrev pub beginning_job : State → Kind → Job
+beginning_job w kind = new_job w 0 kind
 
 -- the start over a journal whose only record is the setup of four providers
 abbrev pub set_up : State

@@ -1,10 +1,12 @@
 -- Failed calls of devices in a run, told by how events end and by what calls gave and left.
 --
---   Count                         == a count of faults: the disk's, that of a provider's stores, that of its other calls
+--   Count                         == a count of faults: the disk's, that of a provider's stores, that of
+--                                    its other calls
 --   count_in count w              == its value in a state
 --   IsDiskFault event outcome     == a disk call failed: a step, a reopening or an init ended so
 --   IsStoreFault j outcome        == a store of provider j failed: a step ended so
---   GaveAmiss old m job j action  == a fetch, an ask or a removal of provider j gave or left something else than one that goes well
+--   GaveAmiss old m job j action  == a fetch, an ask or a removal of provider j gave or left something else
+--                                    than one that goes well
 --   IsFailure count old m         == the moment after this state was a failed call that this count counts
 --   HasFailures count start ms n  == so many of these moments, at least, were such failed calls
 --   RoseBy before now n           == a count rose by so many at least, or stands at its last value
@@ -19,9 +21,8 @@ use Rattle.hail_machine.specs.Actions.{Action, Fetch, Ask, Remove}
 use Rattle.hail_machine.specs.Refusals as refusal
 use Rattle.hail_machine.specs.Answers as answer
 use Rattle.hail_machine.specs.Events.{Event, Init, Step, Reopen, Outcome, Refused, Ended}
-use Rattle.hail_machine.specs.States.{State, setup_in, object_in}
-use Rattle.hail_machine.specs.Given.{pinned_size}
-use Rattle.hail_machine.specs.Audits.{challenge_in}
+use Rattle.hail_machine.specs.States.{State, setup_in, worked_object}
+use Rattle.hail_machine.specs.Audits.{asked_challenge}
 use Rattle.hail_machine.specs.Runs.{Moment, now}
 use Rattle.hail_machine.specs.Deeds.{Makes}
 
@@ -49,14 +50,18 @@ abbrev pub IsStoreFault : ℕ → Event → Outcome → Type 0
 IsStoreFault j (Step number) (Ended (answer.ProviderFault k)) = k ≡ j
 IsStoreFault j event outcome = ⊥
 
--- A fetch gave no block that one which goes well gives, an ask no such answer, or a removal left something of the object.
+-- A fetch gave no block that one which goes well gives, an ask no such answer, or a removal left something
+-- of the object.
 abbrev pub GaveAmiss : State → Moment → Job → ℕ → Action → Type 0
 GaveAmiss old m job j (Fetch k object stripe) = (k ≡ j)
-    × ((block : Option (List ℕ)) → job_of m.state.jobs job.number ≡ Some (advanced_with job (Fetched j object stripe block)) →
-    FetchGives (object_in old object).profile.size object stripe (old.providers j).held block → ⊥)
+    × ((block : Option (List ℕ)) → job_of m.state.jobs job.number ≡ Some
+    (advanced_with job (Fetched j object stripe block)) →
+    FetchGives (worked_object old job object).profile.size object stripe (old.providers j).held block → ⊥)
 GaveAmiss old m job j (Ask k object round) = (k ≡ j)
-    × ((symbol : Option ℕ) → job_of m.state.jobs job.number ≡ Some (advanced_with job (Answered j object round symbol)) →
-    AskGives (honest_answer (challenge_in (setup_in old) job object (pinned_size job.pinned object) round)) object (old.providers j).held symbol → ⊥)
+    × ((symbol : Option ℕ) → job_of m.state.jobs job.number ≡ Some
+    (advanced_with job (Answered j object round symbol)) →
+    AskGives (honest_answer (asked_challenge (setup_in old) job object round)) object (old.providers j).held
+    symbol → ⊥)
 GaveAmiss old m job j (Remove k object) = (k ≡ j)
     × ((m.state.providers j).held ≡ option_map (without_object object) (old.providers j).held → ⊥)
 GaveAmiss old m job j action = ⊥

@@ -1,18 +1,22 @@
--- What the steps of a job gave, looked up by what they were for. Lists of what was given have the newest first.
+-- What the steps of a job gave, looked up by what they were for. Lists of what was given have the newest
+-- first.
 --
---   block_given given object stripe j        == what the newest such fetch gave; None also where there was none
+--   block_given given object stripe j        == what the newest such fetch gave; None also where there was
+--                                          none
 --   blocks_given given n object stripe       == the same of the n providers, in order
 --   answer_given, answers_given              == the same of the asks in a round
---   symbols_given given object stripe        == what the newest work on a stripe gave; no symbols where there was none
+--   symbols_given given object stripe        == what the newest work on a stripe gave; no symbols where
+--                                          there was none
 --   file_given s given f                     == the bytes of a file that the work on all its stripes gave
---   pinned_size pinned id                    == the length of the file of a number among those that a job works on
+--   pinned_size pinned id                    == the length of the file of a number among those that a job
+--                                          works on
 use Rattle.std.specs.Prelude.{ℕ, ◌==◌, ◌&&◌, List, [], ◌∷◌, length, map, take, Option, None, if◌then◌else◌}
 use Rattle.std.specs.List.{flat_map}
 use Rattle.hail_codes.specs.Points.{upto}
 use Rattle.hail_columns.specs.Objects.{bytes_of_symbols}
 use Rattle.hail_records.specs.Records.{Setup}
 use Rattle.hail_machine.specs.Jobs.{Pinned, Given, Fetched, Answered, Worked}
-use Rattle.hail_machine.specs.Setups.{stripes_of}
+use Rattle.hail_machine.specs.Setups.{pinned_stripes}
 
 -- the block that a fetch from a provider gave
 abbrev pub block_given : List Given → ℕ → ℕ → ℕ → Option (List ℕ)
@@ -46,7 +50,8 @@ symbols_given (other ∷ more) object stripe = symbols_given more object stripe
 -- the bytes of a file that the work on all its stripes gave
 abbrev pub file_given : Setup → List Given → Pinned → List ℕ
 file_given s given f =
-    take (length f.bytes) (flat_map (λ stripe. bytes_of_symbols (symbols_given given f.id stripe)) (upto (stripes_of s (length f.bytes))))
+    take (length f.bytes) (flat_map (λ stripe. bytes_of_symbols (symbols_given given f.id stripe))
+    (upto (pinned_stripes s f)))
 
 -- the length of the file of a number among those that a job works on
 abbrev pub pinned_size : List Pinned → ℕ → ℕ

@@ -1,15 +1,17 @@
 -- What runs are to keep: the two halves of the main theorem, as statements over runs.
 --
---   IsRightGet begin_state job name bytes  == a get gave the bytes that were in effect under its name at its begin, unless its
---                                             fetches hold a forgery against them
+--   IsRightGet begin_state job name bytes  == a get gave the bytes that were in effect under its name at
+--                                          its begin, unless its fetches hold a forgery against them
 --   FirstHalf start ms                     == every get that ended with bytes was right
---   SecondHalf start ms                    == every get of a stored name that ended by a step gave its bytes, unless the count of
---                                             the disk or of a provider rose since its begin; and its begin was refused for
---                                             MustReopen, Busy or Memory alone
+--   SecondHalf start ms                    == every get of a stored name that ended by a step gave its
+--                                          bytes, unless the count of the disk or of a provider rose since
+--                                          its begin; and its begin was refused for MustReopen, Busy or
+--                                          Memory alone
 --   IsOpenedGet begin_state job name bytes == a get gave the bytes that what it fetched opens to
 --   GotIsOpened                            == every get that ended with bytes did
 --   FirstHalfHolds                         == the first half, of every run
---   SecondHalfHolds                        == the second half, of every calm run in which no audit missed damage
+--   SecondHalfHolds                        == the second half, of every calm run in which no audit missed
+--                                          damage
 use Rattle.std.specs.Prelude.{◌≡◌, ◌⊎◌, ℕ, ◌<◌, List, [], ◌∷◌, Option, None, Some, IsSome, length}
 use Rattle.hail_records.specs.Table.{File}
 use Rattle.hail_devices.specs.Faults.{Rose}
@@ -18,7 +20,7 @@ use Rattle.hail_machine.specs.Refusals as refusal
 use Rattle.hail_machine.specs.Refusals.{Refusal}
 use Rattle.hail_machine.specs.Answers.{Answer, Got}
 use Rattle.hail_machine.specs.Events.{Event, Begin, Step, Outcome, Refused, Ended}
-use Rattle.hail_machine.specs.States.{State, IsStart, setup_in, object_in, file_in}
+use Rattle.hail_machine.specs.States.{State, IsStart, setup_in, file_object, file_in}
 use Rattle.hail_machine.specs.Runs.{Moment, now, first_moments, IsRun}
 use Rattle.hail_machine.specs.Calm.{IsCalm, since, relies}
 use Rattle.hail_machine.specs.Missed.{NoneMissed}
@@ -26,18 +28,21 @@ use Rattle.hail_machine.specs.Given.{blocks_given}
 use Rattle.hail_machine.specs.Heard.{heard_by, given_to, HoldsForgery}
 use Rattle.hail_columns.specs.Opened.{OpensFile}
 
--- a get gave the bytes that were in effect under its name at its begin, unless its fetches hold a forgery against them
+-- a get gave the bytes that were in effect under its name at its begin, unless its fetches hold a forgery
+-- against them
 pub record IsRightGet (begin_state : State) (job : Job) (name bytes : List ℕ) : Type 0 where
   pub file : File
   pub in_effect : file_in begin_state name ≡ Some file
   pub right : (bytes ≡ begin_state.bytes file.id)
-      ⊎ HoldsForgery (object_in begin_state file.id) (begin_state.bytes file.id) job.number (heard_by (Some job))
+      ⊎ HoldsForgery (file_object begin_state file) (begin_state.bytes file.id) job.number
+      (heard_by (Some job))
 
 -- the count of the disk or of a provider rose from one state to another
 abbrev pub CountRose : State → State → Type 0
 CountRose old new = Rose old.disk_faults new.disk_faults
     ⊎ ((j : ℕ) × (j < (setup_in old).n)
-    × (Rose (old.providers j).store_faults (new.providers j).store_faults ⊎ Rose (old.providers j).other_faults (new.providers j).other_faults))
+    × (Rose (old.providers j).store_faults (new.providers j).store_faults
+    ⊎ Rose (old.providers j).other_faults (new.providers j).other_faults))
 
 -- a get gave the bytes that were in effect under its name at its begin, unless a count rose since
 pub record GivesOrRose (begin_state end_state : State) (name : List ℕ) (answer : Answer) : Type 0 where
@@ -79,13 +84,15 @@ at_begin start ms job = now start (first_moments (begun_of job) ms)
 -- the first half, for the newest event after these moments
 abbrev pub KeepsFirstHalf : State → List Moment → Event → Outcome → Type 0
 KeepsFirstHalf start ms (Step number) (Ended answer) =
-    EndsRight (at_begin start ms (job_of (now start ms).jobs number)) (job_of (now start ms).jobs number) answer
+    EndsRight (at_begin start ms (job_of (now start ms).jobs number)) (job_of (now start ms).jobs number)
+    answer
 KeepsFirstHalf start ms event outcome = Unit {0}
 
 -- the second half, for the newest event after these moments, and the state after it
 abbrev pub KeepsSecondHalf : State → List Moment → Event → Outcome → State → Type 0
 KeepsSecondHalf start ms (Step number) (Ended answer) new =
-    EndsWell (at_begin start ms (job_of (now start ms).jobs number)) new (job_of (now start ms).jobs number) answer
+    EndsWell (at_begin start ms (job_of (now start ms).jobs number)) new (job_of (now start ms).jobs number)
+    answer
 KeepsSecondHalf start ms (Begin (GetJob name)) (Refused why) new =
     (file : File) → file_in (now start ms) name ≡ Some file → IsGetRefusal why
 KeepsSecondHalf start ms event outcome new = Unit {0}
@@ -102,7 +109,9 @@ SecondHalf start (m ∷ ms) = KeepsSecondHalf start ms m.event m.outcome m.state
 
 -- the first half, of every run
 abbrev pub FirstHalfHolds : Type 0
-FirstHalfHolds = (limit : ℕ) (start : State) (ms : List Moment) → IsStart start → IsRun limit start ms → FirstHalf start ms
+FirstHalfHolds =
+    (limit : ℕ) (start : State) (ms : List Moment) → IsStart start → IsRun limit start ms
+    → FirstHalf start ms
 
 -- every provider tells what it holds
 abbrev pub AllTell : State → Type 0
@@ -113,15 +122,17 @@ abbrev pub SecondHalfHolds : Type 0
 SecondHalfHolds = (limit : ℕ) (start : State) (ms : List Moment) → IsStart start → AllTell start →
     IsRun limit start ms → IsCalm relies (since start) ms → NoneMissed start ms → SecondHalf start ms
 
--- a get gave the bytes that what it fetched opens to, of the file that was in effect under its name at its begin
+-- a get gave the bytes that what it fetched opens to, of the file that was in effect under its name at its
+-- begin
 pub record IsOpenedGet (begin_state : State) (job : Job) (name bytes : List ℕ) : Type 0 where
   pub file : File
   pub in_effect : file_in begin_state name ≡ Some file
-  pub opens : OpensFile (object_in begin_state file.id) (length (begin_state.bytes file.id))
+  pub opens : OpensFile (file_object begin_state file) (length (begin_state.bytes file.id))
       (blocks_given (given_to job.number (heard_by (Some job))) (setup_in begin_state).n file.id) bytes
 
 -- the end of a get with bytes, whose job was this one
-pub record EndsGet (start : State) (m : Moment) (ms : List Moment) (job : Job) (name bytes : List ℕ) : Type 0 where
+pub record EndsGet (start : State) (m : Moment) (ms : List Moment) (job : Job)
+    (name bytes : List ℕ) : Type 0 where
   pub event : m.event ≡ Step job.number
   pub outcome : m.outcome ≡ Ended (Got bytes)
   pub runs : job_of (now start ms).jobs job.number ≡ Some job

@@ -1,9 +1,13 @@
--- What a report has: what the fetches of gets and the asks of audits gave, job by job in the order of their ends.
+-- What a report has: what the fetches of gets and the asks of audits gave, job by job in the order of their
+-- ends.
 --
 --   Entry                   == an entry of a report: which job heard it, and what its step gave
---   heard_by job            == what a job heard, the oldest first: a get its fetches, an audit its asks, others nothing
---   reported_after event entries == what stays in a report after an event: a later call of the program begins it anew
---   heard_in start ms       == what all jobs heard that ended by a step since the last call of the program began
+--   heard_by job            == what a job heard, the oldest first: a get its fetches, an audit its asks,
+--                              others nothing
+--   reported_after event entries == what stays in a report after an event: a later call of the program
+--                                   begins it anew
+--   heard_in start ms       == what all jobs heard that ended by a step since the last call of the program
+--                              began
 --   NoneContinues ms        == in none of these moments a later call of the program began
 --   EndsJob start m ms job  == a step ended this job
 --   given_to job entries    == of the entries of a report those of a job, the newest first
@@ -45,7 +49,8 @@ abbrev pub heard_at : State → Event → Outcome → List Entry
 heard_at old (Step number) (Ended answer) = heard_by (job_of old.jobs number)
 heard_at old event outcome = []
 
--- what stays in a report after an event: a later call of the program, whose jobs are numbered from 1 again, begins it anew
+-- what stays in a report after an event: a later call of the program, whose jobs are numbered from 1 again,
+-- begins it anew
 abbrev pub reported_after : Event → List Entry → List Entry
 reported_after Continue entries = []
 reported_after event entries = entries
@@ -53,7 +58,8 @@ reported_after event entries = entries
 -- what all jobs heard that ended by a step since the last call of the program began
 abbrev pub heard_in : State → List Moment → List Entry
 heard_in start [] = []
-heard_in start (m ∷ ms) = reported_after m.event (heard_in start ms) ++ heard_at (now start ms) m.event m.outcome
+heard_in start (m ∷ ms) =
+    reported_after m.event (heard_in start ms) ++ heard_at (now start ms) m.event m.outcome
 
 -- in none of these moments a later call of the program began
 abbrev pub NoneContinues : List Moment → Type 0

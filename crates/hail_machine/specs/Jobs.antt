@@ -1,6 +1,7 @@
 -- Jobs: what they are for, what they work on, and what their steps gave.
 --
---   Kind                     == what a job is for: a put of bytes under a name, a get or a drop of a name, an audit, a repair
+--   Kind                     == what a job is for: a put of bytes under a name, a get or a drop of a name,
+--                               an audit, a repair
 --   Pinned                   == a file that a job works on: its object number and its bytes
 --   Given                    == what a step gave: a block or none, an answer or none, the symbols of a stripe
 --   Job                      == a running job
@@ -30,7 +31,8 @@ pub data Given : Type 0 where
   Answered : (provider object round : ℕ) (symbol : Option ℕ) → Given
   Worked : (object stripe : ℕ) (symbols : List ℕ) → Given
 
--- A running job. Its subject is the object number of a put and the number of an audit or a repair, once it has one.
+-- A running job. Its subject is the object number of a put and the number of an audit or a repair, once it
+-- has one.
 pub record Job : Type 0 where
   pub number : ℕ
   pub kind : Kind

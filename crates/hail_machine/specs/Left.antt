@@ -2,9 +2,10 @@
 --
 --   removes_older kind     == the job takes an older object away, where there is one: a put, a drop
 --   is_undecided s job     == it does, and its append has not yet decided on it
---   left_alone w job       == how many steps the job makes until its end if nothing fails and no other job steps
---   most_left s job        == the largest number of steps that it may make if nothing fails, whatever other jobs do: a
---                             removal from each provider counts until it is decided
+--   left_alone w job       == how many steps the job makes until its end if nothing fails and no other job
+--                             steps
+--   most_left s job        == the largest number of steps that it may make if nothing fails, whatever other
+--                             jobs do: a removal from each provider counts until it is decided
 use Rattle.std.specs.Prelude.{ℕ, ◌+◌, ◌&&◌, Bool, true, false, length, nat_lt, if◌then◌else◌}
 use Rattle.hail_records.specs.Records.{Setup}
 use Rattle.hail_machine.specs.Jobs.{Kind, PutJob, DropJob, Job}
@@ -29,10 +30,13 @@ most_left s job = length (actions_left s job) + (if is_undecided s job then s.n 
 
 -- a job that has decided now on the object that it takes away
 abbrev pub decided : State → Job → Kind → Job
-decided w job (PutJob name bytes) = if is_undecided (setup_in w) job then record job { older = removable w (file_in w name) } else job
-decided w job (DropJob name) = if is_undecided (setup_in w) job then record job { older = removable w (file_in w name) } else job
+decided w job (PutJob name bytes) =
+    if is_undecided (setup_in w) job then record job { older = removable w (file_in w name) } else job
+decided w job (DropJob name) =
+    if is_undecided (setup_in w) job then record job { older = removable w (file_in w name) } else job
 decided w job kind = job
 
 -- the number of steps that remain if no other job steps; an idle drop has only its end left
 abbrev pub left_alone : State → Job → ℕ
-left_alone w job = if is_idle_drop w job job.kind then 1 else length (actions_left (setup_in w) (decided w job job.kind))
+left_alone w job =
+    if is_idle_drop w job job.kind then 1 else length (actions_left (setup_in w) (decided w job job.kind))

@@ -2,7 +2,8 @@
 --
 --   decimal, hex              == a number in decimal, bytes in lower-case hexadecimal
 --   refusal_text, answer_text == a refusal by its name, the answer of a job
---   lines_of outcome          == all that an outcome writes, each line with its newline; a later call of the program writes nothing
+--   lines_of outcome          == all that an outcome writes, each line with its newline; a later call of
+--                                the program writes nothing
 use Rattle.std.specs.Prelude.{ℕ, ◌+◌, ◌/◌, ◌%◌, List, [], ◌∷◌, ◌++◌, length, codes, nat_lt, if◌then◌else◌}
 use Rattle.std.specs.List.{flat_map}
 use Rattle.std.specs.Fmt.{decimal}
@@ -60,7 +61,8 @@ answer_text answer.Put = codes "put"
 answer_text (answer.Got bytes) = codes "got " ++ hex_or_dash bytes
 answer_text answer.Dropped = codes "dropped"
 answer_text (answer.Audited number undecided counts) =
-    codes "audited" ++ then_number number ++ codes " undecided" ++ then_number undecided ++ codes " counts" ++ flat_map then_number counts
+    codes "audited" ++ then_number number ++ codes " undecided" ++ then_number undecided ++ codes " counts"
+    ++ flat_map then_number counts
 answer_text (answer.Repaired number) = codes "repaired" ++ then_number number
 answer_text (answer.Lost stripe row) = codes "lost" ++ then_number stripe ++ then_number row
 answer_text (answer.ProviderFault provider) = codes "provider fault" ++ then_number provider

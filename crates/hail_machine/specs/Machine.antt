@@ -1,8 +1,10 @@
 -- The machine: what each event may do.
 --
---   Lists old is_open outcome new                == a list of the files in effect, in byte order of their names
---   Happens limit moment old event outcome new   == from this state, after so many events, an event may have this outcome and
---                                                   leave this state; the limit is that of running jobs
+--   Lists old is_open outcome new                == a list of the files in effect, in byte order of their
+--                                          names
+--   Happens limit moment old event outcome new   == from this state, after so many events, an event may
+--                                          have this outcome and leave this state; the limit is that of
+--                                          running jobs
 use Rattle.std.specs.Prelude.{◌≡◌, ℕ, Bool, true, false}
 use Rattle.hail_records.specs.Table.{files_of}
 use Rattle.hail_machine.specs.Events.{Event, Init, Begin, Step, Alter, Lose, Stop, Reopen, Names, Continue, Outcome, Listed, Closed}
@@ -23,7 +25,8 @@ abbrev pub Happens : ℕ → ℕ → State → Event → Outcome → State → T
 Happens limit moment old (Init setup) outcome new = Inits old setup old.is_open outcome new
 Happens limit moment old (Begin kind) outcome new = Begins limit moment old kind outcome new
 Happens limit moment old (Step job) outcome new = Steps old job old.is_open outcome new
-Happens limit moment old (Alter j object stripe place symbol) outcome new = Alters old j object stripe place symbol outcome new
+Happens limit moment old (Alter j object stripe place symbol) outcome new =
+    Alters old j object stripe place symbol outcome new
 Happens limit moment old (Lose j object stripe) outcome new = Loses old j object stripe outcome new
 Happens limit moment old (Stop picks) outcome new = Stops old outcome new
 Happens limit moment old Reopen outcome new = Reopens old outcome new

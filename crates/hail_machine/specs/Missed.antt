@@ -1,9 +1,10 @@
 -- Damage that an audit missed.
 --
 --   is_wrong_now w f j          == provider j, if it tells what it holds, is wrong for a file
---   Misses start ms counts begun j  == an audit of this begin with these counts, whose AuditDone comes into effect after these
---                                  moments, missed provider j: it does not flag j, j was not replaced since its begin, and j was
---                                  wrong at its begin for a file then in effect
+--   Misses start ms counts begun j  == an audit of this begin with these counts, whose AuditDone comes into
+--                                  effect after these moments, missed provider j: it does not flag j, j was
+--                                  not replaced since its begin, and j was wrong at its begin for a file
+--                                  then in effect
 --   NoneMissed start ms         == no audit whose AuditDone came into effect missed a provider
 use Rattle.std.specs.Prelude.{◌≡◌, ℕ, ◌<◌, Bool, true, false, List, [], ◌∷◌, Option, None, Some}
 use Rattle.hail_columns.specs.Columns.{is_wrong}
@@ -35,7 +36,8 @@ pub record Misses (start : State) (ms : List Moment) (counts : List ℕ) (begun 
 
 -- a record that comes into effect is not the AuditDone of an audit that missed a provider
 abbrev pub MissesNone : State → List Moment → State → Option Record → Type 0
-MissesNone start ms new (Some (AuditDone number undecided counts)) = (j : ℕ) → Misses start ms counts (new.audits number) j → ⊥
+MissesNone start ms new (Some (AuditDone number undecided counts)) =
+    (j : ℕ) → Misses start ms counts (new.audits number) j → ⊥
 MissesNone start ms new came_in = Unit {0}
 
 -- no audit of a run missed a provider

@@ -1,6 +1,7 @@
 -- Replacements of what providers hold.
 --
---   Alters old j object stripe place symbol outcome new  == what it may come to that one symbol of a held block is altered
+--   Alters old j object stripe place symbol outcome new  == what it may come to that one symbol of a held
+--                                          block is altered
 --   Loses old j object stripe outcome new                == what it may come to that one held block is lost
 use Rattle.std.specs.Prelude.{◌≡◌, ℕ, Bool, true, false, IsSome, nat_lt}
 use Rattle.hail_devices.specs.Providers.{Held, with_symbol, without_block, HasPlace}
@@ -23,9 +24,11 @@ ReplacesIf false old j IsThere changed outcome new = ⊥
 -- one symbol of a held block is altered
 abbrev pub Alters : State → ℕ → ℕ → ℕ → ℕ → ℕ → Outcome → State → Type 0
 Alters old j object stripe place symbol outcome new =
-    ReplacesIf (nat_lt j old.handed) old j (λ held. HasPlace (held object stripe) place) (with_symbol object stripe place symbol) outcome new
+    ReplacesIf (nat_lt j old.handed) old j (λ held. HasPlace (held object stripe) place)
+    (with_symbol object stripe place symbol) outcome new
 
 -- one held block is lost
 abbrev pub Loses : State → ℕ → ℕ → ℕ → Outcome → State → Type 0
 Loses old j object stripe outcome new =
-    ReplacesIf (nat_lt j old.handed) old j (λ held. IsSome (held object stripe)) (without_block object stripe) outcome new
+    ReplacesIf (nat_lt j old.handed) old j (λ held. IsSome (held object stripe))
+    (without_block object stripe) outcome new

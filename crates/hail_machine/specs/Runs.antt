@@ -27,7 +27,9 @@ now start (m ∷ ms) = m.state
 -- these moments are a run of the machine, with this limit of running jobs
 abbrev pub IsRun : ℕ → State → List Moment → Type 0
 IsRun limit start [] = Unit {0}
-IsRun limit start (m ∷ ms) = IsSpelled m.event × Happens limit (length ms) (now start ms) m.event m.outcome m.state × IsRun limit start ms
+IsRun limit start (m ∷ ms) =
+    IsSpelled m.event × Happens limit (length ms) (now start ms) m.event m.outcome m.state
+    × IsRun limit start ms
 
 -- the first so many moments
 abbrev pub first_moments : ℕ → List Moment → List Moment
@@ -43,7 +45,8 @@ is_replacement event outcome j = false
 -- a provider was replaced by the event of this number or a later one
 abbrev pub is_replaced_since : ℕ → ℕ → List Moment → Bool
 is_replaced_since from j [] = false
-is_replaced_since from j (m ∷ ms) = (is_replacement m.event m.outcome j && nat_le from (length ms)) || is_replaced_since from j ms
+is_replaced_since from j (m ∷ ms) =
+    (is_replacement m.event m.outcome j && nat_le from (length ms)) || is_replaced_since from j ms
 
 -- the newest of some records
 abbrev pub newest : List Record → Option Record

@@ -4,10 +4,13 @@
 --   setup_or_none told  == the setup, and no_setup where there is none
 --   object_of s id      == the object of a number: its codes, its master key, its number
 --   stripes_of s size   == how many stripes a file of so many bytes has
-use Rattle.std.specs.Prelude.{ℕ, [], Option, None, Some}
+--   pinned_stripes s f  == how many a file has that a job works on
+--   put_stripes s job bytes  == how many a file of these bytes has that a put stores
+use Rattle.std.specs.Prelude.{ℕ, List, [], length, Option, None, Some}
 use Rattle.hail_codes.specs.Profiles.{profile_of}
 use Rattle.hail_columns.specs.Objects.{Object, stripes}
 use Rattle.hail_records.specs.Records.{Setup}
+use Rattle.hail_machine.specs.Jobs.{Pinned, Job}
 
 -- no setup, with no provider at all
 abbrev pub no_setup : Setup
@@ -20,8 +23,22 @@ setup_or_none (Some s) = s
 
 -- the object of a number
 abbrev pub object_of : Setup → ℕ → Object
-object_of s id = record { shape = record { n = s.n; l = s.l; b = s.b }; profile = profile_of s.profile; master = s.master; id = id }
+object_of s id =
+    record {
+      shape = record { n = s.n; l = s.l; b = s.b };
+      profile = profile_of s.profile;
+      master = s.master;
+      id = id;
+    }
 
 -- how many stripes a file of so many bytes has
 abbrev pub stripes_of : Setup → ℕ → ℕ
 stripes_of s size = stripes (object_of s 0) size
+
+-- how many stripes a file has that a job works on
+abbrev pub pinned_stripes : Setup → Pinned → ℕ
+pinned_stripes s f = stripes_of s (length f.bytes)
+
+-- how many stripes a file of these bytes has that a put stores
+abbrev pub put_stripes : Setup → Job → List ℕ → ℕ
+put_stripes s job bytes = stripes_of s (length bytes)

@@ -1,15 +1,16 @@
 -- The room that records take in the journal.
 --
 --   append_sizes s kind   == the sizes of the records that a job appends, in order, each with its gate
---   reserved s job        == the room that the records of a running job still need: a record counts until its append ends
---   is_full w kind        == no job of this kind can have its records: they find no room, or its number would come too near the last one
+--   reserved s job        == the room that the records of a running job still need: a record counts until
+--                            its append ends
+--   is_full w kind        == no job of this kind can have its records: they find no room, or its number
+--                            would come too near the last one
 use Rattle.std.specs.Prelude.{ℕ, ◌+◌, ◌-◌, ◌*◌, ◌^◌, ◌||◌, Bool, false, List, [], ◌∷◌, drop, length, sum, sum_by, nat_lt}
 use Rattle.hail_records.specs.Records.{Setup, largest_journal}
-use Rattle.hail_records.specs.Journal.{text_size}
 use Rattle.hail_records.specs.Table.{next_id, next_audit}
 use Rattle.hail_machine.specs.Jobs.{Kind, PutJob, GetJob, DropJob, AuditJob, RepairJob, Job}
 use Rattle.hail_machine.specs.Actions.{appends_left}
-use Rattle.hail_machine.specs.States.{State, setup_in}
+use Rattle.hail_machine.specs.States.{State, setup_in, journal_end}
 
 -- the sizes of the records that a job appends, in order, each with its gate
 abbrev pub append_sizes : Setup → Kind → List ℕ
@@ -26,7 +27,7 @@ reserved s job = sum (drop (length (append_sizes s job.kind) - appends_left s jo
 -- the journal would grow too long with a job of this kind
 abbrev pub is_too_full : State → Kind → Bool
 is_too_full w kind = nat_lt largest_journal
-    (text_size w.records + sum_by (reserved (setup_in w)) w.jobs + sum (append_sizes (setup_in w) kind))
+    (journal_end w + sum_by (reserved (setup_in w)) w.jobs + sum (append_sizes (setup_in w) kind))
 
 -- the numbers that a job of this kind draws come to their end
 abbrev pub are_numbers_used_up : State → Kind → Bool

@@ -1,29 +1,40 @@
 -- The states of the machine.
 --
---   Append                  == an append in flight: its job, its record, and how many of its four moves are done
+--   Append                  == an append in flight: its job, its record, and how many of its four moves are
+--                              done
 --   Doubt                   == a record in doubt, with the job that wrote it, if one did
 --   State                   == a state
---   setup_in, object_in, file_in  == the setup in effect, the object of a number, the file in effect under a name
+--   setup_in, object_in, file_in  == the setup in effect, the object of a number, the file in effect under
+--                                    a name
+--   file_object w f         == the object of a file in effect
+--   pinned_object w f       == that of a file that a job works on
+--   put_object w job id     == the object under whose number a put stores
+--   worked_object w job id  == the object of a number among those that a job works on
 --   going_on w job          == the state with this job in place of that of its number
 --   ended w job             == the state in which the job has ended
 --   given_up w              == the state in which all jobs are given up and the vault is closed
 --   continued w             == the state in which a later call of the program goes on
+--   with_doubt w d          == the records in effect with one in doubt added
+--   brought w r             == the state in which a record has come into effect
+--   journal_end w           == the offset past the gate that closes the journal
 --   DiskCall old left new   == a disk call that leaves this state, with a count of faults that did not fall
---   DiskFails old left new  == a disk call that failed and leaves this state, with a count of faults that rose
+--   DiskFails old left new  == a disk call that failed and leaves this state, with a count of faults that
+--                              rose
 --   ProviderCall old j call left new  == a call of provider j that leaves this state but for that provider
 --   Settles old new         == a record in doubt is now in effect, or is not; none is in doubt
 --   IsStart w               == a state before the first event
 --
--- The setup, the files in effect, the started puts, the next numbers and the audits that run or are due are what the
--- records in effect fold to. Beside these a state keeps whose bytes an object number stands for, when an audit number
--- was drawn, and which job wrote the record in doubt.
+-- The setup, the files in effect, the started puts, the next numbers and the audits that run or are due are
+-- what the records in effect fold to. Beside these a state keeps whose bytes an object number stands for,
+-- when an audit number was drawn, and which job wrote the record in doubt.
 use Rattle.std.specs.Prelude.{◌≡◌, ℕ, ◌==◌, ◌≤◌, ◌⊎◌, Bool, false, IsTrue, List, [], ◌∷◌, Option, None, Some, if◌then◌else◌}
 use Rattle.hail_columns.specs.Objects.{Object}
 use Rattle.hail_records.specs.Records.{Setup, Record, SetUp, is_in_grammar}
 use Rattle.hail_records.specs.Table.{File, setup_of, file_of}
+use Rattle.hail_records.specs.Journal.{text_size}
 use Rattle.hail_devices.specs.Faults.{Rose}
 use Rattle.hail_devices.specs.Providers.{Provider}
-use Rattle.hail_machine.specs.Jobs.{Job, with_job, without_job}
+use Rattle.hail_machine.specs.Jobs.{Pinned, Job, with_job, without_job}
 use Rattle.hail_machine.specs.Setups.{setup_or_none, object_of}
 
 -- an append in flight: its job, its record, and how many of its four moves are done
@@ -60,6 +71,22 @@ setup_in w = setup_or_none (setup_of w.records)
 abbrev pub object_in : State → ℕ → Object
 object_in w id = object_of (setup_in w) id
 
+-- the object of a file in effect
+abbrev pub file_object : State → File → Object
+file_object w f = object_in w f.id
+
+-- the object of a file that a job works on
+abbrev pub pinned_object : State → Pinned → Object
+pinned_object w f = object_in w f.id
+
+-- the object under whose number a put stores
+abbrev pub put_object : State → Job → ℕ → Object
+put_object w job id = object_in w id
+
+-- the object of a number among those that a job works on
+abbrev pub worked_object : State → Job → ℕ → Object
+worked_object w job id = object_in w id
+
 -- the file in effect under a name
 abbrev pub file_in : State → List ℕ → Option File
 file_in w name = file_of w.records name
@@ -80,33 +107,51 @@ given_up w = record w { jobs = []; append = None; is_open = false; is_barred = f
 abbrev pub continued : State → State
 continued w = record (given_up w) { next_job = 1 }
 
+-- the records in effect with one in doubt added
+abbrev pub with_doubt : State → Doubt → List Record
+with_doubt w d = d.entry ∷ w.records
+
+-- a record has come into effect
+abbrev pub brought : State → Record → State
+brought w r = record w { records = r ∷ w.records }
+
+-- the offset past the gate that closes the journal
+abbrev pub journal_end : State → ℕ
+journal_end w = text_size w.records
+
 -- providers with another one at a place
 abbrev pub with_provider : (ℕ → Provider) → ℕ → Provider → ℕ → Provider
 with_provider providers j p k = if k == j then p else providers k
 
 -- a disk call that leaves this state; the count of faults does not fall
 abbrev pub DiskCall : State → State → State → Type 0
-DiskCall old left new = (faults : ℕ) × (old.disk_faults ≤ faults) × (new ≡ record left { disk_faults = faults })
+DiskCall old left new =
+    (faults : ℕ) × (old.disk_faults ≤ faults) × (new ≡ record left { disk_faults = faults })
 
 -- a disk call that fails and leaves this state
 abbrev pub DiskFails : State → State → State → Type 0
 DiskFails old left new =
-    (faults : ℕ) × (old.disk_faults ≤ faults) × Rose old.disk_faults faults × (new ≡ record left { disk_faults = faults })
+    (faults : ℕ) × (old.disk_faults ≤ faults) × Rose old.disk_faults faults
+    × (new ≡ record left { disk_faults = faults })
 
 -- a call of one provider that leaves this state otherwise
 abbrev pub ProviderCall : State → ℕ → (Provider → Provider → Type 0) → State → State → Type 0
-ProviderCall old j call left new = (p : Provider) × call (old.providers j) p × (new ≡ record left { providers = with_provider old.providers j p })
+ProviderCall old j call left new =
+    (p : Provider) × call (old.providers j) p
+    × (new ≡ record left { providers = with_provider old.providers j p })
 
 -- a record in doubt is in effect or is not, and is no longer in doubt
 abbrev pub Settles : State → State → Type 0
 Settles old new = (new ≡ record old { doubt = None })
-    ⊎ ((d : Doubt) × (old.doubt ≡ Some d) × (new ≡ record old { doubt = None; records = d.entry ∷ old.records }))
+    ⊎ ((d : Doubt) × (old.doubt ≡ Some d) × (new ≡ record (brought old d.entry) { doubt = None }))
 
 -- the records that a disk may stand for at a start: none, or one setup
 abbrev pub AreFirst : List Record → Type 0
-AreFirst records = (records ≡ []) ⊎ ((s : Setup) × IsTrue (is_in_grammar (SetUp s)) × (records ≡ SetUp s ∷ []))
+AreFirst records =
+    (records ≡ []) ⊎ ((s : Setup) × IsTrue (is_in_grammar (SetUp s)) × (records ≡ SetUp s ∷ []))
 
--- a state before the first event, with what the devices hold and count, and the records that the disk stands for
+-- a state before the first event, with what the devices hold and count, and the records that the disk
+-- stands for
 pub record IsStart (w : State) : Type 0 where
   pub records : AreFirst w.records
   pub jobs : w.jobs ≡ []

@@ -11,61 +11,82 @@ ghost use Rattle.hail_machine.specs.Refusals.{MustReopen, Busy, BadName, NoSuchN
 ghost use Rattle.hail_machine.specs.Answers.{Got, Audited};
 ghost use Rattle.hail_machine.specs.Events.{Refused, Waiting, Ended, Listed, Continued};
 ghost use Rattle.hail_machine.specs.Lines.{lines_of};
-ghost use Rattle.hail_machine.specs.Examples.{six, opened, one_file, flagged_file, hundred, job_in};
+ghost use Rattle.hail_machine.specs.Examples.{six, opened, one_file, flagged_file, hundred, beginning_job};
 
 /// How many actions jobs have, those of a repair in order, and the first one of a drop.
 #[tactic(auto, unfolding(crate::specs::Actions::actions_of, crate::specs::States::setup_in))]
 pub fn actions()
-    ensures put { length (actions_of six (job_in (opened (SetUp six ∷ []) []) (PutJob (codes "notes.txt") hundred))) ≡ 15 }
-    ensures put_of_nothing { length (actions_of six (job_in (opened (SetUp six ∷ []) []) (PutJob (codes "empty") []))) ≡ 9 }
-    ensures get { length (actions_of six (job_in (opened one_file hundred) (GetJob (codes "notes.txt")))) ≡ 8 }
-    ensures audit { length (actions_of six (job_in (opened one_file hundred) AuditJob)) ≡ 33 }
-    ensures audit_of_nothing { length (actions_of six (job_in (opened (PutDone 1 0 ∷ PutStart 1 (codes "empty") ∷ SetUp six ∷ []) []) AuditJob)) ≡ 9 }
-    ensures repair { actions_of six (job_in (opened flagged_file hundred) RepairJob)
-        ≡ Fetch 0 1 0 ∷ Fetch 1 1 0 ∷ Fetch 2 1 0 ∷ Fetch 3 1 0 ∷ Fetch 4 1 0 ∷ Fetch 5 1 0 ∷ Work 1 0 ∷ Store 0 1 0
+    ensures put { length (actions_of six
+        (beginning_job (opened (SetUp six ∷ []) []) (PutJob (codes "notes.txt") hundred))) ≡ 15 }
+    ensures put_of_nothing { length (actions_of six (beginning_job (opened (SetUp six ∷ []) [])
+        (PutJob (codes "empty") []))) ≡ 9 }
+    ensures get { length (actions_of six
+        (beginning_job (opened one_file hundred) (GetJob (codes "notes.txt")))) ≡ 8 }
+    ensures audit { length (actions_of six (beginning_job (opened one_file hundred) AuditJob)) ≡ 33 }
+    ensures audit_of_nothing { length
+        (actions_of six (beginning_job
+        (opened (PutDone 1 0 ∷ PutStart 1 (codes "empty") ∷ SetUp six ∷ []) []) AuditJob)) ≡ 9 }
+    ensures repair { actions_of six (beginning_job (opened flagged_file hundred) RepairJob)
+        ≡ Fetch 0 1 0 ∷ Fetch 1 1 0 ∷ Fetch 2 1 0 ∷ Fetch 3 1 0 ∷ Fetch 4 1 0 ∷ Fetch 5 1 0 ∷ Work 1 0
+        ∷ Store 0 1 0
         ∷ WriteBody ∷ SyncBody ∷ WriteGate ∷ SyncGate ∷ End ∷ [] }
-    ensures idle_drop { next_action (opened one_file hundred) (job_in (opened one_file hundred) (DropJob (codes "a"))) ≡ Some End }
-    ensures drop { next_action (opened one_file hundred) (job_in (opened one_file hundred) (DropJob (codes "notes.txt"))) ≡ Some WriteBody }
+    ensures idle_drop { next_action (opened one_file hundred)
+        (beginning_job (opened one_file hundred) (DropJob (codes "a"))) ≡ Some End }
+    ensures drop { next_action (opened one_file hundred)
+        (beginning_job (opened one_file hundred) (DropJob (codes "notes.txt"))) ≡ Some WriteBody }
 {}
 
 /// Steps left: alone, and at most.
 #[tactic(auto, unfolding(crate::specs::Actions::actions_of, crate::specs::States::setup_in))]
 pub fn steps_left()
-    ensures put_alone { left_alone (opened (SetUp six ∷ []) []) (job_in (opened (SetUp six ∷ []) []) (PutJob (codes "notes.txt") hundred)) ≡ 15 }
-    ensures put_at_most { most_left six (job_in (opened (SetUp six ∷ []) []) (PutJob (codes "notes.txt") hundred)) ≡ 21 }
-    ensures put_over { left_alone (opened one_file hundred) (job_in (opened one_file hundred) (PutJob (codes "notes.txt") hundred)) ≡ 21 }
-    ensures repair_alone { left_alone (opened flagged_file hundred) (job_in (opened flagged_file hundred) RepairJob) ≡ 13 }
-    ensures repair_at_most { most_left six (job_in (opened flagged_file hundred) RepairJob) ≡ 13 }
-    ensures idle_drop { left_alone (opened one_file hundred) (job_in (opened one_file hundred) (DropJob (codes "a"))) ≡ 1 }
+    ensures put_alone { left_alone (opened (SetUp six ∷ []) [])
+        (beginning_job (opened (SetUp six ∷ []) []) (PutJob (codes "notes.txt") hundred)) ≡ 15 }
+    ensures put_at_most { most_left six
+        (beginning_job (opened (SetUp six ∷ []) []) (PutJob (codes "notes.txt") hundred)) ≡ 21 }
+    ensures put_over { left_alone (opened one_file hundred)
+        (beginning_job (opened one_file hundred) (PutJob (codes "notes.txt") hundred)) ≡ 21 }
+    ensures repair_alone { left_alone (opened flagged_file hundred)
+        (beginning_job (opened flagged_file hundred) RepairJob) ≡ 13 }
+    ensures repair_at_most { most_left six (beginning_job (opened flagged_file hundred) RepairJob) ≡ 13 }
+    ensures idle_drop { left_alone (opened one_file hundred)
+        (beginning_job (opened one_file hundred) (DropJob (codes "a"))) ≡ 1 }
 {}
 
 /// The room that a put reserves at its begin, once its first record is in effect, and once both are.
 #[tactic(auto, unfolding(crate::specs::Actions::actions_of, crate::specs::States::setup_in))]
 pub fn room()
-    ensures begun { reserved six (job_in (opened (SetUp six ∷ []) []) (PutJob (codes "a") hundred)) ≡ 26 }
-    ensures started { reserved six (record (job_in (opened (SetUp six ∷ []) []) (PutJob (codes "a") hundred)) { place = 4 }) ≡ 14 }
-    ensures done { reserved six (record (job_in (opened (SetUp six ∷ []) []) (PutJob (codes "a") hundred)) { place = 14 }) ≡ 0 }
+    ensures begun { reserved six (beginning_job (opened (SetUp six ∷ []) []) (PutJob (codes "a") hundred))
+        ≡ 26 }
+    ensures started { reserved six (record (beginning_job (opened (SetUp six ∷ []) [])
+        (PutJob (codes "a") hundred)) { place = 4 }) ≡ 14 }
+    ensures done { reserved six (record (beginning_job (opened (SetUp six ∷ []) [])
+        (PutJob (codes "a") hundred)) { place = 14 }) ≡ 0 }
 {}
 
 /// Refusals of begins, with limits of one job and of eight, and the names that are taken.
 #[tactic(auto, unfolding(crate::specs::Actions::actions_of, crate::specs::States::setup_in))]
 pub fn refusals()
     ensures bad_name { begin_refusal 1 (opened one_file hundred) (PutJob (codes "a/b") []) ≡ Some BadName }
-    ensures no_such_name { begin_refusal 1 (opened one_file hundred) (GetJob (codes "nope")) ≡ Some NoSuchName }
+    ensures no_such_name { begin_refusal 1 (opened one_file hundred) (GetJob (codes "nope"))
+        ≡ Some NoSuchName }
     ensures repair_due { begin_refusal 1 (opened flagged_file hundred) AuditJob ≡ Some RepairDue }
     ensures nothing_due { begin_refusal 1 (opened one_file hundred) RepairJob ≡ Some NothingDue }
     ensures busy { begin_refusal 1
-        (record (opened one_file hundred) { jobs = job_in (opened one_file hundred) (GetJob (codes "notes.txt")) ∷ [] })
+        (record (opened one_file
+        hundred) { jobs = beginning_job (opened one_file hundred) (GetJob (codes "notes.txt")) ∷ [] })
         (PutJob (codes "a") []) ≡ Some Busy }
-    ensures must_reopen { begin_refusal 1 (record (opened one_file hundred) { is_barred = true }) (GetJob (codes "nope")) ≡ Some MustReopen }
+    ensures must_reopen { begin_refusal 1 (record (opened one_file hundred) { is_barred = true })
+        (GetJob (codes "nope")) ≡ Some MustReopen }
     ensures put_runs { begin_refusal 8
-        (record (opened one_file hundred) { jobs = job_in (opened one_file hundred) (PutJob (codes "a") []) ∷ [] })
+        (record (opened one_file
+        hundred) { jobs = beginning_job (opened one_file hundred) (PutJob (codes "a") []) ∷ [] })
         AuditJob ≡ Some Busy }
     ensures audit_runs { begin_refusal 8
-        (record (opened one_file hundred) { jobs = job_in (opened one_file hundred) AuditJob ∷ [] })
+        (record (opened one_file hundred) { jobs = beginning_job (opened one_file hundred) AuditJob ∷ [] })
         (PutJob (codes "a") hundred) ≡ None }
     ensures names { names_taken
-        (record (opened one_file hundred) { jobs = job_in (opened one_file hundred) (PutJob (codes "a") []) ∷ [] })
+        (record (opened one_file
+        hundred) { jobs = beginning_job (opened one_file hundred) (PutJob (codes "a") []) ∷ [] })
         ≡ codes "a" ∷ codes "notes.txt" ∷ [] }
 {}
 
@@ -73,9 +94,11 @@ pub fn refusals()
 pub fn lines()
     ensures got { lines_of (Ended (Got (111 ∷ 108 ∷ 100 ∷ []))) ≡ codes "got 6f6c64" ++ 10 ∷ [] }
     ensures got_nothing { lines_of (Ended (Got [])) ≡ codes "got -" ++ 10 ∷ [] }
-    ensures audited { lines_of (Ended (Audited 1 0 (4 ∷ 0 ∷ []))) ≡ codes "audited 1 undecided 0 counts 4 0" ++ 10 ∷ [] }
+    ensures audited { lines_of (Ended (Audited 1 0 (4 ∷ 0 ∷ [])))
+        ≡ codes "audited 1 undecided 0 counts 4 0" ++ 10 ∷ [] }
     ensures bad_journal { lines_of (Refused (BadJournal 9)) ≡ codes "refused BadJournal 9" ++ 10 ∷ [] }
     ensures waiting { lines_of (Waiting 1) ≡ codes "waiting 1" ++ 10 ∷ [] }
-    ensures names { lines_of (Listed (record { name = codes "a"; id = 3; size = 2 } ∷ [])) ≡ codes "names 1" ++ 10 ∷ codes "a 2" ++ 10 ∷ [] }
+    ensures names { lines_of (Listed (record { name = codes "a"; id = 3; size = 2; profile = 0 } ∷ []))
+        ≡ codes "names 1" ++ 10 ∷ codes "a 2" ++ 10 ∷ [] }
     ensures continued { lines_of Continued ≡ [] }
 {}

@@ -14,14 +14,17 @@ pub fn put_is_stored()
     ensures { (ms : List Moment) × IsRun 1 set_up ms
         × CarriesOut (RunJob 1 ∷ Once (Begin (PutJob (codes "a") (111 ∷ []))) ∷ Once Reopen ∷ []) ms
         (((codes "opened" ++ 10 ∷ []) ++ (codes "job 1" ++ 10 ∷ [])) ++ (codes "put" ++ 10 ∷ []))
-        × (length ms ≡ 15) × (file_in (now set_up ms) (codes "a") ≡ Some (record { name = codes "a"; id = 1; size = 1 })) }
+        × (length ms ≡ 15) × (file_in (now set_up ms) (codes "a")
+        ≡ Some (record { name = codes "a"; id = 1; size = 1; profile = 0 })) }
 {}
 
 /// A put of no bytes, and a get of it.
 pub fn stored_is_got()
     ensures { (ms : List Moment) × IsRun 1 set_up ms
-        × CarriesOut (RunJob 2 ∷ Once (Begin (GetJob (codes "a"))) ∷ RunJob 1 ∷ Once (Begin (PutJob (codes "a") [])) ∷ Once Reopen ∷ []) ms
-        (((((codes "opened" ++ 10 ∷ []) ++ (codes "job 1" ++ 10 ∷ [])) ++ (codes "put" ++ 10 ∷ [])) ++ (codes "job 2" ++ 10 ∷ []))
+        × CarriesOut (RunJob 2 ∷ Once (Begin (GetJob (codes "a"))) ∷ RunJob 1
+        ∷ Once (Begin (PutJob (codes "a") [])) ∷ Once Reopen ∷ []) ms
+        (((((codes "opened" ++ 10 ∷ []) ++ (codes "job 1" ++ 10 ∷ [])) ++ (codes "put" ++ 10 ∷ []))
+        ++ (codes "job 2" ++ 10 ∷ []))
         ++ (codes "got -" ++ 10 ∷ [])) }
 {}
 
@@ -30,6 +33,7 @@ pub fn stop_settles_either_way()
     ensures { (ms : List Moment) × IsRun 1 set_up ms
         × ((d : Doubt) × ((now set_up ms).doubt ≡ Some d) × (d.entry ≡ PutDone 1 0))
         × ((w : State) × Happens 1 (length ms) (now set_up ms) (Stop []) Stopped w
-        × (file_in w (codes "a") ≡ Some (record { name = codes "a"; id = 1; size = 0 })))
-        × ((w : State) × Happens 1 (length ms) (now set_up ms) (Stop []) Stopped w × (file_in w (codes "a") ≡ None)) }
+        × (file_in w (codes "a") ≡ Some (record { name = codes "a"; id = 1; size = 0; profile = 0 })))
+        × ((w : State) × Happens 1 (length ms) (now set_up ms) (Stop []) Stopped w
+        × (file_in w (codes "a") ≡ None)) }
 {}

@@ -1,1 +1,2 @@
+pub mod Resyncs
 pub mod Readings

@@ -1,27 +1,17 @@
 -- What a start reads of a disk that tells its bytes: one list of records, or one reason why there is none.
 use Rattle.std.proofs.Common.{◌≡◌, ◌≢◌, ℕ, ◌+◌, ◌<◌, ◌⊎◌, true, List, [], ◌∷◌, ◌++◌, length, take, None, Some, refl, ap, sym, subst, ◌∙◌, inl, inr, arith, append_assoc, length-take}
-use Rattle.std.specs.List.{list_all}
 use Rattle.std.proofs.lemmas.List.{append_cancel_left, append-nil}
 use Rattle.hail_devices.specs.Cells.{Cells, reads}
 use Rattle.hail_records.specs.Records.{Record, is_in_grammar, largest_journal}
 use Rattle.hail_records.specs.Spellings.{spelling}
 use Rattle.hail_records.specs.Journal.{magic, before_gate, StandsFor, SpellsNone}
-use Rattle.hail_records.specs.Reading.{IsNotSetUp}
+use Rattle.hail_records.specs.Reading.{HasNoSetup}
 use Rattle.hail_records.specs.Acceptance.{refused, AreAccepted}
 use Rattle.record_codec.proofs.Takes.{one_front}
-use Rattle.journal_core.proofs.Meanings.{one_meaning, bad_is_none, one_place}
+use Rattle.journal_core.proofs.Meanings.{one_meaning, bad_is_none, one_place, good-head, good-tail, Good}
 use Rattle.hail_openings.specs.Journals.{journal_read, IsRead, IsBadStart, RefusesBehind, StopsBehind}
 
 -- ---- lists of records whose texts begin the same bytes
-
-abbrev Good : List Record → Type 0
-Good rs = list_all is_in_grammar rs ≡ true
-
-good-head : (r : Record) (rs : List Record) → Good (r ∷ rs) → is_in_grammar r ≡ true
-good-head r rs p = grind (arith, p)
-
-good-tail : (r : Record) (rs : List Record) → Good (r ∷ rs) → Good rs
-good-tail r rs p = grind (arith, p)
 
 good-middle : (n : List Record) (r : Record) (rs : List Record) → Good (n ++ r ∷ rs) → is_in_grammar r ≡ true
 good-middle [] r rs p = good-head r rs p
@@ -179,7 +169,7 @@ bad-none bytes at rs accepted S (inr (older, before, inr (inr F))) =
 pub read-once : (cells : Cells) (a b : List Record) → IsRead (Some cells) a → IsRead (Some cells) b → a ≡ b
 read-once cells a b A B = one_meaning (journal_read cells) a b A.reads_are.1 B.reads_are.1
 
-pub read-set_up : (cells : Cells) (rs : List Record) → IsRead (Some cells) rs → IsNotSetUp (journal_read cells) → ⊥
+pub read-set_up : (cells : Cells) (rs : List Record) → IsRead (Some cells) rs → HasNoSetup (journal_read cells) → ⊥
 read-set_up cells rs R (inl short) = (let long = R.reads_are.0 in let size = length-take largest_journal (reads cells) in omega (arith, long, size, short))
 read-set_up cells rs R (inr none) = R.some (one_meaning (journal_read cells) rs [] R.reads_are.1 none)
 
@@ -187,6 +177,6 @@ pub read-good : (cells : Cells) (at : ℕ) (rs : List Record) → IsRead (Some c
 read-good cells at rs R bad = bad-none (journal_read cells) at rs R.accepted R.reads_are.1 bad
 
 -- a disk on which nothing is set up is not bad
-pub fresh-good : (bytes : List ℕ) (at : ℕ) → 9 < length bytes → IsNotSetUp bytes → IsBadStart bytes at → ⊥
+pub fresh-good : (bytes : List ℕ) (at : ℕ) → 9 < length bytes → HasNoSetup bytes → IsBadStart bytes at → ⊥
 fresh-good bytes at long (inl short) bad = omega (arith, long, short)
 fresh-good bytes at long (inr none) bad = bad-none bytes at [] tt none bad

@@ -1,9 +1,12 @@
 -- What a disk reads when a store is set up or a vault is opened. Records have the newest first.
 --
 --   journal_read cells        == the bytes that are looked at: the first 2^24
---   StopsBehind bytes rs at   == behind these records the bytes end at a gate, or no record stands, or one that may not follow
---   IsBadStart bytes at       == the first place at which bytes are no journal, or a record may not follow those before it
---   IsRead told rs            == the disk, where it tells, reads these records; of one that does not, a start has accepted them
+--   StopsBehind bytes rs at   == behind these records the bytes end at a gate, or no record stands, or one
+--                                that may not follow
+--   IsBadStart bytes at       == the first place at which bytes are no journal, or a record may not follow
+--                                those before it
+--   IsRead told rs            == the disk, where it tells, reads these records; of one that does not, a
+--                                start has accepted them
 --   IsBadInit bytes at        == bytes are no journal, or the first record is no setup
 --   IsSetUpAlready bytes      == the journal's first record is a setup
 --   IsFree cells              == they read no records
@@ -35,11 +38,13 @@ pub record RefusesBehind (bytes : List ℕ) (rs : List Record) (at : ℕ) : Type
 -- behind these records the bytes end at a gate, or no record stands, or one that may not follow
 abbrev pub StopsBehind : List ℕ → List Record → ℕ → Type 0
 StopsBehind bytes rs at =
-    ((e : EndsAtGate bytes at) × (e.records ≡ rs)) ⊎ (((b : BreaksAfterGate bytes at) × (b.records ≡ rs)) ⊎ RefusesBehind bytes rs at)
+    ((e : EndsAtGate bytes at) × (e.records ≡ rs))
+    ⊎ (((b : BreaksAfterGate bytes at) × (b.records ≡ rs)) ⊎ RefusesBehind bytes rs at)
 
 -- the first place at which bytes are no journal, or a record may not follow those before it
 abbrev pub IsBadStart : List ℕ → ℕ → Type 0
-IsBadStart bytes at = ((take 8 bytes ≢ magic) × (at ≡ 0)) ⊎ ((rs : List Record) × AreAccepted rs × StopsBehind bytes rs at)
+IsBadStart bytes at =
+    ((take 8 bytes ≢ magic) × (at ≡ 0)) ⊎ ((rs : List Record) × AreAccepted rs × StopsBehind bytes rs at)
 
 -- the records that a start reads, of which there is one at least
 pub record IsRead (told : Option Cells) (rs : List Record) : Type 0 where
@@ -65,7 +70,8 @@ BeginsOtherwise (r ∷ rs) = BeginsOtherwise rs
 
 -- bytes are no journal, or the first record is no setup
 abbrev pub IsBadInit : List ℕ → ℕ → Type 0
-IsBadInit bytes at = IsBadAt bytes at ⊎ ((rs : List Record) × StandsFor bytes rs × BeginsOtherwise rs × (at ≡ 9))
+IsBadInit bytes at =
+    IsBadAt bytes at ⊎ ((rs : List Record) × StandsFor bytes rs × BeginsOtherwise rs × (at ≡ 9))
 
 -- the journal's first record is a setup
 abbrev pub IsSetUpAlready : List ℕ → Type 0
@@ -75,14 +81,18 @@ IsSetUpAlready bytes = (rs : List Record) × StandsFor bytes rs × BeginsWithSet
 abbrev pub IsFree : Cells → Type 0
 IsFree cells = (length (reads cells) ≤ 9) ⊎ StandsFor (journal_read cells) []
 
--- a store is set up on a disk that read no records: it reads the text of the one setup, then what it read past that end, and no byte is loose
+-- a store is set up on a disk that read no records: it reads the text of the one setup, then what it read
+-- past that end, and no byte is loose
 pub record IsSetUpOn (s : Setup) (old new : Cells) : Type 0 where
   pub free : IsFree old
   pub reads_are : new ≡ firm (text (SetUp s ∷ []) ++ drop (length (text (SetUp s ∷ []))) (reads old))
 
--- an image that a failed init may leave: one of the disk as it was, and where that read no records also one that reads none, or this setup
+-- an image that a failed init may leave: one of the disk as it was, and where that read no records also one
+-- that reads none, or this setup
 abbrev pub MayBeLeft : Setup → Cells → List ℕ → Type 0
-MayBeLeft s old image = IsImage old image ⊎ (IsFree old × ((length image ≤ 9) ⊎ (StandsFor image [] ⊎ StandsFor image (SetUp s ∷ []))))
+MayBeLeft s old image =
+    IsImage old image ⊎ (IsFree old × ((length image ≤ 9)
+    ⊎ (StandsFor image [] ⊎ StandsFor image (SetUp s ∷ []))))
 
 -- a disk that was synced, or was left as it was
 abbrev pub IsResynced : Cells → Cells → Type 0

@@ -2,9 +2,11 @@
 --
 --   AreHanded ps w            == the providers handed in are those of a state
 --   IsOpenAtRest w first      == a vault is open in a state at rest, and the next job has this number
---   IsJustOpened w rs first faults ps == the same over these records, this count of faults of the disk and these providers
---   IsOpenedOver w rs faults ps == a state whose vault was just opened over these records, told by its parts; the files in effect have some
---                              bytes of the recorded lengths, and the next job has the number 1
+--   IsJustOpened w rs first faults ps == the same over these records, this count of faults of the disk and
+--                                        these providers
+--   IsOpenedOver w rs faults ps == a state whose vault was just opened over these records, told by its
+--                              parts; the files in effect have some bytes of the recorded lengths, and the
+--                              next job has the number 1
 use Rattle.std.specs.Prelude.{◌≡◌, ℕ, ◌<◌, true, false, List, [], length, slice_get, None, Some}
 use Rattle.hail_devices.specs.Providers.{Provider}
 use Rattle.hail_records.specs.Records.{Record}
@@ -25,7 +27,8 @@ pub record IsOpenAtRest (w : State) (first : ℕ) : Type 0 where
   pub next : w.next_job ≡ first
 
 -- a state at rest whose vault was just opened over these records
-pub record IsJustOpened (w : State) (rs : List Record) (first faults : ℕ) (providers : List Provider) : Type 0 where
+pub record IsJustOpened (w : State) (rs : List Record) (first faults : ℕ)
+    (providers : List Provider) : Type 0 where
   pub at_rest : IsOpenAtRest w first
   pub records : w.records ≡ rs
   pub faults_are : w.disk_faults ≡ faults
@@ -40,6 +43,7 @@ pub record IsOpenedOver (w : State) (rs : List Record) (faults : ℕ) (providers
   pub doubt : w.doubt ≡ None
   pub is_open : w.is_open ≡ true
   pub unbarred : w.is_barred ≡ false
-  pub bytes : (name : List ℕ) (file : File) → file_of rs name ≡ Some file → AreBytes (w.bytes file.id) × (length (w.bytes file.id) ≡ file.size)
+  pub bytes : (name : List ℕ) (file : File) → file_of rs name ≡ Some file
+      → AreBytes (w.bytes file.id) × (length (w.bytes file.id) ≡ file.size)
   pub faults_are : w.disk_faults ≡ faults
   pub handed : AreHanded providers w

@@ -7,6 +7,7 @@ use Rattle.poly_laws.specs.Poly.{value as value_over, FirstRow, here, next}
 use Rattle.poly_laws.proofs.Trim.{value-trim}
 use Rattle.poly_laws.proofs.Values.{value-plus, value-times}
 use Rattle.hail_codes.specs.Polynomials.{value, plus, times}
+use Rattle.hail_codes.proofs.Values.{value-constant}
 use Rattle.hail_poly.specs.Quotient.{IsCombination}
 
 -- the first short row is short
@@ -43,11 +44,6 @@ combination {below} {r0} {f0} {r1} {f1} p w (next q r2 f2 more values less size 
           (sym (value-plus nim nim_laws old.multiple (times q new.multiple) x ∙ ap (nim_add (value old.multiple x)) (value-times nim nim_laws q new.multiple x)));
     })
 
--- the value of the polynomial 1
-value-one : (x : ℕ) → value (1 ∷ []) x ≡ 1
-unfolding value_over
-value-one x = solve nim_ring (x ∷ []) (i ⊞ (v 0 ⊡ o)) i refl
-
 -- the value of the polynomial 0
 value-nothing : (x : ℕ) → value [] x ≡ 0
 unfolding value_over
@@ -61,7 +57,7 @@ whole_begins p w =
       values = λ x.
           solve nim_ring (value p x ∷ value w x ∷ []) (v 1) ((o ⊡ v 0) ⊞ (i ⊡ v 1)) refl ∙
           sym (ap (λ t. nim_add (nim_mul t (value p x)) (nim_mul (value (1 ∷ []) x) (value w x))) (value-nothing x) ∙
-          ap (λ t. nim_add (nim_mul 0 (value p x)) (nim_mul t (value w x))) (value-one x));
+          ap (λ t. nim_add (nim_mul 0 (value p x)) (nim_mul t (value w x))) (value-constant 1 x));
     }
 
 -- the rest begins as 1 times itself and 0 times the whole
@@ -71,7 +67,7 @@ rest_begins p w =
       multiple = [];
       values = λ x.
           solve nim_ring (value p x ∷ value w x ∷ []) (v 0) ((i ⊡ v 0) ⊞ (o ⊡ v 1)) refl ∙
-          sym (ap (λ t. nim_add (nim_mul t (value p x)) (nim_mul (value [] x) (value w x))) (value-one x) ∙
+          sym (ap (λ t. nim_add (nim_mul t (value p x)) (nim_mul (value [] x) (value w x))) (value-constant 1 x) ∙
           ap (λ t. nim_add (nim_mul 1 (value p x)) (nim_mul t (value w x))) (value-nothing x));
     }
 

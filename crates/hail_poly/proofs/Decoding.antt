@@ -1,6 +1,7 @@
 -- What a decoder concludes of the row that `euclid` found after `load`, and of what `divide` answered.
 use Rattle.std.proofs.Common.{◌≡◌, ◌≢◌, ◌≤◌, ◌<◌, ◌+◌, ◌*◌, [], ◌∷◌, ℕ, List, length, refl, sym, ◌∙◌, subst, arith}
-use Rattle.field_laws.specs.Field.{Apart, Each}
+use Rattle.plain_facts.specs.Lists.{Each}
+use Rattle.field_laws.specs.Field.{Apart}
 use Rattle.hail_field.specs.Nim.{nim}
 use Rattle.hail_field.proofs.AllNumbers.{nim_laws, nim_endless}
 use Rattle.poly_laws.specs.Poly.{FirstRow, Decodes}

@@ -1,7 +1,8 @@
 -- Interpolation gives a polynomial back from its values.
-use Rattle.std.proofs.Common.{◌≡◌, ◌≢◌, ◌≤◌, ◌++◌, [], ◌∷◌, ℕ, List, length, take, drop, refl, sym, ◌∙◌, arith}
-use Rattle.std.proofs.lemmas.List.{length-map, length-take-le, take-append-drop}
-use Rattle.field_laws.specs.Field.{Apart, Each}
+use Rattle.std.proofs.Common.{◌≡◌, ◌≤◌, [], ◌∷◌, ℕ, List, length, take, refl, sym, ◌∙◌, arith}
+use Rattle.std.proofs.lemmas.List.{length-map, length-take-le}
+use Rattle.field_laws.specs.Field.{Apart}
+use Rattle.field_laws.proofs.Apart.{Apart-take}
 use Rattle.hail_field.specs.Nim.{nim}
 use Rattle.hail_field.proofs.AllNumbers.{nim_laws}
 use Rattle.poly_laws.proofs.Headlines.{one_takes}
@@ -9,19 +10,6 @@ use Rattle.poly_laws.proofs.Trim.{value-trim}
 use Rattle.poly_laws.proofs.Interpolate.{interpolate_takes, length-interpolate}
 use Rattle.hail_codes.specs.Points.{values_at}
 use Rattle.hail_codes.specs.Polynomials.{value, interpolate, trim, Takes}
-
--- points that are apart stay so without the last ones
-Apart-front : (xs ys : List ℕ) → Apart (xs ++ ys) → Apart xs
-Apart-front [] ys h = tt
-Apart-front (x ∷ xs) ys h = (each xs h.0, Apart-front xs ys h.1)
-  where
-    each : (us : List ℕ) → Each (λ y. x ≢ y) (us ++ ys) → Each (λ y. x ≢ y) us
-    each [] h = tt
-    each (u ∷ us) h = (h.0, each us h.1)
-
--- the first points are apart
-pub Apart-take : (k : ℕ) (xs : List ℕ) → Apart xs → Apart (take k xs)
-Apart-take k xs h = Apart-front (take k xs) (drop k xs) (rw take-append-drop h)
 
 -- a polynomial takes its values
 pub takes_values : (p xs : List ℕ) → Takes p xs (values_at xs p)

@@ -1,18 +1,15 @@
 -- The steps of interpolate_into.
 use Rattle.std.proofs.Common.{◌≡◌, ◌≢◌, ◌≤◌, ◌<◌, ◌+◌, ◌-◌, ◌++◌, [], ◌∷◌, ℕ, zero, suc, List, length, drop, take, set, get_or, add-one, refl, sym, ◌∙◌, ap, subst, arith}
-use Rattle.std.proofs.Math.Seq.{take-append_seam}
 use Rattle.std.proofs.lemmas.List.{take_more_set, drop_all, drop_more, length-append, length-drop}
+use Rattle.plain_facts.specs.Lists.{Each}
+use Rattle.plain_facts.proofs.Lists.{take-front}
 use Rattle.hail_field.specs.Nim.{nim, nim_add, nim_mul, nim_inv}
 use Rattle.hail_codes.specs.Polynomials.{value, plus, scale, root_times, vanish, interpolate}
 use Rattle.hail_field.proofs.AllNumbers.{nim_laws}
-use Rattle.field_laws.specs.Field.{Apart, Each}
+use Rattle.field_laws.specs.Field.{Apart}
 use Rattle.poly_laws.specs.Poly.{vanish as vanish_over, interpolate as interpolate_over}
 use Rattle.poly_laws.proofs.Loading.{vanish_step, interpolate_step}
 use Rattle.poly_laws.proofs.Interpolate.{vanish_else}
-
--- the front of two parts
-front_part : (part rest : List ℕ) (n : ℕ) → length part ≡ n → take n (part ++ rest) ≡ part
-front_part part rest n e = rw (← e) (take-append_seam part rest)
 
 -- one point more in the product
 pub whole_step : (points whole part : List ℕ) (done x last : ℕ) → done < length points → length whole ≡ length points + 1 →
@@ -22,7 +19,7 @@ pub whole_step : (points whole part : List ℕ) (done x last : ℕ) → done < l
 whole_step points whole part done x last lt room read before long made =
     take_more_set (part ++ drop (done + 1) whole) (done + 1) last
     (omega (arith, length-append part (drop (done + 1) whole), length-drop (done + 1) whole)) ∙
-    ap (λ t. t ++ last ∷ []) (front_part part (drop (done + 1) whole) (done + 1) long) ∙ made ∙
+    ap (λ t. t ++ last ∷ []) (take-front part (drop (done + 1) whole) (done + 1) long) ∙ made ∙
     ap (λ t. root_times x 0 t) before ∙ vanish_step nim nim_laws x (drop (length points - done) points) ∙
     ap (λ t. vanish t) (sym at_next)
   where
@@ -61,7 +58,7 @@ pub rest_step : (points values whole rest part : List ℕ) (done x y gap c : ℕ
     interpolate (drop (length points - (done + 1)) points) (drop (length points - (done + 1)) values)
 rest_step points values whole rest part done x y gap c lt even room read_x read_y is_whole is_rest is_gap is_c long made =
     cc (
-      front_part part (drop (done + 1) (set rest done 0)) (done + 1) long,
+      take-front part (drop (done + 1) (set rest done 0)) (done + 1) long,
       made,
       take_more_set rest done 0 (omega arith),
       is_whole,

@@ -1,7 +1,7 @@
 -- The steps of the methods of a row.
 use Rattle.std.proofs.Common.{◌≡◌, ◌<◌, [], ◌∷◌, ℕ, zero, suc, List, length, take, set, replicate, refl, sym, ◌∙◌, ap, arith}
 use Rattle.std.proofs.lemmas.List.{length-replicate}
-use Rattle.field_laws.specs.Field.{Each}
+use Rattle.plain_facts.specs.Lists.{Each}
 use Rattle.hail_field.specs.Nim.{nim}
 use Rattle.hail_field.proofs.AllNumbers.{nim_laws, nim_endless}
 use Rattle.poly_laws.specs.Poly.{trim as trim_over, front}
@@ -9,7 +9,7 @@ use Rattle.poly_laws.proofs.Trim.{trim-zero, trim-last, value-trim}
 use Rattle.poly_laws.proofs.Everywhere.{same_from_values}
 use Rattle.poly_laws.proofs.Euclid.{vanish-monic}
 use Rattle.hail_codes.specs.Polynomials.{trim, vanish}
-use Rattle.hail_poly.specs.RowState.{IsRow}
+use Rattle.hail_poly.specs.RowState.{IsDivisionRow}
 
 -- zeros are zeros
 pub Each-zeros : (n : ℕ) → Each (λ (a : ℕ). a ≡ 0) (replicate n 0)
@@ -21,7 +21,7 @@ pub trim-zeros : (n : ℕ) → trim (replicate n 0) ≡ []
 trim-zeros n = trim-zero nim nim_laws (replicate n 0) (Each-zeros n)
 
 -- two buffers of zeros are a row
-pub new_row : (rest factor : List ℕ) (room : ℕ) → rest ≡ replicate room 0 → factor ≡ replicate room 0 → IsRow rest 0 factor 0
+pub new_row : (rest factor : List ℕ) (room : ℕ) → rest ≡ replicate room 0 → factor ≡ replicate room 0 → IsDivisionRow rest 0 factor 0
 unfolding trim_over
 new_row rest factor room r f =
     record {
@@ -33,7 +33,7 @@ new_row rest factor room r f =
     }
 
 -- the cofactor becomes 0
-pub cleared : (rest factor zeros : List ℕ) (n m : ℕ) → IsRow rest n factor m → zeros ≡ replicate (length factor) 0 → IsRow rest n zeros 0
+pub cleared : (rest factor zeros : List ℕ) (n m : ℕ) → IsDivisionRow rest n factor m → zeros ≡ replicate (length factor) 0 → IsDivisionRow rest n zeros 0
 cleared rest factor zeros n m row z =
     record {
       same = ap length z ∙ length-replicate {A = ℕ} (length factor) 0 ∙ row.same;
@@ -49,7 +49,7 @@ unfolding trim_over front
 trim-one n = rw (trim-zeros n) refl
 
 -- the cofactor becomes 1
-pub started : (rest factor zeros : List ℕ) (n m : ℕ) → IsRow rest n factor m → zeros ≡ replicate (length factor) 0 → 0 < length rest → IsRow rest n (set zeros 0 1) 1
+pub started : (rest factor zeros : List ℕ) (n m : ℕ) → IsDivisionRow rest n factor m → zeros ≡ replicate (length factor) 0 → 0 < length rest → IsDivisionRow rest n (set zeros 0 1) 1
 started rest [] zeros n m row z some = absurd (let h = row.same in omega arith)
 started rest (a ∷ factor) zeros n m row z some =
     rw z (record {

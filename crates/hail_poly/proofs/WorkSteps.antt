@@ -10,21 +10,17 @@ use Rattle.poly_laws.proofs.Values.{value-plus, value-times}
 use Rattle.poly_laws.proofs.Everywhere.{same_from_values}
 use Rattle.poly_laws.proofs.Degree.{product_not_shorter}
 use Rattle.hail_codes.specs.Polynomials.{value, plus, times, trim}
+use Rattle.hail_codes.proofs.Values.{value-constant}
 use Rattle.hail_poly.specs.Rows.{Reduces}
 use Rattle.hail_poly.specs.Quotient.{IsProduct, IsQuotient, HasNoQuotient}
 use Rattle.hail_poly.proofs.EuclidSteps.{lead_of}
 use Rattle.hail_poly.proofs.RowSteps.{trim_trim}
 
--- the value of the polynomial 1
-value-one : (x : ℕ) → value (1 ∷ []) x ≡ 1
-unfolding value_over
-value-one x = solve nim_ring (x ∷ []) (i ⊞ (v 0 ⊡ o)) i refl
-
 -- a cofactor that began with 0 and lost multiples of 1 is the quotient
 pub by_is : (p z f r q : List ℕ) (h : Reduces p z f (1 ∷ []) r q) (x : ℕ) → value z x ≡ 0 → value h.by x ≡ value q x
 by_is p z f r q h x zero =
     sum_zero nim_ring (value h.by x) (value q x)
-    (cc (h.factor x, zero, value-one x, nim_ring.mul_one (value h.by x)))
+    (cc (h.factor x, zero, value-constant 1 x, nim_ring.mul_one (value h.by x)))
 
 -- where no remainder is left, the cofactor is the quotient
 pub quotient_is : (p f r q : List ℕ) → Reduces (trim p) [] f (1 ∷ []) r q → length r ≤ 0 → IsQuotient p f (trim q)

@@ -8,7 +8,8 @@ use Rattle.hail_codes.specs.Polynomials.{agree, trim}
 abbrev pub matches : List ℕ → List ℕ → List ℕ → ℕ
 matches p points values = agree p points (map Some values)
 
--- p is the one polynomial of at most keep coefficients that differs from the values at no more than fix points
+-- p is the one polynomial of at most keep coefficients that differs from the values at no more than fix
+-- points
 pub record IsDecoded (points values : List ℕ) (keep fix : ℕ) (p : List ℕ) : Type 0 where
   pub decodes : Decodes nim points values keep fix p
   pub only : (q : List ℕ) → Decodes nim points values keep fix q → p ≡ trim q

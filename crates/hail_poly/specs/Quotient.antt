@@ -27,4 +27,5 @@ pub record IsDivision (p d q r : List ℕ) : Type 0 where
 -- r is f times p, plus a multiple of w
 pub record IsCombination (r f p w : List ℕ) : Type 0 where
   pub multiple : List ℕ
-  pub values : (x : ℕ) → value r x ≡ nim_add (nim_mul (value f x) (value p x)) (nim_mul (value multiple x) (value w x))
+  pub values : (x : ℕ) → value r x ≡ nim_add (nim_mul (value f x) (value p x))
+      (nim_mul (value multiple x) (value w x))

@@ -8,7 +8,7 @@ pub record RowState : Type 0 where
   pub factor : List ℕ
 
 -- two buffers of one length hold a remainder and its cofactor, and behind the cofactor only zeros
-pub record IsRow (rest : List ℕ) (rest_len : ℕ) (factor : List ℕ) (factor_len : ℕ) : Type 0 where
+pub record IsDivisionRow (rest : List ℕ) (rest_len : ℕ) (factor : List ℕ) (factor_len : ℕ) : Type 0 where
   pub same : length factor ≡ length rest
   pub rest_fits : rest_len ≤ length rest
   pub factor_fits : factor_len ≤ length factor

@@ -8,7 +8,8 @@ ghost use Rattle.hail_poly.specs.Quotient.{IsDivision};
 /// A division has one quotient and one remainder.
 pub fn division_is_unique()
     ensures quotient { (p d q r s t : List ℕ) → d ≡ trim d → IsDivision p d q r → IsDivision p d s t → q ≡ s }
-    ensures remainder { (p d q r s t : List ℕ) → d ≡ trim d → IsDivision p d q r → IsDivision p d s t → r ≡ t }
+    ensures remainder { (p d q r s t : List ℕ) → d ≡ trim d → IsDivision p d q r → IsDivision p d s t
+        → r ≡ t }
 {}
 
 /// A polynomial of degree below `l` is the one that interpolation makes of its values at the first `l` points.

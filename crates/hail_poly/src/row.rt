@@ -21,7 +21,7 @@ pub struct Row {
 
 impl Model for Row {
     ghost use Rattle.std.specs.Prelude.{take, length};
-    ghost use Rattle.hail_poly.specs.RowState.{RowState, IsRow};
+    ghost use Rattle.hail_poly.specs.RowState.{RowState, IsDivisionRow};
 
     ghost Value = { RowState };
 
@@ -31,7 +31,7 @@ impl Model for Row {
       factor = take w.factor_len w.factor.items;
     } };
 
-    ghost invariant = { λ w. IsRow w.rest.items w.rest_len w.factor.items w.factor_len };
+    ghost invariant = { λ w. IsDivisionRow w.rest.items w.rest_len w.factor.items w.factor_len };
 }
 
 impl Row {
@@ -157,7 +157,8 @@ impl Row {
         ensures same_room { self.new.room ≡ self.old.room }
         ensures rest_trimmed { self.new.rest ≡ trim self.new.rest }
         ensures factor_trimmed { self.new.factor ≡ trim self.new.factor }
-        ensures rows { Reduces self.old.rest self.old.factor by.now.rest by.now.factor self.new.rest self.new.factor }
+        ensures rows { Reduces self.old.rest self.old.factor by.now.rest by.now.factor self.new.rest
+            self.new.factor }
     {
         self.rest_len = reduce(
             &mut self.rest,

@@ -115,7 +115,8 @@ impl Work {
         ensures whole { self.new.whole ≡ self.old.whole }
         ensures below { length self.new.rest ≤ below }
         ensures combination { IsCombination self.new.rest self.new.factor self.old.rest self.old.whole }
-        ensures row { FirstRow nim below self.old.whole [] self.old.rest (1 ∷ []) self.new.rest self.new.factor }
+        ensures row { FirstRow nim below self.old.whole [] self.old.rest (1 ∷ []) self.new.rest
+            self.new.factor }
     {
         self.spare.set_rest(&self.whole[..self.whole_len]);
         self.spare.clear_factor();

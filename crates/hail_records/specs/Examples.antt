@@ -1,10 +1,21 @@
 -- Lists of records for the worked rows; the newest record first.
-use Rattle.std.specs.Prelude.{List, [], ◌∷◌, replicate, codes}
-use Rattle.hail_records.specs.Records.{Setup, Record, SetUp, PutStart, PutDone, AuditStart, AuditDone}
+use Rattle.std.specs.Prelude.{ℕ, List, [], ◌∷◌, ◌++◌, replicate, codes}
+use Rattle.hail_records.specs.Records.{Setup, Record, SetUp, PutStart, PutDone, AuditStart, AuditDone, Version}
+use Rattle.hail_records.specs.Journal.{text}
 
 -- a setup of four providers, one of them primary, with a tolerance of 0
 abbrev pub four : Setup
-four = record { n = 4; l = 1; b = 1; profile = 0; rounds = 1; picks = 1; tolerance = 0; master = replicate 32 0 }
+four =
+    record {
+      n = 4;
+      l = 1;
+      b = 1;
+      profile = 0;
+      rounds = 1;
+      picks = 1;
+      tolerance = 0;
+      master = replicate 32 0;
+    }
 
 -- a file of three bytes is put under the name a
 abbrev pub first_put : List Record
@@ -17,3 +28,15 @@ second_put = PutDone 2 5 ∷ PutStart 2 (codes "a") ∷ first_put
 -- then an audit counts one wrong round of the third provider
 abbrev pub audited : List Record
 audited = AuditDone 1 0 (0 ∷ 0 ∷ 1 ∷ 0 ∷ []) ∷ AuditStart 1 ∷ second_put
+
+-- then the journal has its second version
+abbrev pub raised : List Record
+raised = Version ∷ audited
+
+-- a store that was set up
+abbrev pub four_set_up : List Record
+four_set_up = SetUp four ∷ []
+
+-- a disk with the text of that store in its first area and, behind a filling, that of no record in its second
+abbrev pub two_areas : List ℕ → List ℕ
+two_areas filling = text four_set_up ++ (filling ++ 0 ∷ [])

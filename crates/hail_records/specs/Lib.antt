@@ -4,4 +4,6 @@ pub mod Journal
 pub mod Table
 pub mod Acceptance
 pub mod Reading
+pub mod Packed
+pub mod Areas
 pub mod Examples

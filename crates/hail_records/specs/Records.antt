@@ -1,17 +1,22 @@
 -- Records as plain data, with the limits of their fields.
 --
 --   Setup, Record      the data; names, keys and counts are lists of numbers
---   is_name name       1 to 64 bytes, each a letter A to Z or a to z, a digit, a full stop, an underscore or a dash
+--   is_name name 1 to 64 bytes, each a letter A to Z or a to z, a digit, a full stop, an underscore or a
+--       dash
 --   is_setup s         every number of a setup is within its limits; of the master key it says nothing
 --   is_master key      32 bytes
---   is_in_grammar r    the record has a spelling that a journal may hold
+--   is_spelled r       each field is within its limits, so that the record has a spelling
+--   is_held r a journal may hold the record's kind; the second version's kinds are out while
+--       holds_second_version is off
+--   is_in_grammar r    the record has a spelling, and a journal may hold its kind
 --   record_size r      how many bytes the record takes, its kind included
 --
 -- Limits: largest_file (bytes of a file), largest_journal (bytes of a journal), most_files (files in effect).
-use Rattle.std.specs.Prelude.{ℕ, ◌+◌, ◌*◌, ◌^◌, ◌==◌, ◌&&◌, ◌||◌, Bool, List, length, nat_lt, nat_le}
+use Rattle.std.specs.Prelude.{ℕ, ◌+◌, ◌*◌, ◌^◌, ◌==◌, ◌&&◌, ◌||◌, Bool, true, false, List, length, nat_lt, nat_le}
 use Rattle.std.specs.List.{list_all}
 
--- what a store is set up with: n providers, l of them primary, b of them bad at most, the numbers of its audits, and the master key
+-- what a store is set up with: n providers, l of them primary, b of them bad at most, the numbers of its
+-- audits, and the master key
 pub record Setup : Type 0 where
   pub n : ℕ
   pub l : ℕ
@@ -22,7 +27,9 @@ pub record Setup : Type 0 where
   pub tolerance : ℕ
   pub master : List ℕ
 
--- a record of the journal
+-- A record of the journal. The last five kinds come with its second version: a put's end with a profile,
+-- the version itself, and what a packed journal begins with: its next numbers, each file in effect, and the
+-- audit whose repair is due.
 pub data Record : Type 0 where
   SetUp : (setup : Setup) → Record
   PutStart : (id : ℕ) (name : List ℕ) → Record
@@ -31,6 +38,11 @@ pub data Record : Type 0 where
   AuditStart : (number : ℕ) → Record
   AuditDone : (number undecided : ℕ) (counts : List ℕ) → Record
   RepairDone : (number : ℕ) → Record
+  PutDoneIn : (id size profile : ℕ) → Record
+  Version : Record
+  Resume : (id audit : ℕ) → Record
+  InEffect : (id size profile : ℕ) (name : List ℕ) → Record
+  RepairDue : (number : ℕ) (counts : List ℕ) → Record
 
 -- the largest length of a file, in bytes
 abbrev pub largest_file : ℕ
@@ -40,13 +52,19 @@ largest_file = 2 ^ 22
 abbrev pub largest_journal : ℕ
 largest_journal = 2 ^ 24
 
+-- how many profiles there are
+abbrev pub all_profiles : ℕ
+all_profiles = 5
+
 -- how many files can be in effect
 abbrev pub most_files : ℕ
 most_files = 1024
 
 -- A to Z, a to z, 0 to 9, full stop, underscore or dash
 abbrev pub is_name_byte : ℕ → Bool
-is_name_byte b = (nat_le 65 b && nat_le b 90) || (nat_le 97 b && nat_le b 122) || (nat_le 48 b && nat_le b 57) || (b == 46) || (b == 95) || (b == 45)
+is_name_byte b =
+    (nat_le 65 b && nat_le b 90) || (nat_le 97 b && nat_le b 122) || (nat_le 48 b && nat_le b 57)
+    || (b == 46) || (b == 95) || (b == 45)
 
 -- a name has 1 to 64 such bytes
 abbrev pub is_name : List ℕ → Bool
@@ -58,24 +76,77 @@ is_byte b = nat_lt b 256
 
 -- every number of a setup is within its limits
 abbrev pub is_setup : Setup → Bool
-is_setup s = nat_le 4 s.n && nat_le s.n 16 && nat_le 1 s.l && nat_le 1 s.b && nat_le (s.l + 2 * s.b + 1) s.n && nat_lt s.profile 5
-    && nat_le 1 s.rounds && nat_le s.rounds 64 && nat_le 1 s.picks && nat_le s.picks 64 && nat_le s.tolerance 4096
+is_setup s =
+    nat_le 4 s.n && nat_le s.n 16 && nat_le 1 s.l && nat_le 1 s.b && nat_le (s.l + 2 * s.b + 1) s.n
+    && nat_lt s.profile all_profiles
+    && nat_le 1 s.rounds && nat_le s.rounds 64 && nat_le 1 s.picks && nat_le s.picks 64
+    && nat_le s.tolerance 4096
 
 -- a master key has 32 bytes
 abbrev pub is_master : List ℕ → Bool
 is_master key = (length key == 32) && list_all is_byte key
 
--- a record is in the grammar
-abbrev pub is_in_grammar : Record → Bool
-is_in_grammar (SetUp s) = is_setup s && is_master s.master
-is_in_grammar (PutStart id name) = nat_lt id (2 ^ 64) && is_name name
-is_in_grammar (PutDone id size) = nat_lt id (2 ^ 64) && nat_le size largest_file
-is_in_grammar (Drop name) = is_name name
-is_in_grammar (AuditStart number) = nat_lt number (2 ^ 64)
-is_in_grammar (AuditDone number undecided counts) =
-    nat_lt number (2 ^ 64) && nat_lt undecided (2 ^ 32) && nat_le 4 (length counts) && nat_le (length counts) 16
+-- 4 to 16 counts of four bytes each
+abbrev pub are_counts : List ℕ → Bool
+are_counts counts =
+    nat_le 4 (length counts) && nat_le (length counts) 16
     && list_all (λ count. nat_lt count (2 ^ 32)) counts
-is_in_grammar (RepairDone number) = nat_lt number (2 ^ 64)
+
+-- each field of a record is within its limits, so that the record has a spelling
+abbrev pub is_spelled : Record → Bool
+is_spelled (SetUp s) = is_setup s && is_master s.master
+is_spelled (PutStart id name) = nat_lt id (2 ^ 64) && is_name name
+is_spelled (PutDone id size) = nat_lt id (2 ^ 64) && nat_le size largest_file
+is_spelled (Drop name) = is_name name
+is_spelled (AuditStart number) = nat_lt number (2 ^ 64)
+is_spelled (AuditDone number undecided counts) =
+    nat_lt number (2 ^ 64) && nat_lt undecided (2 ^ 32) && nat_le 4 (length counts)
+    && nat_le (length counts) 16
+    && list_all (λ count. nat_lt count (2 ^ 32)) counts
+is_spelled (RepairDone number) = nat_lt number (2 ^ 64)
+is_spelled (PutDoneIn id size profile) =
+    nat_lt id (2 ^ 64) && nat_le size largest_file && nat_lt profile all_profiles
+is_spelled Version = true
+is_spelled (Resume id audit) = nat_lt id (2 ^ 64) && nat_lt audit (2 ^ 64)
+is_spelled (InEffect id size profile name) =
+    nat_lt id (2 ^ 64) && nat_le size largest_file && nat_lt profile all_profiles && is_name name
+is_spelled (RepairDue number counts) = nat_lt number (2 ^ 64) && are_counts counts
+
+-- whether a journal may hold the kinds of the second version: one switch, off until journals of that
+-- version are written
+abbrev pub holds_second_version : Bool
+holds_second_version = false
+
+-- whether a journal may hold the kind of a record
+abbrev pub is_held : Record → Bool
+is_held (SetUp s) = true
+is_held (PutStart id name) = true
+is_held (PutDone id size) = true
+is_held (Drop name) = true
+is_held (AuditStart number) = true
+is_held (AuditDone number undecided counts) = true
+is_held (RepairDone number) = true
+is_held (PutDoneIn id size profile) = holds_second_version
+is_held Version = holds_second_version
+is_held (Resume id audit) = holds_second_version
+is_held (InEffect id size profile name) = holds_second_version
+is_held (RepairDue number counts) = holds_second_version
+
+-- a record is in the grammar: it has a spelling, and a journal may hold its kind
+abbrev pub is_in_grammar : Record → Bool
+is_in_grammar (SetUp s) = is_spelled (SetUp s)
+is_in_grammar (PutStart id name) = is_spelled (PutStart id name)
+is_in_grammar (PutDone id size) = is_spelled (PutDone id size)
+is_in_grammar (Drop name) = is_spelled (Drop name)
+is_in_grammar (AuditStart number) = is_spelled (AuditStart number)
+is_in_grammar (AuditDone number undecided counts) = is_spelled (AuditDone number undecided counts)
+is_in_grammar (RepairDone number) = is_spelled (RepairDone number)
+is_in_grammar (PutDoneIn id size profile) = holds_second_version && is_spelled (PutDoneIn id size profile)
+is_in_grammar Version = holds_second_version && is_spelled Version
+is_in_grammar (Resume id audit) = holds_second_version && is_spelled (Resume id audit)
+is_in_grammar (InEffect id size profile name) =
+    holds_second_version && is_spelled (InEffect id size profile name)
+is_in_grammar (RepairDue number counts) = holds_second_version && is_spelled (RepairDue number counts)
 
 -- how many bytes a record takes
 abbrev pub record_size : Record → ℕ
@@ -86,3 +157,8 @@ record_size (Drop name) = 2 + length name
 record_size (AuditStart number) = 9
 record_size (AuditDone number undecided counts) = 14 + 4 * length counts
 record_size (RepairDone number) = 9
+record_size (PutDoneIn id size profile) = 14
+record_size Version = 2
+record_size (Resume id audit) = 17
+record_size (InEffect id size profile name) = 15 + length name
+record_size (RepairDue number counts) = 10 + 4 * length counts

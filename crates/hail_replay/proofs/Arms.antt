@@ -1,10 +1,9 @@
 -- What each call of the client keeps, whatever the devices hold.
-use Rattle.std.proofs.Common.{◌≡◌, ℕ, ◌+◌, ◌<◌, ◌≤◌, Bool, true, false, List, [], ◌∷◌, ◌++◌, length, Option, Some, None, Result, Ok, Err, inl, inr, refl, ap, sym, subst, ◌∙◌, arith}
+use Rattle.std.proofs.Common.{◌≡◌, ℕ, ◌+◌, ◌≤◌, true, false, List, [], ◌∷◌, ◌++◌, length, Option, Some, None, Result, Ok, Err, inl, inr, refl, sym, ◌∙◌, arith}
 use Rattle.std.specs.Prelude.{OnOk, is_ok, is_some}
 use Rattle.std.proofs.lemmas.Bool.{cases_Bool, false≢true}
 use Rattle.hail_devices.specs.Cells.{Cells}
 use Rattle.hail_devices.specs.Providers.{Provider}
-use Rattle.hail_devices.specs.Told.{Goes}
 use Rattle.hail_machine.specs.Events.{Event, Begin, Step, Outcome}
 use Rattle.hail_machine.specs.Jobs.{Kind}
 use Rattle.hail_machine.specs.Machine.{Happens}
@@ -16,11 +15,11 @@ use Rattle.vault.specs.declared.vault.Vault.{Vault}
 use Rattle.vault.specs.Devices.{Devices, devices}
 use Rattle.hail_client.specs.declared.client.Client.{Client}
 use Rattle.hail_client.specs.declared.fault.ReopenFault.{ReopenFault}
-use Rattle.hail_client.specs.Client.{is_open, next_job_of, next_job_by, coming_of, coming_by, IsSame, IsSameVault}
+use Rattle.hail_client.specs.Client.{is_open, client_next_job, next_job_by, client_coming, coming_by, IsSame, IsSameVault}
 use Rattle.hail_client.specs.Stands.{ClientStands, MakesEvent, IsStanding, IsReached, RunsJobOn, OpensOver}
 use Rattle.vault_core.specs.Coming.{IsNoJob}
 use Rattle.hail_replay.specs.Performed.{StandsWhereOpen, NoCountFell, KeepsStanding}
-use Rattle.hail_replay.proofs.Same.{Same, OneMore, steps, begins, both, going, step_of}
+use Rattle.hail_replay.proofs.Same.{Same, steps, begins, both, going, step_of}
 use Rattle.hail_replay.proofs.Counts.{none-fell, fell, onward-over}
 use Rattle.hail_replay.proofs.Behind.{open-same}
 use Rattle.hail_replay.proofs.Standing.{standing-closed}
@@ -39,7 +38,7 @@ somewhere c d S = elim (cases_Bool (is_open c)) [
 ]
 
 -- the number of the next job of both
-numbers : (c : Client) (d : Devices) (w : State) → ClientStands c d w → w.next_job ≡ next_job_of c
+numbers : (c : Client) (d : Devices) (w : State) → ClientStands c d w → w.next_job ≡ client_next_job c
 numbers c d w S = next-of c.vault c.next_job d w S
 
 -- ---- begins
@@ -83,7 +82,7 @@ closed-kept c next d closed same =
     })
 
 -- where no vault is open, no job comes next
-pub closed-coming : (c : Client) (job : ℕ) → is_open c ≡ false → coming_of c job ≡ IsNoJob
+pub closed-coming : (c : Client) (job : ℕ) → is_open c ≡ false → client_coming c job ≡ IsNoJob
 closed-coming c job closed = at c.vault closed
   where
     at : (o : Option Vault) → is_some o ≡ false → coming_by o job ≡ IsNoJob
@@ -164,7 +163,7 @@ init-kept c old new f g ps tells never standing S = record {
 }
 
 pub stop-kept : (c next : Client) (old new : Option Cells) (f g : ℕ) (ps : List Provider) → is_some new ≡ is_some old → f ≤ g
-    → is_open next ≡ false → next_job_of next ≡ next_job_of c → KeepsStanding c next (devices old f ps) (devices new g ps)
+    → is_open next ≡ false → client_next_job next ≡ client_next_job c → KeepsStanding c next (devices old f ps) (devices new g ps)
 stop-kept c next old new f g ps tells never closed number = record {
   standing = λ opened. absurd (false≢true (sym closed ∙ opened));
   jobs = omega (arith, number);
@@ -173,8 +172,8 @@ stop-kept c next old new f g ps tells never closed number = record {
 }
 
 pub reopen-kept : (c next : Client) (old new : Option Cells) (f g : ℕ) (ps : List Provider) (handed : ℕ) (result : Result Unit ReopenFault)
-    → is_some new ≡ is_some old → f ≤ g → length ps ≡ handed → is_open next ≡ is_ok result → next_job_of next ≡ next_job_of c
-    → OnOk result (OpensOver old (next_job_of c) handed next new g) → KeepsStanding c next (devices old f ps) (devices new g ps)
+    → is_some new ≡ is_some old → f ≤ g → length ps ≡ handed → is_open next ≡ is_ok result → client_next_job next ≡ client_next_job c
+    → OnOk result (OpensOver old (client_next_job c) handed next new g) → KeepsStanding c next (devices old f ps) (devices new g ps)
 reopen-kept c next old new f g ps handed result tells never count opens number over = record {
   standing = λ opened. standing result (sym opens ∙ opened) over;
   jobs = omega (arith, number);
@@ -182,17 +181,10 @@ reopen-kept c next old new f g ps handed result tells never count opens number o
   counts = record { disk = never; handed = refl; stores = λ j. omega arith; others = λ j. omega arith };
 }
   where
-    standing : (r : Result Unit ReopenFault) → is_ok r ≡ true → OnOk r (OpensOver old (next_job_of c) handed next new g) → IsStanding next (devices new g ps)
+    standing : (r : Result Unit ReopenFault) → is_ok r ≡ true → OnOk r (OpensOver old (client_next_job c) handed next new g) → IsStanding next (devices new g ps)
     standing (Ok done) t O = (let W = O.one ps count in record { state = W.0; stands = O.each W.0 ps W.1 })
     standing (Err why) t O = absurd (false≢true t)
 
 -- nothing was called
 pub same-kept : (c : Client) (d : Devices) → StandsWhereOpen c d → KeepsStanding c c d d
 same-kept c d S = record { standing = S; jobs = omega arith; tells = refl; counts = none-fell d }
-
--- a disk that went on as before goes on telling
-pub goes-tells : {A : Type 0} (step : A → A → Type 0) (old new : Option A) → Goes step old new → is_some new ≡ is_some old
-goes-tells step None None g = refl
-goes-tells step (Some old) (Some new) g = refl
-goes-tells step None (Some new) g = absurd g
-goes-tells step (Some old) None g = absurd g

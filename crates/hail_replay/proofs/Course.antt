@@ -8,7 +8,7 @@ use Rattle.hail_machine.specs.Heard.{Entry, heard_in}
 use Rattle.hail_machine.specs.Lines.{lines_of}
 use Rattle.hail_machine.specs.Runs.{Moment, now, IsRun}
 use Rattle.hail_machine.specs.States.{State, IsStart, continued}
-use Rattle.hail_machine.specs.Transcripts.{Command, Once, RunJob, GoOn, CarriesOut}
+use Rattle.hail_machine.specs.Transcripts.{Instruction, Once, RunJob, GoOn, CarriesOut}
 use Rattle.headline.specs.Headline.{Headline}
 use Rattle.sound_states.specs.Sound.{IsSound}
 use Rattle.trial_counts.specs.Counts.{TrialCounts, counts_of}
@@ -26,14 +26,14 @@ use Rattle.hail_client.proofs.Standing.{devices-of}
 
 module _ (start : State) (base : List Moment) where
   -- the moments of one command more carry it out
-  carried-on : (command : Command) (done : List Command) (last : Moment) (steps later : List Moment) (lines : List ℕ) → AreMomentsOf command last steps
+  carried-on : (command : Instruction) (done : List Instruction) (last : Moment) (steps later : List Moment) (lines : List ℕ) → AreMomentsOf command last steps
       → CarriesOut done later lines → CarriesOut (command ∷ done) (last ∷ (steps ++ later)) (lines ++ lines_of last.outcome)
   carried-on (Once event) done last steps later lines (is, none) so_far =
       (last, later, lines, ap (λ (s : List Moment). last ∷ (s ++ later)) none, is, so_far, refl)
   carried-on (RunJob job) done last steps later lines runs so_far = (last, steps, later, lines, refl, runs, so_far, refl)
 
   -- one command more
-  pub come-on : (command : Command) (came : Option Came) (done : List Command) (later : List Moment) (lines : List ℕ) (heard : List Entry) (c next : Client) (d e : Devices)
+  pub come-on : (command : Instruction) (came : Option Came) (done : List Instruction) (later : List Moment) (lines : List ℕ) (heard : List Entry) (c next : Client) (d e : Devices)
       → HasCome start base done later lines heard c d → (P : Performs start (later ++ base) command came next e)
       → HasCome start base (command ∷ done) (P.last ∷ (P.steps ++ later)) (lines ++ lines_of P.last.outcome) (heard ++ heard_in_came came) next e
   come-on command came done later lines heard c next d e H P =
@@ -45,7 +45,7 @@ module _ (start : State) (base : List Moment) where
       })
 
   -- and its lines
-  pub done-on : (command : Command) (came : Option Came) (done : List Command) (first mid last : Option (List ℕ)) (b f g status : ℕ) (text : List ℕ) (heard after : List Entry)
+  pub done-on : (command : Instruction) (came : Option Came) (done : List Instruction) (first mid last : Option (List ℕ)) (b f g status : ℕ) (text : List ℕ) (heard after : List Entry)
       (c next : Client) (d e : Devices) → b ≤ f → f ≤ g → HasDone start base done 0 (sank first mid b f) heard c d
       → ((start : State) (ms : List Moment) → IsReached start ms c d → Performs start ms command came next e)
       → text ≡ lines_of (outcome_in next came) → WritesLine text status (sank mid last f g) → after ≡ heard ++ heard_in_came came
@@ -63,7 +63,7 @@ module _ (start : State) (base : List Moment) where
       })
 
   -- the same without lines
-  pub run-on : (command : Command) (came : Option Came) (done : List Command) (heard after : List Entry) (c next : Client) (d e : Devices) → HasRun start base done heard c d
+  pub run-on : (command : Instruction) (came : Option Came) (done : List Instruction) (heard after : List Entry) (c next : Client) (d e : Devices) → HasRun start base done heard c d
       → ((start : State) (ms : List Moment) → IsReached start ms c d → Performs start ms command came next e)
       → after ≡ heard ++ heard_in_came came → HasRun start base (command ∷ done) after next e
   run-on command came done heard after c next d e H performs after_is =
@@ -76,12 +76,12 @@ module _ (start : State) (base : List Moment) where
       })
 
   -- the moments before the last went on
-  went-on : (command : Command) (last : Moment) (steps : List Moment) → AreMomentsOf command last steps → (job : ℕ) × GoOn job steps
+  went-on : (command : Instruction) (last : Moment) (steps : List Moment) → AreMomentsOf command last steps → (job : ℕ) × GoOn job steps
   went-on (Once event) last steps (is, none) = (0, subst (λ (s : List Moment). GoOn 0 s) (sym none) tt)
   went-on (RunJob job) last steps runs = (job, runs.before)
 
   -- and what a tally sees
-  pub counted-on : (expected : List ℕ) (command : Command) (came : Option Came) (done : List Command) (old new : TrialCounts) (heard after : List Entry) (c next : Client) (d e : Devices)
+  pub counted-on : (expected : List ℕ) (command : Instruction) (came : Option Came) (done : List Instruction) (old new : TrialCounts) (heard after : List Entry) (c next : Client) (d e : Devices)
       → HasCounted expected start base done old heard c d
       → ((start : State) (ms : List Moment) → IsReached start ms c d → Performs start ms command came next e)
       → SeesOne expected (outcome_in next came) old new
@@ -109,7 +109,7 @@ come-first start before c d L sound stands = record {
   heard_is = refl;
 }
 
-pub carries-on : (start : State) (before : List Moment) (done : List Command) (later : List Moment) (lines : List ℕ) (heard : List Entry) (c : Client) (d : Devices)
+pub carries-on : (start : State) (before : List Moment) (done : List Instruction) (later : List Moment) (lines : List ℕ) (heard : List Entry) (c : Client) (d : Devices)
     → ((limit : ℕ) (start : State) (ms : List Moment) → IsStart start → IsRun limit start ms → Headline start ms)
     → ((limit : ℕ) (start : State) (later ms : List Moment) (count : Count) (n : ℕ) → IsRun limit start (later ++ ms) →
     HasFailures count (now start ms) later n → RoseBy (count_in count (now start ms)) (count_in count (now start (later ++ ms))) n)
@@ -124,9 +124,9 @@ carries-on start before done later lines heard c d law failures L e H = record {
 }
 
 -- the next of the commands left is done
-pub next-done : (all done left : List Command) (command : Command) → all ≡ reverse done ++ command ∷ left → all ≡ reverse (command ∷ done) ++ left
+pub next-done : (all done left : List Instruction) (command : Instruction) → all ≡ reverse done ++ command ∷ left → all ≡ reverse (command ∷ done) ++ left
 next-done all done left command is =
-    is ∙ sym (append_assoc (reverse done) (command ∷ []) left) ∙ ap (λ (l : List Command). l ++ left) (sym (reverse-append (command ∷ []) done))
+    is ∙ sym (append_assoc (reverse done) (command ∷ []) left) ∙ ap (λ (l : List Instruction). l ++ left) (sym (reverse-append (command ∷ []) done))
 
 -- what an Ok, and what an error gives
 pub on-ok : {X E A B : Type 0} (r : Result X E) → OnOk r A → (A → B) → OnOk r B

@@ -10,14 +10,14 @@ use Rattle.hail_machine.specs.Heard.{Entry}
 use Rattle.hail_machine.specs.Runs.{Moment, now, IsRun}
 use Rattle.hail_machine.specs.Stands.{StandsForState}
 use Rattle.hail_machine.specs.States.{State, IsStart, continued}
-use Rattle.hail_machine.specs.Transcripts.{Command}
+use Rattle.hail_machine.specs.Transcripts.{Instruction}
 use Rattle.headline.specs.Headline.{Headline}
 use Rattle.sound_states.specs.Sound.{IsSound}
 use Rattle.trial_maker.specs.Trials.{trial_bytes, trial_commands}
 use Rattle.trial_counts.specs.Counts.{TrialCounts, counts_of, trial_lines}
 use Rattle.vault.specs.Devices.{Devices, AreDevices}
 use Rattle.hail_client.specs.declared.client.Client.{Client}
-use Rattle.hail_client.specs.Client.{is_open, next_job_of}
+use Rattle.hail_client.specs.Client.{is_open, client_next_job}
 use Rattle.hail_client.specs.Stands.{ClientStands}
 use Rattle.hail_replay.specs.Answers.{CarriedOut}
 use Rattle.hail_replay.specs.Performed.{StandsWhereOpen, NoCountFell, KeepsStanding}
@@ -30,21 +30,21 @@ use Rattle.hail_replay.proofs.Course.{come-first, carries-on, next-done}
 use Rattle.hail_replay.proofs.Wrote.{sank, nothing-written, nothing-taken, written-out, ends-since}
 
 -- what does not hang on a run: of the commands all, these are left
-pub record IsOnCourse (all left : List Command) (c : Client) (old new : Devices) : Type 0 where
+pub record IsOnCourse (all left : List Instruction) (c : Client) (old new : Devices) : Type 0 where
   pub standing : StandsWhereOpen c new
-  pub jobs : next_job_of c + length left ≤ length all + 1
+  pub jobs : client_next_job c + length left ≤ length all + 1
   pub tells : is_some new.holds ≡ is_some old.holds
   pub counts : NoCountFell old new
 
 -- commands were done behind every run that left the devices, and their lines were written
-abbrev pub AreDone : List Command → List Command → Client → Devices → Devices → (first last : Option (List ℕ)) → (b f : ℕ) → List Entry → Type 0
+abbrev pub AreDone : List Instruction → List Instruction → Client → Devices → Devices → (first last : Option (List ℕ)) → (b f : ℕ) → List Entry → Type 0
 AreDone all left c old new first last b f heard = (start : State) (before : List Moment) → IsSome old.holds → AreLeft start before old →
-    (done : List Command) × (all ≡ reverse done ++ left) × HasDone start (called_behind start before) done 0 (sank first last b f) heard c new
+    (done : List Instruction) × (all ≡ reverse done ++ left) × HasDone start (called_behind start before) done 0 (sank first last b f) heard c new
 
 -- commands were done behind every run, and counted
-abbrev pub AreCounted : List ℕ → List Command → List Command → Client → Devices → Devices → TrialCounts → List Entry → Type 0
+abbrev pub AreCounted : List ℕ → List Instruction → List Instruction → Client → Devices → Devices → TrialCounts → List Entry → Type 0
 AreCounted expected all left c old new counts heard = (start : State) (before : List Moment) → IsSome old.holds → AreLeft start before old →
-    (done : List Command) × (all ≡ reverse done ++ left) × HasCounted expected start (called_behind start before) done counts heard c new
+    (done : List Instruction) × (all ≡ reverse done ++ left) × HasCounted expected start (called_behind start before) done counts heard c new
 
 -- the laws that a run is judged by
 pub record Laws : Type 0 where
@@ -58,7 +58,7 @@ Begins c = (d : Devices) (w : State) → IsSound 8 w → AreDevices d w → Clie
 
 -- ---- the course
 
-pub first-course : (all : List Command) (c : Client) (d : Devices) → is_open c ≡ false → next_job_of c ≡ 1 → IsOnCourse all all c d d
+pub first-course : (all : List Instruction) (c : Client) (d : Devices) → is_open c ≡ false → client_next_job c ≡ 1 → IsOnCourse all all c d d
 first-course all c d closed first = record {
   standing = λ opened. absurd (false≢true (sym closed ∙ opened));
   jobs = omega (arith, first);
@@ -66,7 +66,7 @@ first-course all c d closed first = record {
   counts = none-fell d;
 }
 
-pub course-on : (all left : List Command) (command : Command) (c next : Client) (old mid new : Devices) → IsOnCourse all (command ∷ left) c old mid → KeepsStanding c next mid new
+pub course-on : (all left : List Instruction) (command : Instruction) (c next : Client) (old mid new : Devices) → IsOnCourse all (command ∷ left) c old mid → KeepsStanding c next mid new
     → IsOnCourse all left next old new
 course-on all left command c next old mid new W K = record {
   standing = K.standing;
@@ -77,7 +77,7 @@ course-on all left command c next old mid new W K = record {
 
 -- ---- a schedule
 
-pub none-done : Laws → (all : List Command) (c : Client) (d : Devices) (first : Option (List ℕ)) (b : ℕ) → Begins c → AreDone all all c d d first first b b []
+pub none-done : Laws → (all : List Instruction) (c : Client) (d : Devices) (first : Option (List ℕ)) (b : ℕ) → Begins c → AreDone all all c d d first first b b []
 none-done laws all c d first b begins start before told L = (
   [],
   refl,
@@ -90,11 +90,11 @@ none-done laws all c d first b begins start before told L = (
 )
 
 -- what a call does that performs one command more
-abbrev pub DoesOne : Command → Client → Client → Devices → Devices → (mid last : Option (List ℕ)) → (f g status : ℕ) → (heard after : List Entry) → Type 0
-DoesOne command c next old new mid last f g status heard after = (start : State) (base : List Moment) (done : List Command) (first : Option (List ℕ)) (before : ℕ) →
+abbrev pub DoesOne : Instruction → Client → Client → Devices → Devices → (mid last : Option (List ℕ)) → (f g status : ℕ) → (heard after : List Entry) → Type 0
+DoesOne command c next old new mid last f g status heard after = (start : State) (base : List Moment) (done : List Instruction) (first : Option (List ℕ)) (before : ℕ) →
     IsSome old.holds → before ≤ f → HasDone start base done 0 (sank first mid before f) heard c old → HasDone start base (command ∷ done) status (sank first last before g) after next new
 
-module _ (all left : List Command) (command : Command) (c next : Client) (old mid new : Devices) (first told last : Option (List ℕ)) (b f g status : ℕ) (heard after : List Entry)
+module _ (all left : List Instruction) (command : Instruction) (c next : Client) (old mid new : Devices) (first told last : Option (List ℕ)) (b f g status : ℕ) (heard after : List Entry)
     (tells : is_some mid.holds ≡ is_some old.holds) (low : b ≤ f)
     (so_far : AreDone all (command ∷ left) c old mid first told b f heard) (one : DoesOne command c next mid new told last f g status heard after) where
   pub done-more : status ≡ 0 → AreDone all left next old new first last b g after
@@ -121,7 +121,7 @@ module _ (all left : List Command) (command : Command) (c next : Client) (old mi
         wrote = H.wrote;
       })
 
-module _ (laws : Laws) (all : List Command) (c : Client) (old new : Devices) (first last : Option (List ℕ)) (b f : ℕ) (heard : List Entry) where
+module _ (laws : Laws) (all : List Instruction) (c : Client) (old new : Devices) (first last : Option (List ℕ)) (b f : ℕ) (heard : List Entry) where
   pub all-done : AreDone all [] c old new first last b f heard → (start : State) (before : List Moment) → IsSome old.holds → AreLeft start before old
       → Replays start before all 0 (sank first last b f) heard new
   all-done so_far start before is_told L =
@@ -137,7 +137,7 @@ module _ (laws : Laws) (all : List Command) (c : Client) (old new : Devices) (fi
         wrote = D.2.wrote;
       })
 
-  pub cut-off : (left : List Command) → AreDone all left c old new first last b f heard → (start : State) (before : List Moment) → IsSome old.holds → AreLeft start before old
+  pub cut-off : (left : List Instruction) → AreDone all left c old new first last b f heard → (start : State) (before : List Moment) → IsSome old.holds → AreLeft start before old
       → Replays start before all 70 (sank first last b f) heard new
   cut-off left so_far start before is_told L =
       (let D = so_far start before is_told L in
@@ -154,7 +154,7 @@ module _ (laws : Laws) (all : List Command) (c : Client) (old new : Devices) (fi
 
 -- ---- a trial
 
-pub none-counted : Laws → (expected : List ℕ) (all : List Command) (c : Client) (d : Devices) (counts : TrialCounts) → Begins c → counts ≡ counts_of expected [] []
+pub none-counted : Laws → (expected : List ℕ) (all : List Instruction) (c : Client) (d : Devices) (counts : TrialCounts) → Begins c → counts ≡ counts_of expected [] []
     → AreCounted expected all all c d d counts []
 none-counted laws expected all c d counts begins is start before told L = (
   [],
@@ -168,16 +168,16 @@ none-counted laws expected all c d counts begins is start before told L = (
 )
 
 -- what a call does that performs and counts one command more
-abbrev pub CountsOne : List ℕ → Command → Client → Client → Devices → Devices → (old new : TrialCounts) → (heard after : List Entry) → Type 0
-CountsOne expected command c next old new counts now_counts heard after = (start : State) (base : List Moment) (done : List Command) → IsSome old.holds →
+abbrev pub CountsOne : List ℕ → Instruction → Client → Client → Devices → Devices → (old new : TrialCounts) → (heard after : List Entry) → Type 0
+CountsOne expected command c next old new counts now_counts heard after = (start : State) (base : List Moment) (done : List Instruction) → IsSome old.holds →
     HasCounted expected start base done counts heard c old → HasCounted expected start base (command ∷ done) now_counts after next new
 
 -- and one that performs it, and finds no memory to count it
-abbrev pub RunsOne : Command → Client → Client → Devices → Devices → (heard after : List Entry) → Type 0
-RunsOne command c next old new heard after = (start : State) (base : List Moment) (done : List Command) → IsSome old.holds →
+abbrev pub RunsOne : Instruction → Client → Client → Devices → Devices → (heard after : List Entry) → Type 0
+RunsOne command c next old new heard after = (start : State) (base : List Moment) (done : List Instruction) → IsSome old.holds →
     HasRun start base done heard c old → HasRun start base (command ∷ done) after next new
 
-module _ (expected : List ℕ) (all left : List Command) (command : Command) (c next : Client) (old mid new : Devices) (counts : TrialCounts) (heard after : List Entry)
+module _ (expected : List ℕ) (all left : List Instruction) (command : Instruction) (c next : Client) (old mid new : Devices) (counts : TrialCounts) (heard after : List Entry)
     (tells : is_some mid.holds ≡ is_some old.holds) (so_far : AreCounted expected all (command ∷ left) c old mid counts heard) where
   pub counted-more : (more : TrialCounts) → CountsOne expected command c next mid new counts more heard after → AreCounted expected all left next old new more after
   counted-more more one start before is_told L =
@@ -198,7 +198,7 @@ module _ (expected : List ℕ) (all left : List Command) (command : Command) (c 
         carries = carries-on start before (command ∷ D.0) H.later H.lines after next old laws.headline laws.failures L new H.come;
       })
 
-module _ (laws : Laws) (expected : List ℕ) (all : List Command) (c : Client) (old new : Devices) (counts : TrialCounts) (heard : List Entry) where
+module _ (laws : Laws) (expected : List ℕ) (all : List Instruction) (c : Client) (old new : Devices) (counts : TrialCounts) (heard : List Entry) where
   pub all-counted : AreCounted expected all [] c old new counts heard → (start : State) (before : List Moment) → IsSome old.holds → AreLeft start before old
       → CountsTo expected start before all counts heard new
   all-counted so_far start before is_told L =
@@ -207,11 +207,11 @@ module _ (laws : Laws) (expected : List ℕ) (all : List Command) (c : Client) (
       record {
         later = D.2.later;
         lines = D.2.lines;
-        carries = subst (λ (cs : List Command). CarriesOn start before cs D.2.later D.2.lines heard new) whole (carries-on start before D.0 D.2.later D.2.lines heard c old laws.headline laws.failures L new D.2.come);
-        counts_are = D.2.counts_are ∙ ap (λ (cs : List Command). counts_of expected cs D.2.later) whole;
+        carries = subst (λ (cs : List Instruction). CarriesOn start before cs D.2.later D.2.lines heard new) whole (carries-on start before D.0 D.2.later D.2.lines heard c old laws.headline laws.failures L new D.2.come);
+        counts_are = D.2.counts_are ∙ ap (λ (cs : List Instruction). counts_of expected cs D.2.later) whole;
       })
 
-  pub left-uncounted : (left : List Command) → AreCounted expected all left c old new counts heard → (start : State) (before : List Moment) → IsSome old.holds → AreLeft start before old
+  pub left-uncounted : (left : List Instruction) → AreCounted expected all left c old new counts heard → (start : State) (before : List Moment) → IsSome old.holds → AreLeft start before old
       → RunsTo start before all heard new
   left-uncounted left so_far start before is_told L =
       (let D = so_far start before is_told L in
@@ -225,12 +225,12 @@ module _ (laws : Laws) (expected : List ℕ) (all : List Command) (c : Client) (
       })
 
 -- the six lines of its counts
-pub trial-told : (number : ℕ) (start : State) (before : List Moment) (commands : List Command) (expected text : List ℕ) (counts : TrialCounts) (heard : List Entry) (d : Devices) (status : ℕ) (sink : Sinking)
+pub trial-told : (number : ℕ) (start : State) (before : List Moment) (commands : List Instruction) (expected text : List ℕ) (counts : TrialCounts) (heard : List Entry) (d : Devices) (status : ℕ) (sink : Sinking)
     → commands ≡ trial_commands number → expected ≡ trial_bytes number → CountsTo expected start before commands counts heard d → text ≡ trial_lines number counts
     → WritesLine text status sink → RunsTrial number start before status sink heard d
 trial-told number start before commands expected text counts heard d status sink cs es C t W =
     (let D : CountsTo (trial_bytes number) start before (trial_commands number) counts heard d =
-    subst (λ (e : List ℕ). CountsTo e start before (trial_commands number) counts heard d) es (subst (λ (k : List Command). CountsTo expected start before k counts heard d) cs C) in
+    subst (λ (e : List ℕ). CountsTo e start before (trial_commands number) counts heard d) es (subst (λ (k : List Instruction). CountsTo expected start before k counts heard d) cs C) in
     record {
       later = D.later;
       left_out = D.lines;
@@ -241,16 +241,16 @@ trial-told number start before commands expected text counts heard d status sink
     })
 
 -- or none, for want of memory
-pub trial-untold : (number : ℕ) (start : State) (before : List Moment) (commands : List Command) (expected : List ℕ) (counts : TrialCounts) (heard : List Entry) (d : Devices) (told : Option (List ℕ)) (b f : ℕ)
+pub trial-untold : (number : ℕ) (start : State) (before : List Moment) (commands : List Instruction) (expected : List ℕ) (counts : TrialCounts) (heard : List Entry) (d : Devices) (told : Option (List ℕ)) (b f : ℕ)
     → commands ≡ trial_commands number → expected ≡ trial_bytes number → CountsTo expected start before commands counts heard d
     → RunsTrial number start before 70 (sank told told b f) heard d
 trial-untold number start before commands expected counts heard d told b f cs es C =
     trial-told number start before commands expected (trial_lines number counts) counts heard d 70 (sank told told b f) cs es C refl
     (inr (inr (refl, nothing-taken told (trial_lines number counts))))
 
-pub trial-cut : (number : ℕ) (start : State) (before : List Moment) (commands : List Command) (heard : List Entry) (d : Devices) → commands ≡ trial_commands number
+pub trial-cut : (number : ℕ) (start : State) (before : List Moment) (commands : List Instruction) (heard : List Entry) (d : Devices) → commands ≡ trial_commands number
     → RunsTo start before commands heard d → RunsTo start before (trial_commands number) heard d
-trial-cut number start before commands heard d cs R = subst (λ (k : List Command). RunsTo start before k heard d) cs R
+trial-cut number start before commands heard d cs R = subst (λ (k : List Instruction). RunsTo start before k heard d) cs R
 
 -- the state of a later call has the same devices
 continued-images : (told : Option Cells) (w : State) → StandsForState told w → StandsForState told (continued w)
@@ -268,7 +268,7 @@ continued-devices d w A = record {
 }
 
 -- no event was done
-pub none-run : Laws → (all : List Command) (d : Devices) (start : State) (before : List Moment) → AreLeft start before d → RunsTo start before all [] d
+pub none-run : Laws → (all : List Instruction) (d : Devices) (start : State) (before : List Moment) → AreLeft start before d → RunsTo start before all [] d
 none-run laws all d start before L =
     (let run : IsRun 8 start (called_behind start before) = (tt, refl, L.run) in
     record {
@@ -289,32 +289,32 @@ none-run laws all d start before L =
 
 -- ---- the loops as they stand in the code
 
-pub begin-course : (laws : Laws) (all left : List Command) (c : Client) (d : Devices) (first : Option (List ℕ)) (b : ℕ) (heard : List Entry) → left ≡ all → heard ≡ []
-    → is_open c ≡ false → next_job_of c ≡ 1 → Begins c → IsOnCourse all left c d d × AreDone all left c d d first first b b heard × (b ≤ b)
+pub begin-course : (laws : Laws) (all left : List Instruction) (c : Client) (d : Devices) (first : Option (List ℕ)) (b : ℕ) (heard : List Entry) → left ≡ all → heard ≡ []
+    → is_open c ≡ false → client_next_job c ≡ 1 → Begins c → IsOnCourse all left c d d × AreDone all left c d d first first b b heard × (b ≤ b)
 begin-course laws all left c d first b heard is none closed number begins = (
-  subst (λ (l : List Command). IsOnCourse all l c d d) (sym is) (first-course all c d closed number),
-  subst (λ (l : List Command). AreDone all l c d d first first b b heard) (sym is)
+  subst (λ (l : List Instruction). IsOnCourse all l c d d) (sym is) (first-course all c d closed number),
+  subst (λ (l : List Instruction). AreDone all l c d d first first b b heard) (sym is)
       (subst (λ (h : List Entry). AreDone all all c d d first first b b h) (sym none) (none-done laws all c d first b begins)),
   omega arith,
 )
 
-pub begin-count : (laws : Laws) (expected : List ℕ) (all left : List Command) (c : Client) (d : Devices) (counts : TrialCounts) (heard : List Entry) → left ≡ all → heard ≡ []
-    → is_open c ≡ false → next_job_of c ≡ 1 → Begins c → counts ≡ counts_of expected [] [] → IsOnCourse all left c d d × AreCounted expected all left c d d counts heard
+pub begin-count : (laws : Laws) (expected : List ℕ) (all left : List Instruction) (c : Client) (d : Devices) (counts : TrialCounts) (heard : List Entry) → left ≡ all → heard ≡ []
+    → is_open c ≡ false → client_next_job c ≡ 1 → Begins c → counts ≡ counts_of expected [] [] → IsOnCourse all left c d d × AreCounted expected all left c d d counts heard
 begin-count laws expected all left c d counts heard is none closed number begins zero_counts = (
-  subst (λ (l : List Command). IsOnCourse all l c d d) (sym is) (first-course all c d closed number),
-  subst (λ (l : List Command). AreCounted expected all l c d d counts heard) (sym is)
+  subst (λ (l : List Instruction). IsOnCourse all l c d d) (sym is) (first-course all c d closed number),
+  subst (λ (l : List Instruction). AreCounted expected all l c d d counts heard) (sym is)
       (subst (λ (h : List Entry). AreCounted expected all all c d d counts h) (sym none) (none-counted laws expected all c d counts begins zero_counts)),
 )
 
-module _ (all left rest : List Command) (command : Command) (c next : Client) (old mid new : Devices) (first told last : Option (List ℕ)) (b f g status : ℕ) (heard kept after : List Entry)
+module _ (all left rest : List Instruction) (command : Instruction) (c next : Client) (old mid new : Devices) (first told last : Option (List ℕ)) (b f g status : ℕ) (heard kept after : List Entry)
     (left_is : left ≡ command ∷ rest) (kept_is : kept ≡ heard)
     (way : IsOnCourse all left c old mid × AreDone all left c old mid first told b f heard × (b ≤ f))
     (keeps : KeepsStanding c next mid new) (one : DoesOne command c next mid new told last f g status kept after) (never : f ≤ g) where
   course : IsOnCourse all (command ∷ rest) c old mid
-  course = subst (λ (l : List Command). IsOnCourse all l c old mid) left_is way.0
+  course = subst (λ (l : List Instruction). IsOnCourse all l c old mid) left_is way.0
 
   done : AreDone all (command ∷ rest) c old mid first told b f heard
-  done = subst (λ (l : List Command). AreDone all l c old mid first told b f heard) left_is way.1
+  done = subst (λ (l : List Instruction). AreDone all l c old mid first told b f heard) left_is way.1
 
   does : DoesOne command c next mid new told last f g status heard after
   does = subst (λ (h : List Entry). DoesOne command c next mid new told last f g status h after) kept_is one
@@ -330,26 +330,26 @@ module _ (all left rest : List Command) (command : Command) (c next : Client) (o
   go-wrong laws amiss = done-last all rest command c next old mid new first told last b f g status heard after way.0.tells way.2 done does laws amiss
 
 -- no memory for what the next job hears
-pub go-short : (laws : Laws) (all left : List Command) (c : Client) (old new : Devices) (first last : Option (List ℕ)) (b f : ℕ) (heard kept : List Entry) → kept ≡ heard
+pub go-short : (laws : Laws) (all left : List Instruction) (c : Client) (old new : Devices) (first last : Option (List ℕ)) (b f : ℕ) (heard kept : List Entry) → kept ≡ heard
     → AreDone all left c old new first last b f heard → (start : State) (before : List Moment) → IsSome old.holds → AreLeft start before old → Replays start before all 70 (sank first last b f) kept new
 go-short laws all left c old new first last b f heard kept is so_far start before told L =
     subst (λ (h : List Entry). Replays start before all 70 (sank first last b f) h new) (sym is) (cut-off laws all c old new first last b f heard left so_far start before told L)
 
 -- all are done
-pub go-home : (laws : Laws) (all left : List Command) (c : Client) (old new : Devices) (first last : Option (List ℕ)) (b f : ℕ) (heard : List Entry) → left ≡ []
+pub go-home : (laws : Laws) (all left : List Instruction) (c : Client) (old new : Devices) (first last : Option (List ℕ)) (b f : ℕ) (heard : List Entry) → left ≡ []
     → AreDone all left c old new first last b f heard → (start : State) (before : List Moment) → IsSome old.holds → AreLeft start before old → Replays start before all 0 (sank first last b f) heard new
 go-home laws all left c old new first last b f heard is so_far =
-    all-done laws all c old new first last b f heard (subst (λ (l : List Command). AreDone all l c old new first last b f heard) is so_far)
+    all-done laws all c old new first last b f heard (subst (λ (l : List Instruction). AreDone all l c old new first last b f heard) is so_far)
 
-module _ (expected : List ℕ) (all left rest : List Command) (command : Command) (c next : Client) (old mid new : Devices) (counts : TrialCounts) (heard kept after : List Entry)
+module _ (expected : List ℕ) (all left rest : List Instruction) (command : Instruction) (c next : Client) (old mid new : Devices) (counts : TrialCounts) (heard kept after : List Entry)
     (left_is : left ≡ command ∷ rest) (kept_is : kept ≡ heard)
     (course : IsOnCourse all left c old mid) (counted : AreCounted expected all left c old mid counts heard) where
   so_far : AreCounted expected all (command ∷ rest) c old mid counts kept
   so_far = subst (λ (h : List Entry). AreCounted expected all (command ∷ rest) c old mid counts h) (sym kept_is)
-      (subst (λ (l : List Command). AreCounted expected all l c old mid counts heard) left_is counted)
+      (subst (λ (l : List Instruction). AreCounted expected all l c old mid counts heard) left_is counted)
 
   pub count-course : KeepsStanding c next mid new → IsOnCourse all rest next old new
-  count-course keeps = course-on all rest command c next old mid new (subst (λ (l : List Command). IsOnCourse all l c old mid) left_is course) keeps
+  count-course keeps = course-on all rest command c next old mid new (subst (λ (l : List Instruction). IsOnCourse all l c old mid) left_is course) keeps
 
   pub count-on : (more : TrialCounts) → CountsOne expected command c next mid new counts more kept after → AreCounted expected all rest next old new more after
   count-on more one = counted-more expected all rest command c next old mid new counts kept after course.tells so_far more one
@@ -357,12 +357,12 @@ module _ (expected : List ℕ) (all left rest : List Command) (command : Command
   pub count-wrong : Laws → RunsOne command c next mid new kept after → (start : State) (before : List Moment) → IsSome old.holds → AreLeft start before old → RunsTo start before all after new
   count-wrong laws one = uncounted expected all rest command c next old mid new counts kept after course.tells so_far laws one
 
-pub count-short : (laws : Laws) (expected : List ℕ) (all left : List Command) (c : Client) (old new : Devices) (counts : TrialCounts) (heard kept : List Entry) → kept ≡ heard
+pub count-short : (laws : Laws) (expected : List ℕ) (all left : List Instruction) (c : Client) (old new : Devices) (counts : TrialCounts) (heard kept : List Entry) → kept ≡ heard
     → AreCounted expected all left c old new counts heard → (start : State) (before : List Moment) → IsSome old.holds → AreLeft start before old → RunsTo start before all kept new
 count-short laws expected all left c old new counts heard kept is so_far start before told L =
     subst (λ (h : List Entry). RunsTo start before all h new) (sym is) (left-uncounted laws expected all c old new counts heard left so_far start before told L)
 
-pub count-home : (laws : Laws) (expected : List ℕ) (all left : List Command) (c : Client) (old new : Devices) (counts : TrialCounts) (heard : List Entry) → left ≡ []
+pub count-home : (laws : Laws) (expected : List ℕ) (all left : List Instruction) (c : Client) (old new : Devices) (counts : TrialCounts) (heard : List Entry) → left ≡ []
     → AreCounted expected all left c old new counts heard → (start : State) (before : List Moment) → IsSome old.holds → AreLeft start before old → CountsTo expected start before all counts heard new
 count-home laws expected all left c old new counts heard is so_far =
-    all-counted laws expected all c old new counts heard (subst (λ (l : List Command). AreCounted expected all l c old new counts heard) is so_far)
+    all-counted laws expected all c old new counts heard (subst (λ (l : List Instruction). AreCounted expected all l c old new counts heard) is so_far)

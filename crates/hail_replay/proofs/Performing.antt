@@ -11,16 +11,16 @@ use Rattle.hail_machine.specs.Jobs.{Kind, job_of}
 use Rattle.hail_machine.specs.Machine.{Happens}
 use Rattle.hail_machine.specs.Runs.{Moment}
 use Rattle.hail_machine.specs.States.{State}
-use Rattle.hail_machine.specs.Transcripts.{Command, Once, RunJob}
+use Rattle.hail_machine.specs.Transcripts.{Instruction, Once, RunJob}
 use Rattle.schedule_text.specs.declared.event.Event.{Event as Read}
-use Rattle.schedule_text.specs.Events.{command_of}
+use Rattle.schedule_text.specs.Events.{event_command}
 use Rattle.vault_core.specs.declared.wish.BeginFault.{BeginFault}
 use Rattle.vault.specs.declared.turn.Turn.{Turn}
 use Rattle.vault.specs.Devices.{Devices, devices}
 use Rattle.vault.specs.Outcomes.{IfEnded}
 use Rattle.hail_client.specs.declared.client.Client.{Client}
-use Rattle.hail_client.specs.Client.{is_open, next_job_of, coming_of, names_of, IsSame}
-use Rattle.hail_client.specs.Outcomes.{begin_outcome, step_outcome, replace_outcome}
+use Rattle.hail_client.specs.Client.{is_open, client_next_job, client_coming, names_of, IsSame}
+use Rattle.hail_client.specs.Outcomes.{client_begin_outcome, step_outcome, replace_outcome}
 use Rattle.hail_client.specs.Stands.{ClientStands, MakesEvent, IsReached, RunsJobOn}
 use Rattle.vault_core.specs.Coming.{IsNoJob}
 use Rattle.transcript_lines.specs.declared.came.Came.{Came}
@@ -33,23 +33,23 @@ use Rattle.hail_replay.proofs.Standing.{lists}
 
 -- it is this event
 pub performed-as : (event other : Read) (came : Option Came) (c next : Client) (d e : Devices) → event ≡ other
-    → IsPerformed (command_of other) came c next d e → IsPerformed (command_of event) came c next d e
-performed-as event other came c next d e is P = subst (λ (x : Read). IsPerformed (command_of x) came c next d e) (sym is) P
+    → IsPerformed (event_command other) came c next d e → IsPerformed (event_command event) came c next d e
+performed-as event other came c next d e is P = subst (λ (x : Read). IsPerformed (event_command x) came c next d e) (sym is) P
 
 -- a begin
 pub begun : (c next : Client) (d : Devices) (kind : Kind) (result : Option (Result ℕ BeginFault)) → StandsWhereOpen c d
-    → ((w : State) (there : Devices) (moment : ℕ) → ClientStands c there w → MakesEvent w moment (Begin kind) (begin_outcome result) next there)
+    → ((w : State) (there : Devices) (moment : ℕ) → ClientStands c there w → MakesEvent w moment (Begin kind) (client_begin_outcome result) next there)
     → IsPerformed (Once (Begin kind)) (Some (came.Begun result)) c next d d
 begun c next d kind result S makes = record {
   machine = λ start ms told R. once (Begin kind) (Some (came.Begun result)) c next d d (λ w moment T. makes w d moment T) (λ w es T. refl) start ms R;
-  kept = begun-kept c next d kind (begin_outcome result) S makes;
+  kept = begun-kept c next d kind (client_begin_outcome result) S makes;
 }
 
 -- a step, which does nothing where no vault is open
 pub stepped : (job : ℕ) (c next : Client) (d e : Devices) (t : Option Turn) → StandsWhereOpen c d → is_some e.holds ≡ is_some d.holds
     → ((w : State) (moment : ℕ) → ClientStands c d w → MakesEvent w moment (Step job) (step_outcome t) next e)
     → ((w : State) → ClientStands c d w → IfSome t (λ t. IfEnded t (λ ended. ended.heard ≡ heard_by (job_of w.jobs job))))
-    → (coming_of c job ≡ IsNoJob → IsSame c next × (e ≡ d))
+    → (client_coming c job ≡ IsNoJob → IsSame c next × (e ≡ d))
     → IsPerformed (Once (Step job)) (Some (came.Stepped t)) c next d e
 stepped job c next d e t S tells makes heard none = record {
   machine = λ start ms told R. once (Step job) (Some (came.Stepped t)) c next d e makes

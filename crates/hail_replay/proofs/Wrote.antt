@@ -1,9 +1,8 @@
 -- The lines of several events, one behind the other.
-use Rattle.std.proofs.Common.{◌≡◌, ◌≢◌, ◌⊎◌, inl, inr, ℕ, zero, suc, ◌+◌, ◌<◌, ◌≤◌, List, [], ◌∷◌, ◌++◌, length, take, Option, Some, None, refl, ap, sym, subst, ◌∙◌, arith}
-use Rattle.std.proofs.lemmas.Bool.{cases_lt}
-use Rattle.std.proofs.lemmas.List.{append-nil, length-append, take_all}
-use Rattle.hail_devices.specs.Faults.{Rose, last_count}
+use Rattle.std.proofs.Common.{◌≡◌, ◌≢◌, inl, inr, ℕ, suc, ◌+◌, ◌≤◌, List, [], ◌∷◌, ◌++◌, length, take, Option, refl, ap, sym, ◌∙◌, arith}
+use Rattle.std.proofs.lemmas.List.{length-append, take_all}
 use Rattle.hail_devices.specs.Told.{told_then, TakesFront}
+use Rattle.hail_devices.proofs.Lasting.{rose-before, told_then-nothing}
 use Rattle.hail_commands.specs.Sinking.{Sinking, WritesLine}
 use Rattle.hail_replay.specs.Answers.{CarriedOut}
 use Rattle.stream_model.proofs.ToldLemmas.{told_then-append}
@@ -13,10 +12,6 @@ abbrev pub sank : Option (List ℕ) → Option (List ℕ) → ℕ → ℕ → Si
 sank old new before now = record { old = old; new = new; before = before; now = now }
 
 -- ---- what is told
-
-told-none : (told : Option (List ℕ)) → told ≡ told_then told []
-told-none None = refl
-told-none (Some xs) = ap Some (sym (append-nil xs))
 
 take-behind : (xs ys : List ℕ) (n : ℕ) → take (length xs + n) (xs ++ ys) ≡ xs ++ take n ys
 take-behind [] ys n = ap (λ k. take k ys) (let e : 0 + n ≡ n = omega arith in e)
@@ -33,7 +28,7 @@ whole-front : (first mid : Option (List ℕ)) (xs : List ℕ) → mid ≡ told_t
 whole-front first mid xs is = (length xs, omega arith, is ∙ ap (told_then first) (sym (take_all (length xs) xs (omega arith))))
 
 pub nothing-taken : (told : Option (List ℕ)) (text : List ℕ) → TakesFront told told text
-nothing-taken told text = (0, omega arith, told-none told)
+nothing-taken told text = (0, omega arith, told_then-nothing told)
 
 -- ---- what was written
 
@@ -43,17 +38,11 @@ all-written first mid b f lines (inr (inl (ne, s, rose, front))) = absurd (omega
 all-written first mid b f lines (inr (inr (s, front))) = absurd (omega (arith, s))
 
 pub nothing-written : (first : Option (List ℕ)) (b : ℕ) → WritesLine [] 0 (sank first first b b)
-nothing-written first b = inl (refl, told-none first)
+nothing-written first b = inl (refl, told_then-nothing first)
 
 not-empty : (xs ys : List ℕ) → ys ≢ [] → xs ++ ys ≢ []
 not-empty [] ys ne e = ne e
 not-empty (x ∷ xs) ys ne e = absurd cc
-
-pub rose-since : (b f g : ℕ) → b ≤ f → f ≤ g → Rose f g → Rose b g
-rose-since b f g low never rose l = elim (cases_lt f last_count) [
-  | inl h ↦ (let r = rose h in omega (arith, low, r))
-  | inr h ↦ omega (arith, low, never, l, h)
-]
 
 -- the lines of one event more
 pub written-on : (first mid last : Option (List ℕ)) (b f g : ℕ) (lines more : List ℕ) (status : ℕ) → b ≤ f → f ≤ g
@@ -63,7 +52,7 @@ written-on first mid last b f g lines more status low never so_far (inl (s, is))
     inl (s, is ∙ ap (λ t. told_then t more) here ∙ told_then-append first lines more))
 written-on first mid last b f g lines more status low never so_far (inr (inl (ne, s, rose, front))) =
     (let here = all-written first mid b f lines so_far in
-    inr (inl (not-empty lines more ne, s, rose-since b f g low never rose, front-behind first mid last lines more here front)))
+    inr (inl (not-empty lines more ne, s, rose-before b f g low never rose, front-behind first mid last lines more here front)))
 written-on first mid last b f g lines more status low never so_far (inr (inr (s, front))) =
     (let here = all-written first mid b f lines so_far in
     inr (inr (s, front-behind first mid last lines more here front)))
@@ -80,5 +69,5 @@ ends-of lines status sink (inr (inr (s, front))) = inr (inr s)
 
 pub ends-since : (first mid last : Option (List ℕ)) (b f g status : ℕ) → b ≤ f → f ≤ g → CarriedOut status (sank mid last f g) → CarriedOut status (sank first last b g)
 ends-since first mid last b f g status low never (inl s) = inl s
-ends-since first mid last b f g status low never (inr (inl (s, rose))) = inr (inl (s, rose-since b f g low never rose))
+ends-since first mid last b f g status low never (inr (inl (s, rose))) = inr (inl (s, rose-before b f g low never rose))
 ends-since first mid last b f g status low never (inr (inr s)) = inr (inr s)

@@ -1,35 +1,41 @@
 -- A schedule carried out.
 --
---   CarriesOn start before done later lines heard d == behind a later call of the program these moments carry out these commands; the whole is a
---       run, which keeps the headline; its last state is that of the devices, the jobs of this call heard this, and in it at most as many calls
---       of a device failed as its count rose
---   Replays start before commands status sink heard d == such moments carry out the commands in order, up to those left, of which there are none
---       at status 0; their lines are written, or a front of them where a counted fault of the sink or want of memory cut them off
+--   CarriesOn start before done later lines heard d == behind a later call of the program these moments
+--       carry out these commands; the whole is a run, which keeps the headline; its last state is that of
+--       the devices, the jobs of this call heard this, and in it at most as many calls of a device failed
+--       as its count rose
+--   Replays start before commands status sink heard d == such moments carry out the commands in order, up
+--       to those left, of which there are none at status 0; their lines are written, or a front of them
+--       where a counted fault of the sink or want of memory cut them off
 use Rattle.std.specs.Prelude.{◌≡◌, ℕ, List, [], ◌++◌, reverse}
 use Rattle.hail_commands.specs.Sinking.{Sinking, WritesLine}
 use Rattle.hail_machine.specs.Failures.{Count, count_in, HasFailures, RoseBy}
 use Rattle.hail_machine.specs.Heard.{Entry, heard_in}
 use Rattle.hail_machine.specs.Runs.{Moment, now, IsRun}
 use Rattle.hail_machine.specs.States.{State}
-use Rattle.hail_machine.specs.Transcripts.{Command, CarriesOut}
+use Rattle.hail_machine.specs.Transcripts.{Instruction, CarriesOut}
 use Rattle.headline.specs.Headline.{Headline}
 use Rattle.vault.specs.Devices.{Devices, AreDevices}
 use Rattle.hail_replay.specs.Starts.{called_behind}
 
--- moments that carry out commands behind a later call of the program; commands and moments have the newest first
-pub record CarriesOn (start : State) (before : List Moment) (done : List Command) (later : List Moment) (lines : List ℕ) (heard : List Entry) (d : Devices) : Type 0 where
+-- moments that carry out commands behind a later call of the program; commands and moments have the newest
+-- first
+pub record CarriesOn (start : State) (before : List Moment) (done : List Instruction) (later : List Moment)
+    (lines : List ℕ) (heard : List Entry) (d : Devices) : Type 0 where
   pub carried_out : CarriesOut done later lines
   pub run : IsRun 8 start (later ++ called_behind start before)
   pub last : AreDevices d (now start (later ++ called_behind start before))
   pub heard_is : heard ≡ heard_in start (later ++ called_behind start before)
   pub counted : (count : Count) (n : ℕ) → HasFailures count (now start (called_behind start before)) later n
-      → RoseBy (count_in count (now start (called_behind start before))) (count_in count (now start (later ++ called_behind start before))) n
+      → RoseBy (count_in count (now start (called_behind start before)))
+      (count_in count (now start (later ++ called_behind start before))) n
   pub headline : Headline start (later ++ called_behind start before)
 
 -- a schedule carried out
-pub record Replays (start : State) (before : List Moment) (commands : List Command) (status : ℕ) (sink : Sinking) (heard : List Entry) (d : Devices) : Type 0 where
-  pub done : List Command
-  pub left : List Command
+pub record Replays (start : State) (before : List Moment) (commands : List Instruction) (status : ℕ)
+    (sink : Sinking) (heard : List Entry) (d : Devices) : Type 0 where
+  pub done : List Instruction
+  pub left : List Instruction
   pub order : commands ≡ reverse done ++ left
   pub whole : status ≡ 0 → left ≡ []
   pub later : List Moment

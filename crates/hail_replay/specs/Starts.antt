@@ -5,7 +5,8 @@
 --   sinking_of K old new          == the same, of two moments of a sink
 --   call_from w                   == the event of a later call of the program, from a state
 --   called_behind start before    == a run with that event behind it
---   AreLeft start before d        == the devices are those that a run from a start has left; before the first event the run is empty
+--   AreLeft start before d        == the devices are those that a run from a start has left; before the
+--                                    first event the run is empty
 use Rattle.std.specs.Prelude.{ℕ, List, ◌∷◌, Option, map}
 use Rattle.disk_model.specs.declared.disk.Disk.{Ghosts as DiskGhosts}
 use Rattle.provider_model.specs.declared.provider.Provider.{Ghosts as ProviderGhosts}
@@ -14,16 +15,18 @@ use Rattle.hail_commands.specs.Sinking.{Sinking}
 use Rattle.hail_machine.specs.Events.{Continue, Continued}
 use Rattle.hail_machine.specs.Runs.{Moment, now, IsRun}
 use Rattle.hail_machine.specs.States.{State, IsStart, continued}
-use Rattle.vault.specs.Devices.{Devices, AreDevices, as_seen, devices}
+use Rattle.vault.specs.Devices.{Devices, AreDevices, devices}
+use Rattle.provider_model.specs.Seen.{provider_seen}
 
 -- a disk and providers, by the members of their traits
 abbrev pub devices_of : {X Y : Type 0} → DiskGhosts X → ProviderGhosts Y → X → List Y → Devices
 devices_of D P disk providers =
-    devices (D.holds disk) (D.faults disk) (map (as_seen P.held P.store_faults P.other_faults P.fetches) providers)
+    devices (D.holds disk) (D.faults disk) (map (provider_seen P) providers)
 
 -- what a sink told and counted, since it told and counted these
 abbrev pub sinking_since : {X : Type 0} → SinkGhosts X → Option (List ℕ) → ℕ → X → Sinking
-sinking_since K first before sink = record { old = first; new = K.written sink; before = before; now = K.faults sink }
+sinking_since K first before sink =
+    record { old = first; new = K.written sink; before = before; now = K.faults sink }
 
 -- what a sink told and counted in a call
 abbrev pub sinking_of : {X : Type 0} → SinkGhosts X → X → X → Sinking

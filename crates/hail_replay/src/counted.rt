@@ -2,10 +2,10 @@
 ghost use Rattle.std.specs.Prelude.{◌≡◌, ◌⊎◌, ◌≤◌, ◌<◌, ◌-◌, ◌^◌, ◌+◌, ◌∷◌, [], ℕ, List, IsSome, IfOk, OnOk, OnErr, is_some, length};
 ghost use Rattle.hail_machine.specs.Runs.{Moment};
 ghost use Rattle.hail_machine.specs.States.{State};
-ghost use Rattle.hail_machine.specs.Transcripts.{Command};
-ghost use Rattle.schedule_text.specs.Events.{command_of, commands_of};
+ghost use Rattle.hail_machine.specs.Transcripts.{Instruction};
+ghost use Rattle.schedule_text.specs.Events.{event_command, commands_of};
 ghost use Rattle.trial_maker.specs.Trials.{trial_bytes, trial_commands};
-ghost use Rattle.hail_client.specs.Client.{next_job_of};
+ghost use Rattle.hail_client.specs.Client.{client_next_job};
 ghost use Rattle.hail_replay.specs.Answers.{CarriedOut};
 ghost use Rattle.hail_replay.specs.Heard.{entries_heard, room_of};
 ghost use Rattle.hail_replay.specs.Performed.{StandsWhereOpen, KeepsStanding, NoCountFell};
@@ -42,18 +42,25 @@ fn trial_event<D: Disk, P: Tamper>(
     providers: &mut [P],
 ) -> Result<(), Memory>
     requires standing { StandsWhereOpen client.old (devices_of D.Disk P.Provider disk.old providers.old) }
-    requires number { next_job_of client.old < 2 ^ 32 - 1 }
+    requires number { client_next_job client.old < 2 ^ 32 - 1 }
     requires room { 1 ≤ room_of heard.old }
     requires events { tally.old.events < 2 ^ 64 - 1 }
-    ensures ok { OnOk result ((start : State) (base : List Moment) (done : List Command) → IsSome (D.holds disk.old)
-        → HasCounted expected.now start base done tally.old (entries_heard heard.old) client.old (devices_of D.Disk P.Provider disk.old providers.old)
-        → HasCounted expected.now start base (command_of event ∷ done) tally.new (entries_heard heard.new) client.new
+    ensures ok { OnOk result ((start : State) (base : List Moment) (done : List Instruction) → IsSome
+        (D.holds disk.old)
+        → HasCounted expected.now start base done tally.old (entries_heard heard.old) client.old
+        (devices_of D.Disk P.Provider disk.old providers.old)
+        → HasCounted expected.now start base (event_command event ∷ done) tally.new
+        (entries_heard heard.new) client.new
         (devices_of D.Disk P.Provider disk.new providers.new)) }
-    ensures err { OnErr result ((start : State) (base : List Moment) (done : List Command) → IsSome (D.holds disk.old)
-        → HasRun start base done (entries_heard heard.old) client.old (devices_of D.Disk P.Provider disk.old providers.old)
-        → HasRun start base (command_of event ∷ done) (entries_heard heard.new) client.new (devices_of D.Disk P.Provider disk.new providers.new)) }
+    ensures err { OnErr result ((start : State) (base : List Moment) (done : List Instruction) → IsSome
+        (D.holds disk.old)
+        → HasRun start base done (entries_heard heard.old) client.old
+        (devices_of D.Disk P.Provider disk.old providers.old)
+        → HasRun start base (event_command event ∷ done) (entries_heard heard.new) client.new
+        (devices_of D.Disk P.Provider disk.new providers.new)) }
     ensures counted { tally.new.events ≤ tally.old.events + 1 }
-    ensures kept { KeepsStanding client.old client.new (devices_of D.Disk P.Provider disk.old providers.old) (devices_of D.Disk P.Provider disk.new providers.new) }
+    ensures kept { KeepsStanding client.old client.new (devices_of D.Disk P.Provider disk.old providers.old)
+        (devices_of D.Disk P.Provider disk.new providers.new) }
 {
     let came = perform(alloc, client, event, disk, providers);
     let came = named(came, client);
@@ -74,12 +81,17 @@ fn count_events<D: Disk, P: Tamper>(
 ) -> Result<Tally, Memory>
     requires few { length events.items < 2 ^ 32 - 2 }
     requires nothing { entries_heard heard.old ≡ [] }
-    ensures ok { IfOk result (λ tally. (start : State) (before : List Moment) → IsSome (D.holds disk.old) → AreLeft start before (devices_of D.Disk P.Provider disk.old providers.old)
-        → CountsTo expected.now start before (commands_of events.items) tally (entries_heard heard.new) (devices_of D.Disk P.Provider disk.new providers.new)) }
-    ensures err { OnErr result ((start : State) (before : List Moment) → IsSome (D.holds disk.old) → AreLeft start before (devices_of D.Disk P.Provider disk.old providers.old)
-        → RunsTo start before (commands_of events.items) (entries_heard heard.new) (devices_of D.Disk P.Provider disk.new providers.new)) }
+    ensures ok { IfOk result (λ tally. (start : State) (before : List Moment) → IsSome (D.holds disk.old)
+        → AreLeft start before (devices_of D.Disk P.Provider disk.old providers.old)
+        → CountsTo expected.now start before (commands_of events.items) tally (entries_heard heard.new)
+        (devices_of D.Disk P.Provider disk.new providers.new)) }
+    ensures err { OnErr result ((start : State) (before : List Moment) → IsSome (D.holds disk.old) → AreLeft
+        start before (devices_of D.Disk P.Provider disk.old providers.old)
+        → RunsTo start before (commands_of events.items) (entries_heard heard.new)
+        (devices_of D.Disk P.Provider disk.new providers.new)) }
     ensures tells { is_some (D.holds disk.new) ≡ is_some (D.holds disk.old) }
-    ensures counts { NoCountFell (devices_of D.Disk P.Provider disk.old providers.old) (devices_of D.Disk P.Provider disk.new providers.new) }
+    ensures counts { NoCountFell (devices_of D.Disk P.Provider disk.old providers.old)
+        (devices_of D.Disk P.Provider disk.new providers.new) }
 {
     every_run_keeps_the_headline();
     failed_calls_are_counted();
@@ -116,13 +128,17 @@ fn tell_trial<D: Disk, P: Tamper, K: Sink>(
     requires events { commands_of trial.events.items ≡ trial_commands number }
     requires expected { trial.expected ≡ trial_bytes number }
     requires nothing { entries_heard heard.old ≡ [] }
-    ensures runs { (start : State) (before : List Moment) → IsSome (D.holds disk.old) → AreLeft start before (devices_of D.Disk P.Provider disk.old providers.old)
-        → RunsTrial number start before result (sinking_of K.Sink sink.old sink.new) (entries_heard heard.new) (devices_of D.Disk P.Provider disk.new providers.new)
-        ⊎ ((result ≡ 70) × (K.written sink.new ≡ K.written sink.old) × RunsTo start before (trial_commands number) (entries_heard heard.new)
+    ensures runs { (start : State) (before : List Moment) → IsSome (D.holds disk.old)
+        → AreLeft start before (devices_of D.Disk P.Provider disk.old providers.old)
+        → RunsTrial number start before result (sinking_of K.Sink sink.old sink.new)
+        (entries_heard heard.new) (devices_of D.Disk P.Provider disk.new providers.new)
+        ⊎ ((result ≡ 70) × (K.written sink.new ≡ K.written sink.old)
+        × RunsTo start before (trial_commands number) (entries_heard heard.new)
         (devices_of D.Disk P.Provider disk.new providers.new)) }
     ensures ends { CarriedOut result (sinking_of K.Sink sink.old sink.new) }
     ensures tells { is_some (D.holds disk.new) ≡ is_some (D.holds disk.old) }
-    ensures counts { NoCountFell (devices_of D.Disk P.Provider disk.old providers.old) (devices_of D.Disk P.Provider disk.new providers.new) }
+    ensures counts { NoCountFell (devices_of D.Disk P.Provider disk.old providers.old)
+        (devices_of D.Disk P.Provider disk.new providers.new) }
     ensures sink_count { K.faults sink.old ≤ K.faults sink.new }
 {
     sizes_of_a_trial(number);
@@ -144,14 +160,18 @@ pub fn trial<D: Disk, P: Tamper, K: Sink>(
     providers: &mut [P],
     sink: &mut K,
 ) -> Replayed
-    ensures runs { (start : State) (before : List Moment) → IsSome (D.holds disk.old) → AreLeft start before (devices_of D.Disk P.Provider disk.old providers.old)
-        → RunsTrial number start before result.status (sinking_of K.Sink sink.old sink.new) (entries_heard result.heard)
+    ensures runs { (start : State) (before : List Moment) → IsSome (D.holds disk.old)
+        → AreLeft start before (devices_of D.Disk P.Provider disk.old providers.old)
+        → RunsTrial number start before result.status (sinking_of K.Sink sink.old sink.new)
+        (entries_heard result.heard)
         (devices_of D.Disk P.Provider disk.new providers.new)
-        ⊎ ((result.status ≡ 70) × (K.written sink.new ≡ K.written sink.old) × RunsTo start before (trial_commands number) (entries_heard result.heard)
+        ⊎ ((result.status ≡ 70) × (K.written sink.new ≡ K.written sink.old)
+        × RunsTo start before (trial_commands number) (entries_heard result.heard)
         (devices_of D.Disk P.Provider disk.new providers.new)) }
     ensures ends { CarriedOut result.status (sinking_of K.Sink sink.old sink.new) }
     ensures tells { is_some (D.holds disk.new) ≡ is_some (D.holds disk.old) }
-    ensures counts { NoCountFell (devices_of D.Disk P.Provider disk.old providers.old) (devices_of D.Disk P.Provider disk.new providers.new) }
+    ensures counts { NoCountFell (devices_of D.Disk P.Provider disk.old providers.old)
+        (devices_of D.Disk P.Provider disk.new providers.new) }
     ensures sink_count { K.faults sink.old ≤ K.faults sink.new }
 {
     every_run_keeps_the_headline();

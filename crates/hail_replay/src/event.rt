@@ -1,9 +1,9 @@
 // One event of a schedule.
 ghost use Rattle.std.specs.Prelude.{◌<◌, ◌-◌, ◌^◌, Some};
 ghost use Rattle.hail_machine.specs.Transcripts.{RunJob};
-ghost use Rattle.schedule_text.specs.Events.{command_of};
+ghost use Rattle.schedule_text.specs.Events.{event_command};
 ghost use Rattle.transcript_lines.specs.declared.came.Came.TheVariants as came;
-ghost use Rattle.hail_client.specs.Client.{next_job_of};
+ghost use Rattle.hail_client.specs.Client.{client_next_job};
 ghost use Rattle.hail_replay.specs.Starts.{devices_of};
 ghost use Rattle.hail_replay.specs.Performed.{StandsWhereOpen, IsPerformed};
 
@@ -24,7 +24,8 @@ fn run_job<D: Disk, P: Tamper>(
 ) -> Option<Turn>
     requires standing { StandsWhereOpen client.old (devices_of D.Disk P.Provider disk.old providers.old) }
     ensures performed { IsPerformed (RunJob job) (Some (came.Stepped result)) client.old client.new
-        (devices_of D.Disk P.Provider disk.old providers.old) (devices_of D.Disk P.Provider disk.new providers.new) }
+        (devices_of D.Disk P.Provider disk.old providers.old)
+        (devices_of D.Disk P.Provider disk.new providers.new) }
 {
     if client.is_open() {
         client.run(job, disk, providers)
@@ -43,9 +44,10 @@ pub fn perform<D: Disk, P: Tamper>(
     providers: &mut [P],
 ) -> Option<Came<'static>>
     requires standing { StandsWhereOpen client.old (devices_of D.Disk P.Provider disk.old providers.old) }
-    requires number { next_job_of client.old < 2 ^ 32 - 1 }
-    ensures performed { IsPerformed (command_of event) result client.old client.new
-        (devices_of D.Disk P.Provider disk.old providers.old) (devices_of D.Disk P.Provider disk.new providers.new) }
+    requires number { client_next_job client.old < 2 ^ 32 - 1 }
+    ensures performed { IsPerformed (event_command event) result client.old client.new
+        (devices_of D.Disk P.Provider disk.old providers.old)
+        (devices_of D.Disk P.Provider disk.new providers.new) }
 {
     match event {
         Event::Init { setup, master } => {

@@ -4,10 +4,10 @@ ghost use Rattle.hail_commands.specs.Sinking.{Sinking, WritesLine};
 ghost use Rattle.hail_machine.specs.Lines.{lines_of};
 ghost use Rattle.hail_machine.specs.Runs.{Moment};
 ghost use Rattle.hail_machine.specs.States.{State};
-ghost use Rattle.hail_machine.specs.Transcripts.{Command};
-ghost use Rattle.schedule_text.specs.Events.{command_of, commands_of};
-ghost use Rattle.transcript_lines.specs.Came.{outcome_of};
-ghost use Rattle.hail_client.specs.Client.{next_job_of};
+ghost use Rattle.hail_machine.specs.Transcripts.{Instruction};
+ghost use Rattle.schedule_text.specs.Events.{event_command, commands_of};
+ghost use Rattle.transcript_lines.specs.Came.{came_outcome};
+ghost use Rattle.hail_client.specs.Client.{client_next_job};
 ghost use Rattle.hail_replay.specs.Answers.{CarriedOut};
 ghost use Rattle.hail_replay.specs.Heard.{entries_heard, room_of};
 ghost use Rattle.hail_replay.specs.Performed.{outcome_in, heard_in_came, StandsWhereOpen, KeepsStanding, NoCountFell};
@@ -39,7 +39,7 @@ pub struct Replayed {
 
 /// What an event came to; a list is answered by the table of the client.
 pub(crate) fn named<'a>(came: Option<Came<'a>>, client: &'a Client) -> Came<'a>
-    ensures outcome { outcome_of result ≡ outcome_in client.now came.entry }
+    ensures outcome { came_outcome result ≡ outcome_in client.now came.entry }
     ensures heard { heard_in_came (Some result) ≡ heard_in_came came.entry }
 {
     match came {
@@ -60,7 +60,8 @@ pub(crate) fn heard_of(came: Came<'_>) -> HeardList
 
 /// Writes the lines of an event.
 fn tell<K: Sink>(alloc: Global, came: &Came<'_>, sink: &mut K) -> u8
-    ensures writes { WritesLine (lines_of (outcome_of came.now)) result (sinking_of K.Sink sink.old sink.new) }
+    ensures writes { WritesLine (lines_of (came_outcome came.now)) result
+        (sinking_of K.Sink sink.old sink.new) }
     ensures count { K.faults sink.old ≤ K.faults sink.new }
 {
     match came_lines(alloc, came) {
@@ -80,13 +81,17 @@ fn replay_event<D: Disk, P: Tamper, K: Sink>(
     sink: &mut K,
 ) -> u8
     requires standing { StandsWhereOpen client.old (devices_of D.Disk P.Provider disk.old providers.old) }
-    requires number { next_job_of client.old < 2 ^ 32 - 1 }
+    requires number { client_next_job client.old < 2 ^ 32 - 1 }
     requires room { 1 ≤ room_of heard.old }
-    ensures goes_on { (start : State) (base : List Moment) (done : List Command) (first : Option (List ℕ)) (before : ℕ) → IsSome (D.holds disk.old) → before ≤ K.faults sink.old
-        → HasDone start base done 0 (sinking_since K.Sink first before sink.old) (entries_heard heard.old) client.old (devices_of D.Disk P.Provider disk.old providers.old)
-        → HasDone start base (command_of event ∷ done) result (sinking_since K.Sink first before sink.new) (entries_heard heard.new) client.new
+    ensures goes_on { (start : State) (base : List Moment) (done : List Instruction)
+        (first : Option (List ℕ)) (before : ℕ) → IsSome (D.holds disk.old) → before ≤ K.faults sink.old
+        → HasDone start base done 0 (sinking_since K.Sink first before sink.old) (entries_heard heard.old)
+        client.old (devices_of D.Disk P.Provider disk.old providers.old)
+        → HasDone start base (event_command event ∷ done) result
+        (sinking_since K.Sink first before sink.new) (entries_heard heard.new) client.new
         (devices_of D.Disk P.Provider disk.new providers.new) }
-    ensures kept { KeepsStanding client.old client.new (devices_of D.Disk P.Provider disk.old providers.old) (devices_of D.Disk P.Provider disk.new providers.new) }
+    ensures kept { KeepsStanding client.old client.new (devices_of D.Disk P.Provider disk.old providers.old)
+        (devices_of D.Disk P.Provider disk.new providers.new) }
     ensures ends { CarriedOut result (sinking_of K.Sink sink.old sink.new) }
     ensures count { K.faults sink.old ≤ K.faults sink.new }
 {
@@ -107,12 +112,15 @@ pub fn replay<D: Disk, P: Tamper, K: Sink>(
     sink: &mut K,
 ) -> Replayed
     requires { length events.items < 2 ^ 32 - 2 }
-    ensures runs { (start : State) (before : List Moment) → IsSome (D.holds disk.old) → AreLeft start before (devices_of D.Disk P.Provider disk.old providers.old)
-        → Replays start before (commands_of events.items) result.status (sinking_of K.Sink sink.old sink.new) (entries_heard result.heard)
+    ensures runs { (start : State) (before : List Moment) → IsSome (D.holds disk.old)
+        → AreLeft start before (devices_of D.Disk P.Provider disk.old providers.old)
+        → Replays start before (commands_of events.items) result.status
+        (sinking_of K.Sink sink.old sink.new) (entries_heard result.heard)
         (devices_of D.Disk P.Provider disk.new providers.new) }
     ensures ends { CarriedOut result.status (sinking_of K.Sink sink.old sink.new) }
     ensures tells { is_some (D.holds disk.new) ≡ is_some (D.holds disk.old) }
-    ensures counts { NoCountFell (devices_of D.Disk P.Provider disk.old providers.old) (devices_of D.Disk P.Provider disk.new providers.new) }
+    ensures counts { NoCountFell (devices_of D.Disk P.Provider disk.old providers.old)
+        (devices_of D.Disk P.Provider disk.new providers.new) }
     ensures sink_count { K.faults sink.old ≤ K.faults sink.new }
 {
     every_run_keeps_the_headline();

@@ -4,7 +4,8 @@ use Rattle.std.proofs.Common.{◌≡◌, ◌≢◌, ◌++◌, ◌⊎◌, inl, in
 use Rattle.std.proofs.lemmas.List.{reverse-append}
 use Rattle.std.proofs.lemmas.List.FromFn.{map-range_with_len_more}
 use Rattle.std.specs.List.{range_with_len}
-use Rattle.field_laws.specs.Field.{Each, Apart}
+use Rattle.plain_facts.specs.Lists.{Each}
+use Rattle.field_laws.specs.Field.{Apart}
 use Rattle.field_laws.proofs.Ring.{zero_mul, one_mul}
 use Rattle.field_laws.proofs.Solve.{v, o, i, ◌⊞◌, ◌⊡◌, solve}
 use Rattle.hail_field.specs.Nim.{nim, nim_add, nim_mul, nim_inv, nim_pow}

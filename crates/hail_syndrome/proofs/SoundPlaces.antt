@@ -1,6 +1,8 @@
 -- The places at which a polynomial is not 0.
 use Rattle.std.proofs.Common.{◌≡◌, ◌≢◌, ◌≤◌, ◌<◌, ◌+◌, ℕ, zero, ◌⊎◌, inl, inr, refl, arith, List, [], ◌∷◌, length, take, Bool, true, false, cond, suc}
-use Rattle.field_laws.specs.Field.{FieldOf, IsField, Each, Apart}
+use Rattle.plain_facts.specs.Lists.{Each}
+use Rattle.plain_facts.proofs.Each.{each_take}
+use Rattle.field_laws.specs.Field.{FieldOf, IsField, Apart}
 use Rattle.poly_laws.specs.Poly.{value, Takes}
 use Rattle.poly_laws.proofs.Roots.{zero_from_roots}
 use Rattle.hail_syndrome.specs.Sound.{sound_points, sound_values}
@@ -121,13 +123,7 @@ module _ {A : Type 0} (F : FieldOf A) (laws : IsField F) (f : List A) where
   Takes-front p (x ∷ xs) [] (suc n) t = absurd t
   Takes-front p (x ∷ xs) (y ∷ ys) (suc n) t = (t.0, Takes-front p xs ys n t.1)
 
--- the first of points that are apart are apart
-Each-front : {A : Type 0} (P : A → Type 0) (xs : List A) (n : ℕ) → Each P xs → Each P (take n xs)
-Each-front P xs zero h = tt
-Each-front P [] (suc n) h = tt
-Each-front P (x ∷ xs) (suc n) h = (h.0, Each-front P xs n h.1)
-
 pub Apart-front : {A : Type 0} (xs : List A) (n : ℕ) → Apart xs → Apart (take n xs)
 Apart-front xs zero h = tt
 Apart-front [] (suc n) h = tt
-Apart-front (x ∷ xs) (suc n) h = (Each-front (λ y. x ≢ y) xs n h.0, Apart-front xs n h.1)
+Apart-front (x ∷ xs) (suc n) h = (each_take (λ y. x ≢ y) xs n h.0, Apart-front xs n h.1)

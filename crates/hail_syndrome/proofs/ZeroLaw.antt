@@ -1,7 +1,8 @@
 -- The syndromes are all 0 exactly where the values are those of a polynomial of low degree.
 use Rattle.std.proofs.Common.{◌≡◌, ◌+◌, ◌++◌, ℕ, zero, suc, sym, ◌∙◌, ap, subst, refl, arith, List, [], ◌∷◌, length, take, reverse, replicate}
 use Rattle.std.proofs.lemmas.List.{length-take, length-append, length-replicate}
-use Rattle.field_laws.specs.Field.{Each, Apart}
+use Rattle.plain_facts.specs.Lists.{Each}
+use Rattle.field_laws.specs.Field.{Apart}
 use Rattle.hail_field.specs.Nim.{nim, nim_add, nim_mul}
 use Rattle.hail_field.proofs.AllNumbers.{nim_laws, nim_ring, nim_endless}
 use Rattle.poly_laws.proofs.Values.{value-plus}

@@ -16,4 +16,5 @@ module _ {A : Type 0} (F : FieldOf A) where
   unfoldable pub sound_values : List A → List A → List A → List A
   sound_values f [] ys = []
   sound_values f (x ∷ xs) [] = []
-  sound_values f (x ∷ xs) (y ∷ ys) = cond (F.eq (value F f x) F.zero) (sound_values f xs ys) (y ∷ sound_values f xs ys)
+  sound_values f (x ∷ xs) (y ∷ ys) =
+      cond (F.eq (value F f x) F.zero) (sound_values f xs ys) (y ∷ sound_values f xs ys)

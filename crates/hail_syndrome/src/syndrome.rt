@@ -1,5 +1,6 @@
 ghost use Rattle.std.specs.Prelude.{◌≡◌, ◌≤◌, ◌<◌, ◌+◌, ◌↔◌, ℕ, length, get_or};
-ghost use Rattle.field_laws.specs.Field.{Apart, Each};
+ghost use Rattle.plain_facts.specs.Lists.{Each};
+ghost use Rattle.field_laws.specs.Field.{Apart};
 ghost use Rattle.hail_field.specs.Nim.{nim_add, nim_mul, nim_pow};
 ghost use Rattle.hail_syndrome.specs.Syndromes.{syndromes_of, AreValues};
 
@@ -8,7 +9,8 @@ use hail_field::Symbol;
 
 /// Adds c times the powers of x in turn.
 fn add_powers(out: &mut [Symbol], x: Symbol, c: Symbol)
-    ensures { (k : ℕ) → k < length out.old → get_or out.new k 0 ≡ nim_add (get_or out.old k 0) (nim_mul c (nim_pow x k)) }
+    ensures { (k : ℕ) → k < length out.old
+        → get_or out.new k 0 ≡ nim_add (get_or out.old k 0) (nim_mul c (nim_pow x k)) }
 {
     let mut term = c;
     for k in 0..out.len() {

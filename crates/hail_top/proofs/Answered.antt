@@ -2,6 +2,7 @@
 use Rattle.std.proofs.Common.{◌≡◌, ℕ, List, Option, refl, sym, subst, inr}
 use Rattle.hail_devices.specs.Told.{TakesFront}
 use Rattle.hail_codes.specs.Points.{upto, values_at}
+use Rattle.hail_openings.proofs.Resyncs.{resynced-same}
 use Rattle.hail_commands.specs.Forms.{Command as Spelled}
 use Rattle.hail_commands.specs.Forms.{RowOf, InitWith, PutUnder, GetOf, DropOf, ListAll, AuditAll, RepairDue}
 use Rattle.hail_commands.specs.Keys.{longest_key}
@@ -14,10 +15,9 @@ use Rattle.hail_commands.specs.Commands as commands
 use Rattle.hail_commands.specs.Commands.{Answers}
 use Rattle.command_words.specs.declared.command.Command.{Command}
 use Rattle.command_words.specs.Commands.{command_of}
-use Rattle.hail_top.specs.Endings.{ends}
+use Rattle.hail_top.specs.Endings.{ending_with}
 use Rattle.hail_top.proofs.Taken.{none-taken}
 use Rattle.hail_top.proofs.Refused.{refused-told}
-use Rattle.hail_top.proofs.Told.{left}
 use Rattle.hail_top.proofs.AnswerTexts.{front-none}
 
 -- it is this command
@@ -25,11 +25,11 @@ pub answered : (command other : Command) (old new : Seen) (end : Ending) → com
 answered command other old new end is answers = subst (λ (c : Command). Answers (command_of c) old new end) (sym is) answers
 
 -- a command for which there was no memory, and no device was called
-pub no_memory-told : (command : Spelled) (same : Seen) (end : Ending) → end ≡ ends 70 0 → Answers command same same end
+pub no_memory-told : (command : Spelled) (same : Seen) (end : Ending) → end ≡ ending_with 70 0 → Answers command same same end
 no_memory-told command same end is = subst (λ (e : Ending). Answers command same same e) (sym is) (by_command command)
   where
-    refused : IsRefused 70 0 same same (ends 70 0)
-    refused = refused-told 70 0 same same (ends 70 0) refl (left same.disk) refl refl
+    refused : IsRefused 70 0 same same (ending_with 70 0)
+    refused = refused-told 70 0 same same (ending_with 70 0) refl (resynced-same same.disk) refl refl
 
     none : (text : List ℕ) → TakesFront same.sink same.sink text
     none text = front-none same.sink same.sink text refl
@@ -41,7 +41,7 @@ no_memory-told command same end is = subst (λ (e : Ending). Answers command sam
       held = λ _ p _. inr (inr (refl, none (values_line (values_at (upto l) p))));
     }
 
-    by_command : (command : Spelled) → Answers command same same (ends 70 0)
+    by_command : (command : Spelled) → Answers command same same (ending_with 70 0)
     by_command (RowOf n l b symbols) =
         (row n l b symbols, record { disk = refl; disk_faults = refl; providers = refl; source = (refl, refl); place = refl; heard = refl })
     by_command (InitWith numbers) = inits.no_memory (none-taken longest_key same.source) refused

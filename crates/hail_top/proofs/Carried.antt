@@ -6,22 +6,22 @@ use Rattle.hail_commands.specs.Sinking.{Sinking}
 use Rattle.hail_machine.specs.Heard.{Entry}
 use Rattle.hail_machine.specs.Runs.{Moment}
 use Rattle.hail_machine.specs.States.{State}
-use Rattle.hail_machine.specs.Transcripts.{Command}
-use Rattle.vault.specs.Devices.{Devices}
+use Rattle.hail_machine.specs.Transcripts.{Instruction}
+use Rattle.vault.specs.Devices.{Devices, devices_seen}
 use Rattle.hail_replay.specs.Replayed.{Replays}
 use Rattle.hail_replay.specs.Trials.{RunsTrial, RunsTo}
 use Rattle.hail_replay.specs.Answers as answers
-use Rattle.hail_replay.specs.Answers.{IsUndone, devices_seen, longest_schedule, AnswersReplay, AnswersTrial}
+use Rattle.hail_replay.specs.Answers.{IsUndone, devices_of_seen, longest_schedule, AnswersReplay, AnswersTrial}
 use Rattle.hail_replay.specs.declared.forms.Form.{Form}
 use Rattle.hail_replay.specs.declared.forms.Form.TheVariants as forms
 use Rattle.trial_maker.specs.Trials.{trial_commands}
-use Rattle.hail_top.specs.Carried.{AnswersForm, GoesOn, KeepsTheHeadline}
+use Rattle.hail_top.specs.Carried.{AnswersForm, RunGoesOn, KeepsTheHeadline}
 use Rattle.hail_top.proofs.Taken.{none-taken}
 use Rattle.hail_replay.specs.Performed.{NoCountFell}
-use Rattle.hail_top.specs.Endings.{ends}
+use Rattle.hail_top.specs.Endings.{ending_with}
 
 -- no event was done
-pub undone : (status at : ℕ) (old new : Seen) (end : Ending) → end ≡ ends status at → new.disk ≡ old.disk → new.disk_faults ≡ old.disk_faults
+pub undone : (status at : ℕ) (old new : Seen) (end : Ending) → end ≡ ending_with status at → new.disk ≡ old.disk → new.disk_faults ≡ old.disk_faults
     → new.providers ≡ old.providers → new.sink ≡ old.sink → IsUndone status at old new end
 undone status at old new end is disk faults providers sink = record {
   status_is = ap (λ (e : Ending). e.status) is;
@@ -34,10 +34,10 @@ undone status at old new end is disk faults providers sink = record {
 }
 
 -- the counts of all devices
-pub all-fell : (old new : Seen) → NoCountFell (devices_seen old) (devices_seen new) → old.source_faults ≤ new.source_faults → old.sink_faults ≤ new.sink_faults → NoCountFalls old new
+pub all-fell : (old new : Seen) → NoCountFell (devices_of_seen old) (devices_of_seen new) → old.source_faults ≤ new.source_faults → old.sink_faults ≤ new.sink_faults → NoCountFalls old new
 all-fell old new F source sink = record { disk = F.disk; handed = F.handed; stores = F.stores; others = F.others; source = source; sink = sink }
 
-pub none-fell : (old new : Seen) → new.disk_faults ≡ old.disk_faults → new.providers ≡ old.providers → NoCountFell (devices_seen old) (devices_seen new)
+pub none-fell : (old new : Seen) → new.disk_faults ≡ old.disk_faults → new.providers ≡ old.providers → NoCountFell (devices_of_seen old) (devices_of_seen new)
 none-fell old new faults providers = record {
   disk = omega (arith, faults);
   handed = ap length providers;
@@ -54,7 +54,7 @@ carried-status {status} {at} {before} {now} {heard} {end} is c =
 pub carried-place : {status : ℕ} {heard : List Entry} {end : Ending} → end ≡ record { status = status; at = 0; heard = heard } → end.at ≡ 0
 carried-place {status} {heard} {end} is = ap (λ (e : Ending). e.at) is
 
-pub carried-heard : {status at : ℕ} {heard : List Entry} {end : Ending} {start : State} {before : List Moment} {commands : List Command} {sink : Sinking} {d : Devices}
+pub carried-heard : {status at : ℕ} {heard : List Entry} {end : Ending} {start : State} {before : List Moment} {commands : List Instruction} {sink : Sinking} {d : Devices}
     → end ≡ record { status = status; at = at; heard = heard } → Replays start before commands status sink heard d → Replays start before commands end.status sink end.heard d
 carried-heard {status} {at} {heard} {end} {start} {before} {commands} {sink} {d} is r = subst (λ (e : Ending). Replays start before commands e.status sink e.heard d) (sym is) r
 
@@ -69,7 +69,7 @@ replay-keeps old new end (answers.done text reads short does) = inr (λ start be
     (let R = does.runs start before told left in record { done = R.done; later = R.later; lines = R.lines; carries = R.carries }))
 
 trial-goes-on : (number : ℕ) (start : State) (before : List Moment) (status : ℕ) (sink : Sinking) (same : Type 0) (heard : List Entry) (d : Devices)
-    → RunsTrial number start before status sink heard d ⊎ ((status ≡ 70) × same × RunsTo start before (trial_commands number) heard d) → GoesOn start before heard d
+    → RunsTrial number start before status sink heard d ⊎ ((status ≡ 70) × same × RunsTo start before (trial_commands number) heard d) → RunGoesOn start before heard d
 trial-goes-on number start before status sink same heard d (inl R) =
     record { done = reverse (trial_commands number); later = R.later; lines = R.left_out; carries = R.carries }
 trial-goes-on number start before status sink same heard d (inr (is, at, R)) =
@@ -79,14 +79,14 @@ trial-keeps : (number : ℕ) (old new : Seen) (end : Ending) → AnswersTrial nu
 trial-keeps number old new end (answers.too_few few same undone) = inl (22, 0, undone)
 trial-keeps number old new end (answers.no_memory same undone) = inl (70, 0, undone)
 trial-keeps number old new end (answers.done enough same does) = inr (λ start before told left.
-    trial-goes-on number start before end.status (sinking old new) (new.sink ≡ old.sink) end.heard (devices_seen new) (does.runs start before told left))
+    trial-goes-on number start before end.status (sinking old new) (new.sink ≡ old.sink) end.heard (devices_of_seen new) (does.runs start before told left))
 
 pub form-keeps : (form : Form) (old new : Seen) (end : Ending) → AnswersForm form old new end → KeepsTheHeadline old new end
 form-keeps forms.Replay old new end a = replay-keeps old new end a
 form-keeps (forms.Trial number) old new end a = trial-keeps number old new end a
 
 -- a form for which there was no memory, and no device was called
-pub unstarted-form : (form : Form) (same : Seen) (end : Ending) → end ≡ ends 70 0 → AnswersForm form same same end
+pub unstarted-form : (form : Form) (same : Seen) (end : Ending) → end ≡ ending_with 70 0 → AnswersForm form same same end
 unstarted-form forms.Replay same end is = answers.no_memory (none-taken (longest_schedule + 1) same.source) (undone 70 0 same same end is refl refl refl refl)
 unstarted-form (forms.Trial number) same end is = answers.no_memory (refl, refl) (undone 70 0 same same end is refl refl refl refl)
 

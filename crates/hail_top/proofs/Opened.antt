@@ -2,7 +2,7 @@
 use Rattle.std.proofs.Common.{◌≡◌, ℕ, ◌≤◌, List, length, subst, arith}
 use Rattle.hail_records.specs.Records.{Record}
 use Rattle.hail_commands.specs.Seen.{Seen, NoCountFalls}
-use Rattle.hail_commands.specs.Opens.{setup_at, IsOpened}
+use Rattle.hail_commands.specs.Opens.{setup_in_effect, IsOpened}
 use Rattle.command_jobs.specs.Opened.{IsReadFor}
 use Rattle.command_jobs.specs.Ends.{NoFaultUndone}
 
@@ -10,7 +10,7 @@ use Rattle.command_jobs.specs.Ends.{NoFaultUndone}
 pub opened-read : (old : Seen) (records : List Record) (handed : ℕ) → handed ≡ length old.providers → IsReadFor old.disk records handed → IsOpened old records
 opened-read old records handed as_many for = record {
   read = for.read;
-  enough = subst (λ (n : ℕ). (setup_at records).n ≤ n) as_many for.enough;
+  enough = subst (λ (n : ℕ). (setup_in_effect records).n ≤ n) as_many for.enough;
 }
 
 -- no count falls where none of the disk or of a provider does, nor of the streams

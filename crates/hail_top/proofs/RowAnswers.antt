@@ -1,17 +1,13 @@
 -- The answer to a row follows from what was found in it.
-use Rattle.std.proofs.Common.{◌≡◌, ℕ, List, [], ◌∷◌, Option, refl, ap, ◌∙◌, subst}
+use Rattle.std.proofs.Common.{◌≡◌, ℕ, List, [], Option, ap, ◌∙◌, subst}
 use Rattle.hail_field.specs.Shape.{IsShape}
 use Rattle.hail_codes.specs.Polynomials.{value}
-use Rattle.hail_codes.specs.Points.{upto, values_at}
+use Rattle.hail_codes.specs.Points.{upto}
 use Rattle.hail_codes.specs.DispersalCode.{Accepts}
+use Rattle.hail_codes.proofs.Values.{values_at-same}
 use Rattle.hail_commands.specs.Line.{values_line}
 use Rattle.hail_commands.specs.Sinking.{Sinking, WritesLine}
 use Rattle.hail_commands.specs.Row.{OpensRow, AnswersRow}
-
--- two polynomials that have one value everywhere have the same values at some points
-pub values_at-same : (points p q : List ℕ) → ((x : ℕ) → value p x ≡ value q x) → values_at points p ≡ values_at points q
-values_at-same [] p q same = refl
-values_at-same (x ∷ points) p q same = ap (λ (y : ℕ). y ∷ values_at points p) (same x) ∙ ap (λ (ys : List ℕ). value q x ∷ ys) (values_at-same points p q same)
 
 -- the line of the values that were found answers the row
 pub answers_held : (n l b : ℕ) (seen : List (Option ℕ)) (values shown : List ℕ) (status : ℕ) (sink : Sinking) → IsShape n l b → OpensRow n l b seen values

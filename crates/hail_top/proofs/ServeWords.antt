@@ -12,7 +12,7 @@ use Rattle.hail_replay.specs.declared.forms.Form.TheVariants as forms
 use Rattle.provider_server.specs.Words.{IsServeForm}
 use Rattle.provider_server.specs.Answers as answers
 use Rattle.provider_server.specs.Answers.{AnswersServe}
-use Rattle.hail_top.specs.Endings.{ends}
+use Rattle.hail_top.specs.Endings.{ending_with}
 use Rattle.hail_top.proofs.FormWords.{first-word, command-word, form-word, command-first, form-first}
 
 -- the number is told by its word
@@ -30,7 +30,7 @@ answered-serve words number other old new end told found a same is =
     (subst (λ (e : Ending). AnswersServe number old new e) (sym same) a)
 
 -- where there was no memory, nothing is touched
-pub unstarted-serve : (number : ℕ) (same : Seen) (end : Ending) → end ≡ ends 70 0 → AnswersServe number same same end
+pub unstarted-serve : (number : ℕ) (same : Seen) (end : Ending) → end ≡ ending_with 70 0 → AnswersServe number same same end
 unstarted-serve number same end is = answers.no_memory is refl
 
 -- ---- words that spell another command

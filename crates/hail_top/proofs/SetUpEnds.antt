@@ -14,11 +14,11 @@ use Rattle.hail_openings.specs.Journals.{IsSetUpOn, IsResynced, MayBeLeft, journ
 use Rattle.vault.specs.Causes.{IsInitFault, IsNoWrite}
 use Rattle.vault.specs.declared.fault.InitFault.{InitFault}
 use Rattle.vault.specs.declared.fault.InitFault.TheVariants as init_fault
-use Rattle.hail_top.specs.Endings.{ends}
+use Rattle.hail_top.specs.Endings.{ending_with}
 use Rattle.hail_top.specs.SetUps.{init_ending}
 
 -- a store is ready, and that was told
-pub ready-told : (s : Setup) (old new : Seen) (end : Ending) (line : List ℕ) (status : ℕ) → end ≡ ends status 0 → line ≡ ready_line → WritesLine line status (sinking old new)
+pub ready-told : (s : Setup) (old new : Seen) (end : Ending) (line : List ℕ) (status : ℕ) → end ≡ ending_with status 0 → line ≡ ready_line → WritesLine line status (sinking old new)
     → Goes (IsSetUpOn s) old.disk new.disk → new.providers ≡ old.providers → InitsDisk s old new end
 ready-told s old new end line status is line_is written set_up same =
     subst (λ (e : Ending). InitsDisk s old new e) (sym is) (inits.ready (record {
@@ -39,10 +39,10 @@ pub not_set_up-told : (s : Setup) (old new : Seen) (end : Ending) (why : InitFau
 not_set_up-told s old new end why is cause looked left rose same silent =
     subst (λ (e : Ending). InitsDisk s old new e) (sym is) (by_fault why cause looked rose)
   where
-    failed : (status : ℕ) → FailsToInit status s old new (ends status 0)
+    failed : (status : ℕ) → FailsToInit status s old new (ending_with status 0)
     failed status = record { status_is = refl; place = refl; heard = refl; images = left; providers = same; sink = silent }
 
-    refused : (status at : ℕ) → Goes IsResynced old.disk new.disk → IsRefused status at old new (ends status at)
+    refused : (status at : ℕ) → Goes IsResynced old.disk new.disk → IsRefused status at old new (ending_with status at)
     refused status at goes = record { status_is = refl; place = refl; heard = refl; disk = goes; providers = same; sink = silent }
 
     by_fault : (why : InitFault) → IfSome old.disk (λ cells. IsInitFault (journal_read cells) s why) → (IsNoWrite why → Goes IsResynced old.disk new.disk)

@@ -2,7 +2,7 @@
 use Rattle.std.proofs.Common.{◌≡◌, ℕ, ◌<◌, length, refl, subst}
 use Rattle.hail_devices.specs.Faults.{Rose}
 use Rattle.hail_commands.specs.Seen.{Seen, Ending, KeepsDisk, IsSynced}
-use Rattle.hail_commands.specs.Opens.{setup_at, Unstarted, disk_fault, not_set_up, bad_journal, too_few_providers, no_memory}
+use Rattle.hail_commands.specs.Opens.{setup_in_effect, Unstarted, disk_fault, not_set_up, bad_journal, too_few_providers, no_memory}
 use Rattle.command_jobs.specs.declared.open.Unopened.{Unopened}
 use Rattle.command_jobs.specs.declared.open.Unopened.TheVariants as unopened
 use Rattle.command_jobs.specs.Opened.{IsUnopened}
@@ -20,6 +20,6 @@ unopened-told old new end unopened.NotSetUp handed is as_many cause kept synced 
 unopened-told old new end (unopened.BadJournal at) handed is as_many cause kept synced rose same silent =
     bad_journal at cause (refused-told 8 at old new end is kept same silent)
 unopened-told old new end unopened.TooFewProviders handed is as_many cause kept synced rose same silent =
-    too_few_providers cause.0 cause.1 (subst (λ (n : ℕ). n < (setup_at cause.0).n) as_many cause.2) (synced refl) (refused-told 22 0 old new end is kept same silent)
+    too_few_providers cause.0 cause.1 (subst (λ (n : ℕ). n < (setup_in_effect cause.0).n) as_many cause.2) (synced refl) (refused-told 22 0 old new end is kept same silent)
 unopened-told old new end unopened.Memory handed is as_many cause kept synced rose same silent =
     no_memory (refused-told 70 0 old new end is kept same silent)

@@ -1,6 +1,7 @@
 -- What came of a command over a vault that was just opened, with what is seen of all devices.
 --
---   AnswersOver kind records old new end == the command ends as one does whose begin comes over these records, and no count of faults fell
+--   AnswersOver kind records old new end == the command ends as one does whose begin comes over these
+--                                          records, and no count of faults fell
 --   PutsOver name old new end == the same of a put, which reads its source first
 use Rattle.std.specs.Prelude.{ℕ, List}
 use Rattle.hail_records.specs.Records.{Record}

@@ -1,6 +1,7 @@
 -- Where an `init` has come to that was not refused for its numbers.
 --
---   IsSetupFor setup numbers handed == the numbers make this setup, whatever the key, and enough providers are handed in
+--   IsSetupFor setup numbers handed == the numbers make this setup, whatever the key, and enough providers
+--                                      are handed in
 --   init_ending fault      == how an init ends whose disk was not set up
 use Rattle.std.specs.Prelude.{◌≡◌, ℕ, ◌≤◌, true, List, []}
 use Rattle.hail_records.specs.Records.{is_setup}
@@ -11,7 +12,7 @@ use Rattle.record_codec.specs.declared.setup.Setup.{Setup}
 use Rattle.record_codec.specs.Entries.{with_master}
 use Rattle.vault.specs.declared.fault.InitFault.{InitFault}
 use Rattle.vault.specs.declared.fault.InitFault.TheVariants as init_fault
-use Rattle.hail_top.specs.Endings.{ends}
+use Rattle.hail_top.specs.Endings.{ending_with}
 
 -- the numbers make this setup, and enough providers are handed in
 pub record IsSetupFor (setup : Setup) (numbers : Numbers) (handed : ℕ) : Type 0 where
@@ -21,8 +22,8 @@ pub record IsSetupFor (setup : Setup) (numbers : Numbers) (handed : ℕ) : Type 
 
 -- how an init ends whose disk was not set up
 abbrev pub init_ending : InitFault → Ending
-init_ending init_fault.BadSetup = ends 70 0
-init_ending init_fault.DiskFault = ends 12 0
-init_ending (init_fault.BadJournal at) = ends 8 at
-init_ending init_fault.Already = ends 10 0
-init_ending init_fault.Memory = ends 70 0
+init_ending init_fault.BadSetup = ending_with 70 0
+init_ending init_fault.DiskFault = ending_with 12 0
+init_ending (init_fault.BadJournal at) = ending_with 8 at
+init_ending init_fault.Already = ending_with 10 0
+init_ending init_fault.Memory = ending_with 70 0

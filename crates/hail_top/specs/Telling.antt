@@ -5,7 +5,8 @@
 --   TellsOf s tolerance kind == what the lines of answers speak of, for a job of this kind
 --   no_memory                == there was no memory for a text
 --   IsTextOf s answer text   == the text of an answer; a fault has none
---   IsFaultEnd answer status at == the status of a fault and the place that it speaks of; any other answer has want of memory
+--   IsFaultEnd answer status at == the status of a fault and the place that it speaks of; any other answer
+--                                  has want of memory
 --   TellsAnswer s answer status at sink == the text of the answer is written or cut off, or its fault is told
 use Rattle.std.specs.Prelude.{◌≡◌, ◌⊎◌, ℕ, List, length}
 use Rattle.hail_machine.specs.Jobs.{Kind, PutJob, GetJob, DropJob, AuditJob, RepairJob}
@@ -19,20 +20,20 @@ use Rattle.hail_top.specs.declared.reading.ReadFault.{ReadFault}
 use Rattle.hail_top.specs.declared.reading.ReadFault.TheVariants as read_fault
 use Rattle.hail_top.specs.declared.tell.Subject.{Subject}
 use Rattle.hail_top.specs.declared.tell.Fault.{Fault}
-use Rattle.hail_top.specs.Endings.{ends}
+use Rattle.hail_top.specs.Endings.{ending_with}
 
 -- how a command ends whose source was not read
 abbrev pub unread_ending : ReadFault → Ending
-unread_ending read_fault.Failed = ends 14 0
-unread_ending read_fault.Memory = ends 70 0
+unread_ending read_fault.Failed = ending_with 14 0
+unread_ending read_fault.Memory = ending_with 70 0
 
 -- how a command ends for which no vault was opened
 abbrev pub unopened_ending : Unopened → Ending
-unopened_ending unopened.DiskFault = ends 12 0
-unopened_ending unopened.NotSetUp = ends 9 0
-unopened_ending (unopened.BadJournal at) = ends 8 at
-unopened_ending unopened.TooFewProviders = ends 22 0
-unopened_ending unopened.Memory = ends 70 0
+unopened_ending unopened.DiskFault = ending_with 12 0
+unopened_ending unopened.NotSetUp = ending_with 9 0
+unopened_ending (unopened.BadJournal at) = ending_with 8 at
+unopened_ending unopened.TooFewProviders = ending_with 22 0
+unopened_ending unopened.Memory = ending_with 70 0
 
 -- what the lines of answers to a job of this kind speak of beside the answer
 abbrev pub TellsOf : Subject → ℕ → Kind → Type 0

@@ -3,14 +3,15 @@ ghost use Rattle.std.specs.Prelude.{◌≡◌, ◌≤◌, ℕ, List, Option, len
 ghost use Rattle.std.specs.Option.{option_map};
 ghost use Rattle.hail_devices.specs.Disks.{synced};
 ghost use Rattle.hail_records.specs.Records.{Record};
-ghost use Rattle.hail_commands.specs.Seen.{Seen, NoCountFalls};
+ghost use Rattle.hail_commands.specs.Seen.{Seen, NoCountFalls, seen};
 ghost use Rattle.hail_commands.specs.Opens.{IsOpened};
 ghost use Rattle.hail_commands.specs.Commands.{AnswersAlone};
-ghost use Rattle.vault.specs.Devices.{as_seen, devices};
+ghost use Rattle.vault.specs.Devices.{devices_seen};
+ghost use Rattle.provider_model.specs.Seen.{provider_seen};
 ghost use Rattle.command_jobs.specs.Kinds.{kind_of};
 ghost use Rattle.command_jobs.specs.Opened.{IsFreshOver, IsFreshFor};
 ghost use Rattle.command_jobs.specs.Ends.{IsSeenBefore};
-ghost use Rattle.hail_top.specs.Endings.{seen, ending_of};
+ghost use Rattle.hail_top.specs.Endings.{ending_of};
 ghost use Rattle.hail_top.specs.Jobs.{AnswersOver};
 
 use crate::refusals::{refused, unopened};
@@ -35,10 +36,12 @@ pub fn answer_job<D: Disk, P: Provider, K: Sink>(
     requires { IsFreshFor vault (D.holds disk.old) (D.faults disk.old) (length providers.old) }
     ensures over { (records : List Record) (old : Seen) (left : Option (List ℕ)) (read_faults : ℕ)
         → IsFreshOver vault records (D.holds disk.old) (D.faults disk.old) → IsOpened old records
-        → IsSeenBefore old (devices (D.holds disk.old) (D.faults disk.old) (map (as_seen P.held P.store_faults P.other_faults P.fetches) providers.old))
-        → D.holds disk.old ≡ option_map synced old.disk → old.sink ≡ K.written sink.old → old.sink_faults ≡ K.faults sink.old
+        → IsSeenBefore old (devices_seen D.Disk P.Provider disk.old providers.old)
+        → D.holds disk.old ≡ option_map synced old.disk → old.sink ≡ K.written sink.old
+        → old.sink_faults ≡ K.faults sink.old
         → AnswersOver (kind_of job.entry) records old
-        (seen (D.holds disk.new) (D.faults disk.new) (map (as_seen P.held P.store_faults P.other_faults P.fetches) providers.new) left read_faults
+        (seen (D.holds disk.new) (D.faults disk.new) (map (provider_seen P.Provider) providers.new) left
+        read_faults
         (K.written sink.new) (K.faults sink.new)) (ending_of result) }
     ensures count { K.faults sink.old ≤ K.faults sink.new }
     ensures tells { is_some (D.holds disk.new) ≡ is_some (D.holds disk.old) }
@@ -59,14 +62,18 @@ pub fn alone<D: Disk, P: Provider, K: Sink>(
     sink: &mut K,
 ) -> Report
     ensures answers { (left : Option (List ℕ)) (read_faults : ℕ) → AnswersAlone (kind_of job.entry)
-        (seen (D.holds disk.old) (D.faults disk.old) (map (as_seen P.held P.store_faults P.other_faults P.fetches) providers.old) left read_faults
+        (seen (D.holds disk.old) (D.faults disk.old) (map (provider_seen P.Provider) providers.old) left
+        read_faults
         (K.written sink.old) (K.faults sink.old))
-        (seen (D.holds disk.new) (D.faults disk.new) (map (as_seen P.held P.store_faults P.other_faults P.fetches) providers.new) left read_faults
+        (seen (D.holds disk.new) (D.faults disk.new) (map (provider_seen P.Provider) providers.new) left
+        read_faults
         (K.written sink.new) (K.faults sink.new)) (ending_of result) }
     ensures counts { (left : Option (List ℕ)) (read_faults : ℕ) → NoCountFalls
-        (seen (D.holds disk.old) (D.faults disk.old) (map (as_seen P.held P.store_faults P.other_faults P.fetches) providers.old) left read_faults
+        (seen (D.holds disk.old) (D.faults disk.old) (map (provider_seen P.Provider) providers.old) left
+        read_faults
         (K.written sink.old) (K.faults sink.old))
-        (seen (D.holds disk.new) (D.faults disk.new) (map (as_seen P.held P.store_faults P.other_faults P.fetches) providers.new) left read_faults
+        (seen (D.holds disk.new) (D.faults disk.new) (map (provider_seen P.Provider) providers.new) left
+        read_faults
         (K.written sink.new) (K.faults sink.new)) }
     ensures tells { is_some (D.holds disk.new) ≡ is_some (D.holds disk.old) }
 {

@@ -43,10 +43,13 @@ fn replay_text<D: Disk, P: Tamper, K: Sink>(
     providers: &mut [P],
     sink: &mut K,
 ) -> Report
-    ensures answers { (left left' : Option (List ℕ)) (read_faults read_faults' : ℕ) → ReadsUpTo (longest_schedule + 1) left left' text.now
+    ensures answers { (left left' : Option (List ℕ)) (read_faults read_faults' : ℕ)
+        → ReadsUpTo (longest_schedule + 1) left left' text.now
         → AnswersReplay (seen_over D.Disk P.Provider K.Sink disk.old providers.old left read_faults sink.old)
-        (seen_over D.Disk P.Provider K.Sink disk.new providers.new left' read_faults' sink.new) (ending_of result) }
-    ensures counts { NoCountFell (devices_of D.Disk P.Provider disk.old providers.old) (devices_of D.Disk P.Provider disk.new providers.new) }
+        (seen_over D.Disk P.Provider K.Sink disk.new providers.new left' read_faults' sink.new)
+        (ending_of result) }
+    ensures counts { NoCountFell (devices_of D.Disk P.Provider disk.old providers.old)
+        (devices_of D.Disk P.Provider disk.new providers.new) }
     ensures sink_count { K.faults sink.old ≤ K.faults sink.new }
     ensures tells { is_some (D.holds disk.new) ≡ is_some (D.holds disk.old) }
 {
@@ -71,7 +74,8 @@ pub fn replay_source<D: Disk, P: Tamper, S: Source, K: Sink>(
 ) -> Report
     ensures answers { AnswersReplay
         (seen_of D.Disk P.Provider S.Source K.Sink disk.old providers.old source.old sink.old)
-        (seen_of D.Disk P.Provider S.Source K.Sink disk.new providers.new source.new sink.new) (ending_of result) }
+        (seen_of D.Disk P.Provider S.Source K.Sink disk.new providers.new source.new sink.new)
+        (ending_of result) }
     ensures counts { NoCountFalls
         (seen_of D.Disk P.Provider S.Source K.Sink disk.old providers.old source.old sink.old)
         (seen_of D.Disk P.Provider S.Source K.Sink disk.new providers.new source.new sink.new) }
@@ -91,9 +95,13 @@ pub fn do_trial<D: Disk, P: Tamper, K: Sink>(
     providers: &mut [P],
     sink: &mut K,
 ) -> Report
-    ensures answers { (left : Option (List ℕ)) (read_faults : ℕ) → AnswersTrial number (seen_over D.Disk P.Provider K.Sink disk.old providers.old left read_faults sink.old)
-        (seen_over D.Disk P.Provider K.Sink disk.new providers.new left read_faults sink.new) (ending_of result) }
-    ensures counts { NoCountFell (devices_of D.Disk P.Provider disk.old providers.old) (devices_of D.Disk P.Provider disk.new providers.new) }
+    ensures answers { (left : Option (List ℕ)) (read_faults : ℕ)
+        → AnswersTrial number (seen_over D.Disk P.Provider K.Sink disk.old providers.old left read_faults
+        sink.old)
+        (seen_over D.Disk P.Provider K.Sink disk.new providers.new left read_faults sink.new)
+        (ending_of result) }
+    ensures counts { NoCountFell (devices_of D.Disk P.Provider disk.old providers.old)
+        (devices_of D.Disk P.Provider disk.new providers.new) }
     ensures sink_count { K.faults sink.old ≤ K.faults sink.new }
     ensures tells { is_some (D.holds disk.new) ≡ is_some (D.holds disk.old) }
 {

@@ -8,7 +8,8 @@ ghost use Rattle.hail_commands.specs.Sinking.{WritesLine};
 ghost use Rattle.hail_commands.specs.Commands.{AnswersList};
 ghost use Rattle.vault.specs.Seen.{table_of};
 ghost use Rattle.vault_table.specs.Values.{IsFoldOf};
-ghost use Rattle.hail_top.specs.Endings.{seen, ending_of};
+ghost use Rattle.hail_top.specs.Endings.{ending_of};
+ghost use Rattle.hail_commands.specs.Seen.{seen};
 
 use crate::refusals::unopened;
 use crate::report::{NO_MEMORY, Report};
@@ -21,8 +22,14 @@ use vault::Vault;
 
 /// Writes the files in effect.
 fn write_files<K: Sink>(alloc: Global, vault: &Vault, sink: &mut K) -> u8
-    ensures written { (records : List Record) → IsFoldOf records (table_of vault.now) → WritesLine (list_lines (files_of records)) result
-        (record { old = K.written sink.old; new = K.written sink.new; before = K.faults sink.old; now = K.faults sink.new }) }
+    ensures written { (records : List Record) → IsFoldOf records (table_of vault.now)
+        → WritesLine (list_lines (files_of records)) result
+        (record {
+          old = K.written sink.old;
+          new = K.written sink.new;
+          before = K.faults sink.old;
+          now = K.faults sink.new;
+        }) }
     ensures count { K.faults sink.old ≤ K.faults sink.new }
 {
     match list_lines(alloc, vault.table()) {
@@ -33,9 +40,12 @@ fn write_files<K: Sink>(alloc: Global, vault: &Vault, sink: &mut K) -> u8
 
 /// Opens the store, for so many providers handed in, and writes the files in effect.
 pub fn list<D: Disk, K: Sink>(alloc: Global, handed: usize, disk: &mut D, sink: &mut K) -> Report
-    ensures answers { (providers : List Provider) (left : Option (List ℕ)) (read_faults : ℕ) → length providers ≡ handed → AnswersList
-        (seen (D.holds disk.old) (D.faults disk.old) providers left read_faults (K.written sink.old) (K.faults sink.old))
-        (seen (D.holds disk.new) (D.faults disk.new) providers left read_faults (K.written sink.new) (K.faults sink.new)) (ending_of result) }
+    ensures answers { (providers : List Provider) (left : Option (List ℕ)) (read_faults : ℕ)
+        → length providers ≡ handed → AnswersList
+        (seen (D.holds disk.old) (D.faults disk.old) providers left read_faults (K.written sink.old)
+        (K.faults sink.old))
+        (seen (D.holds disk.new) (D.faults disk.new) providers left read_faults (K.written sink.new)
+        (K.faults sink.new)) (ending_of result) }
     ensures tells { is_some (D.holds disk.new) ≡ is_some (D.holds disk.old) }
     ensures disk_count { D.faults disk.old ≤ D.faults disk.new }
     ensures sink_count { K.faults sink.old ≤ K.faults sink.new }

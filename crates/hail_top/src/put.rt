@@ -3,13 +3,14 @@ ghost use Rattle.std.specs.Prelude.{◌≡◌, ◌≤◌, List, length, map, is_
 ghost use Rattle.std.specs.Option.{option_map};
 ghost use Rattle.hail_devices.specs.Disks.{synced};
 ghost use Rattle.hail_records.specs.Records.{Record};
-ghost use Rattle.hail_commands.specs.Seen.{Seen, NoCountFalls};
+ghost use Rattle.hail_commands.specs.Seen.{Seen, NoCountFalls, seen};
 ghost use Rattle.hail_commands.specs.Opens.{IsOpened};
 ghost use Rattle.hail_commands.specs.Commands.{AnswersPut};
-ghost use Rattle.vault.specs.Devices.{as_seen, devices};
+ghost use Rattle.vault.specs.Devices.{devices_seen};
+ghost use Rattle.provider_model.specs.Seen.{provider_seen};
 ghost use Rattle.command_jobs.specs.Opened.{IsFreshOver, IsFreshFor};
 ghost use Rattle.command_jobs.specs.Ends.{IsSeenBefore};
-ghost use Rattle.hail_top.specs.Endings.{seen, ending_of};
+ghost use Rattle.hail_top.specs.Endings.{ending_of};
 ghost use Rattle.hail_top.specs.Jobs.{PutsOver};
 
 use crate::alone::answer_job;
@@ -39,11 +40,13 @@ fn put_read<D: Disk, P: Provider, S: Source, K: Sink>(
     requires { IsFreshFor vault (D.holds disk.old) (D.faults disk.old) (length providers.old) }
     ensures over { (records : List Record) (old : Seen)
         → IsFreshOver vault records (D.holds disk.old) (D.faults disk.old) → IsOpened old records
-        → IsSeenBefore old (devices (D.holds disk.old) (D.faults disk.old) (map (as_seen P.held P.store_faults P.other_faults P.fetches) providers.old))
-        → D.holds disk.old ≡ option_map synced old.disk → old.source ≡ S.left source.old → old.source_faults ≡ S.faults source.old
+        → IsSeenBefore old (devices_seen D.Disk P.Provider disk.old providers.old)
+        → D.holds disk.old ≡ option_map synced old.disk → old.source ≡ S.left source.old
+        → old.source_faults ≡ S.faults source.old
         → old.sink ≡ K.written sink.old → old.sink_faults ≡ K.faults sink.old
         → PutsOver name.now old
-        (seen (D.holds disk.new) (D.faults disk.new) (map (as_seen P.held P.store_faults P.other_faults P.fetches) providers.new) (S.left source.new)
+        (seen (D.holds disk.new) (D.faults disk.new) (map (provider_seen P.Provider) providers.new)
+        (S.left source.new)
         (S.faults source.new) (K.written sink.new) (K.faults sink.new)) (ending_of result) }
     ensures source_count { S.faults source.old ≤ S.faults source.new }
     ensures sink_count { K.faults sink.old ≤ K.faults sink.new }
@@ -72,14 +75,18 @@ pub fn put<D: Disk, P: Provider, S: Source, K: Sink>(
     sink: &mut K,
 ) -> Report
     ensures answers { AnswersPut name.now
-        (seen (D.holds disk.old) (D.faults disk.old) (map (as_seen P.held P.store_faults P.other_faults P.fetches) providers.old) (S.left source.old)
+        (seen (D.holds disk.old) (D.faults disk.old) (map (provider_seen P.Provider) providers.old)
+        (S.left source.old)
         (S.faults source.old) (K.written sink.old) (K.faults sink.old))
-        (seen (D.holds disk.new) (D.faults disk.new) (map (as_seen P.held P.store_faults P.other_faults P.fetches) providers.new) (S.left source.new)
+        (seen (D.holds disk.new) (D.faults disk.new) (map (provider_seen P.Provider) providers.new)
+        (S.left source.new)
         (S.faults source.new) (K.written sink.new) (K.faults sink.new)) (ending_of result) }
     ensures counts { NoCountFalls
-        (seen (D.holds disk.old) (D.faults disk.old) (map (as_seen P.held P.store_faults P.other_faults P.fetches) providers.old) (S.left source.old)
+        (seen (D.holds disk.old) (D.faults disk.old) (map (provider_seen P.Provider) providers.old)
+        (S.left source.old)
         (S.faults source.old) (K.written sink.old) (K.faults sink.old))
-        (seen (D.holds disk.new) (D.faults disk.new) (map (as_seen P.held P.store_faults P.other_faults P.fetches) providers.new) (S.left source.new)
+        (seen (D.holds disk.new) (D.faults disk.new) (map (provider_seen P.Provider) providers.new)
+        (S.left source.new)
         (S.faults source.new) (K.written sink.new) (K.faults sink.new)) }
     ensures tells { is_some (D.holds disk.new) ≡ is_some (D.holds disk.old) }
 {

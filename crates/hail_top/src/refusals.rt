@@ -2,7 +2,7 @@
 ghost use Rattle.std.specs.Prelude.{◌≡◌};
 ghost use Rattle.hail_commands.specs.Refusals.{status_of};
 ghost use Rattle.vault_core.specs.Carried.{refusal_of};
-ghost use Rattle.hail_top.specs.Endings.{ending_of, ends};
+ghost use Rattle.hail_top.specs.Endings.{ending_of, ending_with};
 ghost use Rattle.hail_top.specs.Telling.{unread_ending, unopened_ending};
 
 use crate::reading::ReadFault;
@@ -38,7 +38,7 @@ pub fn unopened(why: Unopened) -> Report
 
 /// Tells that a job was refused. Where one job runs alone, the vault is open and not busy.
 pub fn refused(why: BeginFault) -> Report
-    ensures { ending_of result ≡ ends (status_of (refusal_of why)) 0 }
+    ensures { ending_of result ≡ ending_with (status_of (refusal_of why)) 0 }
 {
     match why {
         BeginFault::NoSuchName => Report::of(NO_SUCH_NAME),

@@ -78,7 +78,12 @@ fn open(alloc: Global, seen: &[Option<Symbol>], shape: Shape) -> Result<Option<V
 /// Writes the line of some values.
 fn write_values<K: Sink>(alloc: Global, values: &[Symbol], sink: &mut K) -> u8
     ensures writes { WritesLine (values_line values.now) result
-        (record { old = K.written sink.old; new = K.written sink.new; before = K.faults sink.old; now = K.faults sink.new }) }
+        (record {
+          old = K.written sink.old;
+          new = K.written sink.new;
+          before = K.faults sink.old;
+          now = K.faults sink.new;
+        }) }
     ensures count { K.faults sink.old ≤ K.faults sink.new }
 {
     match values_line(alloc, values) {
@@ -91,7 +96,12 @@ fn write_values<K: Sink>(alloc: Global, values: &[Symbol], sink: &mut K) -> u8
 pub fn answer_row<K: Sink>(alloc: Global, row: &Row, sink: &mut K) -> u8
     requires { length row.now.seen.items ≡ row.now.n }
     ensures answers { AnswersRow row.now.n row.now.l row.now.b row.now.seen.items result
-        (record { old = K.written sink.old; new = K.written sink.new; before = K.faults sink.old; now = K.faults sink.new }) }
+        (record {
+          old = K.written sink.old;
+          new = K.written sink.new;
+          before = K.faults sink.old;
+          now = K.faults sink.new;
+        }) }
     ensures count { K.faults sink.old ≤ K.faults sink.new }
 {
     accepted_polynomial_is_unique();

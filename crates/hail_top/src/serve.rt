@@ -16,7 +16,7 @@ use stream_model::{Sink, Source};
 
 /// How the server ended.
 fn served(end: Served) -> Report
-    ensures { ending_of result ≡ statuses.ending_of end }
+    ensures { ending_of result ≡ statuses.served_ending end }
 {
     Report::at(end.status, end.at)
 }
@@ -29,12 +29,16 @@ pub fn serve_words<P: Provider, S: Source, K: Sink>(
     source: &mut S,
     sink: &mut K,
 ) -> Report
-    ensures usage { (disk : Option Cells) (disk_faults : ℕ) → ((number : ℕ) → IsServeForm words.now number → ⊥) → IsUsage
+    ensures usage { (disk : Option Cells) (disk_faults : ℕ)
+        → ((number : ℕ) → IsServeForm words.now number → ⊥) → IsUsage
         (seen_beside disk disk_faults P.Provider S.Source K.Sink providers.old source.old sink.old)
-        (seen_beside disk disk_faults P.Provider S.Source K.Sink providers.new source.new sink.new) (ending_of result) }
-    ensures serves { (disk : Option Cells) (disk_faults number : ℕ) → IsServeForm words.now number → AnswersServe number
+        (seen_beside disk disk_faults P.Provider S.Source K.Sink providers.new source.new sink.new)
+        (ending_of result) }
+    ensures serves { (disk : Option Cells) (disk_faults number : ℕ) → IsServeForm words.now number
+        → AnswersServe number
         (seen_beside disk disk_faults P.Provider S.Source K.Sink providers.old source.old sink.old)
-        (seen_beside disk disk_faults P.Provider S.Source K.Sink providers.new source.new sink.new) (ending_of result) }
+        (seen_beside disk disk_faults P.Provider S.Source K.Sink providers.new source.new sink.new)
+        (ending_of result) }
     ensures counts { (disk : Option Cells) (disk_faults : ℕ) → NoCountFalls
         (seen_beside disk disk_faults P.Provider S.Source K.Sink providers.old source.old sink.old)
         (seen_beside disk disk_faults P.Provider S.Source K.Sink providers.new source.new sink.new) }

@@ -3,11 +3,11 @@ ghost use Rattle.std.specs.Prelude.{◌≡◌, ◌≤◌, ℕ, List, Option, len
 ghost use Rattle.hail_devices.specs.Providers.{Provider};
 ghost use Rattle.hail_commands.specs.Forms.{Numbers as SevenNumbers};
 ghost use Rattle.hail_commands.specs.Keys.{longest_key};
-ghost use Rattle.hail_commands.specs.Seen.{ReadsUpTo};
+ghost use Rattle.hail_commands.specs.Seen.{ReadsUpTo, seen};
 ghost use Rattle.record_codec.specs.Entries.{with_master};
 ghost use Rattle.hail_commands.specs.Inits.{AnswersInit, InitsDisk};
 ghost use Rattle.command_words.specs.Commands.{numbers_of};
-ghost use Rattle.hail_top.specs.Endings.{seen, ending_of};
+ghost use Rattle.hail_top.specs.Endings.{ending_of};
 ghost use Rattle.hail_top.specs.SetUps.{IsSetupFor, init_ending};
 
 use crate::reading::read_up_to;
@@ -48,10 +48,13 @@ fn set_up_disk<D: Disk, K: Sink>(
     disk: &mut D,
     sink: &mut K,
 ) -> Report
-    ensures answers { (providers : List Provider) (left left' : Option (List ℕ)) (read_faults read_faults' : ℕ)
+    ensures answers { (providers : List Provider) (left left' : Option (List ℕ))
+        (read_faults read_faults' : ℕ)
         → InitsDisk (with_master setup.now master.now.0)
-        (seen (D.holds disk.old) (D.faults disk.old) providers left read_faults (K.written sink.old) (K.faults sink.old))
-        (seen (D.holds disk.new) (D.faults disk.new) providers left' read_faults' (K.written sink.new) (K.faults sink.new)) (ending_of result) }
+        (seen (D.holds disk.old) (D.faults disk.old) providers left read_faults (K.written sink.old)
+        (K.faults sink.old))
+        (seen (D.holds disk.new) (D.faults disk.new) providers left' read_faults' (K.written sink.new)
+        (K.faults sink.new)) (ending_of result) }
     ensures tells { is_some (D.holds disk.new) ≡ is_some (D.holds disk.old) }
     ensures disk_count { D.faults disk.old ≤ D.faults disk.new }
     ensures sink_count { K.faults sink.old ≤ K.faults sink.new }
@@ -70,10 +73,14 @@ fn set_up_with<D: Disk, K: Sink>(
     disk: &mut D,
     sink: &mut K,
 ) -> Report
-    ensures answers { (numbers : SevenNumbers) (providers : List Provider) (left left' : Option (List ℕ)) (read_faults read_faults' : ℕ)
-        → IsSetupFor setup.now numbers (length providers) → ReadsUpTo longest_key left left' text.now → AnswersInit numbers
-        (seen (D.holds disk.old) (D.faults disk.old) providers left read_faults (K.written sink.old) (K.faults sink.old))
-        (seen (D.holds disk.new) (D.faults disk.new) providers left' read_faults' (K.written sink.new) (K.faults sink.new)) (ending_of result) }
+    ensures answers { (numbers : SevenNumbers) (providers : List Provider) (left left' : Option (List ℕ))
+        (read_faults read_faults' : ℕ)
+        → IsSetupFor setup.now numbers (length providers) → ReadsUpTo longest_key left left' text.now
+        → AnswersInit numbers
+        (seen (D.holds disk.old) (D.faults disk.old) providers left read_faults (K.written sink.old)
+        (K.faults sink.old))
+        (seen (D.holds disk.new) (D.faults disk.new) providers left' read_faults' (K.written sink.new)
+        (K.faults sink.new)) (ending_of result) }
     ensures tells { is_some (D.holds disk.new) ≡ is_some (D.holds disk.old) }
     ensures disk_count { D.faults disk.old ≤ D.faults disk.new }
     ensures sink_count { K.faults sink.old ≤ K.faults sink.new }
@@ -92,9 +99,12 @@ fn set_up_read<D: Disk, S: Source, K: Sink>(
     source: &mut S,
     sink: &mut K,
 ) -> Report
-    ensures answers { (numbers : SevenNumbers) (providers : List Provider) → IsSetupFor setup.now numbers (length providers) → AnswersInit numbers
-        (seen (D.holds disk.old) (D.faults disk.old) providers (S.left source.old) (S.faults source.old) (K.written sink.old) (K.faults sink.old))
-        (seen (D.holds disk.new) (D.faults disk.new) providers (S.left source.new) (S.faults source.new) (K.written sink.new) (K.faults sink.new))
+    ensures answers { (numbers : SevenNumbers) (providers : List Provider)
+        → IsSetupFor setup.now numbers (length providers) → AnswersInit numbers
+        (seen (D.holds disk.old) (D.faults disk.old) providers (S.left source.old) (S.faults source.old)
+        (K.written sink.old) (K.faults sink.old))
+        (seen (D.holds disk.new) (D.faults disk.new) providers (S.left source.new) (S.faults source.new)
+        (K.written sink.new) (K.faults sink.new))
         (ending_of result) }
     ensures tells { is_some (D.holds disk.new) ≡ is_some (D.holds disk.old) }
     ensures disk_count { D.faults disk.old ≤ D.faults disk.new }
@@ -116,9 +126,12 @@ pub fn set_up<D: Disk, S: Source, K: Sink>(
     source: &mut S,
     sink: &mut K,
 ) -> Report
-    ensures answers { (providers : List Provider) → length providers ≡ handed → AnswersInit (numbers_of numbers.now)
-        (seen (D.holds disk.old) (D.faults disk.old) providers (S.left source.old) (S.faults source.old) (K.written sink.old) (K.faults sink.old))
-        (seen (D.holds disk.new) (D.faults disk.new) providers (S.left source.new) (S.faults source.new) (K.written sink.new) (K.faults sink.new))
+    ensures answers { (providers : List Provider) → length providers ≡ handed
+        → AnswersInit (numbers_of numbers.now)
+        (seen (D.holds disk.old) (D.faults disk.old) providers (S.left source.old) (S.faults source.old)
+        (K.written sink.old) (K.faults sink.old))
+        (seen (D.holds disk.new) (D.faults disk.new) providers (S.left source.new) (S.faults source.new)
+        (K.written sink.new) (K.faults sink.new))
         (ending_of result) }
     ensures tells { is_some (D.holds disk.new) ≡ is_some (D.holds disk.old) }
     ensures disk_count { D.faults disk.old ≤ D.faults disk.new }

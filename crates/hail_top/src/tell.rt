@@ -1,6 +1,6 @@
 // How the answer of a job is told: its text, or the status of its fault.
 ghost use Rattle.std.specs.Prelude.{◌≡◌, ◌≤◌, IfOk, IfErr};
-ghost use Rattle.vault.specs.Outcomes.{answer_of};
+ghost use Rattle.vault.specs.Outcomes.{machine_answer};
 ghost use Rattle.command_jobs.specs.Kinds.{kind_of};
 ghost use Rattle.hail_replay.specs.Heard.{entries_heard};
 ghost use Rattle.hail_top.specs.Telling.{TellsOf, IsTextOf, IsFaultEnd, TellsAnswer, no_memory};
@@ -60,8 +60,8 @@ impl From<Memory> for Fault {
 
 /// The text of an answer, or its fault.
 fn text(alloc: Global, subject: &Subject, answer: Answer) -> Result<Bytes, Fault>
-    ensures text { IfOk result (IsTextOf subject.now (answer_of answer)) }
-    ensures fault { IfErr result (λ fault. IsFaultEnd (answer_of answer) fault.status fault.at) }
+    ensures text { IfOk result (IsTextOf subject.now (machine_answer answer)) }
+    ensures fault { IfErr result (λ fault. IsFaultEnd (machine_answer answer) fault.status fault.at) }
 {
     match answer {
         Answer::Put => Ok(stored_line(alloc, subject.name, subject.length)?),
@@ -94,8 +94,13 @@ fn text(alloc: Global, subject: &Subject, answer: Answer) -> Result<Bytes, Fault
 
 /// Tells how a job ended: the text of its answer is written, or its fault is the status.
 pub fn ended<K: Sink>(alloc: Global, subject: &Subject, ended: Ended, sink: &mut K) -> Report
-    ensures told { TellsAnswer subject.now (answer_of ended.answer) result.status result.at
-        (record { old = K.written sink.old; new = K.written sink.new; before = K.faults sink.old; now = K.faults sink.new }) }
+    ensures told { TellsAnswer subject.now (machine_answer ended.answer) result.status result.at
+        (record {
+          old = K.written sink.old;
+          new = K.written sink.new;
+          before = K.faults sink.old;
+          now = K.faults sink.new;
+        }) }
     ensures heard { entries_heard result.heard ≡ ended.heard }
     ensures count { K.faults sink.old ≤ K.faults sink.new }
 {

@@ -1,15 +1,15 @@
 ghost use Rattle.std.specs.Prelude.{◌≡◌, ℕ, map, is_some};
 ghost use Rattle.hail_commands.specs.Forms.{Command as Spelled, IsForm};
-ghost use Rattle.hail_commands.specs.Seen.{NoCountFalls};
+ghost use Rattle.hail_commands.specs.Seen.{NoCountFalls, seen};
 ghost use Rattle.hail_commands.specs.Commands.{Answers, IsUsage};
-ghost use Rattle.vault.specs.Devices.{as_seen};
+ghost use Rattle.provider_model.specs.Seen.{provider_seen};
 ghost use Rattle.command_words.specs.Commands.{command_of};
 ghost use Rattle.hail_top.specs.Carried.{AnswersForm, KeepsTheHeadline};
 ghost use Rattle.hail_replay.specs.Forms.{IsFormOf};
 ghost use Rattle.hail_replay.specs.declared.forms.Form.{Form as FormOf};
 ghost use Rattle.provider_server.specs.Words.{IsServeForm};
 ghost use Rattle.provider_server.specs.Answers.{AnswersServe};
-ghost use Rattle.hail_top.specs.Endings.{seen, seen_of, ending_of};
+ghost use Rattle.hail_top.specs.Endings.{seen_of, ending_of};
 ghost use Rattle.hail_top.specs.Rows.{HasItsSymbols};
 
 use crate::alone::alone;
@@ -41,14 +41,18 @@ fn answer<D: Disk, P: Tamper, S: Source, K: Sink>(
 ) -> Report
     requires { HasItsSymbols (command_of command) }
     ensures answers { Answers (command_of command.entry)
-        (seen (D.holds disk.old) (D.faults disk.old) (map (as_seen P.held P.store_faults P.other_faults P.fetches) providers.old) (S.left source.old)
+        (seen (D.holds disk.old) (D.faults disk.old) (map (provider_seen P.Provider) providers.old)
+        (S.left source.old)
         (S.faults source.old) (K.written sink.old) (K.faults sink.old))
-        (seen (D.holds disk.new) (D.faults disk.new) (map (as_seen P.held P.store_faults P.other_faults P.fetches) providers.new) (S.left source.new)
+        (seen (D.holds disk.new) (D.faults disk.new) (map (provider_seen P.Provider) providers.new)
+        (S.left source.new)
         (S.faults source.new) (K.written sink.new) (K.faults sink.new)) (ending_of result) }
     ensures counts { NoCountFalls
-        (seen (D.holds disk.old) (D.faults disk.old) (map (as_seen P.held P.store_faults P.other_faults P.fetches) providers.old) (S.left source.old)
+        (seen (D.holds disk.old) (D.faults disk.old) (map (provider_seen P.Provider) providers.old)
+        (S.left source.old)
         (S.faults source.old) (K.written sink.old) (K.faults sink.old))
-        (seen (D.holds disk.new) (D.faults disk.new) (map (as_seen P.held P.store_faults P.other_faults P.fetches) providers.new) (S.left source.new)
+        (seen (D.holds disk.new) (D.faults disk.new) (map (provider_seen P.Provider) providers.new)
+        (S.left source.new)
         (S.faults source.new) (K.written sink.new) (K.faults sink.new)) }
     ensures tells { is_some (D.holds disk.new) ≡ is_some (D.holds disk.old) }
 {
@@ -75,7 +79,8 @@ fn carry<D: Disk, P: Tamper, S: Source, K: Sink>(
 ) -> Report
     ensures answers { AnswersForm form
         (seen_of D.Disk P.Provider S.Source K.Sink disk.old providers.old source.old sink.old)
-        (seen_of D.Disk P.Provider S.Source K.Sink disk.new providers.new source.new sink.new) (ending_of result) }
+        (seen_of D.Disk P.Provider S.Source K.Sink disk.new providers.new source.new sink.new)
+        (ending_of result) }
     ensures counts { NoCountFalls
         (seen_of D.Disk P.Provider S.Source K.Sink disk.old providers.old source.old sink.old)
         (seen_of D.Disk P.Provider S.Source K.Sink disk.new providers.new source.new sink.new) }
@@ -96,15 +101,19 @@ fn carry_words<D: Disk, P: Tamper, S: Source, K: Sink>(
     source: &mut S,
     sink: &mut K,
 ) -> Report
-    ensures usage { ((form : FormOf) → IsFormOf words.now form → ⊥) → ((number : ℕ) → IsServeForm words.now number → ⊥) → IsUsage
+    ensures usage { ((form : FormOf) → IsFormOf words.now form → ⊥)
+        → ((number : ℕ) → IsServeForm words.now number → ⊥) → IsUsage
         (seen_of D.Disk P.Provider S.Source K.Sink disk.old providers.old source.old sink.old)
-        (seen_of D.Disk P.Provider S.Source K.Sink disk.new providers.new source.new sink.new) (ending_of result) }
+        (seen_of D.Disk P.Provider S.Source K.Sink disk.new providers.new source.new sink.new)
+        (ending_of result) }
     ensures carries { (form : FormOf) → IsFormOf words.now form → AnswersForm form
         (seen_of D.Disk P.Provider S.Source K.Sink disk.old providers.old source.old sink.old)
-        (seen_of D.Disk P.Provider S.Source K.Sink disk.new providers.new source.new sink.new) (ending_of result) }
+        (seen_of D.Disk P.Provider S.Source K.Sink disk.new providers.new source.new sink.new)
+        (ending_of result) }
     ensures serves { (number : ℕ) → IsServeForm words.now number → AnswersServe number
         (seen_of D.Disk P.Provider S.Source K.Sink disk.old providers.old source.old sink.old)
-        (seen_of D.Disk P.Provider S.Source K.Sink disk.new providers.new source.new sink.new) (ending_of result) }
+        (seen_of D.Disk P.Provider S.Source K.Sink disk.new providers.new source.new sink.new)
+        (ending_of result) }
     ensures counts { NoCountFalls
         (seen_of D.Disk P.Provider S.Source K.Sink disk.old providers.old source.old sink.old)
         (seen_of D.Disk P.Provider S.Source K.Sink disk.new providers.new source.new sink.new) }
@@ -125,22 +134,28 @@ pub fn hail<D: Disk, P: Tamper, S: Source, K: Sink>(
     source: &mut S,
     sink: &mut K,
 ) -> Report
-    ensures usage { ((command : Spelled) → IsForm words.now command → ⊥) → ((form : FormOf) → IsFormOf words.now form → ⊥)
+    ensures usage { ((command : Spelled) → IsForm words.now command → ⊥)
+        → ((form : FormOf) → IsFormOf words.now form → ⊥)
         → ((number : ℕ) → IsServeForm words.now number → ⊥) → IsUsage
         (seen_of D.Disk P.Provider S.Source K.Sink disk.old providers.old.items source.old sink.old)
-        (seen_of D.Disk P.Provider S.Source K.Sink disk.new providers.new.items source.new sink.new) (ending_of result) }
+        (seen_of D.Disk P.Provider S.Source K.Sink disk.new providers.new.items source.new sink.new)
+        (ending_of result) }
     ensures answers { (command : Spelled) → IsForm words.now command → Answers command
         (seen_of D.Disk P.Provider S.Source K.Sink disk.old providers.old.items source.old sink.old)
-        (seen_of D.Disk P.Provider S.Source K.Sink disk.new providers.new.items source.new sink.new) (ending_of result) }
+        (seen_of D.Disk P.Provider S.Source K.Sink disk.new providers.new.items source.new sink.new)
+        (ending_of result) }
     ensures carries { (form : FormOf) → IsFormOf words.now form → AnswersForm form
         (seen_of D.Disk P.Provider S.Source K.Sink disk.old providers.old.items source.old sink.old)
-        (seen_of D.Disk P.Provider S.Source K.Sink disk.new providers.new.items source.new sink.new) (ending_of result) }
+        (seen_of D.Disk P.Provider S.Source K.Sink disk.new providers.new.items source.new sink.new)
+        (ending_of result) }
     ensures serves { (number : ℕ) → IsServeForm words.now number → AnswersServe number
         (seen_of D.Disk P.Provider S.Source K.Sink disk.old providers.old.items source.old sink.old)
-        (seen_of D.Disk P.Provider S.Source K.Sink disk.new providers.new.items source.new sink.new) (ending_of result) }
+        (seen_of D.Disk P.Provider S.Source K.Sink disk.new providers.new.items source.new sink.new)
+        (ending_of result) }
     ensures headline { (form : FormOf) → IsFormOf words.now form → KeepsTheHeadline
         (seen_of D.Disk P.Provider S.Source K.Sink disk.old providers.old.items source.old sink.old)
-        (seen_of D.Disk P.Provider S.Source K.Sink disk.new providers.new.items source.new sink.new) (ending_of result) }
+        (seen_of D.Disk P.Provider S.Source K.Sink disk.new providers.new.items source.new sink.new)
+        (ending_of result) }
     ensures counts { NoCountFalls
         (seen_of D.Disk P.Provider S.Source K.Sink disk.old providers.old.items source.old sink.old)
         (seen_of D.Disk P.Provider S.Source K.Sink disk.new providers.new.items source.new sink.new) }

@@ -2,12 +2,13 @@
 --
 --   Reply                 == what came of a request
 --   reply_bytes a         == its bytes
---   Answers r old a new   == the provider answers the request so, and this is what is seen of it afterwards
+--   AnswersRequest r old a new   == the provider answers the request so, and this is what is seen of it
+--                                   afterwards
 --   AnswersIn r old bs new == the same with the bytes of the answer
 --   Serves rs old as new  == the provider answers each request in its turn
 --   replies_text as       == the bytes of the answers, one after the other
 --   reply_to r held       == what a provider that holds this and does not fail answers
---   left_by r held        == what it holds then
+--   held_after r held        == what it holds then
 --   failed_count as       == how many of the answers say that the call failed
 --   AreClean as           == none says that it failed, or found no memory
 --   served held rs        == the bytes of the answers to all requests, and the blocks held after them
@@ -42,7 +43,8 @@ reply_bytes Failed = 2 ∷ []
 reply_bytes NoMemory = 3 ∷ []
 
 -- a fetch that gave the block, or none
-pub record FetchesAs (size object stripe : ℕ) (old : Provider) (given : Option (List ℕ)) (new : Provider) : Type 0 where
+pub record FetchesAs (size object stripe : ℕ) (old : Provider) (given : Option (List ℕ))
+    (new : Provider) : Type 0 where
   pub held : new.held ≡ old.held
   pub counts : FetchCounts old new
   pub gives : FetchGives size object stripe old.held given
@@ -55,7 +57,8 @@ pub record FailsToFetch (old new : Provider) : Type 0 where
   pub cause : Rose old.other_faults new.other_faults
 
 -- an ask that gave the answer, or none
-pub record AsksAs (honest : (ℕ → Option (List ℕ)) → Option ℕ) (object : ℕ) (old : Provider) (given : Option ℕ) (new : Provider) : Type 0 where
+pub record AsksAs (honest : (ℕ → Option (List ℕ)) → Option ℕ) (object : ℕ) (old : Provider)
+    (given : Option ℕ) (new : Provider) : Type 0 where
   pub held : new.held ≡ old.held
   pub counts : OtherCounts old new
   pub gives : AskGives honest object old.held given
@@ -68,36 +71,38 @@ pub record FailsToAnswer (old new : Provider) : Type 0 where
   pub cause : Rose old.other_faults new.other_faults
 
 -- a provider answers a request
-abbrev pub Answers : Request → Provider → Reply → Provider → Type 0
-Answers (Store object stripe block) old Done new = Stores object stripe block old new
-Answers (Store object stripe block) old Failed new = FailsToStore old new
-Answers (Store object stripe block) old NoMemory new = FindsNoMemory old new
-Answers (Store object stripe block) old (Found symbols) new = ⊥
-Answers (Store object stripe block) old Missing new = ⊥
-Answers (Fetch object stripe size) old (Found block) new = FetchesAs size object stripe old (Some block) new
-Answers (Fetch object stripe size) old Missing new = FetchesAs size object stripe old None new
-Answers (Fetch object stripe size) old Failed new = FailsToFetch old new
-Answers (Fetch object stripe size) old Done new = ⊥
-Answers (Fetch object stripe size) old NoMemory new = ⊥
-Answers (Ask object c) old (Found (symbol ∷ [])) new = AsksAs (honest_answer c) object old (Some symbol) new
-Answers (Ask object c) old (Found []) new = ⊥
-Answers (Ask object c) old (Found (symbol ∷ more ∷ others)) new = ⊥
-Answers (Ask object c) old Missing new = AsksAs (honest_answer c) object old None new
-Answers (Ask object c) old Failed new = FailsToAnswer old new
-Answers (Ask object c) old Done new = ⊥
-Answers (Ask object c) old NoMemory new = ⊥
-Answers (Remove object) old Done new = RemovesAll object old new
-Answers (Remove object) old Failed new = FailsToRemove object old new
-Answers (Remove object) old (Found symbols) new = ⊥
-Answers (Remove object) old Missing new = ⊥
-Answers (Remove object) old NoMemory new = ⊥
+abbrev pub AnswersRequest : Request → Provider → Reply → Provider → Type 0
+AnswersRequest (Store object stripe block) old Done new = Stores object stripe block old new
+AnswersRequest (Store object stripe block) old Failed new = FailsToStore old new
+AnswersRequest (Store object stripe block) old NoMemory new = FindsNoMemory old new
+AnswersRequest (Store object stripe block) old (Found symbols) new = ⊥
+AnswersRequest (Store object stripe block) old Missing new = ⊥
+AnswersRequest (Fetch object stripe size) old (Found block) new =
+    FetchesAs size object stripe old (Some block) new
+AnswersRequest (Fetch object stripe size) old Missing new = FetchesAs size object stripe old None new
+AnswersRequest (Fetch object stripe size) old Failed new = FailsToFetch old new
+AnswersRequest (Fetch object stripe size) old Done new = ⊥
+AnswersRequest (Fetch object stripe size) old NoMemory new = ⊥
+AnswersRequest (Ask object c) old (Found (symbol ∷ [])) new =
+    AsksAs (honest_answer c) object old (Some symbol) new
+AnswersRequest (Ask object c) old (Found []) new = ⊥
+AnswersRequest (Ask object c) old (Found (symbol ∷ more ∷ others)) new = ⊥
+AnswersRequest (Ask object c) old Missing new = AsksAs (honest_answer c) object old None new
+AnswersRequest (Ask object c) old Failed new = FailsToAnswer old new
+AnswersRequest (Ask object c) old Done new = ⊥
+AnswersRequest (Ask object c) old NoMemory new = ⊥
+AnswersRequest (Remove object) old Done new = RemovesAll object old new
+AnswersRequest (Remove object) old Failed new = FailsToRemove object old new
+AnswersRequest (Remove object) old (Found symbols) new = ⊥
+AnswersRequest (Remove object) old Missing new = ⊥
+AnswersRequest (Remove object) old NoMemory new = ⊥
 
 -- a provider answers each request in its turn
 abbrev pub Serves : List Request → Provider → List Reply → Provider → Type 0
 Serves [] old [] new = new ≡ old
 Serves [] old (a ∷ as_) new = ⊥
 Serves (r ∷ rs) old [] new = ⊥
-Serves (r ∷ rs) old (a ∷ as_) new = (mid : Provider) × Serves rs old as_ mid × Answers r mid a new
+Serves (r ∷ rs) old (a ∷ as_) new = (mid : Provider) × Serves rs old as_ mid × AnswersRequest r mid a new
 
 -- the bytes of answers, one after the other
 abbrev pub replies_text : List Reply → List ℕ
@@ -117,20 +122,21 @@ reply_to (Ask object c) held = found (option_map (λ symbol. symbol ∷ []) (hon
 reply_to (Remove object) held = Done
 
 -- what such a provider holds then
-abbrev pub left_by : Request → Held → Held
-left_by (Store object stripe block) held = with_block object stripe block held
-left_by (Fetch object stripe size) held = held
-left_by (Ask object c) held = held
-left_by (Remove object) held = without_object object held
+abbrev pub held_after : Request → Held → Held
+held_after (Store object stripe block) held = with_block object stripe block held
+held_after (Fetch object stripe size) held = held
+held_after (Ask object c) held = held
+held_after (Remove object) held = without_object object held
 
 -- the bytes of the answers to all requests, and the blocks held after them
 abbrev pub served : Held → List Request → List ℕ × Held
 served held [] = ([], held)
-served held (r ∷ rs) = ((served held rs).0 ++ reply_bytes (reply_to r (served held rs).1), left_by r (served held rs).1)
+served held (r ∷ rs) =
+    ((served held rs).0 ++ reply_bytes (reply_to r (served held rs).1), held_after r (served held rs).1)
 
 -- a provider answers a request with these bytes
 abbrev pub AnswersIn : Request → Provider → List ℕ → Provider → Type 0
-AnswersIn r old bytes new = (a : Reply) × Answers r old a new × (bytes ≡ reply_bytes a)
+AnswersIn r old bytes new = (a : Reply) × AnswersRequest r old a new × (bytes ≡ reply_bytes a)
 
 -- a call that failed
 abbrev pub is_failed : Reply → Bool

@@ -1,6 +1,7 @@
 -- The parts of the headline, of one run.
 use Rattle.std.proofs.Common.{◌≡◌, ℕ, List, [], ◌∷◌, ◌++◌, ap, sym, subst, ◌∙◌}
 use Rattle.std.proofs.lemmas.List.{append_assoc}
+use Rattle.hail_records.specs.Table.{File}
 use Rattle.hail_machine.specs.Jobs.{Job}
 use Rattle.hail_machine.specs.States.{State, IsStart}
 use Rattle.hail_machine.specs.Runs.{Moment, now, IsRun}
@@ -8,28 +9,27 @@ use Rattle.hail_machine.specs.Survival.{EndsPut, HasComeIn, IsKept}
 use Rattle.hail_machine.proofs.Acknowledged.{acknowledged}
 use Rattle.hail_machine.proofs.Survive.{survives}
 use Rattle.hail_machine.proofs.Uses.{stored_once, asked_once}
+use Rattle.hail_machine.proofs.Given.{run_part}
 use Rattle.run_laws.proofs.PutBytes.{put_bytes_stay}
 use Rattle.run_laws.proofs.FirstHalf.{first_half}
 use Rattle.mark_laws.proofs.SecondHalf.{second_half}
 use Rattle.headline.specs.Headline.{file_of_put, IsSafe, AcknowledgedFilesSurvive, Headline}
-
--- what holds of a run held of its first moments
-run_part : (limit : ℕ) (start : State) (later ms : List Moment) → IsRun limit start (later ++ ms) → IsRun limit start ms
-run_part limit start [] ms run = run
-run_part limit start (m ∷ later) ms run = run_part limit start later ms run.2
 
 module _ (limit : ℕ) (start : State) (clean : IsStart start) where
   safe : (later : List Moment) (m : Moment) (before : List Moment) (job : Job) (name bytes : List ℕ) → IsRun limit start (later ++ m ∷ before) → EndsPut start m before job name bytes →
       IsSafe start later m before job name bytes
   safe later m before job name bytes run ends = record {
     came = came;
-    kept = λ none. subst (λ ms. IsKept (now start ms) name (file_of_put job name bytes)) (sym split)
-        (survives limit start (later ++ m ∷ came.later) came.before came.moment name (file_of_put job name bytes) clean
+    kept = λ none. subst (λ ms. IsKept (now start ms) name file) (sym split)
+        (survives limit start (later ++ m ∷ came.later) came.before came.moment name file clean
         (subst (IsRun limit start) split run) came.comes none);
     bytes_are = put_bytes_stay limit start later before m job name bytes clean run ends;
   }
     where
-      came : HasComeIn start before name (file_of_put job name bytes)
+      file : File
+      file = file_of_put (now start before) job name bytes
+
+      came : HasComeIn start before name file
       came = acknowledged limit start m before job name bytes clean (run_part limit start later (m ∷ before) run) ends
 
       split : later ++ m ∷ before ≡ (later ++ m ∷ came.later) ++ came.moment ∷ came.before

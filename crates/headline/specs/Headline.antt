@@ -1,9 +1,9 @@
 -- The headline.
 --
--- For every schedule of job steps, replacements of provider symbols and stops, a get that ends Ok has written
--- exactly the bytes last put in effect under its name, unless a fetched row is a forgery; in a calm run in which
--- no audit missed damage each get of a stored name ends Ok, save for want of memory or a counted fault; and
--- acknowledged files survive every stop.
+-- For every schedule of job steps, replacements of provider symbols and stops, a get that ends Ok has
+-- written exactly the bytes last put in effect under its name, unless a fetched row is a forgery; in a calm
+-- run in which no audit missed damage each get of a stored name ends Ok, save for want of memory or a
+-- counted fault; and acknowledged files survive every stop.
 --
 -- Where each phrase is defined, in hail_machine/specs unless another crate is named:
 --
@@ -16,27 +16,31 @@
 --   a get that ends Ok   == a step of its job that came to Ended (Got bytes) (Answers, Events)
 --   has written ..       == `bytes` of Got, in IsRightGet (Halves)
 --   last put in effect   == begin_state.bytes file.id of the file in effect under the name at the get's begin
---   under its name          (Halves). They are the bytes of the put that drew the file's number: `bytes_are` of
+--   under its name (Halves). They are the bytes of the put that drew the file's number: `bytes_are` of
 --                           IsSafe below, and `stay` of laws::done_puts_are_whole of step_laws
 --   unless a fetched row == HoldsForgery (Heard) of what the get's fetches gave: IsForgery (hail_columns,
 --   is a forgery            Forgeries)
---   a calm run           == IsCalm relies (since start) (Calm): while a get or a repair runs, at most b providers
---                           were replaced since the begin of the audit that was the last settled one at the
---                           job's begin
---   no audit missed      == NoneMissed (Missed): each audit whose last record came into effect flags each provider
+--   a calm run           == IsCalm relies (since start) (Calm): while a get or a repair runs, at most b
+--                           providers were replaced since the begin of the audit that was the last settled
+--                           one at the job's begin
+--   no audit missed      == NoneMissed (Missed): each audit whose last record came into effect flags each
+--                           provider
 --   damage                  that was wrong at its begin and was not replaced since
---   each get of a stored == SecondHalf (Halves): its begin is refused for three causes alone, and a step that ends
+--   each get of a stored == SecondHalf (Halves): its begin is refused for three causes alone, and a step
+--                           that ends
 --   name ends Ok            it gives the bytes in effect at its begin
 --   save for want of     == refusal.Memory of a begin, in IsGetRefusal (Halves); no step of a get finds none
 --   memory
---   or a counted fault   == CountRose (Halves): a count of the disk or of a provider rose since the get's begin
+--   or a counted fault   == CountRose (Halves): a count of the disk or of a provider rose since the get's
+--                           begin
 --   acknowledged files   == EndsPut (Survival): a step of a put's job came to Ended Put
---   survive every stop   == IsKept (Survival), at every later moment, with any stops between, until a record that
---                           takes the file out has come to the third move of its append (NeverTakenOut)
---   numbers              == HasStored, HasAsked (Deeds): no two puts store under one number, no two audits make
---                           one challenge
+--   survive every stop   == IsKept (Survival), at every later moment, with any stops between, until a
+--                           record that takes the file out has come to the third move of its append
+--                           (NeverTakenOut)
+--   numbers              == HasStored, HasAsked (Deeds): no two puts store under one number, no two audits
+--                           make one challenge
 use Rattle.std.specs.Prelude.{◌≡◌, ℕ, List, ◌∷◌, ◌++◌, length}
-use Rattle.hail_records.specs.Table.{File}
+use Rattle.hail_records.specs.Table.{File, file_as, setup_of, profile_in}
 use Rattle.hail_machine.specs.Jobs.{Job}
 use Rattle.hail_machine.specs.States.{State}
 use Rattle.hail_machine.specs.Runs.{Moment, now}
@@ -46,30 +50,37 @@ use Rattle.hail_machine.specs.Halves.{AllTell, FirstHalf, SecondHalf}
 use Rattle.hail_machine.specs.Survival.{EndsPut, HasComeIn, NeverTakenOut, IsKept}
 use Rattle.hail_machine.specs.Deeds.{HasStored, HasAsked}
 
--- the file of a put
-abbrev pub file_of_put : Job → List ℕ → List ℕ → File
-file_of_put job name bytes = record { name = name; id = job.subject; size = length bytes }
+-- the file of a put that ends in a state; its profile is that of the setup
+abbrev pub file_of_put : State → Job → List ℕ → List ℕ → File
+file_of_put w job name bytes = file_as name job.subject (length bytes) (profile_in (setup_of w.records))
 
--- What became of the file of a put that ended well by this moment: it had come in before the put ended, and is in effect now, in the
--- records and in these with the one in doubt added, unless a record that takes it out has come to its third move since; and its
--- object number stands for the bytes of the put.
-pub record IsSafe (start : State) (later : List Moment) (m : Moment) (before : List Moment) (job : Job) (name bytes : List ℕ) : Type 0 where
-  pub came : HasComeIn start before name (file_of_put job name bytes)
-  pub kept : NeverTakenOut name (later ++ m ∷ came.later) → IsKept (now start (later ++ m ∷ before)) name (file_of_put job name bytes)
+-- What became of the file of a put that ended well by this moment: it had come in before the put ended, and
+-- is in effect now, in the records and in these with the one in doubt added, unless a record that takes it
+-- out has come to its third move since; and its object number stands for the bytes of the put.
+pub record IsSafe (start : State) (later : List Moment) (m : Moment) (before : List Moment) (job : Job)
+    (name bytes : List ℕ) : Type 0 where
+  pub came : HasComeIn start before name (file_of_put (now start before) job name bytes)
+  pub kept : NeverTakenOut name (later ++ m ∷ came.later) →
+      IsKept (now start (later ++ m ∷ before)) name (file_of_put (now start before) job name bytes)
   pub bytes_are : (now start (later ++ m ∷ before)).bytes job.subject ≡ bytes
 
--- the first half: each get that ended with bytes gave those in effect under its name at its begin, unless a fetched row is a forgery
+-- the first half: each get that ended with bytes gave those in effect under its name at its begin, unless a
+-- fetched row is a forgery
 abbrev pub GetsAreRight : State → List Moment → Type 0
 GetsAreRight start ms = FirstHalf start ms
 
--- the second half: in a calm run in which no audit missed damage, of providers that tell what they hold, each get of a stored name ends well
+-- the second half: in a calm run in which no audit missed damage, of providers that tell what they hold,
+-- each get of a stored name ends well
 abbrev pub CalmGetsEndWell : State → List Moment → Type 0
-CalmGetsEndWell start ms = AllTell start → IsCalm relies (since start) ms → NoneMissed start ms → SecondHalf start ms
+CalmGetsEndWell start ms =
+    AllTell start → IsCalm relies (since start) ms → NoneMissed start ms → SecondHalf start ms
 
 -- the file of each put that ended well is safe now
 abbrev pub AcknowledgedFilesSurvive : State → List Moment → Type 0
-AcknowledgedFilesSurvive start ms = (later before : List Moment) (m : Moment) (job : Job) (name bytes : List ℕ) →
-    ms ≡ later ++ m ∷ before → EndsPut start m before job name bytes → IsSafe start later m before job name bytes
+AcknowledgedFilesSurvive start ms =
+    (later before : List Moment) (m : Moment) (job : Job) (name bytes : List ℕ) →
+    ms ≡ later ++ m ∷ before → EndsPut start m before job name bytes
+    → IsSafe start later m before job name bytes
 
 -- the headline, of one run
 pub record Headline (start : State) (ms : List Moment) : Type 0 where
@@ -77,6 +88,7 @@ pub record Headline (start : State) (ms : List Moment) : Type 0 where
   pub calm_gets_end_well : CalmGetsEndWell start ms
   pub acknowledged_files_survive : AcknowledgedFilesSurvive start ms
   -- no two puts store under one number, and no two audits make one challenge; a job is told by its begin
-  pub one_put : (begun other object : ℕ) → HasStored start ms begun object → HasStored start ms other object → begun ≡ other
+  pub one_put : (begun other object : ℕ) → HasStored start ms begun object → HasStored start ms other object
+      → begun ≡ other
   pub one_audit : (begun other number object round : ℕ) → HasAsked start ms begun number object round →
       HasAsked start ms other number object round → begun ≡ other

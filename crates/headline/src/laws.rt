@@ -6,5 +6,6 @@ ghost use Rattle.headline.specs.Headline.{Headline};
 
 /// The headline, of every run from a start at every limit of running jobs.
 pub fn every_run_keeps_the_headline()
-    ensures { (limit : ℕ) (start : State) (ms : List Moment) → IsStart start → IsRun limit start ms → Headline start ms }
+    ensures { (limit : ℕ) (start : State) (ms : List Moment) → IsStart start → IsRun limit start ms
+        → Headline start ms }
 {}

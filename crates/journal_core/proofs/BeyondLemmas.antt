@@ -8,8 +8,9 @@ use Rattle.stream_model.specs.declared.fault.WriteFault.TheVariants as write_fau
 use Rattle.hail_devices.specs.Cells.{Cells, reads, loose}
 use Rattle.hail_devices.specs.Disks.{spliced, written, Torn}
 use Rattle.hail_devices.specs.Told.{Goes}
+use Rattle.hail_devices.proofs.Lasting.{reads-firm}
 use Rattle.journal_core.specs.Moves.{SameFrom}
-use Rattle.journal_core.proofs.CellLemmas.{settled, reads-firm}
+use Rattle.journal_core.proofs.CellLemmas.{settled}
 
 -- past all that was put in place
 drop-spliced : {X : Type 0} (end at : ℕ) (new old : List X) → at ≤ length old → at + length new ≤ end → drop end (spliced at new old) ≡ drop end old

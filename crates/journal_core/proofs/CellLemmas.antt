@@ -5,6 +5,8 @@ use Rattle.std.proofs.Math.Seq.{drop-append-add}
 use Rattle.hail_devices.specs.Cells.{Cells, reads, firm, loose}
 use Rattle.hail_devices.specs.Images.{IsImage}
 use Rattle.hail_devices.specs.Disks.{spliced, written, Torn}
+use Rattle.hail_devices.proofs.Lasting.{reads-firm}
+use Rattle.hail_devices.proofs.WriteLaws.{reads-loose}
 
 pub spliced-behind : {X : Type 0} (front new rest : List X) (at : ℕ) → at ≡ length front → spliced at new (front ++ rest) ≡ front ++ (new ++ drop (length new) rest)
 spliced-behind front new rest at is =
@@ -37,14 +39,6 @@ torn_gate front rest c at new is torn =
     let size : length torn.bytes ≡ 1 = omega (arith, torn.no_longer, torn.no_shorter, length-append front (c ∷ rest), from, is) in
     let one = one_byte torn.bytes rest c size in
     (one.0, torn.held ∙ spliced-behind front (loose torn.bytes) (c ∷ rest) _ from ∙ ap (λ (l : Cells). front ++ l) one.1)
-
-pub reads-firm : (bytes : List ℕ) → reads (firm bytes) ≡ bytes
-reads-firm [] = refl
-reads-firm (b ∷ bytes) = ap (λ (l : List ℕ). b ∷ l) (reads-firm bytes)
-
-pub reads-loose : (bytes : List ℕ) → reads (loose bytes) ≡ bytes
-reads-loose [] = refl
-reads-loose (b ∷ bytes) = ap (λ (l : List ℕ). b ∷ l) (reads-loose bytes)
 
 -- a sync
 abbrev pub settled : Cells → Cells

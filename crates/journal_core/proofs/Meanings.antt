@@ -34,13 +34,13 @@ good-reverse (r ∷ rs) p =
     let others : list_all is_in_grammar rs ≡ true = grind (arith, p) in
     ap (list_all is_in_grammar) (reverse-append (r ∷ []) rs) ∙ list_all-append is_in_grammar (reverse rs) (r ∷ []) ∙ (λ i. good-reverse rs others i && (first i && true))
 
-abbrev Good : List Record → Type 0
+abbrev pub Good : List Record → Type 0
 Good rs = list_all is_in_grammar rs ≡ true
 
-good-head : (r : Record) (rs : List Record) → Good (r ∷ rs) → is_in_grammar r ≡ true
+pub good-head : (r : Record) (rs : List Record) → Good (r ∷ rs) → is_in_grammar r ≡ true
 good-head r rs p = grind (arith, p)
 
-good-tail : (r : Record) (rs : List Record) → Good (r ∷ rs) → Good rs
+pub good-tail : (r : Record) (rs : List Record) → Good (r ∷ rs) → Good rs
 good-tail r rs p = grind (arith, p)
 
 spelled : (r : Record) → is_in_grammar r ≡ true → Spells (spelling r) r

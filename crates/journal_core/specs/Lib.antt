@@ -2,3 +2,4 @@ pub mod Lists
 pub mod Moves
 pub mod Appends
 pub mod Faults
+pub mod Firm

@@ -1,7 +1,7 @@
 ghost use Rattle.std.specs.Prelude.{◌≡◌, ◌+◌, ◌^◌, ◌<◌, ◌≤◌, ◌++◌, [], ◌∷◌, ℕ, List, length, drop, OnOk, OnErr, IfSome, IfOk, IsErrOf, IsTrue, ◌↔◌};
 ghost use Rattle.stream_model.specs.declared.fault.WriteFault.TheVariants as write_fault;
 ghost use Rattle.std.specs.Option.{option_map};
-ghost use Rattle.hail_devices.specs.Faults.{HasCause};
+ghost use Rattle.hail_devices.specs.Faults.{HasCause, one_more};
 ghost use Rattle.hail_devices.specs.Told.{Goes};
 ghost use Rattle.hail_records.specs.Records.{Record as Entry, record_size};
 ghost use Rattle.hail_records.specs.Spellings.{spelling};
@@ -74,21 +74,31 @@ impl Append {
         ensures failed { OnErr result (moves_of self.new ≡ 5) }
         ensures gate { gate_of self.new ≡ gate_of self.old }
         ensures body { body_of self.new ≡ body_of self.old }
-        ensures does { OnOk result (D.holds disk.new ≡ option_map (cells_after (moves_of self.old) (gate_of self.old) (body_of self.old)) (D.holds disk.old)) }
+        ensures does { OnOk result (D.holds disk.new ≡ option_map
+            (cells_after (moves_of self.old) (gate_of self.old) (body_of self.old)) (D.holds disk.old)) }
         ensures torn { IsErrOf result write_fault.Failed
-            → Goes (MayTear (moves_of self.old) (gate_of self.old) (body_of self.old)) (D.holds disk.old) (D.holds disk.new) }
-        ensures moved { (rs : List Entry) (r : Entry) → Appends rs r self.old (D.holds disk.old) → OnOk result (Appends rs r self.new (D.holds disk.new)) }
+            → Goes (MayTear (moves_of self.old) (gate_of self.old) (body_of self.old)) (D.holds disk.old)
+            (D.holds disk.new) }
+        ensures moved { (rs : List Entry) (r : Entry) → Appends rs r self.old (D.holds disk.old)
+            → OnOk result (Appends rs r self.new (D.holds disk.new)) }
         ensures given_up { (rs : List Entry) (r : Entry) → Appends rs r self.old (D.holds disk.old)
-            → OnErr result (IfSome (D.holds disk.new) (IsGivenUp (moves_of self.old) (before_gate rs) (body_of self.old))) }
-        ensures before { (rs : List Entry) (r : Entry) → Appends rs r self.old (D.holds disk.old) → moves_of self.old < 2 → AllStandFor rs (D.holds disk.new) }
-        ensures between { (rs : List Entry) (r : Entry) → Appends rs r self.old (D.holds disk.old) → MayStandFor rs r (D.holds disk.new) }
-        ensures after { (rs : List Entry) (r : Entry) → Appends rs r self.old (D.holds disk.old) → OnOk result (moves_of self.new ≡ 4 → AllStandFor (r ∷ rs) (D.holds disk.new)) }
+            → OnErr result (IfSome (D.holds disk.new)
+            (IsGivenUp (moves_of self.old) (before_gate rs) (body_of self.old))) }
+        ensures before { (rs : List Entry) (r : Entry) → Appends rs r self.old (D.holds disk.old)
+            → moves_of self.old < 2 → AllStandFor rs (D.holds disk.new) }
+        ensures between { (rs : List Entry) (r : Entry) → Appends rs r self.old (D.holds disk.old)
+            → MayStandFor rs r (D.holds disk.new) }
+        ensures after { (rs : List Entry) (r : Entry) → Appends rs r self.old (D.holds disk.old)
+            → OnOk result (moves_of self.new ≡ 4 → AllStandFor (r ∷ rs) (D.holds disk.new)) }
         ensures closed { (rs : List Entry) (r : Entry) → Appends rs r self.old (D.holds disk.old)
-            → OnOk result (moves_of self.new ≡ 4 → IfSome (D.holds disk.new) (IsClosed (before_gate (r ∷ rs)))) }
-        ensures beyond { Goes (SameFrom (gate_of self.old + 1 + length (body_of self.old))) (D.holds disk.old) (D.holds disk.new) }
+            → OnOk result (moves_of self.new ≡ 4
+            → IfSome (D.holds disk.new) (IsClosed (before_gate (r ∷ rs)))) }
+        ensures beyond { Goes (SameFrom (gate_of self.old + 1 + length (body_of self.old)))
+            (D.holds disk.old) (D.holds disk.new) }
         ensures memory { IsErrOf result write_fault.Memory → D.holds disk.new ≡ D.holds disk.old }
         ensures writes { IsErrOf result write_fault.Memory → IsWrite (moves_of self.old) }
         ensures cause { HasCause (D.faults disk.old) (D.faults disk.new) (IsErrOf result write_fault.Failed) }
+        ensures called { D.calls disk.new ≡ one_more (D.calls disk.old) }
     {
         if self.moves == 0 {
             self.moves = GIVEN_UP;

@@ -1,9 +1,13 @@
 //! What holds of every journal.
-ghost use Rattle.std.specs.Prelude.{◌≡◌, ℕ, List};
+ghost use Rattle.std.specs.Prelude.{◌≡◌, ℕ, suc, List, length};
 ghost use Rattle.hail_records.specs.Records.{Record};
-ghost use Rattle.hail_records.specs.Journal.{before_gate, StandsFor, IsBadAt};
-ghost use Rattle.hail_devices.specs.Cells.{firm};
+ghost use Rattle.hail_records.specs.Journal.{text, before_gate, StandsFor, IsBadAt};
+ghost use Rattle.hail_records.specs.Examples.{four_set_up};
+ghost use Rattle.hail_records.specs.Areas.{Area, A, base_of, entries, StandsActive};
+ghost use Rattle.hail_devices.specs.Cells.{Cells, reads, firm};
+ghost use Rattle.hail_devices.specs.Images.{IsImage};
 ghost use Rattle.journal_core.specs.Moves.{IsClosed};
+ghost use Rattle.journal_core.specs.Firm.{AreFirm};
 
 /// Bytes stand for one list of records at most.
 pub fn one_meaning()
@@ -12,7 +16,8 @@ pub fn one_meaning()
 
 /// Bytes that are bad at some place stand for no records.
 pub fn bad_stands_for_none()
-    ensures { (bytes : List ℕ) (at : ℕ) (records : List Record) → IsBadAt bytes at → StandsFor bytes records → ⊥ }
+    ensures { (bytes : List ℕ) (at : ℕ) (records : List Record) → IsBadAt bytes at → StandsFor bytes records
+        → ⊥ }
 {}
 
 /// Bytes are bad at one place at most.
@@ -22,5 +27,21 @@ pub fn one_place()
 
 /// A disk with nothing loose that reads a journal is ready for an append behind its records.
 pub fn read_is_closed()
-    ensures { (bytes : List ℕ) (records : List Record) → StandsFor bytes records → IsClosed (before_gate records) (firm bytes) }
+    ensures { (bytes : List ℕ) (records : List Record) → StandsFor bytes records
+        → IsClosed (before_gate records) (firm bytes) }
+{}
+
+/// While the first eight bytes of a disk and the text of its active area are firm, every image of it stands for the records
+/// of that text.
+pub fn firm_areas_stand()
+    ensures { (area : Area) (rs : List Record) (cells : Cells) → StandsActive (reads cells) area rs
+        → AreFirm 0 8 cells → AreFirm (base_of area) (suc (length (entries rs))) cells
+        → (image : List ℕ) → IsImage cells image → StandsActive image area rs }
+{}
+
+/// An instance: of the firm text of a store that was set up, front and text are firm, and it is that store's in the first area.
+pub fn firm_text_is_firm()
+    ensures active { StandsActive (reads (firm (text four_set_up))) A four_set_up }
+    ensures front { AreFirm 0 8 (firm (text four_set_up)) }
+    ensures text { AreFirm (base_of A) (suc (length (entries four_set_up))) (firm (text four_set_up)) }
 {}

@@ -13,13 +13,13 @@ use Rattle.hail_machine.specs.Heard.{HoldsForgery}
 use Rattle.hail_machine.specs.Setups.{object_of}
 use Rattle.hail_commands.specs.Forms.{GetOf}
 use Rattle.hail_commands.specs.Seen.{Seen, Ending}
-use Rattle.hail_commands.specs.Opens.{setup_at}
+use Rattle.hail_commands.specs.Opens.{setup_in_effect}
 use Rattle.hail_commands.specs.Commands.{Answers}
 use Rattle.command_laws.specs.Ends.{IsKnown}
 use Rattle.command_laws.proofs.Knowing.{known-good}
 use Rattle.liar_rows.specs.declared.stored.Stored.{Stored}
 use Rattle.liar_rows.specs.declared.stored.Stored.TheVariants as stored
-use Rattle.liar_rows.specs.Stored.{setup_of, bytes_of, name_of_file, records_of}
+use Rattle.liar_rows.specs.Stored.{setup_numbers, stored_bytes, name_of_file, records_of}
 
 -- ---- the two stores
 
@@ -35,13 +35,13 @@ has-room : (s : Stored) → text_size (records_of s) ≤ largest_journal
 has-room stored.FourZeros = (let e : text_size (records_of stored.FourZeros) ≡ 77 = refl in omega (arith, e))
 has-room stored.SixLetters = (let e : text_size (records_of stored.SixLetters) ≡ 77 = refl in omega (arith, e))
 
-are-bytes : (s : Stored) → AreBytes (bytes_of s)
+are-bytes : (s : Stored) → AreBytes (stored_bytes s)
 are-bytes stored.FourZeros = refl
 are-bytes stored.SixLetters = refl
 
 -- the file of a store
 the-file : Stored → File
-the-file s = record { name = name_of_file; id = 1; size = length (bytes_of s) }
+the-file s = record { name = name_of_file; id = 1; size = length (stored_bytes s); profile = (setup_numbers s).profile }
 
 in-effect : (s : Stored) → file_of (records_of s) name_of_file ≡ Some (the-file s)
 unfolding the-file
@@ -50,9 +50,9 @@ in-effect s = refl
 stands : (s : Stored) (image : List ℕ) → image ≡ text (records_of s) → StandsFor image (records_of s)
 stands s image is = record { in_grammar = in-grammar s; gate = 0; rest = []; closed = λ e. omega (arith, e); bytes_are = is }
 
-known : (s : Stored) (old : Seen) (cells : Cells) → old.disk ≡ Some cells → reads cells ≡ text (records_of s) → (setup_of s).n ≤ length old.providers →
+known : (s : Stored) (old : Seen) (cells : Cells) → old.disk ≡ Some cells → reads cells ≡ text (records_of s) → (setup_numbers s).n ≤ length old.providers →
     IsKnown old (records_of s)
-known s old cells is reads_are enough = known-good (setup_of s) old cells (records_of s) is
+known s old cells is reads_are enough = known-good (setup_numbers s) old cells (records_of s) is
     (record { some = λ e. cc; accepted = are-accepted s; room = has-room s; setup = refl; stands = stands s (reads cells) reads_are }) enough
 
 -- ---- the forgery
@@ -61,17 +61,17 @@ known s old cells is reads_are enough = known-good (setup_of s) old cells (recor
 abbrev pub WritesOrForged : Type 0
 WritesOrForged = (name bytes : List ℕ) (records : List Record) (file : File) (old new : Seen) (end : Ending) → Answers (GetOf name) old new end →
     IsKnown old records → file_of records name ≡ Some file → AreBytes bytes → length bytes ≡ file.size → end.status ≡ 0 →
-    (new.sink ≡ told_then old.sink bytes) ⊎ HoldsForgery (object_of (setup_at records) file.id) bytes 1 end.heard
+    (new.sink ≡ told_then old.sink bytes) ⊎ HoldsForgery (object_of (setup_in_effect records) file.id) bytes 1 end.heard
 
 pub other-forged : (s : Stored) (old new : Seen) (end : Ending) (cells : Cells) (written : List ℕ) → WritesOrForged → Answers (GetOf name_of_file) old new end →
-    old.disk ≡ Some cells → reads cells ≡ text (records_of s) → (setup_of s).n ≤ length old.providers → old.sink ≡ Some [] → new.sink ≡ Some written →
-    end.status ≡ 0 → written ≢ bytes_of s → HoldsForgery (object_of (setup_of s) 1) (bytes_of s) 1 end.heard
+    old.disk ≡ Some cells → reads cells ≡ text (records_of s) → (setup_numbers s).n ≤ length old.providers → old.sink ≡ Some [] → new.sink ≡ Some written →
+    end.status ≡ 0 → written ≢ stored_bytes s → HoldsForgery (object_of (setup_numbers s) 1) (stored_bytes s) 1 end.heard
 unfolding the-file
 other-forged s old new end cells written law answers is reads_are enough empty wrote ended other =
-    elim (law name_of_file (bytes_of s) (records_of s) (the-file s) old new end answers (known s old cells is reads_are enough) (in-effect s) (are-bytes s) refl ended) [
-      | inl same ↦ absurd (other (written-is (sym wrote ∙ same ∙ ap (λ told. told_then told (bytes_of s)) empty)))
+    elim (law name_of_file (stored_bytes s) (records_of s) (the-file s) old new end answers (known s old cells is reads_are enough) (in-effect s) (are-bytes s) refl ended) [
+      | inl same ↦ absurd (other (written-is (sym wrote ∙ same ∙ ap (λ told. told_then told (stored_bytes s)) empty)))
       | inr forged ↦ forged
     ]
   where
-    written-is : Some written ≡ told_then (Some []) (bytes_of s) → written ≡ bytes_of s
+    written-is : Some written ≡ told_then (Some []) (stored_bytes s) → written ≡ stored_bytes s
     written-is e = cc

@@ -7,7 +7,7 @@ ghost use Rattle.hail_machine.specs.Setups.{object_of};
 ghost use Rattle.hail_commands.specs.Forms.{GetOf};
 ghost use Rattle.hail_commands.specs.Seen.{Seen, Ending};
 ghost use Rattle.hail_commands.specs.Commands.{Answers};
-ghost use Rattle.liar_rows.specs.Stored.{setup_of, bytes_of, name_of_file, records_of};
+ghost use Rattle.liar_rows.specs.Stored.{setup_numbers, stored_bytes, name_of_file, records_of};
 ghost use Rattle.liar_rows.specs.declared.stored.Stored.{Stored as Kept};
 
 use command_laws::ends::gets_give_the_file;
@@ -15,9 +15,12 @@ use command_laws::ends::gets_give_the_file;
 /// A get of the file of a store whose journal the disk reads, and that is handed enough providers, whatever they are: where it ended with 0
 /// and wrote other bytes than the file's, what it heard holds a forgery against the file.
 pub fn other_bytes_are_a_forgery()
-    ensures { (s : Kept) (old new : Seen) (end : Ending) (cells : Cells) (written : List ℕ) → Answers (GetOf name_of_file) old new end →
-        old.disk ≡ Some cells → reads cells ≡ text (records_of s) → (setup_of s).n ≤ length old.providers → old.sink ≡ Some [] →
-        new.sink ≡ Some written → end.status ≡ 0 → written ≢ bytes_of s → HoldsForgery (object_of (setup_of s) 1) (bytes_of s) 1 end.heard }
+    ensures { (s : Kept) (old new : Seen) (end : Ending) (cells : Cells) (written : List ℕ)
+        → Answers (GetOf name_of_file) old new end →
+        old.disk ≡ Some cells → reads cells ≡ text (records_of s)
+        → (setup_numbers s).n ≤ length old.providers → old.sink ≡ Some [] →
+        new.sink ≡ Some written → end.status ≡ 0 → written ≢ stored_bytes s
+        → HoldsForgery (object_of (setup_numbers s) 1) (stored_bytes s) 1 end.heard }
 {
     gets_give_the_file();
 }

@@ -1,7 +1,7 @@
 // The stores of which a forgery is shown.
 ghost use Rattle.std.specs.Prelude.{◌≡◌};
 ghost use Rattle.hail_records.specs.Journal.{text};
-ghost use Rattle.liar_rows.specs.Stored.{setup_of, bytes_of, records_of};
+ghost use Rattle.liar_rows.specs.Stored.{setup_numbers, stored_bytes, records_of};
 
 /// A store after an `init` and a `put a`. The bytes of the master key are 0 to 31.
 #[derive(Clone, Copy, Debug, PartialEq, Eq)]
@@ -28,7 +28,7 @@ impl Stored {
 
     /// The bytes of the file.
     pub fn file(self) -> &'static [u8]
-        ensures { result.now ≡ bytes_of self }
+        ensures { result.now ≡ stored_bytes self }
     {
         match self {
             Stored::FourZeros => &[0; 32],
@@ -38,7 +38,7 @@ impl Stored {
 
     /// How many providers the store has.
     pub fn providers(self) -> usize
-        ensures { result ≡ (setup_of self).n }
+        ensures { result ≡ (setup_numbers self).n }
     {
         match self {
             Stored::FourZeros => 4,

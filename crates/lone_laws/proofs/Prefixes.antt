@@ -11,7 +11,8 @@ use Rattle.hail_machine.specs.Space.{append_sizes}
 use Rattle.hail_machine.specs.Steps.{next_action}
 use Rattle.hail_machine.proofs.ActionLists.{split_get}
 use Rattle.hail_machine.proofs.Fair.{gate_place}
-use Rattle.sound_states.proofs.Orders.{others-repairs, put_rest, drop_rest, audit_rest, put-list, audit-list, appends_in, appends-append, appends-move, appends-others, appends-removals, next-listed, put-first, audit-first, get-none}
+use Rattle.hail_machine.proofs.NextActions.{next_stands}
+use Rattle.sound_states.proofs.Orders.{others-repairs, put_rest, drop_rest, audit_rest, put-list, audit-list, appends_in, appends-append, appends-move, appends-others, appends-removals, put-first, audit-first, get-none}
 use Rattle.sound_states.proofs.Gates.{decided, drop-list, drop-gate, audit-same, repair-same}
 use Rattle.lone_laws.proofs.Lists.{take-append-add}
 
@@ -42,7 +43,7 @@ module _ (w : State) (job : Job) (older : List ℕ) (next : next_action w job �
 
   drop-front : (name : List ℕ) → job.kind ≡ DropJob name → SameFront
   drop-front name kind =
-      (let at = drop-gate (setup_in w) job job.place (ap (λ xs. slice_get xs job.place) (sym (drop-list (setup_in w) job name kind)) ∙ next-listed w job SyncGate next not-end) in
+      (let at = drop-gate (setup_in w) job job.place (ap (λ xs. slice_get xs job.place) (sym (drop-list (setup_in w) job name kind)) ∙ next_stands w job SyncGate next not-end) in
       let four : job.place + 1 ≡ 4 + 0 = omega (arith, at) in
       ap (take (job.place + 1)) (drop-list (setup_in w) (decided job older) name kind) ∙ (ap (λ n. take n (append_actions ++ drop_rest (setup_in w) (decided job older))) four
       ∙ (take-append-add append_actions (drop_rest (setup_in w) (decided job older)) 0 ∙ (sym (take-append-add append_actions (drop_rest (setup_in w) job) 0)
@@ -88,7 +89,7 @@ audit-within (x ∷ xs) (suc p) l = audit-within xs p (omega (arith, l))
 pub audit-over : (w : State) (job : Job) (action : Action) → job.kind ≡ AuditJob → appends_left (setup_in w) job ≡ 0 → next_action w job ≡ Some action → (action ≡ End → ⊥) → ⊥
 audit-over w job action kind none next n =
     (let list = audit-list (setup_in w) job kind in
-    let at : slice_get (append_actions ++ audit_rest (setup_in w) job) job.place ≡ Some action = ap (λ xs. slice_get xs job.place) (sym list) ∙ next-listed w job action next n in
+    let at : slice_get (append_actions ++ audit_rest (setup_in w) job) job.place ≡ Some action = ap (λ xs. slice_get xs job.place) (sym list) ∙ next_stands w job action next n in
     let left : appends_in (drop job.place (append_actions ++ audit_rest (setup_in w) job)) ≡ 0 = ap (λ xs. appends_in (drop job.place xs)) (sym list) ∙ none in
     over job.place at left)
   where

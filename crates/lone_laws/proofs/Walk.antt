@@ -3,6 +3,7 @@ use Rattle.std.proofs.Common.{◌≡◌, ℕ, ◌+◌, ◌<◌, ◌≤◌, ◌==
 use Rattle.std.specs.Prelude.{slice_get}
 use Rattle.std.specs.List.{list_any}
 use Rattle.std.proofs.lemmas.Bool.{cases_lt, cases_eq, eq-eqb}
+use Rattle.plain_facts.proofs.Options.{some-not-none}
 use Rattle.hail_columns.specs.Challenges.{honest_answer}
 use Rattle.hail_columns.specs.Columns.{columns, column_of_symbols}
 use Rattle.hail_columns.specs.Opened.{GivesSymbols}
@@ -26,9 +27,10 @@ use Rattle.hail_machine.specs.Machine.{Happens}
 use Rattle.hail_machine.proofs.JobLists.{cond_true, cond_false, same_value}
 use Rattle.hail_machine.proofs.Numbers.{next_by, next_is_by, first_above, first_below, drawn_later}
 use Rattle.hail_machine.proofs.PinFacts.{setup_same}
+use Rattle.hail_machine.proofs.NextActions.{next_stands}
 use Rattle.sound_states.specs.Sound.{IsSound}
-use Rattle.sound_states.proofs.Orders.{gates, next-listed, body-within, put_rest, audit_rest, put-list, audit-list, put-first, put-later, audit-first, audit-later, drop-first, repair-first}
-use Rattle.sound_states.proofs.Records.{some-none, setup-more}
+use Rattle.sound_states.proofs.Orders.{gates, body-within, put_rest, audit_rest, put-list, audit-list, put-first, put-later, audit-first, audit-later, drop-first, repair-first}
+use Rattle.sound_states.proofs.Records.{setup-more}
 use Rattle.sound_states.proofs.Written.{body-left}
 use Rattle.sound_states.proofs.Moves.{body-order}
 use Rattle.sound_states.proofs.Gates.{decided}
@@ -151,7 +153,7 @@ module _ (start : State) (O : IsOpenAtRest start 1) (kind : Kind) (w : State) (j
       take (job.place + 1) (actions_of (setup_in start) next) ≡ take (job.place + 1) (actions_of (setup_in start) job) → Did (with_job_of start kind job) action w.providers providers job.given given →
       Made (with_job_of start kind next) (take next.place (actions_of (setup_in start) next)) start.providers providers [] given
   made-on action next given providers is not_end place subject front did =
-      (let listed : slice_get (actions_of (setup_in start) job) job.place ≡ Some action = subst (λ (s : Setup). slice_get (actions_of s job) job.place ≡ Some action) W.setup (next-listed w job action is not_end) in
+      (let listed : slice_get (actions_of (setup_in start) job) job.place ≡ Some action = subst (λ (s : Setup). slice_get (actions_of s job) job.place ≡ Some action) W.setup (next_stands w job action is not_end) in
       subst (λ n. Made (record { setup = setup_in start; kind = kind; subject = n; pinned = pinned_for start kind }) (take next.place (actions_of (setup_in start) next)) start.providers providers [] given) (sym subject)
       (subst (λ xs. Made (with_job_of start kind job) xs start.providers providers [] given)
       (sym (ap (λ n. take n (actions_of (setup_in start) next)) place ∙ (front ∙ take-more (actions_of (setup_in start) job) job.place action listed)))
@@ -354,14 +356,14 @@ module _ (start : State) (O : IsOpenAtRest start 1) (kind : Kind) (w : State) (j
     body-made : (kd : Kind) → kind ≡ kd → Made (with_job_of start kind drawn) (take drawn.place (actions_of (setup_in start) drawn)) start.providers w.providers [] job.given
     body-made (PutJob name bytes) e = elim (cases_lt job.place 4) [
       | inl l ↦ first-drawn (put_rest (setup_in start) drawn bytes) (put-list (setup_in start) drawn name bytes (W.kind_is ∙ e))
-          (body-within (put_rest (setup_in w) job bytes) job.place l (ap (λ xs. slice_get xs job.place) (sym (put-list (setup_in w) job name bytes (W.kind_is ∙ e))) ∙ next-listed w job WriteBody next (λ f. cc)))
+          (body-within (put_rest (setup_in w) job bytes) job.place l (ap (λ xs. slice_get xs job.place) (sym (put-list (setup_in w) job name bytes (W.kind_is ∙ e))) ∙ next_stands w job WriteBody next (λ f. cc)))
       | inr l ↦ same-drawn (drawn-later l)
     ]
     body-made (GetJob name) e = same-drawn (drawn-kind (GetJob name) e)
     body-made (DropJob name) e = same-drawn (drawn-kind (DropJob name) e)
     body-made AuditJob e = elim (cases_lt job.place 4) [
       | inl l ↦ first-drawn (audit_rest (setup_in start) drawn) (audit-list (setup_in start) drawn (W.kind_is ∙ e))
-          (body-within (audit_rest (setup_in w) job) job.place l (ap (λ xs. slice_get xs job.place) (sym (audit-list (setup_in w) job (W.kind_is ∙ e))) ∙ next-listed w job WriteBody next (λ f. cc)))
+          (body-within (audit_rest (setup_in w) job) job.place l (ap (λ xs. slice_get xs job.place) (sym (audit-list (setup_in w) job (W.kind_is ∙ e))) ∙ next_stands w job WriteBody next (λ f. cc)))
       | inr l ↦ same-drawn (drawn-later l)
     ]
     body-made RepairJob e = same-drawn (drawn-kind RepairJob e)
@@ -486,7 +488,7 @@ module _ (start : State) (O : IsOpenAtRest start 1) (kind : Kind) (w : State) (j
   moves-walk : (action : Action) (flight : Option Append) (new : State) → w.append ≡ flight → next_action w job ≡ Some action → holder_of flight action ≡ None → Moves w job action flight More new → IsSound 8 new → GoesOn new
   moves-walk WriteBody None new flight next free (entry, writes, (faults, low, is)) sound =
       (onward job (subject_drawn w job job.kind) job.given, subst (λ v. Walked start kind v (onward job (subject_drawn w job job.kind) job.given)) (sym is) (body-walk next entry faults low (subst (IsSound 8) is sound)))
-  moves-walk WriteBody (Some a) new flight next free h sound = absurd (some-none (Some a.job) a.job refl free)
+  moves-walk WriteBody (Some a) new flight next free h sound = absurd (some-not-none (Some a.job) a.job refl free)
   moves-walk SyncBody (Some a) new flight next free (at, (faults, low, is)) sound =
       moved-on SyncBody (Some (record a { moves = a.moves + 1 })) w.doubt faults new next (λ e. cc) (λ e. cc) refl (refl, refl) low sound is
   moves-walk WriteGate (Some a) new flight next free (at, (faults, low, is)) sound =

@@ -1,11 +1,13 @@
 -- What actions do to providers, and what they give the job that makes them, where no other job runs.
 --
---   With                     == what the actions of a job are made with: the setup, the job's kind, the number that its challenges
---                               are of, and the files that it works on
---   block_stored x given j object stripe  == the block that a job stores: of a put's bytes, or of the symbols that its work gave
+--   With                     == what the actions of a job are made with: the setup, the job's kind, the
+--                               number that its challenges are of, and the files that it works on
+--   block_stored x given j object stripe  == the block that a job stores: of a put's bytes, or of the
+--                                          symbols that its work gave
 --   challenge_made x object round         == the challenge of an ask
 --   CallsOne old j call new               == provider j was called so, and all others are as before
---   Did x action old new given now        == an action that went on: providers, and what was given by then, before and after it
+--   Did x action old new given now        == an action that went on: providers, and what was given by then,
+--                                          before and after it
 --   Made x actions old new given now      == these actions went on, one after the other, the first one first
 use Rattle.std.specs.Prelude.{◌≡◌, ℕ, List, [], ◌∷◌, Option}
 use Rattle.hail_columns.specs.Challenges.{Challenge, challenge_of, honest_answer}
@@ -30,11 +32,13 @@ pub record With : Type 0 where
 -- the block that a job stores
 abbrev pub block_stored : With → Kind → List Given → ℕ → ℕ → ℕ → List ℕ
 block_stored x (PutJob name bytes) given j object stripe = columns (object_of x.setup object) bytes j stripe
-block_stored x kind given j object stripe = column_of_symbols (object_of x.setup object) (symbols_given given object stripe) j stripe
+block_stored x kind given j object stripe =
+    column_of_symbols (object_of x.setup object) (symbols_given given object stripe) j stripe
 
 -- the challenge of an ask
 abbrev pub challenge_made : With → ℕ → ℕ → Challenge
-challenge_made x object round = challenge_of (object_of x.setup object) (pinned_size x.pinned object) x.setup.picks x.subject round
+challenge_made x object round =
+    challenge_of (object_of x.setup object) (pinned_size x.pinned object) x.setup.picks x.subject round
 
 -- one provider was called, and all others are as before
 abbrev pub CallsOne : (ℕ → Provider) → ℕ → (Provider → Provider → Type 0) → (ℕ → Provider) → Type 0
@@ -45,13 +49,16 @@ abbrev pub Did : With → Action → (ℕ → Provider) → (ℕ → Provider) �
 Did x (Store j object stripe) old new given now =
     CallsOne old j (Stores object stripe (block_stored x x.kind given j object stripe)) new × (now ≡ given)
 Did x (Fetch j object stripe) old new given now =
-    (block : Option (List ℕ)) × CallsOne old j (λ p q. Fetches (object_of x.setup object).profile.size object stripe p block q) new
+    (block : Option (List ℕ)) × CallsOne old j (λ p q. Fetches (object_of x.setup object).profile.size
+    object stripe p block q) new
     × (now ≡ Fetched j object stripe block ∷ given)
 Did x (Ask j object round) old new given now =
-    (symbol : Option ℕ) × CallsOne old j (λ p q. Asks (honest_answer (challenge_made x object round)) object p symbol q) new
+    (symbol : Option ℕ) × CallsOne old j
+    (λ p q. Asks (honest_answer (challenge_made x object round)) object p symbol q) new
     × (now ≡ Answered j object round symbol ∷ given)
 Did x (Work object stripe) old new given now =
-    (symbols : List ℕ) × GivesSymbols (object_of x.setup object) stripe (blocks_given given x.setup.n object stripe) symbols
+    (symbols : List ℕ) × GivesSymbols (object_of x.setup object) stripe
+    (blocks_given given x.setup.n object stripe) symbols
     × (new ≡ old) × (now ≡ Worked object stripe symbols ∷ given)
 Did x (Remove j object) old new given now = CallsOne old j (Removes object) new × (now ≡ given)
 Did x action old new given now = (new ≡ old) × (now ≡ given)
@@ -60,4 +67,5 @@ Did x action old new given now = (new ≡ old) × (now ≡ given)
 abbrev pub Made : With → List Action → (ℕ → Provider) → (ℕ → Provider) → List Given → List Given → Type 0
 Made x [] old new given now = (new ≡ old) × (now ≡ given)
 Made x (action ∷ actions) old new given now =
-    (mid : ℕ → Provider) × (so_far : List Given) × Did x action old mid given so_far × Made x actions mid new so_far now
+    (mid : ℕ → Provider) × (so_far : List Given) × Did x action old mid given so_far
+    × Made x actions mid new so_far now

@@ -2,12 +2,15 @@
 --
 --   appends_of w kind        == how many records a job of this kind appends
 --   first_record w kind      == the first one, over the records of this state
---   IsSecondRecord w job kind entry  == the second one: a put's end, or an audit's end with the sums of all that it heard
---   HasSubject w kind job    == the number of the job: that of a put or an audit from its first move on, that of a repair
+--   IsSecondRecord w job kind entry  == the second one: a put's end, or an audit's end with the sums of all
+--                                       that it heard
+--   HasSubject w kind job    == the number of the job: that of a put or an audit from its first move on,
+--                               that of a repair
 --   RecordsAre w kind job rs == of the job's records those are in effect whose appends are done
 --   TakesAway w kind job     == the object that a put or a drop takes away, once its last append is done
 --   with_job_of w kind job   == what the actions of a job of this kind are made with that began in this state
---   Walked start kind w job  == this is the state, and the job in it, after some steps that went on, since the job began in `start`
+--   Walked start kind w job  == this is the state, and the job in it, after some steps that went on, since
+--                               the job began in `start`
 use Rattle.std.specs.Prelude.{◌≡◌, ℕ, ◌+◌, ◌≤◌, true, false, List, [], ◌∷◌, length, take}
 use Rattle.hail_columns.specs.Verdicts.{Sums}
 use Rattle.hail_records.specs.Records.{Record, PutStart, PutDone, Drop, AuditStart, AuditDone, RepairDone}
@@ -37,7 +40,8 @@ first_record w kind = RepairDone (due_number (due_of w.records))
 abbrev pub IsSecondRecord : State → Job → Kind → Record → Type 0
 IsSecondRecord w job (PutJob name bytes) entry = entry ≡ PutDone (next_id w.records) (length bytes)
 IsSecondRecord w job AuditJob entry =
-    (sums : Sums) × HasSums (setup_in w) job sums × (entry ≡ AuditDone (next_audit w.records) sums.undecided sums.counts)
+    (sums : Sums) × HasSums (setup_in w) job sums
+    × (entry ≡ AuditDone (next_audit w.records) sums.undecided sums.counts)
 IsSecondRecord w job kind entry = ⊥
 
 -- the number of a job
@@ -50,17 +54,22 @@ HasSubject w kind job = Unit {0}
 -- of a job's records those are in effect whose appends are done
 pub data RecordsAre (w : State) (kind : Kind) (job : Job) (rs : List Record) : Type 0 where
   none : appends_left (setup_in w) job ≡ appends_of w kind → rs ≡ w.records → RecordsAre w kind job rs
-  one : appends_left (setup_in w) job + 1 ≡ appends_of w kind → rs ≡ first_record w kind ∷ w.records → RecordsAre w kind job rs
-  two : (entry : Record) → appends_left (setup_in w) job + 2 ≡ appends_of w kind → IsSecondRecord w job kind entry →
+  one : appends_left (setup_in w) job + 1 ≡ appends_of w kind → rs ≡ first_record w kind ∷ w.records
+      → RecordsAre w kind job rs
+  two : (entry : Record) → appends_left (setup_in w) job + 2 ≡ appends_of w kind
+      → IsSecondRecord w job kind entry →
       rs ≡ entry ∷ first_record w kind ∷ w.records → RecordsAre w kind job rs
 
 -- what the actions of a job are made with
 abbrev pub with_job_of : State → Kind → Job → With
-with_job_of w kind job = record { setup = setup_in w; kind = kind; subject = job.subject; pinned = pinned_for w kind }
+with_job_of w kind job =
+    record { setup = setup_in w; kind = kind; subject = job.subject; pinned = pinned_for w kind }
 
--- the object that a job takes away: that of the file that its name had at its begin, once its last append is done
+-- the object that a job takes away: that of the file that its name had at its begin, once its last append
+-- is done
 abbrev pub TakesAway : State → Kind → Job → Type 0
-TakesAway w (PutJob name bytes) job = appends_left (setup_in w) job ≡ 0 → job.older ≡ removable w (file_in w name)
+TakesAway w (PutJob name bytes) job =
+    appends_left (setup_in w) job ≡ 0 → job.older ≡ removable w (file_in w name)
 TakesAway w (DropJob name) job = appends_left (setup_in w) job ≡ 0 → job.older ≡ removable w (file_in w name)
 TakesAway w kind job = Unit {0}
 
@@ -78,6 +87,7 @@ pub record Walked (start : State) (kind : Kind) (w : State) (job : Job) : Type 0
   pub subject : HasSubject start kind job
   pub older : TakesAway start kind job
   pub records : RecordsAre start kind job w.records
-  pub made : Made (with_job_of start kind job) (take job.place (actions_of (setup_in start) job)) start.providers w.providers [] job.given
+  pub made : Made (with_job_of start kind job) (take job.place (actions_of (setup_in start) job))
+      start.providers w.providers [] job.given
   pub handed : w.handed ≡ start.handed
   pub disk : start.disk_faults ≤ w.disk_faults

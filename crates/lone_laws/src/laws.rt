@@ -13,20 +13,25 @@ ghost use Rattle.lone_laws.specs.Walked.{Walked};
 
 /// A job that begins in a state whose vault was just opened has made no step.
 pub fn begins_walk()
-    ensures { (moment number : ℕ) (start new : State) (kind : Kind) → IsOpenAtRest start 1 → IsSpelledKind kind →
-        Begins 8 moment start kind (Begun number) new → (job : Job) × (number ≡ 1) × Walked start kind new job }
+    ensures { (moment number : ℕ) (start new : State) (kind : Kind) → IsOpenAtRest start 1
+        → IsSpelledKind kind →
+        Begins 8 moment start kind (Begun number) new
+        → (job : Job) × (number ≡ 1) × Walked start kind new job }
 {}
 
 /// A step that goes on goes one on.
 pub fn steps_walk()
-    ensures { (moment : ℕ) (start w new : State) (kind : Kind) (job : Job) → IsOpenAtRest start 1 → Walked start kind w job →
+    ensures { (moment : ℕ) (start w new : State) (kind : Kind) (job : Job) → IsOpenAtRest start 1
+        → Walked start kind w job →
         Happens 8 moment w (Step 1) More new → (next : Job) × Walked start kind new next }
 {}
 
 /// A step that ends the job makes its next action.
 pub fn last_steps_act()
-    ensures { (moment : ℕ) (start w new : State) (kind : Kind) (job : Job) (answer : Answer) → IsOpenAtRest start 1 → Walked start kind w job →
+    ensures { (moment : ℕ) (start w new : State) (kind : Kind) (job : Job) (answer : Answer)
+        → IsOpenAtRest start 1 → Walked start kind w job →
         Happens 8 moment w (Step 1) (Ended answer) new →
-        (job_of w.jobs 1 ≡ Some job) × ((action : Action) × (next_action w job ≡ Some action) × (holder_of w.append action ≡ None)
+        (job_of w.jobs 1 ≡ Some job)
+        × ((action : Action) × (next_action w job ≡ Some action) × (holder_of w.append action ≡ None)
         × Acts w job action (Ended answer) new) }
 {}

@@ -2,8 +2,9 @@
 use Rattle.std.proofs.Common.{◌≡◌, ℕ, ◌+◌, ◌<◌, true, false, ◌⊎◌, List, ◌∷◌, length, Option, Some, None, refl, ap, sym, subst, ◌∙◌, inl, inr, arith}
 use Rattle.std.specs.Prelude.{slice_get}
 use Rattle.std.proofs.lemmas.Bool.{cases_Bool, cases_eq}
+use Rattle.plain_facts.specs.Lists.{In}
 use Rattle.hail_columns.specs.Verdicts.{is_flagged, flags_some}
-use Rattle.hail_records.specs.Records.{Record, Setup, SetUp, PutStart, PutDone, Drop, AuditStart, AuditDone, RepairDone}
+use Rattle.hail_records.specs.Records.{Record, Setup, SetUp, PutStart, PutDone, Drop, AuditStart, AuditDone, RepairDone, PutDoneIn, Version, Resume, InEffect, RepairDue}
 use Rattle.hail_records.specs.Table.{File, Due, setup_of, next_id, next_audit, file_of, due_of}
 use Rattle.hail_machine.specs.Jobs.{AuditJob, RepairJob, Job, job_of}
 use Rattle.hail_machine.specs.Actions.{Action, WriteBody, SyncGate, Store, actions_of}
@@ -18,9 +19,8 @@ use Rattle.hail_machine.specs.Missed.{Misses, MissesNone}
 use Rattle.hail_machine.specs.Deeds.{told_block}
 use Rattle.hail_machine.proofs.JobLists.{cond_true, cond_false, same_value, number_of}
 use Rattle.hail_machine.proofs.Changes.{Job_is, Changes}
-use Rattle.hail_machine.proofs.Numbers.{objects, audits, Draws, HasNumber, next_of_records, at_three, first_above, first_below, drawn_later, drawn_first}
+use Rattle.hail_machine.proofs.Numbers.{audits}
 use Rattle.hail_machine.proofs.Numbers as num
-use Rattle.hail_machine.proofs.RecordFacts.{In}
 use Rattle.hail_machine.proofs.PinFacts.{Pins_is, pins_is, setup_same}
 use Rattle.hail_machine.proofs.Held.{All, first_more, first_all}
 use Rattle.run_laws.proofs.InEffect as eff
@@ -34,7 +34,7 @@ use Rattle.mark_laws.proofs.Files.{all_pinned}
 use Rattle.mark_laws.proofs.Points as pt
 use Rattle.mark_laws.proofs.Points.{Facts}
 use Rattle.mark_laws.proofs.EveryRun as ev
-use Rattle.mark_laws.proofs.EveryRun.{Always, no_put, repair_due}
+use Rattle.mark_laws.proofs.EveryRun.{Always, repair_due}
 
 -- of which damage files in effect are clear while audits run, repairs are due, and repairs run
 pub record Audited (start : State) (ms : List Moment) : Type 0 where
@@ -212,10 +212,15 @@ module _ (limit : ℕ) (mark : Mark) (start : State) (m : Moment) (ms : List Mom
         (on ((now start ms).audits u.number) (WrongAt start ms ((now start ms).audits u.number)) (IsFlaggedBy m.state u.counts) P.1 (G.audit_doubt d u.number und u.counts at e)
         (λ q f i s stood h setup l b bad x. more q f i s stood h setup l b bad P.0 x)))
 
+    due_entered : (u : Due) (d : Doubt) → (now start ms).doubt ≡ Some d →
+        due_of (d.entry ∷ (now start ms).records) ≡ Some u →
+        (due_of (now start ms).records ≡ Some u) ⊎ ((und : ℕ) × (d.entry ≡ AuditDone u.number und u.counts))
+    due_entered u d at h = due_done d.entry (now start ms).records u (A.numbers.written.1 d at) h
+
     pub due_step : (u : Due) → due_of m.state.records ≡ Some u → IsClear start (m ∷ ms) (m.state.audits u.number) (IsFlaggedBy m.state u.counts)
     due_step u h = elim (ev.effect limit start m ms A U I E X T) [
       | ev.Effect_is.nothing rec ↦ old_due u (ap due_of (sym rec) ∙ h)
-      | ev.Effect_is.entered d at rec ↦ elim (due_done d.entry (now start ms).records u (ap due_of (sym rec) ∙ h)) [
+      | ev.Effect_is.entered d at rec ↦ elim (due_entered u d at (ap due_of (sym rec) ∙ h)) [
         | inl was ↦ old_due u was
         | inr (und, e) ↦ new_due u d und at e
             (λ q f i s stood h2 setup l b bad below w. elim (cases_Bool (is_flagged (setup_in (now start ms)).tolerance u.counts i)) [
@@ -225,11 +230,12 @@ module _ (limit : ℕ) (mark : Mark) (start : State) (m : Moment) (ms : List Mom
             ])
       ]
       | ev.Effect_is.set_up s rs rec none (inl e) ↦ old_due u (ap due_of (sym e) ∙ (ap due_of (sym rec) ∙ h))
-      | ev.Effect_is.set_up s rs rec none (inr (d, at, e)) ↦ elim (due_done d.entry (now start ms).records u (ap due_of (sym e) ∙ (ap due_of (sym rec) ∙ h))) [
-        | inl was ↦ old_due u was
-        | inr (und, e2) ↦ new_due u d und at e2
-            (λ q f i t stood h2 setup l b bad below w. absurd (ev.no_file limit start m ms A U I E X T rs q f none (inr (d, at, e)) (ap (λ l2. file_of l2 q) (sym rec) ∙ h2)))
-      ]
+      | ev.Effect_is.set_up s rs rec none (inr (d, at, e)) ↦
+          elim (due_entered u d at (ap due_of (sym e) ∙ (ap due_of (sym rec) ∙ h))) [
+            | inl was ↦ old_due u was
+            | inr (und, e2) ↦ new_due u d und at e2
+                (λ q f i t stood h2 setup l b bad below w. absurd (ev.no_file limit start m ms A U I E X T rs q f none (inr (d, at, e)) (ap (λ l2. file_of l2 q) (sym rec) ∙ h2)))
+          ]
     ]
 
     pub audited_step : Audited start (m ∷ ms)
@@ -264,6 +270,11 @@ module _ (limit : ℕ) (mark : Mark) (start : State) (m : Moment) (ms : List Mom
       by_entry d at (PutDone k size) e came_in = stays
       by_entry d at (Drop name) e came_in = stays
       by_entry d at (AuditStart number) e came_in = stays
+      by_entry d at (PutDoneIn k size profile) e came_in = stays
+      by_entry d at Version e came_in = stays
+      by_entry d at (Resume next audit) e came_in = stays
+      by_entry d at (InEffect k size profile kept) e came_in = stays
+      by_entry d at (RepairDue number counts) e came_in = stays
 
       pub mark_clear : IsClear start (m ∷ ms) (since start (m ∷ ms)) Never
       mark_clear = elim (ev.came_is limit start m ms A U I E X T) [

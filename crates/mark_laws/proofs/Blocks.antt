@@ -1,26 +1,26 @@
 -- Lemmas on wrong blocks, on replacements and on what records fold to.
-use Rattle.std.proofs.Common.{◌≡◌, ℕ, suc, zero, ◌≤◌, ◌<◌, ◌==◌, true, false, ◌⊎◌, ◌&&◌, List, [], ◌∷◌, length, Option, Some, None, refl, ap, sym, subst, ◌∙◌, inl, inr, arith}
+use Rattle.std.proofs.Common.{◌≡◌, ℕ, suc, zero, ◌≤◌, ◌<◌, ◌==◌, Bool, true, false, cond, ◌⊎◌, ◌&&◌, List, [], ◌∷◌, length, Option, Some, None, refl, ap, sym, subst, ◌∙◌, inl, inr, arith}
 use Rattle.std.specs.Prelude.{nat_le, nat_lt, is_some}
 use Rattle.std.specs.Option.{option_map}
 use Rattle.std.proofs.lemmas.Bool.{cases_Bool, and_parts, and_from, or_cases, or_left, or_right, leb-true, le-leb, le-ltb, eq-eqb, false≢true}
+use Rattle.plain_facts.proofs.Options.{some-not-none}
 use Rattle.hail_codes.proofs.Codewords.{differences-same}
 use Rattle.hail_columns.specs.Objects.{Object, stripes}
 use Rattle.hail_columns.specs.Columns.{columns, is_wrong_block}
 use Rattle.hail_columns.specs.Verdicts.{is_flagged, flags_some}
 use Rattle.hail_columns.proofs.ColumnLaws.{length-column_of_symbols}
 use Rattle.hail_columns.proofs.ForgeryLaws.{wrong-block}
-use Rattle.hail_records.specs.Records.{Record, Setup, SetUp, PutStart, PutDone, Drop, AuditStart, AuditDone, RepairDone}
-use Rattle.hail_records.specs.Table.{File, Due, setup_of, started_as, is_start_of, is_same_name, file_of, due_of, exceeds}
+use Rattle.hail_records.specs.Records.{Record, Setup, SetUp, PutStart, PutDone, Drop, AuditStart, AuditDone, RepairDone, PutDoneIn, Version, Resume, InEffect, RepairDue}
+use Rattle.hail_records.specs.Table.{File, Due, file_as, setup_of, profile_in, started_as, is_start_of, is_same_name, file_of, due_of, exceeds}
 use Rattle.hail_devices.specs.Providers.{Held, sized}
-use Rattle.hail_machine.specs.States.{State, AreFirst, object_in}
+use Rattle.hail_machine.specs.States.{State, AreFirst, object_in, file_object}
 use Rattle.hail_machine.specs.Runs.{Moment, is_replacement, is_replaced_since}
 use Rattle.hail_machine.specs.Missed.{is_wrong_told, is_wrong_now}
 use Rattle.hail_machine.specs.Deeds.{told_block}
 use Rattle.hail_machine.proofs.JobLists.{cond_true, cond_false}
+use Rattle.hail_machine.proofs.Written.{IsAppended}
+use Rattle.hail_machine.proofs.Done.{put_ended}
 use Rattle.mark_laws.specs.Damage.{IsBad, IsReplaced}
-
-pub clash : {X : Type 0} (o : Option X) (x : X) → o ≡ Some x → o ≡ None → ⊥
-clash o x a b = (let e : None ≡ Some x = sym b ∙ a in cc)
 
 -- ---- replacements
 
@@ -63,31 +63,41 @@ telling w i o s b h = go (w.providers i).held refl h
     go (Some held) is e = (held, is, (let f : Some (held o s) ≡ Some b = e in cc))
 
 -- a provider with a bad block of a file is wrong for it
-pub bad_wrong : (w : State) (f : File) (i s : ℕ) → s < stripes (object_in w f.id) (length (w.bytes f.id)) → IsBad w f.id i s → is_wrong_now w f i ≡ true
+pub bad_wrong : (w : State) (f : File) (i s : ℕ) → s < stripes (file_object w f) (length (w.bytes f.id)) → IsBad w f.id i s → is_wrong_now w f i ≡ true
 bad_wrong w f i s below (b, told, wrong) =
     (let t = telling w i f.id s b told in
     ap (is_wrong_told w f.id i) t.1
-    ∙ wrong-block (object_in w f.id) (w.bytes f.id) i s (t.0 f.id) below (subst (λ x. is_wrong_block (object_in w f.id) (w.bytes f.id) i s x ≡ true) (sym t.2) wrong))
+    ∙ wrong-block (file_object w f) (w.bytes f.id) i s (t.0 f.id) below (subst (λ x. is_wrong_block (file_object w f) (w.bytes f.id) i s x ≡ true) (sym t.2) wrong))
 
 -- ---- records
 
+-- a file that stands is the one that a put brings in, or stood before
+done_put : (b : Bool) (rest : Option File) (x f : File) → cond b (Some x) rest ≡ Some f →
+    (rest ≡ Some f) ⊎ (Some x.id ≡ Some f.id)
+done_put true rest x f h = (let same : x ≡ f = cc in inr (ap (λ (z : File). Some z.id) same))
+done_put false rest x f h = inl h
+
 -- a file in effect was so before, or is that of a put's end
-pub file_done : (r : Record) (rs : List Record) (q : List ℕ) (f : File) → file_of (r ∷ rs) q ≡ Some f → (file_of rs q ≡ Some f) ⊎ ((size : ℕ) × (r ≡ PutDone f.id size))
-file_done (SetUp s) rs q f h = inl h
-file_done (PutStart k name) rs q f h = inl h
-file_done (PutDone k size) rs q f h = elim (cases_Bool (is_start_of q (started_as rs k))) [
-  | inl t ↦ (let e : Some (record { name = q; id = k; size = size }) ≡ Some f = sym (cond_true (is_start_of q (started_as rs k)) (Some (record { name = q; id = k; size = size })) (file_of rs q) t) ∙ h in
-      let same : record { name = q; id = k; size = size } ≡ f = cc in
-      inr (size, ap (λ (x : File). PutDone x.id size) same))
-  | inr o ↦ inl (sym (cond_false (is_start_of q (started_as rs k)) (Some (record { name = q; id = k; size = size })) (file_of rs q) o) ∙ h)
-]
-file_done (Drop name) rs q f h = elim (cases_Bool (is_same_name name q)) [
-  | inl t ↦ absurd (clash (file_of (Drop name ∷ rs) q) f h (cond_true (is_same_name name q) None (file_of rs q) t))
+pub file_done : (r : Record) (rs : List Record) (q : List ℕ) (f : File) → IsAppended r →
+    file_of (r ∷ rs) q ≡ Some f → (file_of rs q ≡ Some f) ⊎ (put_ended r ≡ Some f.id)
+file_done (SetUp s) rs q f good h = inl h
+file_done (PutStart k name) rs q f good h = inl h
+file_done (PutDone k size) rs q f good h =
+    done_put (is_start_of q (started_as rs k)) (file_of rs q)
+    (file_as q k size (profile_in (setup_of rs))) f h
+file_done (Drop name) rs q f good h = elim (cases_Bool (is_same_name name q)) [
+  | inl t ↦ absurd (some-not-none (file_of (Drop name ∷ rs) q) f h (cond_true (is_same_name name q) None (file_of rs q) t))
   | inr o ↦ inl (sym (cond_false (is_same_name name q) None (file_of rs q) o) ∙ h)
 ]
-file_done (AuditStart number) rs q f h = inl h
-file_done (AuditDone number undecided counts) rs q f h = inl h
-file_done (RepairDone number) rs q f h = inl h
+file_done (AuditStart number) rs q f good h = inl h
+file_done (AuditDone number undecided counts) rs q f good h = inl h
+file_done (RepairDone number) rs q f good h = inl h
+file_done (PutDoneIn k size profile) rs q f good h =
+    done_put (is_start_of q (started_as rs k)) (file_of rs q) (file_as q k size profile) f h
+file_done Version rs q f good h = inl h
+file_done (Resume next audit) rs q f good h = absurd good
+file_done (InEffect k size profile kept) rs q f good h = absurd good
+file_done (RepairDue number counts) rs q f good h = absurd good
 
 -- a record that is no setup leaves the setup
 pub setup_left : (r : Record) (rs : List Record) → ((s : Setup) → r ≡ SetUp s → ⊥) → setup_of (r ∷ rs) ≡ setup_of rs
@@ -98,11 +108,17 @@ setup_left (Drop name) rs other = refl
 setup_left (AuditStart number) rs other = refl
 setup_left (AuditDone number undecided counts) rs other = refl
 setup_left (RepairDone number) rs other = refl
+setup_left (PutDoneIn k size profile) rs other = refl
+setup_left Version rs other = refl
+setup_left (Resume next audit) rs other = refl
+setup_left (InEffect k size profile kept) rs other = refl
+setup_left (RepairDue number counts) rs other = refl
 
 -- where a file comes only with a setup, a setup is there already
-pub up_before : (r : Record) (rs : List Record) (q : List ℕ) (f : File) → file_of (r ∷ rs) q ≡ Some f → (file_of rs q ≡ Some f → is_some (setup_of rs) ≡ true) →
-    ((size : ℕ) → r ≡ PutDone f.id size → is_some (setup_of rs) ≡ true) → is_some (setup_of rs) ≡ true
-up_before r rs q f h old new = elim (file_done r rs q f h) [ inl was ↦ old was | inr p ↦ new p.0 p.1 ]
+pub up_before : (r : Record) (rs : List Record) (q : List ℕ) (f : File) → IsAppended r →
+    file_of (r ∷ rs) q ≡ Some f → (file_of rs q ≡ Some f → is_some (setup_of rs) ≡ true) →
+    (put_ended r ≡ Some f.id → is_some (setup_of rs) ≡ true) → is_some (setup_of rs) ≡ true
+up_before r rs q f good h old new = elim (file_done r rs q f good h) [ inl was ↦ old was | inr e ↦ new e ]
 
 pub up_more : (r : Record) (rs : List Record) → is_some (setup_of rs) ≡ true → setup_of (r ∷ rs) ≡ None → ⊥
 up_more (SetUp s) rs h e = (let f : Some s ≡ None = e in cc)
@@ -112,21 +128,32 @@ up_more (Drop name) rs h e = false≢true (ap is_some (sym e) ∙ h)
 up_more (AuditStart number) rs h e = false≢true (ap is_some (sym e) ∙ h)
 up_more (AuditDone number undecided counts) rs h e = false≢true (ap is_some (sym e) ∙ h)
 up_more (RepairDone number) rs h e = false≢true (ap is_some (sym e) ∙ h)
+up_more (PutDoneIn k size profile) rs h e = false≢true (ap is_some (sym e) ∙ h)
+up_more Version rs h e = false≢true (ap is_some (sym e) ∙ h)
+up_more (Resume next audit) rs h e = false≢true (ap is_some (sym e) ∙ h)
+up_more (InEffect k size profile kept) rs h e = false≢true (ap is_some (sym e) ∙ h)
+up_more (RepairDue number counts) rs h e = false≢true (ap is_some (sym e) ∙ h)
 
 -- what is due was so before, or is what an audit's end flags
-pub due_done : (r : Record) (rs : List Record) (u : Due) → due_of (r ∷ rs) ≡ Some u → (due_of rs ≡ Some u) ⊎ ((undecided : ℕ) × (r ≡ AuditDone u.number undecided u.counts))
-due_done (SetUp s) rs u h = inl h
-due_done (PutStart k name) rs u h = inl h
-due_done (PutDone k size) rs u h = inl h
-due_done (Drop name) rs u h = inl h
-due_done (AuditStart number) rs u h = inl h
-due_done (AuditDone number undecided counts) rs u h = elim (cases_Bool (exceeds (setup_of rs) counts)) [
+pub due_done : (r : Record) (rs : List Record) (u : Due) → IsAppended r → due_of (r ∷ rs) ≡ Some u →
+    (due_of rs ≡ Some u) ⊎ ((undecided : ℕ) × (r ≡ AuditDone u.number undecided u.counts))
+due_done (SetUp s) rs u good h = inl h
+due_done (PutStart k name) rs u good h = inl h
+due_done (PutDone k size) rs u good h = inl h
+due_done (Drop name) rs u good h = inl h
+due_done (AuditStart number) rs u good h = inl h
+due_done (AuditDone number undecided counts) rs u good h = elim (cases_Bool (exceeds (setup_of rs) counts)) [
   | inl t ↦ (let e : Some (record { number = number; counts = counts }) ≡ Some u = sym (cond_true (exceeds (setup_of rs) counts) (Some (record { number = number; counts = counts })) (due_of rs) t) ∙ h in
       let same : record { number = number; counts = counts } ≡ u = cc in
       inr (undecided, ap (λ (x : Due). AuditDone x.number undecided x.counts) same))
   | inr f ↦ inl (sym (cond_false (exceeds (setup_of rs) counts) (Some (record { number = number; counts = counts })) (due_of rs) f) ∙ h)
 ]
-due_done (RepairDone number) rs u h = absurd (let e : None ≡ Some u = h in cc)
+due_done (RepairDone number) rs u good h = absurd (let e : None ≡ Some u = h in cc)
+due_done (PutDoneIn k size profile) rs u good h = inl h
+due_done Version rs u good h = inl h
+due_done (Resume next audit) rs u good h = absurd good
+due_done (InEffect k size profile kept) rs u good h = absurd good
+due_done (RepairDue number counts) rs u good h = absurd good
 
 -- where no count exceeds the tolerance, no provider is flagged
 pub none_flagged : (tolerance : ℕ) (counts : List ℕ) (j : ℕ) → flags_some tolerance counts ≡ false → is_flagged tolerance counts j ≡ false

@@ -1,18 +1,19 @@
 -- What holds in every run of the record in doubt, of the begins of audits, and of moments before which no put began that works.
-use Rattle.std.proofs.Common.{◌≡◌, ℕ, suc, ◌+◌, ◌≤◌, ◌<◌, ◌==◌, Bool, true, false, ◌⊎◌, ◌&&◌, ◌||◌, List, [], ◌∷◌, length, Option, Some, None, refl, ap, sym, subst, ◌∙◌, inl, inr, arith}
+use Rattle.std.proofs.Common.{◌≡◌, ℕ, suc, ◌+◌, ◌≤◌, ◌<◌, ◌==◌, true, false, ◌⊎◌, ◌&&◌, List, [], ◌∷◌, length, Option, Some, None, refl, ap, sym, subst, ◌∙◌, inl, inr, arith}
 use Rattle.std.specs.Prelude.{is_some}
-use Rattle.std.proofs.lemmas.Bool.{cases_Bool, cases_eq, cases_lt, and_right, and_from, eq-eqb, ne_eqb, false≢true}
+use Rattle.std.proofs.lemmas.Bool.{cases_Bool, cases_eq, cases_lt, and_right, and_from, eq-eqb, ne_eqb, false≢true, or_parts}
+use Rattle.plain_facts.specs.Lists.{In}
+use Rattle.plain_facts.proofs.Options.{some-not-none}
 use Rattle.hail_columns.specs.Columns.{columns}
 use Rattle.hail_columns.specs.Verdicts.{flags_some}
-use Rattle.hail_records.specs.Records.{Record, Setup, SetUp, PutStart, PutDone, Drop, AuditStart, AuditDone, RepairDone}
+use Rattle.hail_records.specs.Records.{Record, Setup, SetUp, PutStart, PutDone, Drop, AuditStart, AuditDone, RepairDone, PutDoneIn, Version, Resume, InEffect, RepairDue}
 use Rattle.hail_records.specs.Table.{File, Due, setup_of, next_id, next_audit, started_as, file_of, due_of}
 use Rattle.hail_machine.specs.Jobs.{Kind, PutJob, GetJob, DropJob, AuditJob, RepairJob, Pinned, Job, job_of, advanced}
 use Rattle.hail_machine.specs.Actions.{WriteBody, WriteGate, SyncGate, Store, Remove}
 use Rattle.hail_machine.specs.Refusals as refusal
-use Rattle.hail_machine.specs.Refusals.{Refusal}
 use Rattle.hail_machine.specs.Setups.{object_of, stripes_of}
 use Rattle.hail_machine.specs.States.{State, Append, Doubt, IsStart, setup_in, object_in, file_in}
-use Rattle.hail_machine.specs.Begins.{is_put_or_check, is_busy, begin_refusal, due_number, new_job}
+use Rattle.hail_machine.specs.Begins.{is_put_or_check, begin_refusal, due_number, new_job}
 use Rattle.hail_machine.specs.Appends.{Writes, is_first_append, subject_drawn, audits_drawn}
 use Rattle.hail_machine.specs.Steps.{next_action, block_to_store}
 use Rattle.hail_machine.specs.Runs.{Moment, now, is_replaced_since, newest, came, IsRun}
@@ -24,16 +25,16 @@ use Rattle.hail_machine.proofs.Changes.{IsPlain, IsGated, Grown, Job_is, Append_
 use Rattle.hail_machine.proofs.Events.{some_told, changes}
 use Rattle.hail_machine.proofs.Numbers.{objects, audits, Draws, HasNumber, next_of_records, at_three, first_above, first_below, drawn_later, drawn_first}
 use Rattle.hail_machine.proofs.Numbers as num
-use Rattle.hail_machine.proofs.RecordFacts.{In}
+use Rattle.hail_machine.proofs.Done.{put_ended}
 use Rattle.hail_machine.proofs.Fair.{IsFair, HasPin, is_fair, store_place}
-use Rattle.hail_machine.proofs.Pins.{any_job, Wrote, pinned_stands}
+use Rattle.hail_machine.proofs.Pins.{any_job, Wrote, pinned_stands, not_busy}
 use Rattle.hail_machine.proofs.PinFacts.{Pins_is, pins_is, setup_same, setup_one, wrote_setup}
-use Rattle.hail_machine.proofs.Held.{All, all}
+use Rattle.hail_machine.proofs.Held.{All, all, store_kinds, remove_kinds}
 use Rattle.run_laws.proofs.InEffect as eff
 use Rattle.step_laws.proofs.Places.{stored_before_gate}
 use Rattle.mark_laws.specs.Marks.{PrecedesPuts}
 use Rattle.mark_laws.proofs.Turns.{Stay_is, Doubt_now, Audits_are, Turns, turns}
-use Rattle.mark_laws.proofs.Blocks.{clash, since_more, since_now, file_done, setup_left, up_before, up_more, due_done, no_first_due}
+use Rattle.mark_laws.proofs.Blocks.{since_more, since_now, file_done, setup_left, up_before, up_more, due_done, no_first_due}
 use Rattle.mark_laws.proofs.Places.{write_gate_place, gate_next, next_same}
 
 -- the put whose record is in doubt
@@ -55,6 +56,8 @@ pub record AtGate (w : State) (d : Doubt) : Type 0 where
 pub record Always (start : State) (ms : List Moment) : Type 0 where
   pub gated : IsGated (now start ms)
   pub setup_doubt : (d : Doubt) (s : Setup) → (now start ms).doubt ≡ Some d → d.entry ≡ SetUp s → setup_of (now start ms).records ≡ None
+  pub put_end : (d : Doubt) (id : ℕ) → (now start ms).doubt ≡ Some d → put_ended d.entry ≡ Some id →
+      (size : ℕ) × (d.entry ≡ PutDone id size)
   pub put_held : (d : Doubt) (id size : ℕ) → (now start ms).doubt ≡ Some d → d.entry ≡ PutDone id size → PutHeld (now start ms) id (length ms) d.maker
   pub put_columns : (d : Doubt) (id size i s : ℕ) (b : Option (List ℕ)) → (now start ms).doubt ≡ Some d → d.entry ≡ PutDone id size → i < (setup_in (now start ms)).n →
       s < stripes_of (setup_in (now start ms)) (length ((now start ms).bytes id)) → is_replaced_since (begun_of d.maker) i ms ≡ false → told_block (now start ms) i id s ≡ Some b →
@@ -87,6 +90,20 @@ wrote_put job AuditJob entry id size (inl h) e = (let f : AuditStart h.0 ≡ Put
 wrote_put job AuditJob entry id size (inr h) e = (let f : AuditDone h.0 h.1 h.2 ≡ PutDone id size = sym h.3 ∙ e in cc)
 wrote_put job RepairJob entry id size h e = (let f : RepairDone h.0 ≡ PutDone id size = sym h.1 ∙ e in cc)
 
+-- it is a PutDone
+pub wrote_end : (job : Job) (kind : Kind) (entry : Record) (id : ℕ) → Wrote job kind entry →
+    put_ended entry ≡ Some id → (size : ℕ) × (entry ≡ PutDone id size)
+wrote_end job (PutJob name bytes) entry id (inl h) e =
+    (let f : None ≡ Some id = sym (ap put_ended h.1) ∙ e in cc)
+wrote_end job (PutJob name bytes) entry id (inr h) e =
+    (let f : Some job.subject ≡ Some id = sym (ap put_ended h.1) ∙ e in
+    let g : job.subject ≡ id = cc in (length bytes, h.1 ∙ ap (λ n. PutDone n (length bytes)) g))
+wrote_end job (GetJob name) entry id h e = absurd h
+wrote_end job (DropJob name) entry id h e = (let f : None ≡ Some id = sym (ap put_ended h) ∙ e in cc)
+wrote_end job AuditJob entry id (inl h) e = (let f : None ≡ Some id = sym (ap put_ended h.1) ∙ e in cc)
+wrote_end job AuditJob entry id (inr h) e = (let f : None ≡ Some id = sym (ap put_ended h.3) ∙ e in cc)
+wrote_end job RepairJob entry id h e = (let f : None ≡ Some id = sym (ap put_ended h.1) ∙ e in cc)
+
 pub wrote_audit : (job : Job) (kind : Kind) (entry : Record) (number u : ℕ) (c : List ℕ) → Wrote job kind entry → entry ≡ AuditDone number u c → kind ≡ AuditJob
 wrote_audit job (PutJob name bytes) entry number u c (inl h) e = (let f : PutStart job.subject name ≡ AuditDone number u c = sym h.1 ∙ e in cc)
 wrote_audit job (PutJob name bytes) entry number u c (inr h) e = (let f : PutDone job.subject (length bytes) ≡ AuditDone number u c = sym h.1 ∙ e in cc)
@@ -112,21 +129,6 @@ wrote_no_setup job (DropJob name) entry s h e = (let f : Drop name ≡ SetUp s =
 wrote_no_setup job AuditJob entry s (inl h) e = (let f : AuditStart h.0 ≡ SetUp s = sym h.1 ∙ e in cc)
 wrote_no_setup job AuditJob entry s (inr h) e = (let f : AuditDone h.0 h.1 h.2 ≡ SetUp s = sym h.3 ∙ e in cc)
 wrote_no_setup job RepairJob entry s h e = (let f : RepairDone h.0 ≡ SetUp s = sym h.1 ∙ e in cc)
-
-pub store_kinds : (job : Job) (kind : Kind) (i o s : ℕ) → job.kind ≡ kind → IsFair job kind (Store i o s) →
-    ((name : List ℕ) × (bytes : List ℕ) × (job.kind ≡ PutJob name bytes) × (o ≡ job.subject)) ⊎ (job.kind ≡ RepairJob)
-store_kinds job (PutJob name bytes) i o s is h = inl (name, bytes, is, h)
-store_kinds job RepairJob i o s is h = inr is
-store_kinds job (GetJob name) i o s is h = absurd h
-store_kinds job (DropJob name) i o s is h = absurd h
-store_kinds job AuditJob i o s is h = absurd h
-
-pub remove_kinds : (job : Job) (kind : Kind) (i o : ℕ) → IsFair job kind (Remove i o) → In o job.older
-remove_kinds job (PutJob name bytes) i o h = h
-remove_kinds job (GetJob name) i o h = h
-remove_kinds job (DropJob name) i o h = h
-remove_kinds job AuditJob i o h = h
-remove_kinds job RepairJob i o h = h
 
 -- a number that is not drawn keeps its begin
 drawn_other : (w : State) (job : Job) (kind : Kind) (number : ℕ) → (number ≡ next_audit w.records → ⊥) → audits_drawn w job kind number ≡ w.audits number
@@ -164,23 +166,10 @@ not_barred limit w kind h = elim (cases_Bool w.is_barred) [
   | inr o ↦ o
 ]
 
-not_busy : (limit : ℕ) (w : State) (kind : Kind) → begin_refusal limit w kind ≡ None → is_busy limit w kind ≡ false
-not_busy limit w kind h = elim (cases_Bool w.is_barred) [
-  | inl t ↦ absurd (let e = rw t at h in let f : Some refusal.MustReopen ≡ None = e in cc)
-  | inr o ↦ elim (cases_Bool (is_busy limit w kind)) [
-    | inl b ↦ absurd (let e = rw (o, b) at h in let f : Some refusal.Busy ≡ None = e in cc)
-    | inr f ↦ f
-  ]
-]
-
-right_false : (a b : Bool) → (a || b) ≡ false → b ≡ false
-right_false true b h = absurd (false≢true (sym h))
-right_false false b h = h
-
 -- no put runs where an audit begins
 pub no_put : (limit : ℕ) (w : State) → begin_refusal limit w AuditJob ≡ None → (k : ℕ) (j : Job) (name bytes : List ℕ) → job_of w.jobs k ≡ Some j → j.kind ≡ PutJob name bytes → ⊥
 no_put limit w none k j name bytes runs kind =
-    (let f = any_job (λ (x : Job). is_put_or_check x.kind) w.jobs k j runs (right_false _ _ (not_busy limit w AuditJob none)) in
+    (let f = any_job (λ (x : Job). is_put_or_check x.kind) w.jobs k j runs ((or_parts _ _ (not_busy limit w AuditJob none)).1) in
     false≢true (sym f ∙ ap is_put_or_check kind))
 
 -- a repair is due where one begins
@@ -227,7 +216,9 @@ module _ (limit : ℕ) (start : State) (m : Moment) (ms : List Moment) (A : All 
   held_up q f h = (I.files q f h).up
 
   entry_up : (d : Doubt) (q : List ℕ) (f : File) → (now start ms).doubt ≡ Some d → file_of (d.entry ∷ (now start ms).records) q ≡ Some f → is_some (setup_of (now start ms).records) ≡ true
-  entry_up d q f at h = up_before d.entry (now start ms).records q f h (held_up q f) (λ size e. (E.put_held d f.id size at e).up)
+  entry_up d q f at h =
+      up_before d.entry (now start ms).records q f (A.numbers.written.1 d at) h (held_up q f)
+      (λ e. let p = E.put_end d f.id at e in (E.put_held d f.id p.0 at p.1).up)
 
   entry_setup : (d : Doubt) (q : List ℕ) (f : File) → (now start ms).doubt ≡ Some d → file_of (d.entry ∷ (now start ms).records) q ≡ Some f → setup_of (d.entry ∷ (now start ms).records) ≡ setup_of (now start ms).records
   entry_setup d q f at h = setup_left d.entry (now start ms).records (λ s e. false≢true (sym (ap is_some (E.setup_doubt d s at e)) ∙ entry_up d q f at h))
@@ -246,7 +237,13 @@ module _ (limit : ℕ) (start : State) (m : Moment) (ms : List Moment) (A : All 
   comes q f h = elim effect [
     | nothing rec ↦ record { setup = ap setup_of rec; how = inl (ap (λ l. file_of l q) (sym rec) ∙ h) }
     | entered d at rec ↦ (let g : file_of (d.entry ∷ (now start ms).records) q ≡ Some f = ap (λ l. file_of l q) (sym rec) ∙ h in
-        record { setup = ap setup_of rec ∙ entry_setup d q f at g; how = elim (file_done d.entry (now start ms).records q f g) [ inl was ↦ inl was | inr p ↦ inr (d, p.0, at, p.1) ] })
+        record {
+          setup = ap setup_of rec ∙ entry_setup d q f at g;
+          how = elim (file_done d.entry (now start ms).records q f (A.numbers.written.1 d at) g) [
+            | inl was ↦ inl was
+            | inr e ↦ (let p = E.put_end d f.id at e in inr (d, p.0, at, p.1))
+          ];
+        })
     | set_up s rs rec none how ↦ absurd (no_file rs q f none how (ap (λ l. file_of l q) (sym rec) ∙ h))
   ]
 
@@ -299,11 +296,25 @@ module _ (limit : ℕ) (start : State) (m : Moment) (ms : List Moment) (A : All 
     | Doubt_now.set_up t entry_is bare none closed ↦ none
   ]
 
+  -- a put's end in doubt is a PutDone
+  pub put_end_step : (d : Doubt) (id : ℕ) → m.state.doubt ≡ Some d → put_ended d.entry ≡ Some id →
+      (size : ℕ) × (d.entry ≡ PutDone id size)
+  put_end_step d id h e = elim (T.doubt d h) [
+    | Doubt_now.kept was rec ↦ E.put_end d id was e
+    | Doubt_now.gated job a runs next_is flight mine entry_is maker rec on ↦
+        (let at = subst (λ n. job_of (now start ms).jobs n ≡ Some job) (sym mine) runs in
+        let g = wrote_end job job.kind a.entry id (A.pins.wrote a job flight at)
+        (ap put_ended (sym entry_is) ∙ e) in
+        (g.0, entry_is ∙ g.1))
+    | Doubt_now.set_up t entry_is bare none closed ↦
+        absurd (let z : None ≡ Some id = ap put_ended (sym entry_is) ∙ e in cc)
+  ]
+
   -- while a job runs, a setup is in effect
   pub runs_up : (k : ℕ) (j : Job) → job_of (now start ms).jobs k ≡ Some j → is_some (setup_of (now start ms).records) ≡ true
   runs_up k j runs = elim (cases_Bool (now start ms).is_open) [
     | inl t ↦ I.opened t
-    | inr f ↦ absurd (found_none (now start ms).jobs k j (A.numbers.idle f).0 runs)
+    | inr f ↦ absurd (found_none (now start ms).jobs k j (A.numbers.idle.idle f).0 runs)
   ]
 
   put_number : (job : Job) (name bytes : List ℕ) → job.kind ≡ PutJob name bytes → 4 ≤ job.place → HasNumber objects job
@@ -355,10 +366,10 @@ module _ (limit : ℕ) (start : State) (m : Moment) (ms : List Moment) (A : All 
         let fair_x = is_fair (now start ms) x (Store i id s) next_is in
         elim (store_kinds x x.kind i id s refl fair_x) [
           | inl (n, bytes, kind, o_is) ↦ put_column x n bytes i id s b runs next_is kind o_is b_is
-          | inr repairs ↦ absurd (let p : HasPin x id = subst (λ kd. IsFair x kd (Store i id s)) repairs fair_x in
-              clash (started_as (now start ms).records id) name started (ap (started_as (now start ms).records) (sym p.id_is) ∙ (A.pins.pins x.number x p.file runs p.pinned).1))
+          | inr (repairs, pin) ↦ absurd (let p : HasPin x id = subst (λ kd. IsFair x kd (Store i id s)) repairs fair_x in
+              some-not-none (started_as (now start ms).records id) name started (ap (started_as (now start ms).records) (sym p.id_is) ∙ (A.pins.pins x.number x p.file runs p.pinned).1))
         ])
-    | Block_is.removed x runs next_is ↦ absurd (clash (started_as (now start ms).records id) name started (A.pins.older x.number x id runs (remove_kinds x x.kind i id (is_fair (now start ms) x (Remove i id) next_is))).1)
+    | Block_is.removed x runs next_is ↦ absurd (some-not-none (started_as (now start ms).records id) name started (A.pins.older x.number x id runs (remove_kinds x x.kind i id refl (is_fair (now start ms) x (Remove i id) next_is))).1)
   ]
 
   columns_on : (id i s : ℕ) (b : Option (List ℕ)) → id < next_id (now start ms).records → setup_in m.state ≡ setup_in (now start ms) → b ≡ Some (columns (object_in (now start ms) id) ((now start ms).bytes id) i s) →
@@ -420,15 +431,15 @@ module _ (limit : ℕ) (start : State) (m : Moment) (ms : List Moment) (A : All 
       goes_on rec g = elim (T.stay g.job.number g.job g.runs) [
         | Stay_is.stayed runs_on ↦ record { job = g.job; maker = g.maker; runs = runs_on; next = next_same m.state (now start ms) g.job rec ∙ g.next }
         | Stay_is.steps action next_is gate ↦ absurd (elim (gate (same_value (next_action (now start ms) g.job) action SyncGate next_is g.next)) [
-          | inl none ↦ clash m.state.doubt d h none
+          | inl none ↦ some-not-none m.state.doubt d h none
           | inr b ↦ false≢true (sym unbarred ∙ b)
         ])
         | Stay_is.shut closed ↦ absurd (false≢true (sym closed ∙ is_open))
-        | Stay_is.undoubted none ↦ absurd (clash m.state.doubt d h none)
+        | Stay_is.undoubted none ↦ absurd (some-not-none m.state.doubt d h none)
       ]
 
   pub ids_grow : next_id (now start ms).records ≤ next_id m.state.records
-  ids_grow = next_of_records objects (now start ms) m.state X.records
+  ids_grow = next_of_records objects (now start ms) m.state A.numbers.written X.records
 
   -- ---- the record that comes into effect
 
@@ -461,7 +472,7 @@ module _ (limit : ℕ) (start : State) (m : Moment) (ms : List Moment) (A : All 
 
   pub put_came : (id size : ℕ) → came (now start ms) m.state ≡ Some (PutDone id size) → PutCame id size
   put_came id size e = elim came_is [
-    | no_record none ↦ absurd (clash (came (now start ms) m.state) (PutDone id size) e none)
+    | no_record none ↦ absurd (some-not-none (came (now start ms) m.state) (PutDone id size) e none)
     | setup s is ↦ absurd (let z : SetUp s ≡ PutDone id size = same_value (came (now start ms) m.state) (SetUp s) (PutDone id size) is e in cc)
     | doubted d at rec is ↦
         (let entry_is : d.entry ≡ PutDone id size = same_value (came (now start ms) m.state) d.entry (PutDone id size) is e in
@@ -479,11 +490,11 @@ module _ (limit : ℕ) (start : State) (m : Moment) (ms : List Moment) (A : All 
   audits_stay : (b : Append) → (now start ms).append ≡ Some b → m.state.audits ≡ (now start ms).audits
   audits_stay b flight = elim T.audits [
     | Audits_are.undrawn e no_new ↦ e
-    | Audits_are.drew x runs free mine e ↦ absurd (clash (now start ms).append b flight free)
+    | Audits_are.drew x runs free mine e ↦ absurd (some-not-none (now start ms).append b flight free)
   ]
 
   pub grows : next_audit (now start ms).records ≤ next_audit m.state.records
-  grows = next_of_records audits (now start ms) m.state X.records
+  grows = next_of_records audits (now start ms) m.state A.numbers.written X.records
 
   -- a job that drew found no append in flight
   drew_free : (x j : Job) → job_of (now start ms).jobs x.number ≡ Some x → next_action (now start ms) x ≡ Some WriteBody → job_of m.state.jobs x.number ≡ Some j → j.place ≡ x.place + 1 → (now start ms).append ≡ None
@@ -506,8 +517,8 @@ module _ (limit : ℕ) (start : State) (m : Moment) (ms : List Moment) (A : All 
       | Job_is.begun kd is k_is allowed rec2 ↦ absurd (let l = A.numbers.holder b flight in omega arith)
       | Job_is.plain x action runs next_is is_plain goes rec2 st ↦
           carried b flight x goes.subject goes.begun (sym goes.kind ∙ kind) (let e = goes.place in omega arith) (subst (λ n. job_of (now start ms).jobs n ≡ Some x) job_is runs)
-      | Job_is.drew x runs next_is free is rec2 ↦ absurd (clash (now start ms).append b flight free)
-      | Job_is.finished x c runs next_is flight_c mine is rec2 free ↦ absurd (clash m.state.append a h free)
+      | Job_is.drew x runs next_is free is rec2 ↦ absurd (some-not-none (now start ms).append b flight free)
+      | Job_is.finished x c runs next_is flight_c mine is rec2 free ↦ absurd (some-not-none m.state.append a h free)
     ]
     | Append_is.drew x runs next_is mine writes found rec ↦
         (let is = same_value _ j _ (subst (λ n. job_of m.state.jobs n ≡ Some j) mine hj) found in
@@ -571,8 +582,8 @@ module _ (limit : ℕ) (start : State) (m : Moment) (ms : List Moment) (A : All 
       | Job_is.plain x action runs next_is is_plain goes rec2 st ↦
           (let g = E.audit_entry b x number u c flight (subst (λ n. job_of (now start ms).jobs n ≡ Some x) job_is runs) (sym goes.kind ∙ kind) (sym entry ∙ e) in
           (g.0 ∙ sym goes.subject, (let p = goes.place in let l = g.1 in omega arith)))
-      | Job_is.drew x runs next_is free is rec2 ↦ absurd (clash (now start ms).append b flight free)
-      | Job_is.finished x d runs next_is flight_d mine is rec2 free ↦ absurd (clash m.state.append a h free)
+      | Job_is.drew x runs next_is free is rec2 ↦ absurd (some-not-none (now start ms).append b flight free)
+      | Job_is.finished x d runs next_is flight_d mine is rec2 free ↦ absurd (some-not-none m.state.append a h free)
     ]
     | Append_is.drew x runs next_is mine writes found rec ↦
         (let is = same_value _ j _ (subst (λ n. job_of m.state.jobs n ≡ Some j) mine hj) found in
@@ -589,8 +600,8 @@ module _ (limit : ℕ) (start : State) (m : Moment) (ms : List Moment) (A : All 
       | Job_is.begun kd is k_is allowed rec2 ↦ absurd (let l = A.numbers.holder b flight in omega arith)
       | Job_is.plain x action runs next_is is_plain goes rec2 st ↦
           E.repair_entry b x number flight (subst (λ n. job_of (now start ms).jobs n ≡ Some x) job_is runs) (sym goes.kind ∙ kind) (sym entry ∙ e) ∙ sym goes.subject
-      | Job_is.drew x runs next_is free is rec2 ↦ absurd (clash (now start ms).append b flight free)
-      | Job_is.finished x d runs next_is flight_d mine is rec2 free ↦ absurd (clash m.state.append a h free)
+      | Job_is.drew x runs next_is free is rec2 ↦ absurd (some-not-none (now start ms).append b flight free)
+      | Job_is.finished x d runs next_is flight_d mine is rec2 free ↦ absurd (some-not-none m.state.append a h free)
     ]
     | Append_is.drew x runs next_is mine writes found rec ↦
         (let is = same_value _ j _ (subst (λ n. job_of m.state.jobs n ≡ Some j) mine hj) found in
@@ -627,7 +638,7 @@ module _ (limit : ℕ) (start : State) (m : Moment) (ms : List Moment) (A : All 
       ]
 
       open_now : m.state.is_open ≡ true
-      open_now = elim (cases_Bool m.state.is_open) [ inl t ↦ t | inr f ↦ absurd (found_none m.state.jobs k j (X.idle A.numbers.idle f).0 runs_on) ]
+      open_now = elim (cases_Bool m.state.is_open) [ inl t ↦ t | inr f ↦ absurd (found_none m.state.jobs k j (X.idle A.numbers.idle.idle f).0 runs_on) ]
 
       doubts : (d : Doubt) (id size : ℕ) → m.state.doubt ≡ Some d → d.entry ≡ PutDone id size → length ms ≤ begun_of d.maker
       doubts d id size h e = absurd (elim (T.doubt d h) [
@@ -693,7 +704,7 @@ module _ (limit : ℕ) (start : State) (m : Moment) (ms : List Moment) (A : All 
   ]
     where
       of_doubt : (d : Doubt) → (now start ms).doubt ≡ Some d → due_of (d.entry ∷ (now start ms).records) ≡ Some u → (u.number < next_audit m.state.records) × PrecedesPuts start (m ∷ ms) (m.state.audits u.number)
-      of_doubt d at g = elim (due_done d.entry (now start ms).records u g) [
+      of_doubt d at g = elim (due_done d.entry (now start ms).records u (A.numbers.written.1 d at) g) [
         | inl was ↦ moved u.number (E.due u was)
         | inr (und, e) ↦ moved u.number (E.audit_doubt d u.number und u.counts at e)
       ]
@@ -745,11 +756,17 @@ module _ (limit : ℕ) (start : State) (m : Moment) (ms : List Moment) (A : All 
       by_entry d at (PutDone k size) e = before_on (since start ms) E.mark
       by_entry d at (Drop name) e = before_on (since start ms) E.mark
       by_entry d at (AuditStart number) e = before_on (since start ms) E.mark
+      by_entry d at (PutDoneIn k size profile) e = before_on (since start ms) E.mark
+      by_entry d at Version e = before_on (since start ms) E.mark
+      by_entry d at (Resume next audit) e = before_on (since start ms) E.mark
+      by_entry d at (InEffect k size profile kept) e = before_on (since start ms) E.mark
+      by_entry d at (RepairDue number counts) e = before_on (since start ms) E.mark
 
   pub always_step : Always start (m ∷ ms)
   always_step = record {
     gated = X.gated E.gated;
     setup_doubt = setup_doubt_step;
+    put_end = put_end_step;
     put_held = put_held_step;
     put_columns = put_columns_step;
     doubt_put = doubt_put_step;
@@ -769,26 +786,27 @@ module _ (limit : ℕ) (start : State) (m : Moment) (ms : List Moment) (A : All 
 
 start_always : (start : State) → IsStart start → Always start []
 start_always start clean = record {
-  gated = λ a h. absurd (clash start.append a h clean.append);
-  setup_doubt = λ d s h e. absurd (clash start.doubt d h clean.doubt);
-  put_held = λ d id size h e. absurd (clash start.doubt d h clean.doubt);
-  put_columns = λ d id size i s b h e l k none told. absurd (clash start.doubt d h clean.doubt);
-  doubt_put = λ d job id size h maker e. absurd (clash start.doubt d h clean.doubt);
-  doubt_runs = λ d o b h. absurd (clash start.doubt d h clean.doubt);
-  audit_entry = λ a j number u c h. absurd (clash start.append a h clean.append);
-  repair_entry = λ a j number h. absurd (clash start.append a h clean.append);
-  audit_fresh = λ a j h. absurd (clash start.append a h clean.append);
+  gated = λ a h. absurd (some-not-none start.append a h clean.append);
+  setup_doubt = λ d s h e. absurd (some-not-none start.doubt d h clean.doubt);
+  put_end = λ d id h e. absurd (some-not-none start.doubt d h clean.doubt);
+  put_held = λ d id size h e. absurd (some-not-none start.doubt d h clean.doubt);
+  put_columns = λ d id size i s b h e l k none told. absurd (some-not-none start.doubt d h clean.doubt);
+  doubt_put = λ d job id size h maker e. absurd (some-not-none start.doubt d h clean.doubt);
+  doubt_runs = λ d o b h. absurd (some-not-none start.doubt d h clean.doubt);
+  audit_entry = λ a j number u c h. absurd (some-not-none start.append a h clean.append);
+  repair_entry = λ a j number h. absurd (some-not-none start.append a h clean.append);
+  audit_fresh = λ a j h. absurd (some-not-none start.append a h clean.append);
   audit_kept = λ k j h kind late. absurd (found_none start.jobs k j clean.jobs h);
   pinned = λ k j f h in_f. absurd (found_none start.jobs k j clean.jobs h);
   audit = λ k j h kind. absurd (found_none start.jobs k j clean.jobs h);
-  audit_doubt = λ d number u c h e. absurd (clash start.doubt d h clean.doubt);
+  audit_doubt = λ d number u c h e. absurd (some-not-none start.doubt d h clean.doubt);
   due = λ u h. absurd (no_first_due start.records u clean.records h);
   repair = λ k j h kind. absurd (found_none start.jobs k j clean.jobs h);
-  repair_doubt = λ d number h e. absurd (clash start.doubt d h clean.doubt);
+  repair_doubt = λ d number h e. absurd (some-not-none start.doubt d h clean.doubt);
   mark = record {
     early = omega arith;
     puts = λ k j name bytes h kind. absurd (found_none start.jobs k j clean.jobs h);
-    doubts = λ d id size h e. absurd (clash start.doubt d h clean.doubt);
+    doubts = λ d id size h e. absurd (some-not-none start.doubt d h clean.doubt);
   };
 }
 

@@ -1,33 +1,48 @@
 -- Every file in effect is among those that an audit or a repair works on.
-use Rattle.std.proofs.Common.{◌≡◌, ℕ, false, List, [], ◌∷◌, Option, Some, None, refl, ap, sym, subst, ◌∙◌, inl, inr}
+use Rattle.std.proofs.Common.{◌≡◌, ℕ, Bool, true, false, cond, List, [], ◌∷◌, Option, Some, None, refl, ap, sym, subst, ◌∙◌, inl, inr}
 use Rattle.std.specs.Prelude.{nat_lt}
 use Rattle.std.proofs.lemmas.Bool.{cases_Bool, false≢true}
-use Rattle.hail_records.specs.Records.{Record, SetUp, PutStart, PutDone, Drop, AuditStart, AuditDone, RepairDone}
-use Rattle.hail_records.specs.Table.{File, started_as, is_same_name, is_name_before, is_start_of, file_of, files_of, with_put, with_file, without_file}
+use Rattle.plain_facts.specs.Lists.{In}
+use Rattle.plain_facts.proofs.Options.{some-not-none}
+use Rattle.hail_records.specs.Records.{Record, SetUp, PutStart, PutDone, Drop, AuditStart, AuditDone, RepairDone, PutDoneIn, Version, Resume, InEffect, RepairDue}
+use Rattle.hail_records.specs.Table.{File, started_as, is_same_name, is_name_before, is_start_of, file_of, files_of, with_put, with_file, without_file, file_as, setup_of, profile_in}
+use Rattle.hail_records.proofs.FilesLaws.{same-eq, same-refl}
 use Rattle.hail_machine.specs.Jobs.{Pinned}
 use Rattle.hail_machine.specs.States.{State, file_in}
 use Rattle.hail_machine.specs.Begins.{pinned_file, pin, pin_all}
 use Rattle.hail_machine.proofs.JobLists.{cond_true, cond_false}
-use Rattle.hail_machine.proofs.RecordFacts.{In, same_name-true, same_name-refl}
-use Rattle.mark_laws.proofs.Blocks.{clash}
+
+-- a file that a record brings in has the name, or the one before has
+named_put : (b : Bool) (name : List ℕ) (k size profile : ℕ) (rest : Option File) (f : File) →
+    cond b (Some (file_as name k size profile)) rest ≡ Some f → (rest ≡ Some f → f.name ≡ name) →
+    f.name ≡ name
+named_put true name k size profile rest f h old =
+    (let same : file_as name k size profile ≡ f = cc in sym (ap (λ (x : File). x.name) same))
+named_put false name k size profile rest f h old = old h
 
 -- a file in effect has the name
 file_named : (rs : List Record) (name : List ℕ) (f : File) → file_of rs name ≡ Some f → f.name ≡ name
-file_named [] name f h = absurd (clash None f h refl)
+file_named [] name f h = absurd (some-not-none None f h refl)
 file_named (SetUp s ∷ rs) name f h = file_named rs name f h
 file_named (PutStart k n ∷ rs) name f h = file_named rs name f h
-file_named (PutDone k size ∷ rs) name f h = elim (cases_Bool (is_start_of name (started_as rs k))) [
-  | inl t ↦ (let e : Some (record { name = name; id = k; size = size }) ≡ Some f = sym (cond_true (is_start_of name (started_as rs k)) (Some (record { name = name; id = k; size = size })) (file_of rs name) t) ∙ h in
-      let same : record { name = name; id = k; size = size } ≡ f = cc in sym (ap (λ (x : File). x.name) same))
-  | inr o ↦ file_named rs name f (sym (cond_false (is_start_of name (started_as rs k)) (Some (record { name = name; id = k; size = size })) (file_of rs name) o) ∙ h)
-]
+file_named (PutDone k size ∷ rs) name f h =
+    named_put (is_start_of name (started_as rs k)) name k size (profile_in (setup_of rs)) (file_of rs name) f
+    h (file_named rs name f)
 file_named (Drop n ∷ rs) name f h = elim (cases_Bool (is_same_name n name)) [
-  | inl t ↦ absurd (clash (file_of (Drop n ∷ rs) name) f h (cond_true (is_same_name n name) None (file_of rs name) t))
+  | inl t ↦ absurd (some-not-none (file_of (Drop n ∷ rs) name) f h (cond_true (is_same_name n name) None (file_of rs name) t))
   | inr o ↦ file_named rs name f (sym (cond_false (is_same_name n name) None (file_of rs name) o) ∙ h)
 ]
 file_named (AuditStart number ∷ rs) name f h = file_named rs name f h
 file_named (AuditDone number undecided counts ∷ rs) name f h = file_named rs name f h
 file_named (RepairDone number ∷ rs) name f h = file_named rs name f h
+file_named (PutDoneIn k size profile ∷ rs) name f h =
+    named_put (is_start_of name (started_as rs k)) name k size profile (file_of rs name) f h
+    (file_named rs name f)
+file_named (Version ∷ rs) name f h = file_named rs name f h
+file_named (Resume next audit ∷ rs) name f h = file_named rs name f h
+file_named (InEffect k size profile kept ∷ rs) name f h =
+    named_put (is_same_name kept name) name k size profile (file_of rs name) f h (file_named rs name f)
+file_named (RepairDue number counts ∷ rs) name f h = file_named rs name f h
 
 with_new : (fs : List File) (x : File) → In x (with_file fs x)
 with_new [] x = inl refl
@@ -54,36 +69,51 @@ without_old (f ∷ fs) n g h other = elim (cases_Bool (is_same_name f.name n)) [
 
 apart : (n name : List ℕ) → is_same_name n name ≡ false → is_same_name name n ≡ false
 apart n name o = elim (cases_Bool (is_same_name name n)) [
-  | inl t ↦ absurd (false≢true (sym o ∙ (ap (λ x. is_same_name n x) (same_name-true name n t) ∙ same_name-refl n)))
+  | inl t ↦ absurd (false≢true (sym o ∙ (ap (λ x. is_same_name n x) (same-eq name n t) ∙ same-refl n)))
   | inr f ↦ f
 ]
 
+-- a file that a record brings in is among the files, or the one before is
+in_put : (fs : List File) (o : Option (List ℕ)) (name : List ℕ) (k size profile : ℕ) (rest : Option File)
+    (f : File) → cond (is_start_of name o) (Some (file_as name k size profile)) rest ≡ Some f →
+    (rest ≡ Some f → f.name ≡ name) → (rest ≡ Some f → In f fs) → In f (with_put fs o k size profile)
+in_put fs None name k size profile rest f h named old = old h
+in_put fs (Some n) name k size profile rest f h named old = by_name (is_same_name n name) refl h
+  where
+    by_name : (b : Bool) → is_same_name n name ≡ b →
+        cond b (Some (file_as name k size profile)) rest ≡ Some f →
+        In f (with_file (without_file fs n) (file_as n k size profile))
+    by_name true t e = (let same : file_as name k size profile ≡ f = cc in
+        subst (λ (x : File). In x (with_file (without_file fs n) (file_as n k size profile)))
+        (ap (λ (l : List ℕ). file_as l k size profile) (same-eq n name t) ∙ same)
+        (with_new (without_file fs n) (file_as n k size profile)))
+    by_name false o e = with_old (without_file fs n) (file_as n k size profile) f
+        (without_old fs n f (old e) (ap (λ x. is_same_name x n) (named e) ∙ apart n name o))
+
 pub in_files : (rs : List Record) (name : List ℕ) (f : File) → file_of rs name ≡ Some f → In f (files_of rs)
-in_files [] name f h = absurd (clash None f h refl)
+in_files [] name f h = absurd (some-not-none None f h refl)
 in_files (SetUp s ∷ rs) name f h = in_files rs name f h
 in_files (PutStart k n ∷ rs) name f h = in_files rs name f h
-in_files (PutDone k size ∷ rs) name f h = by_start (started_as rs k) refl (in_files rs name f)
-  where
-    by_start : (o : Option (List ℕ)) → started_as rs k ≡ o → (file_of rs name ≡ Some f → In f (files_of rs)) → In f (with_put (files_of rs) o k size)
-    by_start None is rest = rest (sym (cond_false (is_start_of name (started_as rs k)) (Some (record { name = name; id = k; size = size })) (file_of rs name) (ap (is_start_of name) is)) ∙ h)
-    by_start (Some n) is rest = elim (cases_Bool (is_same_name n name)) [
-      | inl t ↦ (let e : Some (record { name = name; id = k; size = size }) ≡ Some f = sym (cond_true (is_start_of name (started_as rs k)) (Some (record { name = name; id = k; size = size })) (file_of rs name) (ap (is_start_of name) is ∙ t)) ∙ h in
-          let same : record { name = name; id = k; size = size } ≡ f = cc in
-          let n_is : n ≡ name = same_name-true n name t in
-          subst (λ (x : File). In x (with_file (without_file (files_of rs) n) (record { name = n; id = k; size = size }))) (ap (λ (l : List ℕ). record { name = l; id = k; size = size }) n_is ∙ same)
-          (with_new (without_file (files_of rs) n) (record { name = n; id = k; size = size })))
-      | inr o ↦ (let old = sym (cond_false (is_start_of name (started_as rs k)) (Some (record { name = name; id = k; size = size })) (file_of rs name) (ap (is_start_of name) is ∙ o)) ∙ h in
-          with_old (without_file (files_of rs) n) (record { name = n; id = k; size = size }) f
-          (without_old (files_of rs) n f (rest old) (ap (λ x. is_same_name x n) (file_named rs name f old) ∙ apart n name o)))
-    ]
+in_files (PutDone k size ∷ rs) name f h =
+    in_put (files_of rs) (started_as rs k) name k size (profile_in (setup_of rs)) (file_of rs name) f h
+    (file_named rs name f) (in_files rs name f)
 in_files (Drop n ∷ rs) name f h = elim (cases_Bool (is_same_name n name)) [
-  | inl t ↦ absurd (clash (file_of (Drop n ∷ rs) name) f h (cond_true (is_same_name n name) None (file_of rs name) t))
+  | inl t ↦ absurd (some-not-none (file_of (Drop n ∷ rs) name) f h (cond_true (is_same_name n name) None (file_of rs name) t))
   | inr o ↦ (let old = sym (cond_false (is_same_name n name) None (file_of rs name) o) ∙ h in
       without_old (files_of rs) n f (in_files rs name f old) (ap (λ x. is_same_name x n) (file_named rs name f old) ∙ apart n name o))
 ]
 in_files (AuditStart number ∷ rs) name f h = in_files rs name f h
 in_files (AuditDone number undecided counts ∷ rs) name f h = in_files rs name f h
 in_files (RepairDone number ∷ rs) name f h = in_files rs name f h
+in_files (PutDoneIn k size profile ∷ rs) name f h =
+    in_put (files_of rs) (started_as rs k) name k size profile (file_of rs name) f h
+    (file_named rs name f) (in_files rs name f)
+in_files (Version ∷ rs) name f h = in_files rs name f h
+in_files (Resume next audit ∷ rs) name f h = in_files rs name f h
+in_files (InEffect k size profile kept ∷ rs) name f h =
+    in_put (files_of rs) (Some kept) name k size profile (file_of rs name) f h
+    (file_named rs name f) (in_files rs name f)
+in_files (RepairDue number counts ∷ rs) name f h = in_files rs name f h
 
 pin_new : (p : Pinned) (ps : List Pinned) → In p (pin p ps)
 pin_new p [] = inl refl

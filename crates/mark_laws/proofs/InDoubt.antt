@@ -2,6 +2,8 @@
 use Rattle.std.proofs.Common.{◌≡◌, ℕ, suc, ◌+◌, ◌≤◌, ◌<◌, true, false, ◌⊎◌, List, [], ◌∷◌, length, Option, Some, refl, ap, sym, subst, ◌∙◌, inl, inr, arith}
 use Rattle.std.specs.Prelude.{slice_get}
 use Rattle.std.proofs.lemmas.Bool.{cases_Bool, cases_lt, false≢true}
+use Rattle.plain_facts.specs.Lists.{In}
+use Rattle.plain_facts.proofs.Options.{some-not-none}
 use Rattle.hail_columns.specs.Columns.{columns}
 use Rattle.hail_records.specs.Records.{Setup}
 use Rattle.hail_records.specs.Table.{setup_of, next_id, started_as}
@@ -20,20 +22,18 @@ use Rattle.hail_machine.proofs.Changes.{Block_is, Changes}
 use Rattle.hail_machine.proofs.Events.{changes}
 use Rattle.hail_machine.proofs.Numbers.{audits}
 use Rattle.hail_machine.proofs.Numbers as num
-use Rattle.hail_machine.proofs.RecordFacts.{In}
 use Rattle.hail_machine.proofs.Fair.{HasPin, is_fair, store_place}
 use Rattle.hail_machine.proofs.PinFacts.{setup_same}
-use Rattle.hail_machine.proofs.Held.{All, all, actions_are, first_more}
+use Rattle.hail_machine.proofs.Held.{All, all, actions_are, first_more, replaced_before, store_kinds, remove_kinds}
+use Rattle.hail_machine.proofs.NextActions.{next_stands, actions_by-advanced}
 use Rattle.run_laws.proofs.InEffect as eff
 use Rattle.calm_laws.proofs.Onward.{run_onward, all_tell}
-use Rattle.step_laws.proofs.Places.{next_stands}
 use Rattle.step_laws.proofs.Walk.{walked}
 use Rattle.mark_laws.specs.MarkedRuns.{AreMarks}
 use Rattle.mark_laws.proofs.Turns.{Doubt_now, Turns, turns}
 use Rattle.mark_laws.proofs.Quiet.{IsAtRest, quiet_blocks}
-use Rattle.mark_laws.proofs.Blocks.{clash, since_more, since_now}
-use Rattle.mark_laws.proofs.Places.{advanced_same}
-use Rattle.mark_laws.proofs.EveryRun.{Always, always, store_kinds, remove_kinds}
+use Rattle.mark_laws.proofs.Blocks.{since_now}
+use Rattle.mark_laws.proofs.EveryRun.{Always, always}
 use Rattle.mark_laws.proofs.Readers as rd
 use Rattle.mark_laws.proofs.SecondHalf.{calm_now, marked_facts}
 
@@ -43,9 +43,6 @@ at_rest_or w = elim (cases_Bool w.is_open) [
   | inr f ↦ inr (inl f)
   | inl t ↦ elim (cases_Bool w.is_barred) [ inl b ↦ inr (inr b) | inr u ↦ inl (t, u) ]
 ]
-
-less : (from i : ℕ) (m : Moment) (ms : List Moment) → is_replaced_since from i (m ∷ ms) ≡ false → is_replaced_since from i ms ≡ false
-less from i m ms none = elim (cases_Bool (is_replaced_since from i ms)) [ inl t ↦ absurd (false≢true (sym none ∙ since_more from i m ms t)) | inr f ↦ f ]
 
 -- in every run
 pub record Kept (start : State) (ms : List Moment) : Type 0 where
@@ -66,13 +63,13 @@ module _ (limit : ℕ) (start : State) (m : Moment) (ms : List Moment) (A : All 
     | Block_is.stored y runs_y next_y is ↦ absurd (elim (store_kinds y y.kind i f.id s refl (is_fair (now start ms) y (Store i f.id s) next_y)) [
       | inl (name, bytes, kind_y, o_is) ↦
           (let place = store_place (now start ms) y name bytes i f.id s kind_y next_y in
-          clash (started_as (now start ms).records f.id) name (ap (started_as (now start ms).records) o_is ∙ A.pins.started y.number y name bytes runs_y kind_y place.0 (let l = place.1 in omega arith)) (A.pins.pins x.number x f runs in_f).1)
-      | inr repairs ↦
+          some-not-none (started_as (now start ms).records f.id) name (ap (started_as (now start ms).records) o_is ∙ A.pins.started y.number y name bytes runs_y kind_y place.0 (let l = place.1 in omega arith)) (A.pins.pins x.number x f runs in_f).1)
+      | inr (repairs, pin) ↦
           (let n : y.number ≡ x.number = A.pins.checks y.number x.number y x runs_y runs (ap is_check repairs) (ap is_check kind) in
           let e : y ≡ x = same_value _ y x (subst (λ z. job_of (now start ms).jobs z ≡ Some y) n runs_y) runs in
           let z : RepairJob ≡ AuditJob = sym repairs ∙ (ap (λ (q : Job). q.kind) e ∙ kind) in cc)
     ])
-    | Block_is.removed y runs_y next_y ↦ absurd (A.pins.older_free y.number x.number y x f.id f runs_y (remove_kinds y y.kind i f.id (is_fair (now start ms) y (Remove i f.id) next_y)) runs in_f refl)
+    | Block_is.removed y runs_y next_y ↦ absurd (A.pins.older_free y.number x.number y x f.id f runs_y (remove_kinds y y.kind i f.id refl (is_fair (now start ms) y (Remove i f.id) next_y)) runs in_f refl)
   ]
 
   -- a file of the audit whose record was in doubt before the event
@@ -89,7 +86,7 @@ module _ (limit : ℕ) (start : State) (m : Moment) (ms : List Moment) (A : All 
   begun_step d job h maker = elim (T.doubt d h) [
     | Doubt_now.kept was rec ↦ (let l = K.begun d job was maker in omega arith)
     | Doubt_now.gated x a runs next_is flight mine entry_is maker_is rec on ↦ (let e : job ≡ advanced x = same_value d.maker job (advanced x) maker maker_is in let b : job.begun ≡ x.begun = ap (λ (y : Job). y.begun) e in let l = A.held.begun x.number x runs in omega arith)
-    | Doubt_now.set_up t entry_is bare none closed ↦ absurd (clash d.maker job maker bare)
+    | Doubt_now.set_up t entry_is bare none closed ↦ absurd (some-not-none d.maker job maker bare)
   ]
 
   below_step : (d : Doubt) (job : Job) (f : Pinned) → m.state.doubt ≡ Some d → d.maker ≡ Some job → In f job.pinned → f.id < next_id m.state.records
@@ -98,21 +95,21 @@ module _ (limit : ℕ) (start : State) (m : Moment) (ms : List Moment) (A : All 
     | Doubt_now.gated x a runs next_is flight mine entry_is maker_is rec on ↦
         (let e : job ≡ advanced x = same_value d.maker job (advanced x) maker maker_is in
         let l = (A.pins.pins x.number x f runs (subst (λ (y : Job). In f y.pinned) e in_f)).0 in let r = ap next_id rec in omega arith)
-    | Doubt_now.set_up t entry_is bare none closed ↦ absurd (clash d.maker job maker bare)
+    | Doubt_now.set_up t entry_is bare none closed ↦ absurd (some-not-none d.maker job maker bare)
   ]
 
   audited_step : (d : Doubt) (job : Job) (f : Pinned) (i s : ℕ) → m.state.doubt ≡ Some d → d.maker ≡ Some job → job.kind ≡ AuditJob → In f job.pinned → is_replaced_since job.begun i (m ∷ ms) ≡ false →
       told_block m.state i f.id s ≡ told_block (now start (first_moments job.begun (m ∷ ms))) i f.id s
   audited_step d job f i s h maker kind in_f none = elim (T.doubt d h) [
-    | Doubt_now.kept was rec ↦ behind (K.begun d job was maker) (doubted_block d job f i s was maker kind in_f) (K.audited d job f i s was maker kind in_f (less job.begun i m ms none))
+    | Doubt_now.kept was rec ↦ behind (K.begun d job was maker) (doubted_block d job f i s was maker kind in_f) (K.audited d job f i s was maker kind in_f (replaced_before job.begun i m ms none))
     | Doubt_now.gated x a runs next_is flight mine entry_is maker_is rec on ↦
         (let e : job ≡ advanced x = same_value d.maker job (advanced x) maker maker_is in
         let begun : job.begun ≡ x.begun = ap (λ (y : Job). y.begun) e in
         let kx : x.kind ≡ AuditJob = sym (ap (λ (y : Job). y.kind) e) ∙ kind in
         let in_x = subst (λ (y : Job). In f y.pinned) e in_f in
         behind (let l = A.held.begun x.number x runs in omega arith) (running_block x f i s runs kx in_x)
-        (A.held.audited x.number x f i s runs kx in_x (subst (λ n. is_replaced_since n i ms ≡ false) begun (less job.begun i m ms none)) ∙ ap (λ n. told_block (now start (first_moments n ms)) i f.id s) (sym begun)))
-    | Doubt_now.set_up t entry_is bare none_up closed ↦ absurd (clash d.maker job maker bare)
+        (A.held.audited x.number x f i s runs kx in_x (subst (λ n. is_replaced_since n i ms ≡ false) begun (replaced_before job.begun i m ms none)) ∙ ap (λ n. told_block (now start (first_moments n ms)) i f.id s) (sym begun)))
+    | Doubt_now.set_up t entry_is bare none_up closed ↦ absurd (some-not-none d.maker job maker bare)
   ]
     where
       behind : job.begun ≤ length ms → (told_block m.state i f.id s ≡ told_block (now start ms) i f.id s) ⊎ (is_replacement m.event m.outcome i ≡ true) →
@@ -127,9 +124,9 @@ module _ (limit : ℕ) (start : State) (m : Moment) (ms : List Moment) (A : All 
 
 pub kept : (limit : ℕ) (start : State) → IsStart start → (ms : List Moment) → IsRun limit start ms → Kept start ms
 kept limit start clean [] run = record {
-  begun = λ d job h. absurd (clash start.doubt d h clean.doubt);
-  below = λ d job f h. absurd (clash start.doubt d h clean.doubt);
-  audited = λ d job f i s h. absurd (clash start.doubt d h clean.doubt);
+  begun = λ d job h. absurd (some-not-none start.doubt d h clean.doubt);
+  below = λ d job f h. absurd (some-not-none start.doubt d h clean.doubt);
+  audited = λ d job f i s h. absurd (some-not-none start.doubt d h clean.doubt);
 }
 kept limit start clean (m ∷ ms) run =
     (let A = all limit start clean ms run.2 in
@@ -148,7 +145,7 @@ made_before t w x job i o s setup e next_is made = record { place = made.place; 
   where
     at_x : slice_get (actions_of (setup_in w) x) made.place ≡ Some (Store i o s)
     at_x = ap (λ l. slice_get l made.place) (sym (ap (λ (y : Job). actions_of t y) e ∙ (ap (λ u. actions_of u (advanced x)) setup
-        ∙ (actions_are (setup_in w) (advanced x) x.kind refl ∙ (advanced_same (setup_in w) x x.kind ∙ sym (actions_are (setup_in w) x x.kind refl)))))) ∙ made.action
+        ∙ (actions_are (setup_in w) (advanced x) x.kind refl ∙ (actions_by-advanced (setup_in w) x x.kind ∙ sym (actions_are (setup_in w) x x.kind refl)))))) ∙ made.action
 
     early : made.place < x.place
     early = (let l = made.made in let p : job.place ≡ x.place + 1 = ap (λ (y : Job). y.place) e in elim (cases_lt made.place x.place) [
@@ -158,7 +155,7 @@ made_before t w x job i o s setup e next_is made = record { place = made.place; 
     ])
 
 pub rewritten : (limit : ℕ) (mark : Mark) (start : State) → IsStart start → AllTell start → (ms : List Moment) → IsRun limit start ms → IsCalm relies mark ms → AreMarks mark start ms → Rewritten start ms
-rewritten limit mark start clean tell [] run calm marks = λ d job i o s b h. absurd (clash start.doubt d h clean.doubt)
+rewritten limit mark start clean tell [] run calm marks = λ d job i o s b h. absurd (some-not-none start.doubt d h clean.doubt)
 rewritten limit mark start clean tell (m ∷ ms) run calm marks = step (rewritten limit mark start clean tell ms run.2 calm.1 marks.1)
   where
     A : All start ms
@@ -194,7 +191,7 @@ rewritten limit mark start clean tell (m ∷ ms) run calm marks = step (rewritte
                 let e : g.job ≡ job = same_value d.maker g.job job g.maker maker in
                 while_running job i o s b (subst (λ (y : Job). job_of (now start ms).jobs y.number ≡ Some y) e g.runs) kind old none told)
             | inr rest ↦ elim (quiet_blocks (now start ms) limit (length ms) m.event m.outcome m.state rest run.1 i o s) [
-              | inl e ↦ before d job i o s b was maker kind old (less job.begun i m ms none) (sym e ∙ told)
+              | inl e ↦ before d job i o s b was maker kind old (replaced_before job.begun i m ms none) (sym e ∙ told)
               | inr r ↦ absurd (false≢true (sym none ∙ since_now job.begun i m ms r ((kept limit start clean ms run.2).begun d job was maker)))
             ]
           ]))
@@ -207,7 +204,7 @@ rewritten limit mark start clean tell (m ∷ ms) run calm marks = step (rewritte
           let p = pin x i o s kx old in
           let below : o < next_id (now start ms).records = subst (λ n. n < next_id (now start ms).records) p.id_is (A.pins.pins x.number x p.file runs p.pinned).0 in
           on below setup (while_running x i o s b runs kx old (subst (λ n. is_replaced_since n i (m ∷ ms) ≡ false) begun none) told))
-      | Doubt_now.set_up t entry_is bare none_up closed ↦ absurd (clash d.maker job maker bare)
+      | Doubt_now.set_up t entry_is bare none_up closed ↦ absurd (some-not-none d.maker job maker bare)
     ]
       where
         on : o < next_id (now start ms).records → setup_in m.state ≡ setup_in (now start ms) → b ≡ Some (columns (object_in (now start ms) o) ((now start ms).bytes o) i s) → b ≡ Some (columns (object_in m.state o) (m.state.bytes o) i s)

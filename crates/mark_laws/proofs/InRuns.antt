@@ -8,7 +8,7 @@ use Rattle.hail_columns.specs.Columns.{columns, is_wrong, is_wrong_block}
 use Rattle.hail_records.specs.Records.{PutDone}
 use Rattle.hail_records.specs.Table.{File}
 use Rattle.hail_devices.specs.Providers.{Held}
-use Rattle.hail_machine.specs.States.{State, Doubt, IsStart, setup_in, object_in, file_in}
+use Rattle.hail_machine.specs.States.{State, Doubt, IsStart, setup_in, object_in, file_object, file_in}
 use Rattle.hail_machine.specs.Runs.{Moment, IsRun, now, is_replaced_since, came}
 use Rattle.hail_machine.specs.Calm.{Mark, since, relies, IsCalm}
 use Rattle.hail_machine.specs.Missed.{is_wrong_told, is_wrong_now}
@@ -50,12 +50,12 @@ wrong_stripe : (o : Object) (bytes : List ℕ) (j : ℕ) (held : ℕ → Option 
 unfolding is_wrong
 wrong_stripe o bytes j held h = (let q = some_stripe (λ s. is_wrong_block o bytes j s (held s)) 0 (stripes o (length bytes)) h in (q.0, (let l = q.1 in omega (arith, l)), q.2))
 
-pub wrong_bad : (w : State) (f : File) (j : ℕ) → is_wrong_now w f j ≡ true → (s : ℕ) × (s < stripes (object_in w f.id) (length (w.bytes f.id))) × IsBad w f.id j s
+pub wrong_bad : (w : State) (f : File) (j : ℕ) → is_wrong_now w f j ≡ true → (s : ℕ) × (s < stripes (file_object w f) (length (w.bytes f.id))) × IsBad w f.id j s
 wrong_bad w f j h = by_told (w.providers j).held refl h
   where
-    by_told : (x : Option Held) → (w.providers j).held ≡ x → is_wrong_told w f.id j x ≡ true → (s : ℕ) × (s < stripes (object_in w f.id) (length (w.bytes f.id))) × IsBad w f.id j s
+    by_told : (x : Option Held) → (w.providers j).held ≡ x → is_wrong_told w f.id j x ≡ true → (s : ℕ) × (s < stripes (file_object w f) (length (w.bytes f.id))) × IsBad w f.id j s
     by_told None is e = absurd (false≢true e)
-    by_told (Some held) is e = (let q = wrong_stripe (object_in w f.id) (w.bytes f.id) j (held f.id) e in (q.0, q.1, (held f.id q.0, ap (option_map (λ (y : Held). y f.id q.0)) is, q.2)))
+    by_told (Some held) is e = (let q = wrong_stripe (file_object w f) (w.bytes f.id) j (held f.id) e in (q.0, q.1, (held f.id q.0, ap (option_map (λ (y : Held). y f.id q.0)) is, q.2)))
 
 -- where files are clear since a moment, a provider that is wrong for one was replaced since, or is exempt at some stripe
 pub clears : (start : State) (ms : List Moment) (from : ℕ) (Ex : ℕ → ℕ → ℕ → Type 0) (E : Type 0) → IsClear start ms from Ex → (name : List ℕ) (file : File) (j : ℕ) → file_in (now start ms) name ≡ Some file →

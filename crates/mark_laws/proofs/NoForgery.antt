@@ -1,26 +1,26 @@
 -- No fetched row of a get is a forgery in a run that is calm by a mark.
 use Rattle.std.proofs.Common.{◌≡◌, ℕ, List, [], ◌∷◌, Some, refl, ap, sym, subst, ◌∙◌, inl}
 use Rattle.std.specs.Prelude.{IsTrue, ◌≤◌}
+use Rattle.plain_facts.specs.Lists.{In}
 use Rattle.hail_field.specs.Shape.{IsShape}
 use Rattle.hail_columns.specs.Opened.{SeenBlock, AllOpen}
 use Rattle.hail_records.specs.Records.{Setup}
 use Rattle.hail_records.specs.Table.{File}
 use Rattle.hail_machine.specs.Jobs.{GetJob, Job, job_of}
 use Rattle.hail_machine.specs.Setups.{object_of}
-use Rattle.hail_machine.specs.States.{State, IsStart, setup_in, object_in, file_in}
+use Rattle.hail_machine.specs.States.{State, IsStart, setup_in, object_in, file_object, file_in}
 use Rattle.hail_machine.specs.Begins.{pinned_file}
 use Rattle.hail_machine.specs.Given.{blocks_given}
 use Rattle.hail_machine.specs.Runs.{Moment, now, first_moments, IsRun}
 use Rattle.hail_machine.specs.Calm.{Mark, relies, replaced_count}
 use Rattle.hail_machine.specs.Heard.{heard_by, HoldsForgery}
 use Rattle.hail_machine.proofs.JobLists.{same_value}
-use Rattle.hail_machine.proofs.RecordFacts.{In}
-use Rattle.hail_machine.proofs.Gets.{HasFile}
+use Rattle.hail_machine.proofs.Gets.{HasFile, heard_blocks}
 use Rattle.hail_machine.proofs.PinFacts.{setup_same}
 use Rattle.run_laws.proofs.InEffect.{valid_setup, valid_shape, held_file}
 use Rattle.run_laws.proofs.FirstHalf.{first_run, shape_in}
 use Rattle.calm_laws.proofs.Absent.{own_row}
-use Rattle.calm_laws.proofs.GetEnds.{have_files, heard_blocks}
+use Rattle.calm_laws.proofs.GetEnds.{have_files}
 use Rattle.mark_laws.proofs.EveryRun.{always}
 use Rattle.mark_laws.proofs.Points.{Facts, begin_of, mark_of}
 use Rattle.mark_laws.proofs.Readers.{few_there}
@@ -28,10 +28,10 @@ use Rattle.mark_laws.proofs.Readers.{few_there}
 pub no_forgery : (limit : ℕ) (mark : Mark) (start : State) (ms : List Moment) → IsStart start → IsRun limit start ms → Facts mark start ms →
     ((k : ℕ) (j : Job) → job_of (now start ms).jobs k ≡ Some j → IsTrue (relies j.kind) → replaced_count (now start ms) (mark_of mark ms j) ms ≤ (setup_in (now start ms)).b) →
     (number : ℕ) (job : Job) (name : List ℕ) (file : File) → job_of (now start ms).jobs number ≡ Some job → job.kind ≡ GetJob name → file_in (begin_of start ms job) name ≡ Some file →
-    HoldsForgery (object_in (begin_of start ms job) file.id) ((begin_of start ms job).bytes file.id) job.number (heard_by (Some job)) → ⊥
+    HoldsForgery (file_object (begin_of start ms job) file) ((begin_of start ms job).bytes file.id) job.number (heard_by (Some job)) → ⊥
 no_forgery limit mark start ms clean run F calm number job name file runs kind in_effect forged =
     of_now (subst (λ (t : Setup). HoldsForgery (object_of t file.id) ((now start ms).bytes file.id) job.number (heard_by (Some job))) (sym setup)
-    (subst (λ (y : List ℕ). HoldsForgery (object_in (begin_of start ms job) file.id) y job.number (heard_by (Some job))) own_bytes forged))
+    (subst (λ (y : List ℕ). HoldsForgery (file_object (begin_of start ms job) file) y job.number (heard_by (Some job))) own_bytes forged))
   where
     H : HasFile (begin_of start ms job) (now start ms) job name
     H = have_files limit start clean ms run number job name runs kind
@@ -53,11 +53,11 @@ no_forgery limit mark start ms clean run F calm number job name file runs kind i
         (shape_in (begin_of start ms job) (λ s h. valid_shape s (valid_setup limit start (first_moments job.begun ms) s clean (first_run limit start job.begun ms run) h))
         (held_file limit start (first_moments job.begun ms) name file clean (first_run limit start job.begun ms run) in_effect).up)
 
-    of_now : HoldsForgery (object_in (now start ms) file.id) ((now start ms).bytes file.id) job.number (heard_by (Some job)) → ⊥
+    of_now : HoldsForgery (file_object (now start ms) file) ((now start ms).bytes file.id) job.number (heard_by (Some job)) → ⊥
     of_now h =
         (let f = h.forgery in
         let few = few_there mark start ms F calm number job (pinned_file (begin_of start ms job) file) h.stripe runs (ap relies kind) in_file f.row_in.stripe_in in
-        f.forged.other (own_row (object_in (now start ms) file.id) ((now start ms).bytes file.id) (setup_in (now start ms)).profile h.stripe h.place
+        f.forged.other (own_row (file_object (now start ms) file) ((now start ms).bytes file.id) (setup_in (now start ms)).profile h.stripe h.place
         (blocks_given job.given (setup_in (now start ms)).n file.id h.stripe) f.opened f.row refl shape f.row_in few
-        (subst (λ (seen : List SeenBlock). AllOpen (object_in (now start ms) file.id) h.stripe 0 seen f.opened) (heard_blocks job name (setup_in (now start ms)).n file.id h.stripe kind) f.opens)
+        (subst (λ (seen : List SeenBlock). AllOpen (file_object (now start ms) file) h.stripe 0 seen f.opened) (heard_blocks job name (setup_in (now start ms)).n file.id h.stripe kind) f.opens)
         f.forged.accepted))

@@ -3,25 +3,28 @@ use Rattle.std.proofs.Common.{◌≡◌, ℕ, zero, suc, ◌+◌, ◌-◌, ◌<�
 use Rattle.std.specs.Prelude.{not, is_some, slice_get}
 use Rattle.std.proofs.lemmas.Bool.{and_left, ne_eqb, false≢true}
 use Rattle.std.specs.List.{flat_map}
+use Rattle.plain_facts.specs.Lists.{Each, In}
+use Rattle.plain_facts.proofs.Each.{each_get, each_append, each_map, each_flat, each_flat_in}
+use Rattle.plain_facts.proofs.Lists.{get_behind}
 use Rattle.hail_codes.specs.Points.{upto}
 use Rattle.hail_records.specs.Records.{Setup}
 use Rattle.hail_records.specs.Table.{setup_of, file_of}
 use Rattle.hail_machine.specs.Jobs.{Kind, PutJob, GetJob, DropJob, AuditJob, RepairJob, Pinned, Job, advanced}
 use Rattle.hail_machine.specs.Actions.{Action, WriteBody, SyncBody, WriteGate, SyncGate, Store, Fetch, Work, Remove, End, append_actions, on_each_provider, on_each_stripe, open_actions, store_actions, read_actions, remove_actions, repair_actions, ask_actions, actions_by, actions_of}
-use Rattle.hail_machine.specs.Setups.{stripes_of}
+use Rattle.hail_machine.specs.Setups.{stripes_of, pinned_stripes}
 use Rattle.hail_machine.specs.States.{State, setup_in, file_in}
 use Rattle.hail_machine.specs.Steps.{next_action, is_idle_drop}
 use Rattle.hail_machine.specs.Calm.{relies}
-use Rattle.hail_machine.proofs.ActionLists.{Each, each_get, each_append, each_map, each_flat, split_get}
+use Rattle.hail_machine.proofs.ActionLists.{split_get}
 use Rattle.hail_machine.proofs.Numbers.{next_by, next_is_by}
-use Rattle.hail_machine.proofs.RecordFacts.{In}
 use Rattle.hail_machine.proofs.Fair.{stores_count, PutAt, put_next}
 use Rattle.hail_machine.proofs.Held.{actions_are}
 use Rattle.hail_machine.proofs.JobLists.{cond_false}
 use Rattle.hail_machine.proofs.PinFacts.{setup_same}
 use Rattle.hail_machine.proofs.Stripes.{get_left}
-use Rattle.step_laws.proofs.Lists.{get_behind, each_flat_in, upto_in}
-use Rattle.step_laws.proofs.Places.{next_stands, by_kind, reads_all, repairs_all, stores_all, asks_all, tail_all}
+use Rattle.hail_machine.proofs.NextActions.{next_stands, actions_by-advanced}
+use Rattle.step_laws.proofs.Lists.{upto_in}
+use Rattle.step_laws.proofs.Places.{by_kind, reads_all, repairs_all, stores_all, asks_all, tail_all}
 
 -- ---- puts
 
@@ -67,11 +70,11 @@ write_gate_place w job name bytes kind h later = elim (put_next w job name bytes
 -- ---- repairs
 
 abbrev IsWithin : Setup → Job → Action → Type 0
-IsWithin t job (Work o s) = (f : Pinned) × In f job.pinned × (f.id ≡ o) × (s < stripes_of t (length f.bytes))
+IsWithin t job (Work o s) = (f : Pinned) × In f job.pinned × (f.id ≡ o) × (s < pinned_stripes t f)
 IsWithin t job action = Unit {0}
 
 -- the work of a repair is on a stripe of one of its files
-pub work_within : (w : State) (job : Job) (o s : ℕ) → job.kind ≡ RepairJob → next_action w job ≡ Some (Work o s) → (f : Pinned) × In f job.pinned × (f.id ≡ o) × (s < stripes_of (setup_in w) (length f.bytes))
+pub work_within : (w : State) (job : Job) (o s : ℕ) → job.kind ≡ RepairJob → next_action w job ≡ Some (Work o s) → (f : Pinned) × In f job.pinned × (f.id ≡ o) × (s < pinned_stripes (setup_in w) f)
 work_within w job o s kind h =
     each_get (IsWithin (setup_in w) job) (actions_by (setup_in w) job RepairJob) job.place (Work o s)
     (each_append (IsWithin (setup_in w) job) (repair_actions (setup_in w) job) (append_actions ++ End ∷ [])
@@ -80,19 +83,19 @@ work_within w job o s kind h =
     (by_kind (setup_in w) job RepairJob job.place (Work o s) kind (next_stands w job (Work o s) h (λ e. cc)))
 
 -- so is that of a get
-pub read_within : (w : State) (job : Job) (name : List ℕ) (o s : ℕ) → job.kind ≡ GetJob name → next_action w job ≡ Some (Work o s) → (f : Pinned) × In f job.pinned × (f.id ≡ o) × (s < stripes_of (setup_in w) (length f.bytes))
+pub read_within : (w : State) (job : Job) (name : List ℕ) (o s : ℕ) → job.kind ≡ GetJob name → next_action w job ≡ Some (Work o s) → (f : Pinned) × In f job.pinned × (f.id ≡ o) × (s < pinned_stripes (setup_in w) f)
 read_within w job name o s kind h =
     each_get (IsWithin (setup_in w) job) (actions_by (setup_in w) job (GetJob name)) job.place (Work o s)
     (each_append (IsWithin (setup_in w) job) (read_actions (setup_in w) job.pinned) (End ∷ [])
     (each_flat_in (IsWithin (setup_in w) job) (λ (f : Pinned). on_each_stripe (setup_in w) (length f.bytes) (open_actions (setup_in w) f.id)) job.pinned
-    (λ f i. each_flat_in (IsWithin (setup_in w) job) (open_actions (setup_in w) f.id) (upto (stripes_of (setup_in w) (length f.bytes)))
+    (λ f i. each_flat_in (IsWithin (setup_in w) job) (open_actions (setup_in w) f.id) (upto (pinned_stripes (setup_in w) f))
     (λ st l. each_append (IsWithin (setup_in w) job) (on_each_provider (setup_in w) (λ j. Fetch j f.id st)) (Work f.id st ∷ []) (each_map (IsWithin (setup_in w) job) (λ j. Fetch j f.id st) (upto (setup_in w).n) (λ j. tt))
-    ((f, i, refl, upto_in (stripes_of (setup_in w) (length f.bytes)) st l), tt))))
+    ((f, i, refl, upto_in (pinned_stripes (setup_in w) f) st l), tt))))
     (tt, tt))
     (by_kind (setup_in w) job (GetJob name) job.place (Work o s) kind (next_stands w job (Work o s) h (λ e. cc)))
 
 -- so is that of each job that relies on providers
-pub works_within : (w : State) (job : Job) (o s : ℕ) (kind : Kind) → job.kind ≡ kind → relies kind ≡ true → next_action w job ≡ Some (Work o s) → (f : Pinned) × In f job.pinned × (f.id ≡ o) × (s < stripes_of (setup_in w) (length f.bytes))
+pub works_within : (w : State) (job : Job) (o s : ℕ) (kind : Kind) → job.kind ≡ kind → relies kind ≡ true → next_action w job ≡ Some (Work o s) → (f : Pinned) × In f job.pinned × (f.id ≡ o) × (s < pinned_stripes (setup_in w) f)
 works_within w job o s (GetJob name) is reads h = read_within w job name o s is h
 works_within w job o s RepairJob is reads h = work_within w job o s is h
 works_within w job o s (PutJob name bytes) is reads h = absurd (false≢true reads)
@@ -150,14 +153,6 @@ followed_by t job RepairJob =
     followed_append (repair_actions t job) _ (followed_none (repair_actions t job) (repairs_all t job NotGate (λ f st in_f l. (λ j. tt, tt, λ j. tt))))
     (followed_append append_actions (End ∷ []) followed_moves (followed_none (End ∷ []) (tt, tt)))
 
--- a job's list is the same after one more action
-pub advanced_same : (t : Setup) (job : Job) (kind : Kind) → actions_by t (advanced job) kind ≡ actions_by t job kind
-advanced_same t job (PutJob name bytes) = refl
-advanced_same t job (GetJob name) = refl
-advanced_same t job (DropJob name) = refl
-advanced_same t job AuditJob = refl
-advanced_same t job RepairJob = refl
-
 -- a job that has made an action is no idle drop
 not_idle : (w : State) (job : Job) (kind : Kind) → is_idle_drop w (advanced job) kind ≡ false
 not_idle w job (PutJob name bytes) = refl
@@ -172,7 +167,7 @@ gate_next w job h =
     let one : suc job.place ≡ job.place + 1 = omega arith in
     next_is_by w (advanced job)
     ∙ (cond_false (is_idle_drop w (advanced job) job.kind) (Some End) (slice_get (actions_by (setup_in w) (advanced job) job.kind) (job.place + 1)) (not_idle w job job.kind)
-    ∙ (ap (λ l. slice_get l (job.place + 1)) (advanced_same (setup_in w) job job.kind) ∙ subst (λ n. slice_get (actions_by (setup_in w) job job.kind) n ≡ Some SyncGate) one (followed_by (setup_in w) job job.kind job.place here))))
+    ∙ (ap (λ l. slice_get l (job.place + 1)) (actions_by-advanced (setup_in w) job job.kind) ∙ subst (λ n. slice_get (actions_by (setup_in w) job job.kind) n ≡ Some SyncGate) one (followed_by (setup_in w) job job.kind job.place here))))
 
 -- the next action hangs on the records alone
 same_by : (v w : State) (job : Job) (kind : Kind) (place : ℕ) → v.records ≡ w.records → next_by v job kind place ≡ next_by w job kind place

@@ -1,6 +1,7 @@
 -- What holds in a run that is calm by a mark: blocks that are stored are right, and a moment since which all damage is new stays one.
 use Rattle.std.proofs.Common.{◌≡◌, ℕ, ◌≤◌, ◌<◌, true, false, ◌⊎◌, List, ◌∷◌, length, Option, Some, None, refl, ap, sym, subst, ◌∙◌, inl, inr}
 use Rattle.std.proofs.lemmas.Bool.{cases_Bool}
+use Rattle.plain_facts.specs.Lists.{In}
 use Rattle.hail_columns.specs.Objects.{symbols_in}
 use Rattle.hail_columns.specs.Columns.{columns, column_of_symbols, is_wrong_block}
 use Rattle.hail_records.specs.Records.{PutDone}
@@ -8,7 +9,7 @@ use Rattle.hail_records.specs.Table.{File, next_id}
 use Rattle.hail_machine.specs.Jobs.{RepairJob, Pinned, Fetched, Worked, Job, job_of}
 use Rattle.hail_machine.specs.Actions.{Store, Remove}
 use Rattle.hail_machine.specs.Setups.{object_of, stripes_of}
-use Rattle.hail_machine.specs.States.{State, Doubt, IsStart, setup_in, object_in, file_in}
+use Rattle.hail_machine.specs.States.{State, Doubt, IsStart, setup_in, object_in, file_object, pinned_object, file_in}
 use Rattle.hail_machine.specs.Given.{symbols_given}
 use Rattle.hail_machine.specs.Steps.{next_action, block_to_store}
 use Rattle.hail_machine.specs.Runs.{Moment, now, first_moments, is_replacement, is_replaced_since, IsRun}
@@ -17,12 +18,11 @@ use Rattle.hail_machine.specs.Halves.{begun_of}
 use Rattle.hail_machine.specs.Deeds.{told_block, HasMadeStore}
 use Rattle.hail_machine.proofs.Changes.{Block_is, Changes}
 use Rattle.hail_machine.proofs.Events.{some_told}
-use Rattle.hail_machine.proofs.Numbers.{objects, audits, Draws, HasNumber, next_of_records}
+use Rattle.hail_machine.proofs.Numbers.{audits}
 use Rattle.hail_machine.proofs.Numbers as num
-use Rattle.hail_machine.proofs.RecordFacts.{In}
 use Rattle.hail_machine.proofs.Fair.{is_fair}
 use Rattle.hail_machine.proofs.PinFacts.{setup_same}
-use Rattle.hail_machine.proofs.Held.{All}
+use Rattle.hail_machine.proofs.Held.{All, store_kinds, remove_kinds}
 use Rattle.run_laws.proofs.InEffect as eff
 use Rattle.mark_laws.specs.Damage.{IsBad, IsReplaced, RoseSince}
 use Rattle.mark_laws.specs.Marks.{Never, PrecedesPuts, IsClear, IsMark}
@@ -31,7 +31,7 @@ use Rattle.mark_laws.proofs.Blocks.{since_more, since_now, since_earlier, right_
 use Rattle.step_laws.proofs.Places.{worked_before_store}
 use Rattle.step_laws.proofs.MadeFacts.{given_symbols, made_work_gave}
 use Rattle.mark_laws.proofs.EveryRun as ev
-use Rattle.mark_laws.proofs.EveryRun.{Always, store_kinds, remove_kinds}
+use Rattle.mark_laws.proofs.EveryRun.{Always}
 
 -- the state at the begin of a job
 abbrev pub begin_of : State → List Moment → Job → State
@@ -50,7 +50,7 @@ pub record Facts (mark : Mark) (start : State) (ms : List Moment) : Type 0 where
   pub counts : (k : ℕ) (j : Job) (i : ℕ) → job_of (now start ms).jobs k ≡ Some j → ((begin_of start ms j).providers i).other_faults ≤ ((now start ms).providers i).other_faults
   pub gave : (k : ℕ) (j : Job) (f : Pinned) (i s : ℕ) (block : Option (List ℕ)) → job_of (now start ms).jobs k ≡ Some j → In f j.pinned → i < (setup_in (now start ms)).n →
       s < stripes_of (setup_in (now start ms)) (length ((now start ms).bytes f.id)) → In (Fetched i f.id s block) j.given →
-      is_wrong_block (object_in (now start ms) f.id) ((now start ms).bytes f.id) i s block ≡ true →
+      is_wrong_block (pinned_object (now start ms) f) ((now start ms).bytes f.id) i s block ≡ true →
       IsReplaced (mark_of mark ms j) i ms ⊎ ((block ≡ None) × RoseSince (begin_of start ms j) (now start ms) i)
   pub rows : (k : ℕ) (j : Job) (o s : ℕ) (symbols : List ℕ) → job_of (now start ms).jobs k ≡ Some j → relies j.kind ≡ true → In (Worked o s symbols) j.given →
       (o < next_id (now start ms).records) × (symbols ≡ symbols_in (object_in (now start ms) o) ((now start ms).bytes o) s)
@@ -71,7 +71,7 @@ module _ (limit : ℕ) (mark : Mark) (start : State) (m : Moment) (ms : List Mom
   stored_column x i o s b runs next_is b_is = elim (store_kinds x x.kind i o s refl (is_fair (now start ms) x (Store i o s) next_is)) [
     | inl (name, bytes, kind, o_is) ↦
         ev.put_column limit start m ms A U I E X T x name bytes i o s b runs next_is kind o_is b_is
-    | inr repairs ↦
+    | inr (repairs, pin) ↦
         (let g = made_work_gave limit start clean ms run x.number x o s runs (worked_before_store (now start ms) x i o s repairs next_is).0 in
         let rows = (F.rows x.number x o s (symbols_given x.given o s) runs (ap relies repairs) (given_symbols x.given o s g.0 g.1)).1 in
         b_is ∙ (ap (λ kd. Some (block_to_store (now start ms) x kd i o s)) repairs ∙ ap (λ l. Some (column_of_symbols (object_in (now start ms) o) l i s)) rows))
@@ -92,7 +92,7 @@ module _ (limit : ℕ) (mark : Mark) (start : State) (m : Moment) (ms : List Mom
         | Block_is.same e ↦ inl (b, sym e ∙ told, w)
         | Block_is.replaced r ↦ inr r
         | Block_is.stored x runs next_is is ↦ absurd (stored_right x i o s b runs next_is (some_told (block_to_store (now start ms) x x.kind i o s) ((now start ms).providers i).held b (sym is ∙ told)) w)
-        | Block_is.removed x runs next_is ↦ absurd (no_older x runs (remove_kinds x x.kind i o (is_fair (now start ms) x (Remove i o) next_is)))
+        | Block_is.removed x runs next_is ↦ absurd (no_older x runs (remove_kinds x x.kind i o refl (is_fair (now start ms) x (Remove i o) next_is)))
       ])
 
   -- of the put whose record was in doubt

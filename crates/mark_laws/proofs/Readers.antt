@@ -1,8 +1,10 @@
 -- What gets and repairs read, in a calm run in which no audit missed damage.
 use Rattle.std.proofs.Common.{◌≡◌, ℕ, suc, ◌+◌, ◌≤◌, ◌<◌, ◌==◌, true, false, ◌⊎◌, ◌&&◌, List, [], ◌∷◌, length, Option, Some, None, refl, ap, sym, subst, ◌∙◌, inl, inr, arith}
-use Rattle.std.specs.Prelude.{IsTrue, IsSome, slice_get, option_and_then}
+use Rattle.std.specs.Prelude.{IsTrue, IsSome, slice_get}
 use Rattle.std.specs.Option.{option_map}
 use Rattle.std.proofs.lemmas.Bool.{cases_Bool, cases_lt, and_parts, eqb-true, false≢true}
+use Rattle.plain_facts.specs.Lists.{In}
+use Rattle.plain_facts.proofs.Each.{each_get}
 use Rattle.hail_field.specs.Shape.{IsShape}
 use Rattle.hail_codes.specs.Points.{upto}
 use Rattle.hail_columns.specs.Objects.{symbols_in}
@@ -16,8 +18,8 @@ use Rattle.hail_devices.specs.Providers.{Held}
 use Rattle.hail_devices.specs.ProviderCalls.{FetchGives}
 use Rattle.hail_machine.specs.Jobs.{RepairJob, Pinned, Given, Fetched, Answered, Worked, Job, job_of}
 use Rattle.hail_machine.specs.Actions.{Action, WriteBody, SyncGate, Store, Work, Remove, actions_by, actions_of, Fetch, Ask}
-use Rattle.hail_machine.specs.Setups.{object_of, stripes_of}
-use Rattle.hail_machine.specs.States.{State, IsStart, setup_in, object_in}
+use Rattle.hail_machine.specs.Setups.{object_of, stripes_of, pinned_stripes}
+use Rattle.hail_machine.specs.States.{State, IsStart, setup_in, object_in, file_object, pinned_object}
 use Rattle.hail_machine.specs.Given.{block_given, blocks_given}
 use Rattle.hail_machine.specs.Steps.{next_action, block_to_store}
 use Rattle.hail_machine.specs.Runs.{Moment, now, first_moments, is_replaced_since, IsRun}
@@ -26,15 +28,14 @@ use Rattle.hail_machine.specs.Halves.{AllTell}
 use Rattle.hail_machine.proofs.JobLists.{cond_true, cond_false, same_value, number_of}
 use Rattle.hail_machine.proofs.Changes.{Gave, Job_is, Block_is, Changes}
 use Rattle.hail_machine.specs.Deeds.{told_block, HasMadeStore}
-use Rattle.hail_machine.proofs.ActionLists.{each_get}
 use Rattle.hail_machine.proofs.Events.{some_told}
 use Rattle.hail_machine.proofs.Numbers.{audits}
 use Rattle.hail_machine.proofs.Numbers as num
-use Rattle.hail_machine.proofs.RecordFacts.{In}
 use Rattle.hail_machine.proofs.Fair.{HasPin, IsFair, fair, is_fair}
 use Rattle.hail_machine.proofs.Pins.{pinned_stands}
 use Rattle.hail_machine.proofs.PinFacts.{Pins_is, pins_is}
-use Rattle.hail_machine.proofs.Held.{All, first_more, first_all}
+use Rattle.hail_machine.proofs.Held.{All, first_more, first_all, remove_kinds}
+use Rattle.hail_machine.proofs.Given.{block_at-given}
 use Rattle.run_laws.proofs.InEffect.{valid_shape}
 use Rattle.run_laws.proofs.InEffect as eff
 use Rattle.run_laws.proofs.FirstHalf.{shape_in}
@@ -42,7 +43,6 @@ use Rattle.calm_laws.specs.FewWrong.{is_wrong_seen}
 use Rattle.calm_laws.specs.Origins.{IsHeldThen}
 use Rattle.calm_laws.proofs.Absent.{own_symbols}
 use Rattle.calm_laws.proofs.Onward.{AllOnward}
-use Rattle.step_laws.proofs.Lists.{get_map_upto}
 use Rattle.step_laws.proofs.Places.{by_kind}
 use Rattle.step_laws.proofs.Walk.{IsGift, Passed, Went, Walked}
 use Rattle.mark_laws.specs.Damage.{IsBad, IsReplaced, RoseSince}
@@ -50,7 +50,7 @@ use Rattle.mark_laws.proofs.Turns.{Turns}
 use Rattle.mark_laws.proofs.Blocks.{since_more, since_now, sized_wrong}
 use Rattle.mark_laws.proofs.Places.{works_within, next_repairs, same_actions}
 use Rattle.mark_laws.proofs.EveryRun as ev
-use Rattle.mark_laws.proofs.EveryRun.{Always, remove_kinds}
+use Rattle.mark_laws.proofs.EveryRun.{Always}
 use Rattle.mark_laws.proofs.Points as pt
 use Rattle.mark_laws.proofs.Points.{Facts, begin_of, mark_of}
 
@@ -79,24 +79,21 @@ block_in (Fetched k p t b ∷ more) o s i block h = by_test (block_in more o s i
 block_in (Answered k p r symbol ∷ more) o s i block h = inr (block_in more o s i block h)
 block_in (Worked p t symbols ∷ more) o s i block h = inr (block_in more o s i block h)
 
-pub given_at : (given : List Given) (n o s i : ℕ) → i < n → block_at (blocks_given given n o s) i ≡ block_given given o s i
-given_at given n o s i l = ap (λ x. option_and_then (λ block. block) x) (get_map_upto (block_given given o s) n i l)
-
 -- of each file that a job works on which relies on providers, at most b of them gave it a wrong block of a stripe
 pub few_there : (mark : Mark) (start : State) (ms : List Moment) → Facts mark start ms →
     ((k : ℕ) (j : Job) → job_of (now start ms).jobs k ≡ Some j → IsTrue (relies j.kind) → replaced_count (now start ms) (mark_of mark ms j) ms ≤ (setup_in (now start ms)).b) →
     (k : ℕ) (x : Job) (f : Pinned) (s : ℕ) → job_of (now start ms).jobs k ≡ Some x → relies x.kind ≡ true → In f x.pinned → s < stripes_of (setup_in (now start ms)) (length ((now start ms).bytes f.id)) →
-    count_of (λ i. is_wrong_seen (object_in (now start ms) f.id) ((now start ms).bytes f.id) i s (block_at (blocks_given x.given (setup_in (now start ms)).n f.id s) i)) (upto (setup_in (now start ms)).n) ≤ (setup_in (now start ms)).b
+    count_of (λ i. is_wrong_seen (pinned_object (now start ms) f) ((now start ms).bytes f.id) i s (block_at (blocks_given x.given (setup_in (now start ms)).n f.id s) i)) (upto (setup_in (now start ms)).n) ≤ (setup_in (now start ms)).b
 few_there mark start ms F calm k x f s runs kind in_x b =
-    (let w = count_of-within (λ i. is_wrong_seen (object_in (now start ms) f.id) ((now start ms).bytes f.id) i s (block_at (blocks_given x.given (setup_in (now start ms)).n f.id s) i)) (λ i. is_replaced_since (mark_of mark ms x) i ms) 0 (setup_in (now start ms)).n
-    (λ i l wrong. one i (omega (arith, l)) (subst (λ y. is_wrong_seen (object_in (now start ms) f.id) ((now start ms).bytes f.id) i s y ≡ true) (given_at x.given (setup_in (now start ms)).n f.id s i (omega (arith, l))) wrong)) in
+    (let w = count_of-within (λ i. is_wrong_seen (pinned_object (now start ms) f) ((now start ms).bytes f.id) i s (block_at (blocks_given x.given (setup_in (now start ms)).n f.id s) i)) (λ i. is_replaced_since (mark_of mark ms x) i ms) 0 (setup_in (now start ms)).n
+    (λ i l wrong. one i (omega (arith, l)) (subst (λ y. is_wrong_seen (pinned_object (now start ms) f) ((now start ms).bytes f.id) i s y ≡ true) (block_at-given x.given (setup_in (now start ms)).n f.id s i (omega (arith, l))) wrong)) in
     let c : count_of (λ i. is_replaced_since (mark_of mark ms x) i ms) (upto (setup_in (now start ms)).n) ≤ (setup_in (now start ms)).b = calm k x runs kind in
     omega (arith, w, c))
   where
-    one : (i : ℕ) → i < (setup_in (now start ms)).n → is_wrong_seen (object_in (now start ms) f.id) ((now start ms).bytes f.id) i s (block_given x.given f.id s i) ≡ true → is_replaced_since (mark_of mark ms x) i ms ≡ true
+    one : (i : ℕ) → i < (setup_in (now start ms)).n → is_wrong_seen (pinned_object (now start ms) f) ((now start ms).bytes f.id) i s (block_given x.given f.id s i) ≡ true → is_replaced_since (mark_of mark ms x) i ms ≡ true
     one i l wrong = by_seen (block_given x.given f.id s i) refl wrong
       where
-        by_seen : (seen : Option (List ℕ)) → block_given x.given f.id s i ≡ seen → is_wrong_seen (object_in (now start ms) f.id) ((now start ms).bytes f.id) i s seen ≡ true → is_replaced_since (mark_of mark ms x) i ms ≡ true
+        by_seen : (seen : Option (List ℕ)) → block_given x.given f.id s i ≡ seen → is_wrong_seen (pinned_object (now start ms) f) ((now start ms).bytes f.id) i s seen ≡ true → is_replaced_since (mark_of mark ms x) i ms ≡ true
         by_seen None is w = absurd (false≢true w)
         by_seen (Some block) is w = elim (F.gave k x f i s (Some block) runs in_x l b (block_in x.given f.id s i block is) w) [
           | inl r ↦ r
@@ -173,7 +170,7 @@ module _ (limit : ℕ) (mark : Mark) (start : State) (m : Moment) (ms : List Mom
 
   -- a block that a fetch gives is wrong where what is held is, or a count rose
   fetched_now : (k : ℕ) (x j : Job) (f : Pinned) (i s : ℕ) (block : Option (List ℕ)) → job_of (now start ms).jobs k ≡ Some x → j.begun ≡ x.begun → In f x.pinned → i < (setup_in (now start ms)).n →
-      s < stripes_of (setup_in (now start ms)) (length ((now start ms).bytes f.id)) → is_wrong_block (object_in (now start ms) f.id) ((now start ms).bytes f.id) i s block ≡ true →
+      s < stripes_of (setup_in (now start ms)) (length ((now start ms).bytes f.id)) → is_wrong_block (pinned_object (now start ms) f) ((now start ms).bytes f.id) i s block ≡ true →
       IsHeldThen (now start ms) m.state i f.id s block → Excused (m ∷ ms) j i block
   fetched_now k x j f i s block runs begun in_x l b wrong (inr (none, rose)) = inr (
     none,
@@ -181,17 +178,17 @@ module _ (limit : ℕ) (mark : Mark) (start : State) (m : Moment) (ms : List Mom
   )
   fetched_now k x j f i s block runs begun in_x l b wrong (inl g) = by_told ((now start ms).providers i).held refl (tell i) g
     where
-      by_told : (held : Option Held) → ((now start ms).providers i).held ≡ held → IsSome held → FetchGives (object_in (now start ms) f.id).profile.size f.id s held block → Excused (m ∷ ms) j i block
+      by_told : (held : Option Held) → ((now start ms).providers i).held ≡ held → IsSome held → FetchGives (pinned_object (now start ms) f).profile.size f.id s held block → Excused (m ∷ ms) j i block
       by_told None is some gives = absurd (false≢true some)
       by_told (Some held) is some gives = excused_on k x j i block runs begun (inl (F.reads k x f i s runs in_x l b (
         held f.id s,
         ap (option_map (λ (y : Held). y f.id s)) is,
-        sized_wrong (object_in (now start ms) f.id) ((now start ms).bytes f.id) i s (held f.id s) (subst (λ y. is_wrong_block (object_in (now start ms) f.id) ((now start ms).bytes f.id) i s y ≡ true) gives wrong),
+        sized_wrong (pinned_object (now start ms) f) ((now start ms).bytes f.id) i s (held f.id s) (subst (λ y. is_wrong_block (pinned_object (now start ms) f) ((now start ms).bytes f.id) i s y ≡ true) gives wrong),
       )))
 
   pub gave_step : (k : ℕ) (j : Job) (f : Pinned) (i s : ℕ) (block : Option (List ℕ)) → job_of m.state.jobs k ≡ Some j → In f j.pinned → i < (setup_in m.state).n →
       s < stripes_of (setup_in m.state) (length (m.state.bytes f.id)) → In (Fetched i f.id s block) j.given →
-      is_wrong_block (object_in m.state f.id) (m.state.bytes f.id) i s block ≡ true → Excused (m ∷ ms) j i block
+      is_wrong_block (pinned_object m.state f) (m.state.bytes f.id) i s block ≡ true → Excused (m ∷ ms) j i block
   gave_step k j f i s block h in_f l b given wrong = elim (G.job k j h) [
     | Went.kept runs other ↦ before j runs refl refl given
     | Went.begun kind is k_is rec ↦ absurd (subst (λ (x : Job). In (Fetched i f.id s block) x.given) is given)
@@ -246,12 +243,12 @@ module _ (limit : ℕ) (mark : Mark) (start : State) (m : Moment) (ms : List Mom
       GivesSymbols (object_in (now start ms) o) s (blocks_given x.given (setup_in (now start ms)).n o s) symbols → (o < next_id (now start ms).records) × (symbols ≡ symbols_in (object_in (now start ms) o) ((now start ms).bytes o) s)
   rows_now k x o s symbols runs kind next_is gives = by_file (works_within (now start ms) x o s x.kind refl kind next_is)
     where
-      by_file : (f : Pinned) × In f x.pinned × (f.id ≡ o) × (s < stripes_of (setup_in (now start ms)) (length f.bytes)) → (o < next_id (now start ms).records) × (symbols ≡ symbols_in (object_in (now start ms) o) ((now start ms).bytes o) s)
+      by_file : (f : Pinned) × In f x.pinned × (f.id ≡ o) × (s < pinned_stripes (setup_in (now start ms)) f) → (o < next_id (now start ms).records) × (symbols ≡ symbols_in (object_in (now start ms) o) ((now start ms).bytes o) s)
       by_file (f, in_x, id_is, l) =
           (let b : s < stripes_of (setup_in (now start ms)) (length ((now start ms).bytes f.id)) = subst (λ (y : List ℕ). s < stripes_of (setup_in (now start ms)) (length y)) (E.pinned k x f runs in_x) l in
           subst (λ n. (n < next_id (now start ms).records) × (symbols ≡ symbols_in (object_in (now start ms) n) ((now start ms).bytes n) s)) id_is (
             (A.pins.pins k x f runs in_x).0,
-            own_symbols (object_in (now start ms) f.id) ((now start ms).bytes f.id) (setup_in (now start ms)).profile s (blocks_given x.given (setup_in (now start ms)).n f.id s) symbols refl (runs_shape k x runs) b
+            own_symbols (pinned_object (now start ms) f) ((now start ms).bytes f.id) (setup_in (now start ms)).profile s (blocks_given x.given (setup_in (now start ms)).n f.id s) symbols refl (runs_shape k x runs) b
                 (few_there mark start ms F calm k x f s runs kind in_x b) (subst (λ n. GivesSymbols (object_in (now start ms) n) s (blocks_given x.given (setup_in (now start ms)).n n s) symbols) (sym id_is) gives),
           ))
 
@@ -315,7 +312,7 @@ module _ (limit : ℕ) (mark : Mark) (start : State) (m : Moment) (ms : List Mom
     | Block_is.replaced r ↦ absurd (false≢true (sym none ∙ since_now x.begun i m ms r (A.held.begun k x runs)))
     | Block_is.stored y runs_y next_y is ↦ pt.stored_column limit mark start m ms clean run A U I E F X T y i o s b runs_y next_y (some_told (block_to_store (now start ms) y y.kind i o s) ((now start ms).providers i).held b (sym is ∙ told))
     | Block_is.removed y runs_y next_y ↦ absurd (let p = made_pin x i o s kind made in
-        A.pins.older_free y.number k y x o p.file runs_y (remove_kinds y y.kind i o (is_fair (now start ms) y (Remove i o) next_y)) runs p.pinned p.id_is)
+        A.pins.older_free y.number k y x o p.file runs_y (remove_kinds y y.kind i o refl (is_fair (now start ms) y (Remove i o) next_y)) runs p.pinned p.id_is)
   ]
 
   pub rewrote_step : (k : ℕ) (j : Job) (i o s : ℕ) (b : Option (List ℕ)) → job_of m.state.jobs k ≡ Some j → j.kind ≡ RepairJob → HasMadeStore (setup_in m.state) j i o s → is_replaced_since j.begun i (m ∷ ms) ≡ false →

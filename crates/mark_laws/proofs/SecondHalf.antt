@@ -2,6 +2,8 @@
 use Rattle.std.proofs.Common.{◌≡◌, ℕ, zero, suc, ◌≤◌, ◌<◌, true, ◌⊎◌, List, [], ◌∷◌, length, Option, Some, None, refl, ap, sym, subst, ◌∙◌, inl, inr, arith}
 use Rattle.std.specs.Prelude.{IsTrue}
 use Rattle.std.proofs.lemmas.Bool.{cases_lt}
+use Rattle.plain_facts.specs.Lists.{In}
+use Rattle.plain_facts.proofs.Options.{some-not-none}
 use Rattle.hail_codes.specs.Points.{upto}
 use Rattle.hail_columns.specs.Objects.{stripes}
 use Rattle.hail_columns.specs.Columns.{is_wrong_block}
@@ -16,8 +18,8 @@ use Rattle.hail_machine.specs.Answers as answer
 use Rattle.hail_machine.specs.Answers.{Answer}
 use Rattle.hail_machine.specs.Events.{Event, Begin, Step, Outcome, Refused, Ended}
 use Rattle.hail_machine.specs.Steps.{next_action}
-use Rattle.hail_machine.specs.Setups.{object_of, stripes_of}
-use Rattle.hail_machine.specs.States.{State, IsStart, setup_in, object_in, file_in}
+use Rattle.hail_machine.specs.Setups.{object_of, stripes_of, pinned_stripes}
+use Rattle.hail_machine.specs.States.{State, IsStart, setup_in, object_in, file_object, file_in}
 use Rattle.hail_machine.specs.Begins.{pinned_file}
 use Rattle.hail_machine.specs.Given.{block_given}
 use Rattle.hail_machine.specs.Runs.{Moment, now, first_moments, is_replaced_since, came, IsRun}
@@ -28,7 +30,6 @@ use Rattle.hail_machine.proofs.JobLists.{number_of, found_none}
 use Rattle.hail_machine.proofs.Events.{changes}
 use Rattle.hail_machine.proofs.Numbers.{audits}
 use Rattle.hail_machine.proofs.Numbers as num
-use Rattle.hail_machine.proofs.RecordFacts.{In}
 use Rattle.hail_machine.proofs.PinFacts.{setup_same}
 use Rattle.hail_machine.proofs.Held.{all}
 use Rattle.run_laws.proofs.InEffect as eff
@@ -45,7 +46,7 @@ use Rattle.mark_laws.specs.Damage.{RoseSince}
 use Rattle.mark_laws.specs.Marks.{IsMark}
 use Rattle.mark_laws.specs.MarkedRuns.{AreMarks}
 use Rattle.mark_laws.proofs.Turns.{turns}
-use Rattle.mark_laws.proofs.Blocks.{clash, no_first_file, no_first_due}
+use Rattle.mark_laws.proofs.Blocks.{no_first_file, no_first_due}
 use Rattle.mark_laws.proofs.Places.{read_within}
 use Rattle.mark_laws.proofs.EveryRun.{always}
 use Rattle.mark_laws.proofs.Points.{Facts, begin_of, mark_of}
@@ -63,7 +64,7 @@ start_moment start clean = record {
   before = record {
     early = omega arith;
     puts = λ k j name bytes h kind. absurd (found_none start.jobs k j clean.jobs h);
-    doubts = λ d id size h e. absurd (clash start.doubt d h clean.doubt);
+    doubts = λ d id size h e. absurd (some-not-none start.doubt d h clean.doubt);
   };
   clear = λ q f i s h l k bad. absurd (no_first_file start.records q f clean.records h);
 }
@@ -82,10 +83,10 @@ start_facts mark start clean moment = record {
 start_audited : (start : State) → IsStart start → Audited start []
 start_audited start clean = record {
   audit = λ k j h kind. absurd (found_none start.jobs k j clean.jobs h);
-  audit_doubt = λ d number u c h e. absurd (clash start.doubt d h clean.doubt);
+  audit_doubt = λ d number u c h e. absurd (some-not-none start.doubt d h clean.doubt);
   due = λ u h. absurd (no_first_due start.records u clean.records h);
   repair = λ k j h kind. absurd (found_none start.jobs k j clean.jobs h);
-  repair_doubt = λ d number h e. absurd (clash start.doubt d h clean.doubt);
+  repair_doubt = λ d number h e. absurd (some-not-none start.doubt d h clean.doubt);
 }
 
 -- calm, of a job that runs now
@@ -192,7 +193,7 @@ module _ (limit : ℕ) (mark : Mark) (start : State) (m : Moment) (ms : List Mom
     own_bytes = (always limit start clean ms run.2).pinned job.number job (pinned_file (begin_of start ms job) file) runs in_file
 
     -- where no count rose, few providers gave a wrong block of a stripe of which all were asked
-    few : ((i : ℕ) → i < (setup_in (begin_of start ms job)).n → RoseSince (begin_of start ms job) (now start ms) i → ⊥) → (stripe : ℕ) → stripe < stripes (object_in (begin_of start ms job) file.id) (length ((begin_of start ms job).bytes file.id)) →
+    few : ((i : ℕ) → i < (setup_in (begin_of start ms job)).n → RoseSince (begin_of start ms job) (now start ms) i → ⊥) → (stripe : ℕ) → stripe < stripes (file_object (begin_of start ms job) file) (length ((begin_of start ms job).bytes file.id)) →
         ((i : ℕ) → i < (setup_in (now start ms)).n → HasMade (setup_in (now start ms)) job (Fetch i file.id stripe)) → IsFewWrong (begin_of start ms job) file job stripe
     few none stripe below asked =
         (let w = count_of-within (is_wrong_given (begin_of start ms job) file job stripe) (λ i. is_replaced_since (mark_of mark ms job) i ms) 0 (setup_in (begin_of start ms job)).n (λ i l wrong. one i (omega (arith, l)) wrong) in
@@ -208,16 +209,16 @@ module _ (limit : ℕ) (mark : Mark) (start : State) (m : Moment) (ms : List Mom
             let given = given_block job.given i file.id stripe g.0 g.1 in
             let s : stripe < stripes_of (setup_in (now start ms)) (length ((now start ms).bytes file.id)) =
             subst (λ (t : Setup). stripe < stripes_of t (length ((now start ms).bytes file.id))) (sym setup) (subst (λ (y : List ℕ). stripe < stripes_of (setup_in (begin_of start ms job)) (length y)) own_bytes below) in
-            let now_wrong : is_wrong_block (object_in (now start ms) file.id) ((now start ms).bytes file.id) i stripe (block_given job.given file.id stripe i) ≡ true =
+            let now_wrong : is_wrong_block (file_object (now start ms) file) ((now start ms).bytes file.id) i stripe (block_given job.given file.id stripe i) ≡ true =
             subst (λ (t : Setup). is_wrong_block (object_of t file.id) ((now start ms).bytes file.id) i stripe (block_given job.given file.id stripe i) ≡ true) (sym setup)
-            (subst (λ (y : List ℕ). is_wrong_block (object_in (begin_of start ms job) file.id) y i stripe (block_given job.given file.id stripe i) ≡ true) own_bytes wrong) in
+            (subst (λ (y : List ℕ). is_wrong_block (file_object (begin_of start ms job) file) y i stripe (block_given job.given file.id stripe i) ≡ true) own_bytes wrong) in
             elim (F.gave job.number job (pinned_file (begin_of start ms job) file) i stripe (block_given job.given file.id stripe i) runs in_file k s given now_wrong) [
               | inl r ↦ r
               | inr q ↦ absurd (none i l q.1)
             ])
 
-    in_stripes : (stripe : ℕ) → (f : Pinned) × In f job.pinned × (f.id ≡ file.id) × (stripe < stripes_of (setup_in (now start ms)) (length f.bytes)) →
-        stripe < stripes (object_in (begin_of start ms job) file.id) (length ((begin_of start ms job).bytes file.id))
+    in_stripes : (stripe : ℕ) → (f : Pinned) × In f job.pinned × (f.id ≡ file.id) × (stripe < pinned_stripes (setup_in (now start ms)) f) →
+        stripe < stripes (file_object (begin_of start ms job) file) (length ((begin_of start ms job).bytes file.id))
     in_stripes stripe (f, in_f, id_is, l) = elim (subst (In f) pinned in_f) [
       | inl e ↦ subst (λ (t : Setup). stripe < stripes_of t (length ((begin_of start ms job).bytes file.id))) setup (subst (λ (y : List ℕ). stripe < stripes_of (setup_in (now start ms)) (length y)) (ap (λ (x : Pinned). x.bytes) e) l)
       | inr none ↦ absurd none

@@ -1,7 +1,8 @@
 -- What each event does to the record in doubt and its maker, to the begins of audit numbers, and which jobs run on.
-use Rattle.std.proofs.Common.{◌≡◌, ℕ, ◌==◌, Bool, true, false, cond, ◌⊎◌, List, [], ◌∷◌, ◌++◌, Option, Some, None, refl, ap, sym, subst, ◌∙◌, inl, inr}
+use Rattle.std.proofs.Common.{◌≡◌, ℕ, ◌==◌, Bool, true, false, cond, ◌⊎◌, List, [], ◌∷◌, Option, Some, None, refl, ap, sym, subst, ◌∙◌, inl, inr}
 use Rattle.std.specs.Prelude.{IsSome, is_some, nat_lt}
 use Rattle.std.proofs.lemmas.Bool.{ne_eqb, cases_eq, cases_Bool, eqb-true, false≢true}
+use Rattle.plain_facts.proofs.Options.{some-not-none}
 use Rattle.hail_records.specs.Records.{Record, Setup, SetUp, is_setup}
 use Rattle.hail_records.specs.Table.{setup_of}
 use Rattle.hail_devices.specs.Providers.{Held, Provider, with_symbol, without_block, HasPlace}
@@ -17,15 +18,12 @@ use Rattle.hail_machine.specs.Steps.{next_action, holder_of, Acts, ActsOrWaits, 
 use Rattle.hail_machine.specs.Openings.{LeavesDoubt, Stops, Reopens, InitsClosed, InitsBy, Inits, Continues}
 use Rattle.hail_machine.specs.Replacements.{ReplacesAt, ReplacesIf}
 use Rattle.hail_machine.specs.Machine.{Lists, Happens}
-use Rattle.hail_machine.proofs.JobLists.{cond_true, cond_false, same_value, number_of, found_itself}
+use Rattle.hail_machine.proofs.JobLists.{cond_true, cond_false, same_value, number_of, found_itself, still_found}
 
 -- no setup is in effect, as a lookup
 none_up : (o : Option Setup) → is_some o ≡ false → o ≡ None
 none_up None h = refl
 none_up (Some s) h = absurd (false≢true (sym h))
-
-clash : {X : Type 0} (o : Option X) (x : X) → o ≡ Some x → o ≡ None → ⊥
-clash o x a b = (let e : None ≡ Some x = sym b ∙ a in cc)
 
 -- the jobs of other numbers stay
 other_with : (js : List Job) (y : Job) (k : ℕ) → (k ≡ y.number → ⊥) → job_of (with_job js y) k ≡ job_of js k
@@ -46,13 +44,6 @@ other_without (x ∷ js) n k apart = elim (cases_Bool (x.number == n)) [
       ∙ sym (cond_false (x.number == k) (Some x) (job_of js k) (ne_eqb x.number k (λ e. apart (sym e ∙ eqb-true x.number n t)))))
   | inr f ↦ ap (λ l. job_of l k) (cond_false (x.number == n) (without_job js n) (x ∷ without_job js n) f)
       ∙ ap (cond (x.number == k) (Some x)) (other_without js n k apart)
-]
-
-more_with : (js : List Job) (y : Job) (k : ℕ) (j : Job) → job_of js k ≡ Some j → job_of (js ++ y ∷ []) k ≡ Some j
-more_with [] y k j h = absurd (clash None j h refl)
-more_with (x ∷ js) y k j h = elim (cases_Bool (x.number == k)) [
-  | inl t ↦ cond_true (x.number == k) (Some x) (job_of (js ++ y ∷ []) k) t ∙ (sym (cond_true (x.number == k) (Some x) (job_of js k) t) ∙ h)
-  | inr f ↦ cond_false (x.number == k) (Some x) (job_of (js ++ y ∷ []) k) f ∙ more_with js y k j (sym (cond_false (x.number == k) (Some x) (job_of js k) f) ∙ h)
 ]
 
 -- a job that ran goes on as it was, or makes an action, or the vault is closed
@@ -87,7 +78,7 @@ pub record Turns (old new : State) : Type 0 where
 
 module _ (old : State) where
   no_new : (a : Append) → old.append ≡ Some a → old.append ≡ None → ⊥
-  no_new a = clash old.append a
+  no_new a = some-not-none old.append a
 
   same_open : WasOpen old old
   same_open h = (h, λ g. g)
@@ -106,7 +97,7 @@ module _ (old : State) where
 
   -- all jobs are given up and the vault is closed, or nothing is in doubt
   no_doubt : (new : State) → new.doubt ≡ None → (d : Doubt) → new.doubt ≡ Some d → Doubt_now old new d
-  no_doubt new none d h = absurd (clash new.doubt d h none)
+  no_doubt new none d h = absurd (some-not-none new.doubt d h none)
 
   not_open : (new : State) → new.is_open ≡ false → WasOpen old new
   not_open new closed h = absurd (false≢true (sym closed ∙ h))
@@ -129,10 +120,10 @@ module _ (old : State) where
     left_out js jobs k apart = ap (λ l. job_of l k) jobs ∙ other_without old.jobs job.number k apart
 
     was_moved : (b : Append) → old.append ≡ Some b → (append : Option Append) (a : Append) → append ≡ Some a → old.append ≡ None → ⊥
-    was_moved b flight append a h none = clash old.append b flight none
+    was_moved b flight append a h none = some-not-none old.append b flight none
 
     none_now : (append : Option Append) → append ≡ None → (a : Append) → append ≡ Some a → old.append ≡ None → ⊥
-    none_now append is a h none = clash append a h is
+    none_now append is a h none = some-not-none append a h is
 
     first_job : (entry : Record) (a : Append) → Some (record { job = job.number; entry = entry; moves = 1 }) ≡ Some a → a.job ≡ job.number
     first_job entry a h = (let e : record { job = job.number; entry = entry; moves = 1 } ≡ a = cc in sym (ap (λ (x : Append). x.job) e))
@@ -156,7 +147,7 @@ module _ (old : State) where
         new.doubt ≡ old.doubt → new.records ≡ old.records → new.audits ≡ old.audits → (new.append ≡ old.append) ⊎ (new.append ≡ None) → WasOpen old new → Turns old new
     ends action new next_is gate jobs doubt records audits append is_open = record {
       doubt = λ d h. Doubt_now.kept (sym doubt ∙ h) records;
-      audits = Audits_are.undrawn audits (λ a h none. elim append [ inl e ↦ no_new a (sym e ∙ h) none | inr e ↦ clash new.append a h e ]);
+      audits = Audits_are.undrawn audits (λ a h none. elim append [ inl e ↦ no_new a (sym e ∙ h) none | inr e ↦ some-not-none new.append a h e ]);
       opened = λ d h. is_open;
       stay = stay_by action new next_is (λ e. inr (gate e)) (left_out new.jobs jobs);
     }
@@ -174,7 +165,7 @@ module _ (old : State) where
       opened = λ d h. same_open;
       stay = stay_by WriteBody _ next_is (λ e. absurd (let z : WriteBody ≡ SyncGate = e in cc)) (went _ _ refl refl);
     })
-    moves WriteBody (Some a) r new next_is flight free h = absurd (clash (Some a.job) a.job refl free)
+    moves WriteBody (Some a) r new next_is flight free h = absurd (some-not-none (Some a.job) a.job refl free)
     moves WriteBody None (Ended answer.DiskFault) new next_is flight free (faults, low, rose, is) =
         ends WriteBody new next_is (λ e. absurd (let z : WriteBody ≡ SyncGate = e in cc)) (ap (λ (w : State). w.jobs) is) (ap (λ (w : State). w.doubt) is) (ap (λ (w : State). w.records) is) (ap (λ (w : State). w.audits) is) (inr (ap (λ (w : State). w.append) is))
         (subst (WasOpen old) (sym is) (λ h. (h, λ g. absurd (false≢true (sym g)))))
@@ -265,7 +256,7 @@ module _ (old : State) where
     doubt = λ d g. Doubt_now.kept g refl;
     audits = Audits_are.undrawn refl no_new;
     opened = λ d g. same_open;
-    stay = λ k j g. Stay_is.stayed (more_with old.jobs (new_job old moment kind) k j g);
+    stay = λ k j g. Stay_is.stayed (still_found old.jobs (new_job old moment kind) k j g);
   })
   begins limit moment kind r new h = absurd h
 
@@ -298,8 +289,8 @@ module _ (old : State) where
       ((k : ℕ) (j : Job) → job_of old.jobs k ≡ Some j → Stay_is old new k j) → Turns old new
   settles_all left new doubt append audits append_is stay = record {
     doubt = no_doubt new doubt;
-    audits = Audits_are.undrawn audits (λ a h none. elim append_is [ inl e ↦ clash new.append a h (append ∙ e) | inr e ↦ no_new a (sym (append ∙ e) ∙ h) none ]);
-    opened = λ d h. absurd (clash new.doubt d h doubt);
+    audits = Audits_are.undrawn audits (λ a h none. elim append_is [ inl e ↦ some-not-none new.append a h (append ∙ e) | inr e ↦ no_new a (sym (append ∙ e) ∙ h) none ]);
+    opened = λ d h. absurd (some-not-none new.doubt d h doubt);
     stay = stay;
   }
 
@@ -311,7 +302,7 @@ module _ (old : State) where
   gives_up : (new : State) → new.doubt ≡ old.doubt → new.records ≡ old.records → new.append ≡ None → new.audits ≡ old.audits → new.is_open ≡ false → Turns old new
   gives_up new doubt records append audits closed = record {
     doubt = λ d h. Doubt_now.kept (sym doubt ∙ h) records;
-    audits = Audits_are.undrawn audits (λ a h none. clash new.append a h append);
+    audits = Audits_are.undrawn audits (λ a h none. some-not-none new.append a h append);
     opened = λ d h. not_open new closed;
     stay = λ k j h. Stay_is.shut closed;
   }

@@ -1,8 +1,10 @@
 -- Blocks that are wrong, and replacements of their providers.
 --
---   IsBad w id j stripe         == provider j tells of a stripe of an object that it holds a wrong block, or none
+--   IsBad w id j stripe         == provider j tells of a stripe of an object that it holds a wrong block,
+--                                  or none
 --   IsReplaced from j ms        == provider j was replaced by the event of number `from` or a later one
---   RoseSince w v j             == the count of failed fetches, asks and removals of provider j rose from one state to another
+--   RoseSince w v j             == the count of failed fetches, asks and removals of provider j rose from
+--                                  one state to another
 use Rattle.std.specs.Prelude.{◌≡◌, ℕ, true, List, Option, Some}
 use Rattle.hail_columns.specs.Columns.{is_wrong_block}
 use Rattle.hail_devices.specs.Faults.{Rose}
@@ -12,7 +14,9 @@ use Rattle.hail_machine.specs.Deeds.{told_block}
 
 -- a provider tells that it holds a wrong block of a stripe of an object, or none
 abbrev pub IsBad : State → ℕ → ℕ → ℕ → Type 0
-IsBad w id j stripe = (block : Option (List ℕ)) × (told_block w j id stripe ≡ Some block) × (is_wrong_block (object_in w id) (w.bytes id) j stripe block ≡ true)
+IsBad w id j stripe =
+    (block : Option (List ℕ)) × (told_block w j id stripe ≡ Some block)
+    × (is_wrong_block (object_in w id) (w.bytes id) j stripe block ≡ true)
 
 -- a provider was replaced by the event of this number or a later one
 abbrev pub IsReplaced : ℕ → ℕ → List Moment → Type 0

@@ -1,8 +1,10 @@
 -- Runs of providers that tell what they hold, which are calm.
 --
 --   AreMarks mark start ms           == at each moment the mark is one
---   IsMarkedRun limit mark start ms  == a run from a start, of providers that tell, calm by a mark that is one at each moment
---   IsCalmRun limit start ms         == the same with the begin of the last settled audit, where no audit missed damage
+--   IsMarkedRun limit mark start ms  == a run from a start, of providers that tell, calm by a mark that is
+--                                       one at each moment
+--   IsCalmRun limit start ms         == the same with the begin of the last settled audit, where no audit
+--                                       missed damage
 use Rattle.std.specs.Prelude.{ℕ, List, [], ◌∷◌}
 use Rattle.hail_machine.specs.States.{State, IsStart}
 use Rattle.hail_machine.specs.Runs.{Moment, IsRun}

@@ -1,13 +1,17 @@
 -- Moments since which all damage of files in effect is new.
 --
---   WasWrong w j id               == provider j was wrong for a file that was in effect in this state under the object number
+--   WasWrong w j id               == provider j was wrong for a file that was in effect in this state under
+--                                    the object number
 --   WrongAt start ms from j id stripe  == so it was in the state after so many events
 --   IsFlaggedBy w counts j id stripe   == the counts flag provider j
 --   Remains w job j id stripe     == a repair that flags provider j has still to make its store of this block
 --   Never j id stripe             == nothing is exempt
---   PrecedesPuts start ms from    == a moment not after now: no put that runs, or whose record is in doubt, began before it
---   IsClear start ms from IsExempt  == each provider with a bad block of a file in effect was replaced since, or the block is exempt
---   IsMark start ms from          == both, and nothing is exempt: all damage of files in effect is new since then
+--   PrecedesPuts start ms from    == a moment not after now: no put that runs, or whose record is in doubt,
+--                                    began before it
+--   IsClear start ms from IsExempt  == each provider with a bad block of a file in effect was replaced
+--                                      since, or the block is exempt
+--   IsMark start ms from          == both, and nothing is exempt: all damage of files in effect is new
+--                                    since then
 use Rattle.std.specs.Prelude.{◌≡◌, ◌⊎◌, ℕ, ◌<◌, ◌≤◌, true, List, length, Some, slice_get}
 use Rattle.hail_columns.specs.Objects.{stripes}
 use Rattle.hail_columns.specs.Verdicts.{is_flagged}
@@ -15,7 +19,7 @@ use Rattle.hail_records.specs.Records.{PutDone}
 use Rattle.hail_records.specs.Table.{File}
 use Rattle.hail_machine.specs.Jobs.{PutJob, Job, job_of}
 use Rattle.hail_machine.specs.Actions.{Store, actions_of}
-use Rattle.hail_machine.specs.States.{State, Doubt, setup_in, object_in, file_in}
+use Rattle.hail_machine.specs.States.{State, Doubt, setup_in, object_in, file_object, file_in}
 use Rattle.hail_machine.specs.Runs.{Moment, now, first_moments}
 use Rattle.hail_machine.specs.Missed.{is_wrong_now}
 use Rattle.hail_machine.specs.Halves.{begun_of}
@@ -40,7 +44,8 @@ IsFlaggedBy w counts j id stripe = is_flagged (setup_in w).tolerance counts j �
 -- a repair has still to make a store
 abbrev pub Remains : State → Job → ℕ → ℕ → ℕ → Type 0
 Remains w job j id stripe =
-    (job.flagged j ≡ true) × ((place : ℕ) × (job.place ≤ place) × (slice_get (actions_of (setup_in w) job) place ≡ Some (Store j id stripe)))
+    (job.flagged j ≡ true) × ((place : ℕ) × (job.place ≤ place)
+    × (slice_get (actions_of (setup_in w) job) place ≡ Some (Store j id stripe)))
 
 -- nothing is exempt
 abbrev pub Never : ℕ → ℕ → ℕ → Type 0
@@ -49,14 +54,18 @@ Never j id stripe = ⊥
 -- no put that works began before a moment
 pub record PrecedesPuts (start : State) (ms : List Moment) (from : ℕ) : Type 0 where
   pub early : from ≤ length ms
-  pub puts : (number : ℕ) (job : Job) (name bytes : List ℕ) → job_of (now start ms).jobs number ≡ Some job → job.kind ≡ PutJob name bytes → from ≤ job.begun
-  pub doubts : (d : Doubt) (id size : ℕ) → (now start ms).doubt ≡ Some d → d.entry ≡ PutDone id size → from ≤ begun_of d.maker
+  pub puts : (number : ℕ) (job : Job) (name bytes : List ℕ) → job_of (now start ms).jobs number ≡ Some job
+      → job.kind ≡ PutJob name bytes → from ≤ job.begun
+  pub doubts : (d : Doubt) (id size : ℕ) → (now start ms).doubt ≡ Some d → d.entry ≡ PutDone id size
+      → from ≤ begun_of d.maker
 
 -- each provider with a bad block of a file in effect was replaced since a moment, or the block is exempt
 abbrev pub IsClear : State → List Moment → ℕ → (ℕ → ℕ → ℕ → Type 0) → Type 0
 IsClear start ms from IsExempt =
-    (name : List ℕ) (file : File) (j stripe : ℕ) → file_in (now start ms) name ≡ Some file → j < (setup_in (now start ms)).n →
-    stripe < stripes (object_in (now start ms) file.id) (length ((now start ms).bytes file.id)) → IsBad (now start ms) file.id j stripe →
+    (name : List ℕ) (file : File) (j stripe : ℕ) → file_in (now start ms) name ≡ Some file
+    → j < (setup_in (now start ms)).n →
+    stripe < stripes (file_object (now start ms) file) (length ((now start ms).bytes file.id))
+    → IsBad (now start ms) file.id j stripe →
     IsReplaced from j ms ⊎ IsExempt j file.id stripe
 
 -- a moment since which all damage of files in effect is new

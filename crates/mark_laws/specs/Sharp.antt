@@ -1,7 +1,8 @@
 -- How gets end in a run that is calm by a mark, whatever counts rose.
 --
---   GivesOrIsLost begin_state end_state name answer  == a get gave the bytes in effect under its name at its begin; or it is lost, and of
---                                         some provider the count of failed fetches, asks and removals rose since that begin
+--   GivesOrIsLost begin_state end_state name answer  == a get gave the bytes in effect under its name at
+--                                         its begin; or it is lost, and of some provider the count of
+--                                         failed fetches, asks and removals rose since that begin
 use Rattle.std.specs.Prelude.{◌≡◌, ◌⊎◌, ℕ, ◌<◌, List, Some}
 use Rattle.hail_records.specs.Table.{File}
 use Rattle.hail_machine.specs.Answers.{Answer, Got, Lost}

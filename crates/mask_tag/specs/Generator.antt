@@ -6,7 +6,8 @@ use Rattle.rand_chacha.specs.ChaCha.{ChaCha, word_at}
 abbrev pub next_symbol : ChaCha → ℕ
 next_symbol g =
     word_at 10 g.key g.stream g.word_pos + word_at 10 g.key g.stream (g.word_pos + 1) * 2 ^ 32
-    + word_at 10 g.key g.stream (g.word_pos + 2) * 2 ^ 64 + word_at 10 g.key g.stream (g.word_pos + 3) * 2 ^ 96
+    + word_at 10 g.key g.stream (g.word_pos + 2) * 2 ^ 64
+    + word_at 10 g.key g.stream (g.word_pos + 3) * 2 ^ 96
 
 -- the generator some words further on
 abbrev pub moved_on : ChaCha → ℕ → ChaCha

@@ -1,6 +1,7 @@
 -- The theorems of the laws, from the lemmas.
 use Rattle.std.proofs.Common.{◌≡◌, ◌≢◌, ◌≤◌, ◌+◌, ◌*◌, ℕ, ◌∙◌, arith, List, [], ◌∷◌, length, Option, Some, None, get_or}
-use Rattle.field_laws.specs.Field.{FieldOf, IsField, Each, Apart, IsEndless}
+use Rattle.plain_facts.specs.Lists.{Each}
+use Rattle.field_laws.specs.Field.{FieldOf, IsField, Apart, IsEndless}
 use Rattle.poly_laws.specs.Poly.{value, vanish, interpolate, Takes, agree, present, trim, quotient, remainder, FirstRow}
 use Rattle.poly_laws.specs.Rows.{IsKeyEquation}
 use Rattle.poly_laws.proofs.Roots.{plus_zero}

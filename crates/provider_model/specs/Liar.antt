@@ -9,9 +9,13 @@ abbrev pub held_of : Liar → Held
 held_of liar = blocks_of liar.blocks
 
 -- the symbol that it adds
-abbrev pub symbol_of : Liar → ℕ
-symbol_of liar = liar.symbol
+abbrev pub added_symbol : Liar → ℕ
+added_symbol liar = liar.symbol
 
 -- how often it was fetched from
 abbrev pub fetches_of : Liar → ℕ
 fetches_of liar = liar.fetches
+
+-- how often it was called
+abbrev pub calls_made : Liar → ℕ
+calls_made liar = liar.calls

@@ -11,3 +11,7 @@ held_of provider = blocks_of provider.blocks
 -- how often it was fetched from
 abbrev pub fetches_of : SureProvider → ℕ
 fetches_of provider = provider.fetches
+
+-- how often it was called
+abbrev pub calls_made : SureProvider → ℕ
+calls_made provider = provider.calls

@@ -70,7 +70,8 @@ impl HeldBlocks {
         stripe: u32,
         block: &[Symbol],
     ) -> Result<(), AllocError>
-        ensures ok { OnOk result (blocks_of self.new ≡ with_block object stripe block.now (blocks_of self.old)) }
+        ensures ok { OnOk result (blocks_of self.new ≡ with_block object stripe block.now
+            (blocks_of self.old)) }
         ensures err { OnErr result (blocks_of self.new ≡ blocks_of self.old) }
     {
         let block = block.to_vec(alloc)?;
@@ -88,7 +89,8 @@ impl HeldBlocks {
     /// Takes away one block, and answers whether it was there.
     pub fn take_block(&mut self, object: u64, stripe: u32) -> bool
         ensures there { IsTrue result ↔ IsSome (blocks_of self.old object stripe) }
-        ensures held { blocks_of self.new ≡ (if result then without_block object stripe (blocks_of self.old) else blocks_of self.old) }
+        ensures held { blocks_of self.new
+            ≡ (if result then without_block object stripe (blocks_of self.old) else blocks_of self.old) }
     {
         self.blocks.remove(&(object, stripe)).is_some()
     }
@@ -96,7 +98,9 @@ impl HeldBlocks {
     /// Replaces one symbol, and answers whether it was there.
     pub fn put(&mut self, object: u64, stripe: u32, place: u32, symbol: Symbol) -> bool
         ensures there { IsTrue result ↔ HasPlace (blocks_of self.old object stripe) place }
-        ensures held { blocks_of self.new ≡ (if result then with_symbol object stripe place symbol (blocks_of self.old) else blocks_of self.old) }
+        ensures held { blocks_of self.new
+            ≡ (if result then with_symbol object stripe place symbol (blocks_of self.old)
+            else blocks_of self.old) }
     {
         match self.blocks.get_mut(&(object, stripe)) {
             Some(block) => put_symbol(block, place as usize, symbol),

@@ -4,6 +4,7 @@ ghost use Rattle.hail_devices.specs.Providers.{HasSize, sized};
 
 /// A fetch gives the held block of the size, or none: what it answered and what `out` then had say which.
 pub fn fetch_gives()
-    ensures { (size : ℕ) (held : Option (List ℕ)) (found : Bool) (out : List ℕ) → (IsTrue found ↔ HasSize size held)
+    ensures { (size : ℕ) (held : Option (List ℕ)) (found : Bool) (out : List ℕ)
+        → (IsTrue found ↔ HasSize size held)
         → (IsTrue found → held ≡ Some out) → (if found then Some out else None) ≡ sized size held }
 {}

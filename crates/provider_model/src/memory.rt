@@ -69,16 +69,21 @@ impl Provider for MemProvider {
 
     ghost fetches = { λ provider. fetches_of provider };
 
+    ghost calls = { λ provider. (calls_of provider).made };
+
     fn store(&mut self, object: u64, stripe: u32, block: &[Symbol]) -> Result<(), StoreFault>
         ensures ok { OnOk result (held_of self.new ≡ with_block object stripe block.now (held_of self.old)) }
         ensures err { OnErr result (held_of self.new ≡ held_of self.old) }
-        ensures cause { HasCause (store_faults_of self.old) (store_faults_of self.new) (IsErrOf result store_fault.Failed) }
+        ensures cause { HasCause (store_faults_of self.old) (store_faults_of self.new)
+            (IsErrOf result store_fault.Failed) }
         ensures no_other_fault { other_faults_of self.new ≡ other_faults_of self.old }
         ensures no_fetch { fetches_of self.new ≡ fetches_of self.old }
 
         ensures fails { IsErrOf result store_fault.Failed ↔ IsTrue (fails_next (calls_of self.old)) }
         ensures counted_call { calls_of self.new ≡ called (calls_of self.old) }
-        ensures counted_fault { store_faults_of self.new ≡ (if fails_next (calls_of self.old) then one_more (store_faults_of self.old) else store_faults_of self.old) }
+        ensures counted_fault { store_faults_of self.new
+            ≡ (if fails_next (calls_of self.old) then one_more (store_faults_of self.old)
+            else store_faults_of self.old) }
     {
         if self.calls.next() {
             self.store_faults = self.store_faults.saturating_add(1);
@@ -88,7 +93,8 @@ impl Provider for MemProvider {
     }
 
     fn fetch(&mut self, object: u64, stripe: u32, out: &mut [Symbol]) -> Result<bool, Failed>
-        ensures found { IfOk result (λ found. IsTrue found ↔ HasSize (length out.old) (held_of self.old object stripe)) }
+        ensures found { IfOk result (λ found. IsTrue found ↔ HasSize (length out.old)
+            (held_of self.old object stripe)) }
         ensures block { IfOk result (λ found. IsTrue found → held_of self.old object stripe ≡ Some out.new) }
         ensures not_found { IfOk result (λ found. found ≡ false → out.new ≡ out.old) }
         ensures err { OnErr result (out.new ≡ out.old) }
@@ -99,7 +105,9 @@ impl Provider for MemProvider {
 
         ensures fails { IsErr result ↔ IsTrue (fails_next (calls_of self.old)) }
         ensures counted_call { calls_of self.new ≡ called (calls_of self.old) }
-        ensures counted_fault { other_faults_of self.new ≡ (if fails_next (calls_of self.old) then one_more (other_faults_of self.old) else other_faults_of self.old) }
+        ensures counted_fault { other_faults_of self.new
+            ≡ (if fails_next (calls_of self.old) then one_more (other_faults_of self.old)
+            else other_faults_of self.old) }
     {
         self.fetches = self.fetches.saturating_add(1);
         if self.calls.next() {
@@ -110,7 +118,8 @@ impl Provider for MemProvider {
     }
 
     fn ask(&mut self, object: u64, challenge: &Challenge) -> Result<Option<Symbol>, Failed>
-        ensures answer { IfOk result (λ answer. answer ≡ honest_answer (asked challenge.now) (held_of self.old object)) }
+        ensures answer { IfOk result
+            (λ answer. answer ≡ honest_answer (asked challenge.now) (held_of self.old object)) }
         ensures same { held_of self.new ≡ held_of self.old }
         ensures cause { HasCause (other_faults_of self.old) (other_faults_of self.new) (IsErr result) }
         ensures no_store_fault { store_faults_of self.new ≡ store_faults_of self.old }
@@ -118,7 +127,9 @@ impl Provider for MemProvider {
 
         ensures fails { IsErr result ↔ IsTrue (fails_next (calls_of self.old)) }
         ensures counted_call { calls_of self.new ≡ called (calls_of self.old) }
-        ensures counted_fault { other_faults_of self.new ≡ (if fails_next (calls_of self.old) then one_more (other_faults_of self.old) else other_faults_of self.old) }
+        ensures counted_fault { other_faults_of self.new
+            ≡ (if fails_next (calls_of self.old) then one_more (other_faults_of self.old)
+            else other_faults_of self.old) }
     {
         if self.calls.next() {
             self.other_faults = self.other_faults.saturating_add(1);
@@ -138,7 +149,9 @@ impl Provider for MemProvider {
 
         ensures fails { IsErr result ↔ IsTrue (fails_next (calls_of self.old)) }
         ensures counted_call { calls_of self.new ≡ called (calls_of self.old) }
-        ensures counted_fault { other_faults_of self.new ≡ (if fails_next (calls_of self.old) then one_more (other_faults_of self.old) else other_faults_of self.old) }
+        ensures counted_fault { other_faults_of self.new
+            ≡ (if fails_next (calls_of self.old) then one_more (other_faults_of self.old)
+            else other_faults_of self.old) }
     {
         if self.calls.next() {
             self.other_faults = self.other_faults.saturating_add(1);
@@ -154,7 +167,9 @@ impl Tamper for MemProvider {
 
     fn alter(&mut self, object: u64, stripe: u32, place: u32, symbol: Symbol) -> bool
         ensures there { IsTrue result ↔ HasPlace (held_of self.old object stripe) place }
-        ensures held { held_of self.new ≡ (if result then with_symbol object stripe place symbol (held_of self.old) else held_of self.old) }
+        ensures held { held_of self.new
+            ≡ (if result then with_symbol object stripe place symbol (held_of self.old)
+            else held_of self.old) }
         ensures no_store_fault { store_faults_of self.new ≡ store_faults_of self.old }
         ensures no_fault { other_faults_of self.new ≡ other_faults_of self.old }
         ensures no_fetch { fetches_of self.new ≡ fetches_of self.old }
@@ -165,7 +180,8 @@ impl Tamper for MemProvider {
 
     fn lose(&mut self, object: u64, stripe: u32) -> bool
         ensures there { IsTrue result ↔ IsSome (held_of self.old object stripe) }
-        ensures held { held_of self.new ≡ (if result then without_block object stripe (held_of self.old) else held_of self.old) }
+        ensures held { held_of self.new
+            ≡ (if result then without_block object stripe (held_of self.old) else held_of self.old) }
         ensures no_store_fault { store_faults_of self.new ≡ store_faults_of self.old }
         ensures no_fault { other_faults_of self.new ≡ other_faults_of self.old }
         ensures no_fetch { fetches_of self.new ≡ fetches_of self.old }

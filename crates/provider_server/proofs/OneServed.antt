@@ -1,13 +1,15 @@
 -- One provider of those handed in is served.
-use Rattle.std.proofs.Common.{◌≡◌, ◌≢◌, ◌⊎◌, inl, inr, ℕ, zero, suc, ◌<◌, ◌≤◌, Bool, true, false, List, [], ◌∷◌, length, Option, Some, None, refl, sym, ap, subst, ◌∙◌, arith}
-use Rattle.std.specs.Prelude.{map, slice_get, slice_set, unwrap_or, ◌==◌}
+use Rattle.std.proofs.Common.{◌≡◌, ◌≢◌, inl, inr, ℕ, zero, suc, ◌≤◌, List, [], ◌∷◌, length, Option, Some, None, refl, sym, ap, subst, ◌∙◌, arith}
+use Rattle.std.specs.Prelude.{map, slice_get, slice_set, unwrap_or}
 use Rattle.std.specs.Option.{option_map}
 use Rattle.std.proofs.lemmas.Bool.{cases_lt}
 use Rattle.std.proofs.lemmas.Option.{slice_get-map, slice_get_within}
+use Rattle.std.proofs.lemmas.List.{length-set}
+use Rattle.plain_facts.proofs.Lists.{get-set_other}
 use Rattle.hail_devices.specs.Cells.{Cells}
 use Rattle.hail_devices.specs.Faults.{HasCause}
 use Rattle.hail_devices.specs.Providers.{Provider}
-use Rattle.hail_commands.specs.Seen.{Seen, Ending, NoCountFalls, nobody, provider_at}
+use Rattle.hail_commands.specs.Seen.{NoCountFalls, nobody, provider_at, seen}
 use Rattle.hail_wire.specs.Serving.{End, SourceFailed, SinkFailed, HasServed}
 use Rattle.hail_wire.specs.Requests.{Request}
 use Rattle.hail_wire.specs.Replies.{Reply, Serves as ServesRequests}
@@ -15,8 +17,8 @@ use Rattle.provider_wire.specs.Ends.{end_of}
 use Rattle.provider_wire.specs.declared.end.ServeEnd.{ServeEnd}
 use Rattle.provider_wire.specs.declared.end.ServeEnd.TheVariants as serve_end
 use Rattle.provider_server.specs.Answers as answers
-use Rattle.provider_server.specs.Answers.{status_of, place_of, OnlyServes, Serves, AnswersServe}
-use Rattle.provider_server.specs.Statuses.{seen, ending_of}
+use Rattle.provider_server.specs.Answers.{served_status, place_of, AnswersServe}
+use Rattle.provider_server.specs.Statuses.{served_ending}
 use Rattle.provider_server.specs.declared.status.Served.{Served}
 
 -- the cause of a fault, by the end that plain data tell
@@ -47,18 +49,6 @@ got_same [] p x y h = (let e : None ≡ Some x = h in cc)
 got_same (z ∷ zs) zero x y h = refl
 got_same (z ∷ zs) (suc p) x y h = got_same zs p x y h
 
-got_other : {X : Type 0} (xs : List X) (p k : ℕ) (y : X) → k ≢ p → slice_get (slice_set xs p y) k ≡ slice_get xs k
-got_other [] p k y other = refl
-got_other (z ∷ zs) zero zero y other = absurd (other refl)
-got_other (z ∷ zs) zero (suc k) y other = refl
-got_other (z ∷ zs) (suc p) zero y other = refl
-got_other (z ∷ zs) (suc p) (suc k) y other = got_other zs p k y (λ e. other (ap suc e))
-
-as_many : {X : Type 0} (xs : List X) (p : ℕ) (y : X) → length (slice_set xs p y) ≡ length xs
-as_many [] p y = refl
-as_many (z ∷ zs) zero y = refl
-as_many (z ∷ zs) (suc p) y = ap suc (as_many zs p y)
-
 many-map : {X Y : Type 0} (f : X → Y) (xs : List X) → length (map f xs) ≡ length xs
 many-map f [] = refl
 many-map f (x ∷ xs) = ap suc (many-map f xs)
@@ -69,7 +59,7 @@ seen-at f xs k x there = ap (λ (o : Option Provider). unwrap_or o nobody) (slic
 
 seen-other : {X : Type 0} (f : X → Provider) (xs : List X) (p k : ℕ) (y : X) → k ≢ p → provider_at (map f (slice_set xs p y)) k ≡ provider_at (map f xs) k
 seen-other f xs p k y other =
-    ap (λ (o : Option Provider). unwrap_or o nobody) (slice_get-map f (slice_set xs p y) k ∙ ap (option_map f) (got_other xs p k y other) ∙ sym (slice_get-map f xs k))
+    ap (λ (o : Option Provider). unwrap_or o nobody) (slice_get-map f (slice_set xs p y) k ∙ ap (option_map f) (get-set_other xs p k y other) ∙ sym (slice_get-map f xs k))
 
 module _ {X : Type 0} (f : X → Provider) (ps : List X) (p : ℕ) (old new : X) (there : slice_get ps p ≡ Some old)
     (left left' : Option (List ℕ)) (reads reads' : ℕ) (written written' : Option (List ℕ)) (writes writes' : ℕ) (how : End)
@@ -82,12 +72,12 @@ module _ {X : Type 0} (f : X → Provider) (ps : List X) (p : ℕ) (old new : X)
   after = seen-at f (slice_set ps p new) p new (got_same ps p old new there)
 
   handed : length (map f (slice_set ps p new)) ≡ length (map f ps)
-  handed = many-map f (slice_set ps p new) ∙ as_many ps p new ∙ sym (many-map f ps)
+  handed = many-map f (slice_set ps p new) ∙ length-set ps p new ∙ sym (many-map f ps)
 
-  pub served-answers : (number : ℕ) → p ≡ number → (end : Served) → end.status ≡ status_of how → end.at ≡ place_of how → (disk : Option Cells) (disk_faults : ℕ)
-      → AnswersServe number (seen disk disk_faults (map f ps) left reads written writes) (seen disk disk_faults (map f (slice_set ps p new)) left' reads' written' writes') (ending_of end)
+  pub served-answers : (number : ℕ) → p ≡ number → (end : Served) → end.status ≡ served_status how → end.at ≡ place_of how → (disk : Option Cells) (disk_faults : ℕ)
+      → AnswersServe number (seen disk disk_faults (map f ps) left reads written writes) (seen disk disk_faults (map f (slice_set ps p new)) left' reads' written' writes') (served_ending end)
   served-answers number same end status place disk disk_faults =
-      subst (λ (k : ℕ). AnswersServe k (seen disk disk_faults (map f ps) left reads written writes) (seen disk disk_faults (map f (slice_set ps p new)) left' reads' written' writes') (ending_of end)) same
+      subst (λ (k : ℕ). AnswersServe k (seen disk disk_faults (map f ps) left reads written writes) (seen disk disk_faults (map f (slice_set ps p new)) left' reads' written' writes') (served_ending end)) same
       (answers.served (omega (arith, many-map f ps, slice_get_within ps p old there)) (record {
         how = how;
         status_is = status;

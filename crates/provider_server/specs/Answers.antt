@@ -1,22 +1,23 @@
 -- How `serve` ends.
 --
---   status_of end, place_of end == the status of a server's end, and the offset that it speaks of
+--   served_status end, place_of end == the status of a server's end, and the offset that it speaks of
 --   OnlyServes number old new == no device was touched but the source, the sink and this provider
---   Serves number old new end == the requests that the source gives were served with this provider
---   AnswersServe number old new end == `serve`: 22 exactly where the provider was not handed in, unless there was no memory for the words
+--   ServesRequests number old new end == the requests that the source gives were served with this provider
+--   AnswersServe number old new end == `serve`: 22 exactly where the provider was not handed in, unless
+--                                      there was no memory for the words
 use Rattle.std.specs.Prelude.{◌≡◌, ◌≢◌, ℕ, ◌<◌, ◌≤◌, List, [], length}
 use Rattle.hail_devices.specs.Faults.{HasCause}
 use Rattle.hail_commands.specs.Seen.{Seen, Ending, provider_at}
 use Rattle.hail_wire.specs.Serving.{End, Finished, BadAt, TooMany, SourceFailed, SinkFailed, OutOfMemory, HasServed}
 
 -- the status of a server's end
-abbrev pub status_of : End → ℕ
-status_of Finished = 0
-status_of (BadAt at) = 25
-status_of TooMany = 16
-status_of SourceFailed = 14
-status_of SinkFailed = 15
-status_of OutOfMemory = 70
+abbrev pub served_status : End → ℕ
+served_status Finished = 0
+served_status (BadAt at) = 25
+served_status TooMany = 16
+served_status SourceFailed = 14
+served_status SinkFailed = 15
+served_status OutOfMemory = 70
 
 -- the offset that the status speaks of
 abbrev pub place_of : End → ℕ
@@ -35,12 +36,13 @@ pub record OnlyServes (number : ℕ) (old new : Seen) : Type 0 where
   pub others : (k : ℕ) → k ≢ number → provider_at new.providers k ≡ provider_at old.providers k
 
 -- the requests that the source gives were served with this provider, and the answers written
-pub record Serves (number : ℕ) (old new : Seen) (end : Ending) : Type 0 where
+pub record ServesRequests (number : ℕ) (old new : Seen) (end : Ending) : Type 0 where
   pub how : End
-  pub status_is : end.status ≡ status_of how
+  pub status_is : end.status ≡ served_status how
   pub place : end.at ≡ place_of how
   pub heard : end.heard ≡ []
-  pub served : HasServed how old.source new.source (provider_at old.providers number) (provider_at new.providers number) old.sink new.sink
+  pub served : HasServed how old.source new.source (provider_at old.providers number)
+      (provider_at new.providers number) old.sink new.sink
   pub source : HasCause old.source_faults new.source_faults (how ≡ SourceFailed)
   pub sink : HasCause old.sink_faults new.sink_faults (how ≡ SinkFailed)
   pub only : OnlyServes number old new
@@ -48,5 +50,6 @@ pub record Serves (number : ℕ) (old new : Seen) (end : Ending) : Type 0 where
 -- a `serve`; where there was no memory for its words nothing is touched
 pub data AnswersServe (number : ℕ) (old new : Seen) (end : Ending) : Type 0 where
   no_memory : end ≡ record { status = 70; at = 0; heard = [] } → new ≡ old → AnswersServe number old new end
-  too_few : length old.providers ≤ number → end ≡ record { status = 22; at = 0; heard = [] } → new ≡ old → AnswersServe number old new end
-  served : number < length old.providers → Serves number old new end → AnswersServe number old new end
+  too_few : length old.providers ≤ number → end ≡ record { status = 22; at = 0; heard = [] } → new ≡ old
+      → AnswersServe number old new end
+  served : number < length old.providers → ServesRequests number old new end → AnswersServe number old new end

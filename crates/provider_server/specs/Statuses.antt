@@ -6,17 +6,5 @@ use Rattle.hail_commands.specs.Seen.{Seen, Ending}
 use Rattle.provider_server.specs.declared.status.Served.{Served}
 
 -- how it ended
-abbrev pub ending_of : Served → Ending
-ending_of end = record { status = end.status; at = end.at; heard = [] }
-
--- what is seen of all devices
-abbrev pub seen : Option Cells → ℕ → List Provider → Option (List ℕ) → ℕ → Option (List ℕ) → ℕ → Seen
-seen disk disk_faults providers left read_faults written write_faults = record {
-  disk = disk;
-  disk_faults = disk_faults;
-  providers = providers;
-  source = left;
-  source_faults = read_faults;
-  sink = written;
-  sink_faults = write_faults;
-}
+abbrev pub served_ending : Served → Ending
+served_ending end = record { status = end.status; at = end.at; heard = [] }

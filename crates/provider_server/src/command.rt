@@ -1,9 +1,9 @@
 ghost use Rattle.std.specs.Prelude.{ℕ, Option, map};
 ghost use Rattle.hail_devices.specs.Cells.{Cells};
-ghost use Rattle.hail_commands.specs.Seen.{NoCountFalls};
-ghost use Rattle.provider_wire.specs.Seen.{as_seen};
+ghost use Rattle.hail_commands.specs.Seen.{NoCountFalls, seen};
+ghost use Rattle.provider_model.specs.Seen.{provider_seen};
 ghost use Rattle.provider_server.specs.Answers.{AnswersServe};
-ghost use Rattle.provider_server.specs.Statuses.{seen, ending_of};
+ghost use Rattle.provider_server.specs.Statuses.{served_ending};
 
 use crate::status::{Served, TOO_FEW_PROVIDERS, told};
 use provider_model::Provider;
@@ -22,14 +22,14 @@ pub fn serve_at<P: Provider, S: Source, K: Sink>(
     sink: &mut K,
 ) -> Served
     ensures answers { (disk : Option Cells) (disk_faults : ℕ) → AnswersServe number
-        (seen disk disk_faults (map (as_seen P.held P.store_faults P.other_faults P.fetches) providers.old) (S.left source.old)
+        (seen disk disk_faults (map (provider_seen P.Provider) providers.old) (S.left source.old)
         (S.faults source.old) (K.written sink.old) (K.faults sink.old))
-        (seen disk disk_faults (map (as_seen P.held P.store_faults P.other_faults P.fetches) providers.new) (S.left source.new)
-        (S.faults source.new) (K.written sink.new) (K.faults sink.new)) (ending_of result) }
+        (seen disk disk_faults (map (provider_seen P.Provider) providers.new) (S.left source.new)
+        (S.faults source.new) (K.written sink.new) (K.faults sink.new)) (served_ending result) }
     ensures counts { (disk : Option Cells) (disk_faults : ℕ) → NoCountFalls
-        (seen disk disk_faults (map (as_seen P.held P.store_faults P.other_faults P.fetches) providers.old) (S.left source.old)
+        (seen disk disk_faults (map (provider_seen P.Provider) providers.old) (S.left source.old)
         (S.faults source.old) (K.written sink.old) (K.faults sink.old))
-        (seen disk disk_faults (map (as_seen P.held P.store_faults P.other_faults P.fetches) providers.new) (S.left source.new)
+        (seen disk disk_faults (map (provider_seen P.Provider) providers.new) (S.left source.new)
         (S.faults source.new) (K.written sink.new) (K.faults sink.new)) }
 {
     let place = usize::from(number);

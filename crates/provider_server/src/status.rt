@@ -1,7 +1,7 @@
 // The status that a server ends with.
 ghost use Rattle.std.specs.Prelude.{◌≡◌};
 ghost use Rattle.provider_wire.specs.Ends.{end_of};
-ghost use Rattle.provider_server.specs.Answers.{status_of, place_of};
+ghost use Rattle.provider_server.specs.Answers.{served_status, place_of};
 
 use provider_wire::ServeEnd;
 
@@ -35,7 +35,7 @@ pub struct Served {
 
 /// The status that a server's end has.
 pub fn told(end: ServeEnd) -> Served
-    ensures status { result.status ≡ status_of (end_of end) }
+    ensures status { result.status ≡ served_status (end_of end) }
     ensures place { result.at ≡ place_of (end_of end) }
 {
     let status = match end {

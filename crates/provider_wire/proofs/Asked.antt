@@ -1,25 +1,24 @@
 -- The answer to a request over a link that tells what is behind it.
-use Rattle.std.proofs.Common.{◌≡◌, ◌≢◌, ℕ, ◌*◌, Bool, true, false, List, [], ◌∷◌, ◌++◌, length, Option, Some, None, refl, sym, ap, subst, ◌∙◌, arith}
+use Rattle.std.proofs.Common.{◌≡◌, ◌≢◌, ℕ, ◌*◌, Bool, true, false, List, [], ◌∷◌, length, Option, Some, None, refl, sym, ap, subst, ◌∙◌, arith}
 use Rattle.std.specs.Prelude.{◌==◌, if◌then◌else◌}
 use Rattle.std.proofs.lemmas.Bool.{eqb-true}
-use Rattle.hail_columns.specs.Objects.{bytes_of_symbols}
 use Rattle.hail_devices.specs.Told.{Goes}
-use Rattle.hail_devices.specs.Providers.{Held, sized}
-use Rattle.hail_wire.specs.Requests.{Request, Store, Fetch, Ask, Remove, Spells}
-use Rattle.hail_wire.specs.Replies.{Reply, Done, Found, Missing, Failed, NoMemory, Answers, AnswersIn, reply_bytes}
-use Rattle.hail_wire.specs.Links.{Behind, Sends, provider_of}
-use Rattle.provider_wire.specs.Linked.{AskedFor, answer_size, kind_of, tail_of}
-use Rattle.provider_wire.proofs.Symbols.{length-bytes}
+use Rattle.hail_devices.specs.Providers.{sized}
+use Rattle.hail_columns.proofs.SymbolBytes.{length-bytes_of_symbols}
+use Rattle.hail_wire.specs.Requests.{Request, Store, Fetch, Ask, Remove, SpellsRequest}
+use Rattle.hail_wire.specs.Replies.{Reply, Done, Found, Missing, Failed, NoMemory, AnswersRequest, reply_bytes}
+use Rattle.hail_wire.specs.Links.{Behind, Sends, provider_behind}
+use Rattle.provider_wire.specs.Linked.{AskedFor, answer_size, first_byte_of, tail_of}
 
 -- an answer is its first byte and the bytes behind it
-pub parts_of : (a : Reply) → reply_bytes a ≡ kind_of a ∷ tail_of a
+pub parts_of : (a : Reply) → reply_bytes a ≡ first_byte_of a ∷ tail_of a
 parts_of Done = refl
 parts_of (Found symbols) = refl
 parts_of Missing = refl
 parts_of Failed = refl
 parts_of NoMemory = refl
 
-pub no_tail : (a : Reply) → kind_of a ≢ 1 → tail_of a ≡ []
+pub no_tail : (a : Reply) → first_byte_of a ≢ 1 → tail_of a ≡ []
 no_tail Done other = refl
 no_tail (Found symbols) other = absurd (other refl)
 no_tail Missing other = refl
@@ -35,13 +34,13 @@ sized-length size (Some b) symbols e = by_test (length b == size) refl e
     by_test false is same = absurd cc
 
 -- the bytes behind a 1 are those of the symbols asked for
-pub tail_size : (r : Request) (a : Reply) (b new : Behind) → Answers r (provider_of b) a (provider_of new) → kind_of a ≡ 1 → length (tail_of a) ≡ answer_size r
+pub tail_size : (r : Request) (a : Reply) (b new : Behind) → AnswersRequest r (provider_behind b) a (provider_behind new) → first_byte_of a ≡ 1 → length (tail_of a) ≡ answer_size r
 tail_size (Store o s block) Done b new is one = refl
 tail_size (Store o s block) (Found symbols) b new is one = absurd is
 tail_size (Store o s block) Missing b new is one = absurd is
 tail_size (Store o s block) Failed b new is one = absurd (omega (arith, one))
 tail_size (Store o s block) NoMemory b new is one = absurd (omega (arith, one))
-tail_size (Fetch o s size) (Found symbols) b new is one = length-bytes symbols ∙ ap (λ (n : ℕ). 16 * n) (sized-length size (b.held o s) symbols is.gives)
+tail_size (Fetch o s size) (Found symbols) b new is one = length-bytes_of_symbols symbols ∙ ap (λ (n : ℕ). 16 * n) (sized-length size (b.held o s) symbols is.gives)
 tail_size (Fetch o s size) Done b new is one = absurd is
 tail_size (Fetch o s size) Missing b new is one = absurd (omega (arith, one))
 tail_size (Fetch o s size) Failed b new is one = absurd (omega (arith, one))
@@ -69,11 +68,11 @@ sent_to bytes (Some x) (Some m) b g e = (m, refl, subst (λ (y : Behind). Sends 
 pub asked_for : (bytes tail : List ℕ) (old mid now : Option Behind) (result : Option ℕ) (size : ℕ) → Goes (Sends bytes) old mid
     → ((b : Behind) (kind : ℕ) (rest : List ℕ) → mid ≡ Some b → b.due ≡ kind ∷ rest → (kind ≡ 1 → length rest ≡ size) → (kind ≢ 1 → rest ≡ [])
     → (result ≡ Some kind) × (now ≡ Some (record b { due = [] })) × (kind ≡ 1 → tail ≡ rest))
-    → (b : Behind) (r : Request) → old ≡ Some b → b.due ≡ [] → Spells bytes r → size ≡ answer_size r → AskedFor r result tail b now
+    → (b : Behind) (r : Request) → old ≡ Some b → b.due ≡ [] → SpellsRequest bytes r → size ≡ answer_size r → AskedFor r result tail b now
 asked_for bytes tail old mid now result size sent came b r e idle spelled size_is =
     let s = sent_to bytes old mid b sent e in
     let a = s.2 r spelled idle in
-    let got = came s.0 (kind_of a.0) (tail_of a.0) s.1 (a.2 ∙ parts_of a.0) (λ one. tail_size r a.0 b s.0 a.1 one ∙ sym size_is) (no_tail a.0) in
+    let got = came s.0 (first_byte_of a.0) (tail_of a.0) s.1 (a.2 ∙ parts_of a.0) (λ one. tail_size r a.0 b s.0 a.1 one ∙ sym size_is) (no_tail a.0) in
     record {
       reply = a.0;
       new = record s.0 { due = [] };

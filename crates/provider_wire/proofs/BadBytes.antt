@@ -5,7 +5,7 @@ use Rattle.std.specs.Int.{w64, to_le_bytes, from_le_bytes}
 use Rattle.std.proofs.lemmas.Bool.Decides.{nat_tests}
 use Rattle.std.proofs.lemmas.List.{take-append-le, drop-append-le, drop_at, get_or_append_left, get_or-append_right}
 use Rattle.hail_columns.specs.Challenges.{Challenge}
-use Rattle.hail_wire.specs.Requests.{Request, Store, Fetch, Ask, Remove, Spells, SpellsNone, is_within, is_request, is_challenge, misses, number_misses, is_bad, spelling}
+use Rattle.hail_wire.specs.Requests.{Request, Store, Fetch, Ask, Remove, SpellsRequest, SpellsNoRequest, is_within, is_request, is_challenge, misses, number_misses, is_bad_request, request_bytes}
 use Rattle.record_codec.proofs.Fields.{wide64}
 
 and_grows : (a b c d : Bool) → (a && b) ≡ true → (a ≡ true → c ≡ true) → (b ≡ true → d ≡ true) → (c && d) ≡ true
@@ -36,7 +36,7 @@ number_misses-grows place low high bytes more e =
     and_grows _ _ _ _ e (λ _. grind (arith, nat_tests, there, length-append bytes more)) (λ out. ap (λ (l : List ℕ). not (is_within low high (from_le_bytes w64 l))) same ∙ out)
 
 -- bytes that are bad are so with more bytes behind them
-pub bad-grows : (bytes more : List ℕ) → is_bad bytes ≡ true → is_bad (bytes ++ more) ≡ true
+pub bad-grows : (bytes more : List ℕ) → is_bad_request bytes ≡ true → is_bad_request (bytes ++ more) ≡ true
 bad-grows [] more e = absurd cc
 bad-grows (kind ∷ rest) more e =
     chosen_grows ((kind == 1) || (kind == 2)) (kind == 3) _ _ (not (kind == 4)) _ _ e (misses-grows 12 1 128 rest more)
@@ -50,8 +50,8 @@ all_off : (a b c : Bool) → a ≡ false → b ≡ false → c ≡ false → (a 
 all_off a b c p q r = λ i. p i || q i || r i
 
 -- a request is not bad, whatever comes behind it
-fine : (r : Request) (rest : List ℕ) → is_request r ≡ true → is_bad (spelling r ++ rest) ≡ false
-unfolding spelling
+fine : (r : Request) (rest : List ℕ) → is_request r ≡ true → is_bad_request (request_bytes r ++ rest) ≡ false
+unfolding request_bytes
 fine (Store object stripe block) rest fits =
     let good : is_within 1 128 (length block) ≡ true = grind (arith, fits) in
     and_off _ _ (ap not good)
@@ -75,6 +75,6 @@ fine (Ask object c) rest fits =
 fine (Remove object) rest fits = refl
 
 -- bytes that are bad begin no request
-pub bad-none : (bytes : List ℕ) → is_bad bytes ≡ true → SpellsNone bytes
+pub bad-none : (bytes : List ℕ) → is_bad_request bytes ≡ true → SpellsNoRequest bytes
 bad-none bytes bad r front rest s e =
-    let same : true ≡ false = sym bad ∙ ap is_bad (e ∙ ap (λ (l : List ℕ). l ++ rest) s.bytes_are) ∙ fine r rest s.is_request in absurd cc
+    let same : true ≡ false = sym bad ∙ ap is_bad_request (e ∙ ap (λ (l : List ℕ). l ++ rest) s.bytes_are) ∙ fine r rest s.is_request in absurd cc

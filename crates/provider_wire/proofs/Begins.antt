@@ -1,18 +1,15 @@
 -- When the bytes at hand begin no request.
-use Rattle.std.proofs.Common.{◌≡◌, ℕ, suc, ◌+◌, ◌*◌, ◌-◌, ◌<◌, ◌≤◌, ◌^◌, Bool, true, false, cond, List, [], ◌∷◌, ◌++◌, length, take, drop, get_or, Option, Some, None, refl, sym, ap, subst, ◌∙◌, arith, length-append, length-take, length-drop, append_assoc, ◌⊎◌, inl, inr}
-use Rattle.std.specs.Prelude.{◌&&◌, ◌||◌, not, nat_lt, nat_le, ◌==◌, slice_index, IsTrue}
-use Rattle.std.specs.Int.{Width, w32, w64, byte_len, to_le_bytes, from_le_bytes}
+use Rattle.std.proofs.Common.{◌≡◌, ℕ, suc, ◌*◌, ◌-◌, ◌<◌, ◌≤◌, ◌^◌, true, false, List, [], ◌∷◌, length, take, drop, get_or, Option, Some, refl, sym, ap, subst, ◌∙◌, arith, length-drop, ◌⊎◌, inl, inr}
+use Rattle.std.specs.Int.{Width, w32, w64, byte_len, from_le_bytes}
 use Rattle.std.proofs.Math.Seq.{drop-cons}
-use Rattle.std.proofs.lemmas.Bool.{lt-ltb, le-ltb, ltb-false, cases_lt}
+use Rattle.std.proofs.lemmas.Bool.{le-ltb, cases_lt, or_parts}
 use Rattle.std.proofs.lemmas.Bool.Decides.{nat_tests}
-use Rattle.std.proofs.lemmas.List.{take_at, drop_at, drop-drop, append-nil}
-use Rattle.hail_columns.specs.Challenges.{Challenge}
-use Rattle.hail_columns.specs.Objects.{bytes_of_symbols}
-use Rattle.hail_wire.specs.Requests.{Request, Store, Fetch, Ask, Remove, is_within, is_request, misses, number_misses, is_bad, spelling, SpellsNone, Spells}
+use Rattle.std.proofs.lemmas.List.{drop-drop}
+use Rattle.hail_wire.specs.Requests.{is_within, is_request, misses, number_misses, is_bad_request, request_bytes, SpellsNoRequest}
 use Rattle.record_codec.specs.Reading.{◌>>=◌, number_at}
 use Rattle.record_codec.proofs.Fields.{IsBytes}
-use Rattle.provider_wire.specs.Reading.{symbols_in, within_at, block_at, store_at, fetch_at, seed_at, rows_at, challenge_at, ask_at, remove_at, request_at}
-use Rattle.provider_wire.proofs.Takes.{request_takes, spelling-some}
+use Rattle.provider_wire.specs.Reading.{within_at, block_read_at, store_at, fetch_at, seed_at, rows_at, challenge_read_at, ask_at, remove_at, request_at}
+use Rattle.provider_wire.proofs.Takes.{request_takes}
 
 -- ---- bytes that are long enough, and not bad, begin a request
 
@@ -47,8 +44,8 @@ Finds {A} o = (x : A) × (o ≡ Some x)
 then_finds : {A B : Type 0} (o : Option A) (f : A → Option B) (x : A) → o ≡ Some x → Finds (f x) → Finds (o >>= f)
 then_finds o f x is found = (found.0, ap (λ (p : Option _). p >>= f) is ∙ found.1)
 
-block_long : (bytes : List ℕ) → 2061 ≤ length bytes → misses 12 1 128 bytes ≡ false → Finds (block_at (drop 12 bytes))
-unfolding block_at
+block_long : (bytes : List ℕ) → 2061 ≤ length bytes → misses 12 1 128 bytes ≡ false → Finds (block_read_at (drop 12 bytes))
+unfolding block_read_at
 block_long bytes long e =
     let n = get_or bytes 12 0 in
     let good : is_within 1 128 n ≡ true = hits 12 1 128 bytes (omega arith) e in
@@ -63,7 +60,7 @@ store_long bytes long e =
     let block = block_long bytes long e in
     then_finds (number_at w64 bytes) _ _ (number_long w64 bytes (omega arith))
     (then_finds (number_at w32 (drop 8 bytes)) _ _ (number_long w32 (drop 8 bytes) (omega (arith, length-drop 8 bytes)))
-    (then_finds (block_at (drop 4 (drop 8 bytes))) _ block.0 (ap block_at (drop-drop 4 8 bytes) ∙ block.1) (_, refl)))
+    (then_finds (block_read_at (drop 4 (drop 8 bytes))) _ block.0 (ap block_read_at (drop-drop 4 8 bytes) ∙ block.1) (_, refl)))
 
 fetch_long : (bytes : List ℕ) → 2061 ≤ length bytes → misses 12 1 128 bytes ≡ false → Finds (fetch_at bytes)
 unfolding fetch_at
@@ -73,10 +70,10 @@ fetch_long bytes long e =
     (then_finds (within_at 1 128 (drop 4 (drop 8 bytes))) _ _ (ap (within_at 1 128) (drop-drop 4 8 bytes) ∙ within_long 12 1 128 bytes (omega arith) e) (_, refl)))
 
 ask_long : (bytes : List ℕ) → 2061 ≤ length bytes → number_misses 40 1 (2 ^ 32) bytes ≡ false → misses 48 1 128 bytes ≡ false → misses 49 1 64 bytes ≡ false → Finds (ask_at bytes)
-unfolding ask_at challenge_at
+unfolding ask_at challenge_read_at
 ask_long bytes long rows size picks =
     then_finds (number_at w64 bytes) _ _ (number_long w64 bytes (omega arith))
-    (then_finds (challenge_at (drop 8 bytes)) _ _
+    (then_finds (challenge_read_at (drop 8 bytes)) _ _
     (then_finds (seed_at (drop 8 bytes)) _ _ (seed_long bytes (omega arith))
     (then_finds (rows_at (drop 40 bytes)) _ _ (rows_long bytes (omega arith) rows)
     (then_finds (within_at 1 128 (drop 48 bytes)) _ _ (within_long 48 1 128 bytes (omega arith) size)
@@ -86,17 +83,13 @@ remove_long : (bytes : List ℕ) → 2061 ≤ length bytes → Finds (remove_at 
 unfolding remove_at
 remove_long bytes long = then_finds (number_at w64 bytes) _ _ (number_long w64 bytes (omega arith)) (_, refl)
 
-kinds : (kind : ℕ) (rest : List ℕ) → is_bad (kind ∷ rest) ≡ false → (kind ≡ 1) ⊎ ((kind ≡ 2) ⊎ ((kind ≡ 3) ⊎ (kind ≡ 4)))
+kinds : (kind : ℕ) (rest : List ℕ) → is_bad_request (kind ∷ rest) ≡ false → (kind ≡ 1) ⊎ ((kind ≡ 2) ⊎ ((kind ≡ 3) ⊎ (kind ≡ 4)))
 kinds kind rest e = grind (arith, nat_tests, e)
 
-none_or : (a b : Bool) → (a || b) ≡ false → (a ≡ false) × (b ≡ false)
-none_or false b e = (refl, e)
-none_or true b e = absurd cc
+of_kind : (kind k : ℕ) (rest : List ℕ) → (is_bad_request (k ∷ rest) ≡ false → Finds (request_at (k ∷ rest))) → kind ≡ k → is_bad_request (kind ∷ rest) ≡ false → Finds (request_at (kind ∷ rest))
+of_kind kind k rest here is e = subst (λ (j : ℕ). is_bad_request (j ∷ rest) ≡ false → Finds (request_at (j ∷ rest))) (sym is) here e
 
-of_kind : (kind k : ℕ) (rest : List ℕ) → (is_bad (k ∷ rest) ≡ false → Finds (request_at (k ∷ rest))) → kind ≡ k → is_bad (kind ∷ rest) ≡ false → Finds (request_at (kind ∷ rest))
-of_kind kind k rest here is e = subst (λ (j : ℕ). is_bad (j ∷ rest) ≡ false → Finds (request_at (j ∷ rest))) (sym is) here e
-
-request_long : (bytes : List ℕ) → 2062 ≤ length bytes → is_bad bytes ≡ false → Finds (request_at bytes)
+request_long : (bytes : List ℕ) → 2062 ≤ length bytes → is_bad_request bytes ≡ false → Finds (request_at bytes)
 unfolding request_at
 request_long [] long e = absurd (omega arith)
 request_long (kind ∷ rest) long e =
@@ -104,16 +97,16 @@ request_long (kind ∷ rest) long e =
     elim (kinds kind rest e) [
       | inl is ↦ of_kind kind 1 rest (store_long rest enough) is e
       | inr (inl is) ↦ of_kind kind 2 rest (fetch_long rest enough) is e
-      | inr (inr (inl is)) ↦ of_kind kind 3 rest (λ bad. let a = none_or _ _ bad in let b = none_or _ _ a.0 in ask_long rest enough b.0 b.1 a.1) is e
+      | inr (inr (inl is)) ↦ of_kind kind 3 rest (λ bad. let a = or_parts _ _ bad in let b = or_parts _ _ a.0 in ask_long rest enough b.0 b.1 a.1) is e
       | inr (inr (inr is)) ↦ of_kind kind 4 rest (λ bad. remove_long rest enough) is e
     ]
 
 -- bytes that begin no request, and are not bad, are shorter than the longest request
-pub short : (bytes : List ℕ) → IsBytes bytes → SpellsNone bytes → is_bad bytes ≡ false → length bytes < 2062
+pub short : (bytes : List ℕ) → IsBytes bytes → SpellsNoRequest bytes → is_bad_request bytes ≡ false → length bytes < 2062
 short bytes fits none e =
     elim (cases_lt (length bytes) 2062) [
       | inl less ↦ less
       | inr more ↦ absurd (
-          let x = request_long bytes more e in let took = request_takes bytes x.0 fits x.1 in none x.0.0 (spelling x.0.0) x.0.1 (record { is_request = took.1; bytes_are = refl }) took.0.parts
+          let x = request_long bytes more e in let took = request_takes bytes x.0 fits x.1 in none x.0.0 (request_bytes x.0.0) x.0.1 (record { is_request = took.1; bytes_are = refl }) took.0.parts
           )
     ]

@@ -7,10 +7,10 @@ use Rattle.hail_devices.specs.Faults.{last_count, Rose}
 use Rattle.hail_devices.specs.Providers.{Held, Provider, sized, with_block, without_object}
 use Rattle.hail_devices.specs.ProviderCalls.{FetchGives, AskGives}
 use Rattle.hail_wire.specs.Requests.{Request, Store, Fetch, Ask, Remove}
-use Rattle.hail_wire.specs.Replies.{Reply, Done, Found, Missing, Failed, NoMemory, Answers, Serves, AreClean, is_failed, failed_count, found, reply_to, left_by, served, reply_bytes, replies_text}
+use Rattle.hail_wire.specs.Replies.{Reply, Done, Found, Missing, Failed, NoMemory, AnswersRequest, Serves, AreClean, is_failed, failed_count, found, reply_to, held_after, served, reply_bytes, replies_text}
 
 -- the answer to one request
-answer_is : (r : Request) (a : Reply) (old new : Provider) (held : Held) → old.held ≡ Some held → Answers r old a new → AreClean (a ∷ []) → (a ≡ reply_to r held) × (new.held ≡ Some (left_by r held))
+answer_is : (r : Request) (a : Reply) (old new : Provider) (held : Held) → old.held ≡ Some held → AnswersRequest r old a new → AreClean (a ∷ []) → (a ≡ reply_to r held) × (new.held ≡ Some (held_after r held))
 answer_is (Store o s block) Done old new held e is clean = (refl, is.held ∙ ap (option_map (with_block o s block)) e)
 answer_is (Store o s block) (Found symbols) old new held e is clean = absurd is
 answer_is (Store o s block) Missing old new held e is clean = absurd is
@@ -58,7 +58,7 @@ pub record Counted (a : Reply) (old new : Provider) : Type 0 where
   pub others : old.other_faults ≤ new.other_faults
   pub failed : a ≡ Failed → Rose old.store_faults new.store_faults ⊎ Rose old.other_faults new.other_faults
 
-counted : (r : Request) (a : Reply) (old new : Provider) → Answers r old a new → Counted a old new
+counted : (r : Request) (a : Reply) (old new : Provider) → AnswersRequest r old a new → Counted a old new
 counted (Store o s block) Done old new is = record { stores = is.counts.store_faults; others = omega (arith, is.counts.other_faults); failed = λ e. absurd (cc e) }
 counted (Store o s block) Failed old new is = record { stores = is.counts.store_faults; others = omega (arith, is.counts.other_faults); failed = λ _. inl is.cause }
 counted (Store o s block) NoMemory old new is = record { stores = is.counts.store_faults; others = omega (arith, is.counts.other_faults); failed = λ e. absurd (cc e) }

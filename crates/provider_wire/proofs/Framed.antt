@@ -8,7 +8,7 @@ use Rattle.std.proofs.lemmas.Bool.Decides.{nat_tests}
 use Rattle.hail_columns.specs.Challenges.{Challenge}
 use Rattle.hail_columns.specs.Objects.{bytes_of_symbols}
 use Rattle.hail_devices.specs.Told.{IsByte}
-use Rattle.hail_wire.specs.Requests.{Request, Store, Fetch, Ask, Remove, Spells, spelling, place_bytes, block_bytes, challenge_bytes, is_within, is_block, is_challenge, is_request}
+use Rattle.hail_wire.specs.Requests.{Request, Store, Fetch, Ask, Remove, SpellsRequest, request_bytes, place_bytes, block_bytes, challenge_bytes, is_within, is_block, is_challenge, is_request}
 
 pub all_below : (limit : ℕ) (xs : List ℕ) → All (λ x. x < limit) xs → list_all (λ x. nat_lt x limit) xs ≡ true
 all_below limit [] all = refl
@@ -18,24 +18,24 @@ within : (low high n : ℕ) → low ≤ n → n ≤ high → is_within low high 
 within low high n above below = grind (arith, nat_tests)
 
 pub store_spelled : (object stripe : ℕ) (block p q r : List ℕ) → object < 2 ^ 64 → stripe < 2 ^ 32 → 1 ≤ length block → length block ≤ 128 → All (λ x. x < 2 ^ 128) block
-    → p ≡ 1 ∷ place_bytes object stripe → q ≡ p ++ length block ∷ [] → r ≡ q ++ bytes_of_symbols block → Spells r (Store object stripe block)
-unfolding spelling
+    → p ≡ 1 ∷ place_bytes object stripe → q ≡ p ++ length block ∷ [] → r ≡ q ++ bytes_of_symbols block → SpellsRequest r (Store object stripe block)
+unfolding request_bytes
 store_spelled object stripe block p q r object_fits stripe_fits some few small p_is q_is r_is = record {
   is_request = (λ i. lt-ltb object (2 ^ 64) object_fits i && lt-ltb stripe (2 ^ 32) stripe_fits i && (within 1 128 (length block) some few i && all_below (2 ^ 128) block small i));
   bytes_are = r_is ∙ ap (λ (l : List ℕ). l ++ bytes_of_symbols block) (q_is ∙ ap (λ (l : List ℕ). l ++ length block ∷ []) p_is) ∙ append_assoc (1 ∷ place_bytes object stripe) (length block ∷ []) (bytes_of_symbols block);
 }
 
 pub fetch_spelled : (object stripe size : ℕ) (p q : List ℕ) → object < 2 ^ 64 → stripe < 2 ^ 32 → 1 ≤ size → size ≤ 128
-    → p ≡ 2 ∷ place_bytes object stripe → q ≡ p ++ size ∷ [] → Spells q (Fetch object stripe size)
-unfolding spelling
+    → p ≡ 2 ∷ place_bytes object stripe → q ≡ p ++ size ∷ [] → SpellsRequest q (Fetch object stripe size)
+unfolding request_bytes
 fetch_spelled object stripe size p q object_fits stripe_fits some few p_is q_is = record {
   is_request = (λ i. lt-ltb object (2 ^ 64) object_fits i && lt-ltb stripe (2 ^ 32) stripe_fits i && within 1 128 size some few i);
   bytes_are = q_is ∙ ap (λ (l : List ℕ). l ++ size ∷ []) p_is;
 }
 
 pub ask_spelled : (object : ℕ) (c : Challenge) (p q r s rows : List ℕ) → object < 2 ^ 64 → length c.seed ≡ 32 → All IsByte c.seed → 1 ≤ c.rows → c.rows ≤ 2 ^ 32 → 1 ≤ c.size → c.size ≤ 128 → 1 ≤ c.picks → c.picks ≤ 64
-    → p ≡ 3 ∷ to_le_bytes w64 object → q ≡ p ++ c.seed → rows ≡ to_le_bytes w64 c.rows → r ≡ q ++ rows → s ≡ r ++ c.size ∷ c.picks ∷ [] → Spells s (Ask object c)
-unfolding spelling
+    → p ≡ 3 ∷ to_le_bytes w64 object → q ≡ p ++ c.seed → rows ≡ to_le_bytes w64 c.rows → r ≡ q ++ rows → s ≡ r ++ c.size ∷ c.picks ∷ [] → SpellsRequest s (Ask object c)
+unfolding request_bytes
 ask_spelled object c p q r s rows object_fits long bytes r1 r2 s1 s2 p1 p2 p_is q_is rows_is r_is s_is =
     let tail = c.size ∷ c.picks ∷ [] in
     let len : (length c.seed == 32) ≡ true = grind (arith, nat_tests, long) in
@@ -47,6 +47,6 @@ ask_spelled object c p q r s rows object_fits long bytes r1 r2 s1 s2 p1 p2 p_is 
           ∙ append_assoc (3 ∷ to_le_bytes w64 object) c.seed (to_le_bytes w64 c.rows ++ tail);
     }
 
-pub remove_spelled : (object : ℕ) (p : List ℕ) → object < 2 ^ 64 → p ≡ 4 ∷ to_le_bytes w64 object → Spells p (Remove object)
-unfolding spelling
+pub remove_spelled : (object : ℕ) (p : List ℕ) → object < 2 ^ 64 → p ≡ 4 ∷ to_le_bytes w64 object → SpellsRequest p (Remove object)
+unfolding request_bytes
 remove_spelled object p object_fits p_is = record { is_request = lt-ltb object (2 ^ 64) object_fits; bytes_are = p_is }

@@ -1,22 +1,22 @@
 -- A removal of the object 1, and a byte 9 behind it.
 use Rattle.std.proofs.Common.{◌≡◌, ℕ, List, [], ◌∷◌, Some, refl, arith, inl}
 use Rattle.hail_devices.specs.Providers.{Held, Provider, without_object}
-use Rattle.hail_wire.specs.Requests.{Request, Remove, AreFrames, spelling}
+use Rattle.hail_wire.specs.Requests.{Request, Remove, AreFrames, request_bytes}
 use Rattle.hail_wire.specs.Replies.{Reply, Done, Serves}
-use Rattle.hail_wire.specs.Links.{provider_of}
+use Rattle.hail_wire.specs.Links.{provider_behind}
 use Rattle.hail_wire.specs.Serving.{BadAt, HasServed}
 use Rattle.provider_wire.specs.Loops.{idle}
 
 pub removal-frames : AreFrames (4 ∷ 1 ∷ 0 ∷ 0 ∷ 0 ∷ 0 ∷ 0 ∷ 0 ∷ 0 ∷ []) (Remove 1 ∷ [])
-unfolding spelling
+unfolding request_bytes
 removal-frames = record { are_requests = refl; bytes_are = refl }
 
-removal-answered : (held : Held) → Serves (Remove 1 ∷ []) (provider_of (idle 0 0 0 held)) (Done ∷ []) (provider_of (idle 0 0 0 (without_object 1 held)))
-removal-answered held = (provider_of (idle 0 0 0 held), refl, record { held = refl; counts = record { store_faults = refl; other_faults = omega arith; fetches = refl } })
+removal-answered : (held : Held) → Serves (Remove 1 ∷ []) (provider_behind (idle 0 0 0 held)) (Done ∷ []) (provider_behind (idle 0 0 0 (without_object 1 held)))
+removal-answered held = (provider_behind (idle 0 0 0 held), refl, record { held = refl; counts = record { store_faults = refl; other_faults = omega arith; fetches = refl } })
 
 pub removal-served : (held : Held) → HasServed (BadAt 9) (Some (4 ∷ 1 ∷ 0 ∷ 0 ∷ 0 ∷ 0 ∷ 0 ∷ 0 ∷ 0 ∷ 9 ∷ [])) (Some [])
-    (provider_of (idle 0 0 0 held)) (provider_of (idle 0 0 0 (without_object 1 held))) (Some []) (Some (1 ∷ []))
-unfolding spelling
+    (provider_behind (idle 0 0 0 held)) (provider_behind (idle 0 0 0 (without_object 1 held))) (Some []) (Some (1 ∷ []))
+unfolding request_bytes
 removal-served held = record {
   requests = Remove 1 ∷ [];
   replies = Done ∷ [];

@@ -1,28 +1,19 @@
 -- What a link to a provider in the same program tells.
-use Rattle.std.proofs.Common.{◌≡◌, ℕ, ◌<◌, ◌+◌, Bool, true, false, List, [], ◌∷◌, ◌++◌, length, take, drop, Option, Some, None, is_some, refl, sym, ap, subst, ◌∙◌, arith}
+use Rattle.std.proofs.Common.{◌≡◌, ℕ, ◌<◌, ◌+◌, List, [], ◌∷◌, ◌++◌, length, take, drop, Option, Some, None, is_some, refl, sym, ap, subst, ◌∙◌, arith}
 use Rattle.std.specs.Option.{option_map}
-use Rattle.std.specs.Prelude.{IsTrue}
 use Rattle.std.proofs.lemmas.List.{append-nil}
+use Rattle.plain_facts.proofs.Options.{is_some-option_map}
 use Rattle.hail_devices.specs.Told.{Goes}
 use Rattle.hail_devices.specs.Providers.{Held, Provider, LosesPart}
-use Rattle.hail_wire.specs.Requests.{Request, Store, Fetch, Ask, Remove, Spells, spelling}
-use Rattle.hail_wire.specs.Replies.{Reply, Done, Found, Missing, Failed, NoMemory, Answers, AnswersIn}
-use Rattle.hail_wire.specs.Links.{Behind, Sends, Receives, provider_of}
+use Rattle.hail_devices.proofs.Lasting.{is_some-goes}
+use Rattle.hail_wire.specs.Requests.{Request, Store, Fetch, Ask, Remove, SpellsRequest, request_bytes}
+use Rattle.hail_wire.specs.Replies.{Reply, Done, Found, Missing, Failed, NoMemory, AnswersRequest, AnswersIn}
+use Rattle.hail_wire.specs.Links.{Behind, Sends, Receives}
 use Rattle.provider_wire.proofs.Takes.{one_front}
 
-some_mapped : {A B : Type 0} (f : A → B) (o : Option A) → is_some (option_map f o) ≡ is_some o
-some_mapped f None = refl
-some_mapped f (Some x) = refl
-
-goes_some : {A : Type 0} (step : A → A → Type 0) (x y : Option A) → Goes step x y → is_some y ≡ is_some x
-goes_some step None None g = refl
-goes_some step None (Some y) g = absurd g
-goes_some step (Some x) None g = absurd g
-goes_some step (Some x) (Some y) g = refl
-
 -- a provider that tells what it holds goes on to tell it, and one that does not never begins to
-pub still_told : (r : Request) (a : Reply) (old new : Provider) → Answers r old a new → is_some new.held ≡ is_some old.held
-still_told (Store o s block) Done old new is = ap is_some is.held ∙ some_mapped _ old.held
+pub still_told : (r : Request) (a : Reply) (old new : Provider) → AnswersRequest r old a new → is_some new.held ≡ is_some old.held
+still_told (Store o s block) Done old new is = ap is_some is.held ∙ is_some-option_map _ old.held
 still_told (Store o s block) Failed old new is = ap is_some is.held
 still_told (Store o s block) NoMemory old new is = ap is_some is.held
 still_told (Store o s block) (Found symbols) old new is = absurd is
@@ -39,16 +30,16 @@ still_told (Ask o c) Missing old new is = ap is_some is.held
 still_told (Ask o c) Failed old new is = ap is_some is.held
 still_told (Ask o c) Done old new is = absurd is
 still_told (Ask o c) NoMemory old new is = absurd is
-still_told (Remove o) Done old new is = ap is_some is.held ∙ some_mapped _ old.held
-still_told (Remove o) Failed old new is = goes_some (LosesPart o) old.held new.held is.held
+still_told (Remove o) Done old new is = ap is_some is.held ∙ is_some-option_map _ old.held
+still_told (Remove o) Failed old new is = is_some-goes (LosesPart o) old.held new.held is.held
 still_told (Remove o) (Found symbols) old new is = absurd is
 still_told (Remove o) Missing old new is = absurd is
 still_told (Remove o) NoMemory old new is = absurd is
 
 -- bytes are the spelling of one request
-pub same_request : (bytes : List ℕ) (r q : Request) → Spells bytes r → Spells bytes q → r ≡ q
+pub same_request : (bytes : List ℕ) (r q : Request) → SpellsRequest bytes r → SpellsRequest bytes q → r ≡ q
 same_request bytes r q a b =
-    (one_front r q [] [] a.is_request b.is_request (append-nil (spelling r) ∙ sym a.bytes_are ∙ b.bytes_are ∙ sym (append-nil (spelling q)))).0
+    (one_front r q [] [] a.is_request b.is_request (append-nil (request_bytes r) ∙ sym a.bytes_are ∙ b.bytes_are ∙ sym (append-nil (request_bytes q)))).0
 
 abbrev told : ℕ → ℕ → ℕ → List ℕ → Option Held → Option Behind
 told stores others fetches due held = option_map (λ blocks. record { held = blocks; store_faults = stores; other_faults = others; fetches = fetches; due = due }) held
@@ -62,12 +53,12 @@ sent_busy None s o f due bytes some = tt
 sent_busy (Some h) s o f due bytes some = λ r is e. absurd (let none : length due ≡ 0 = ap length e in omega (arith, none, some))
 
 -- a send of what is no request
-pub sent_nothing : (held : Option Held) (s o f : ℕ) (due bytes : List ℕ) → ((r : Request) → Spells bytes r → ⊥) → Goes (Sends bytes) (told s o f due held) (told s o f due held)
+pub sent_nothing : (held : Option Held) (s o f : ℕ) (due bytes : List ℕ) → ((r : Request) → SpellsRequest bytes r → ⊥) → Goes (Sends bytes) (told s o f due held) (told s o f due held)
 sent_nothing None s o f due bytes none = tt
 sent_nothing (Some h) s o f due bytes none = λ r is e. absurd (none r is)
 
 -- a send of a request
-pub sent_whole : (old new : Option Held) (s o f s' o' f' : ℕ) (due bytes answer : List ℕ) (r : Request) → Spells bytes r → AnswersIn r (seen old s o f) answer (seen new s' o' f')
+pub sent_whole : (old new : Option Held) (s o f s' o' f' : ℕ) (due bytes answer : List ℕ) (r : Request) → SpellsRequest bytes r → AnswersIn r (seen old s o f) answer (seen new s' o' f')
     → Goes (Sends bytes) (told s o f due old) (told s' o' f' answer new)
 sent_whole None None s o f s' o' f' due bytes answer r spelled is = tt
 sent_whole None (Some h) s o f s' o' f' due bytes answer r spelled is = absurd (let e = still_told r is.0 _ _ is.1 in cc e)

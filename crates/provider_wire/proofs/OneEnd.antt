@@ -1,33 +1,23 @@
 -- Bytes are the text of one list of requests, up to where they begin none; and a server of them has one end.
-use Rattle.std.proofs.Common.{◌≡◌, ◌≢◌, ◌⊎◌, inl, inr, ℕ, ◌+◌, ◌-◌, ◌<◌, ◌≤◌, ◌^◌, Bool, true, false, List, [], ◌∷◌, ◌++◌, length, take, Option, Some, None, refl, sym, ap, subst, ◌∙◌, arith, append_assoc, length-append}
-use Rattle.std.specs.Prelude.{◌&&◌, IsTrue}
+use Rattle.std.proofs.Common.{◌≡◌, ◌≢◌, ◌⊎◌, inl, inr, ℕ, ◌+◌, ◌-◌, ◌<◌, ◌≤◌, true, false, List, [], ◌∷◌, ◌++◌, length, take, Option, Some, None, refl, sym, ap, subst, ◌∙◌, arith, append_assoc, length-append}
 use Rattle.std.specs.List.{list_all}
 use Rattle.std.proofs.Math.Seq.{take-append-add}
-use Rattle.std.proofs.lemmas.Bool.{cases_lt}
+use Rattle.std.proofs.lemmas.Bool.{cases_lt, and_from, and_parts}
 use Rattle.std.proofs.lemmas.List.{append-nil, take_all, take-append-le}
 use Rattle.hail_devices.specs.Providers.{Provider}
 use Rattle.hail_devices.specs.Told.{then_told}
-use Rattle.hail_wire.specs.Requests.{Request, Spells, SpellsNone, AreFrames, is_request, is_bad, spelling, text}
-use Rattle.hail_wire.specs.Serving.{most_bytes, End, Finished, BadAt, TooMany, SourceFailed, SinkFailed, OutOfMemory, HasServed, IsAtEnd, IsOfBytes, EndsOf, EndsBehind, within_limit}
-use Rattle.provider_wire.proofs.Served.{both}
+use Rattle.hail_wire.specs.Requests.{Request, SpellsNoRequest, AreFrames, is_request, is_bad_request, request_bytes, requests_text}
+use Rattle.hail_wire.specs.Serving.{most_bytes, End, Finished, BadAt, TooMany, SourceFailed, SinkFailed, OutOfMemory, HasServed, IsAtEnd, IsOfBytes, EndsOf, within_limit}
 use Rattle.provider_wire.proofs.Takes.{one_front}
 use Rattle.provider_wire.proofs.Progress.{nothing_spells}
 use Rattle.provider_wire.proofs.BadBytes.{bad-grows, bad-none}
-
-first_of : (a b : Bool) → (a && b) ≡ true → a ≡ true
-first_of true b e = refl
-first_of false b e = absurd cc
-
-second_of : (a b : Bool) → (a && b) ≡ true → b ≡ true
-second_of true b e = e
-second_of false b e = absurd cc
 
 -- ---- one list of requests
 
 -- the bytes of requests, the oldest first
 abbrev forward : List Request → List ℕ
 forward [] = []
-forward (r ∷ rs) = spelling r ++ forward rs
+forward (r ∷ rs) = request_bytes r ++ forward rs
 
 -- requests put before others, the newest first, so that the oldest comes first
 abbrev onto : List Request → List Request → List Request
@@ -41,31 +31,31 @@ onto-onto (r ∷ rs) xs ys = onto-onto rs (r ∷ xs) ys
 turned_back : (rs : List Request) → onto (onto rs []) [] ≡ rs
 turned_back rs = onto-onto rs [] [] ∙ append-nil rs
 
-text-onto : (rs others : List Request) → text rs ++ forward others ≡ forward (onto rs others)
+text-onto : (rs others : List Request) → requests_text rs ++ forward others ≡ forward (onto rs others)
 text-onto [] others = refl
-text-onto (r ∷ rs) others = append_assoc (text rs) (spelling r) (forward others) ∙ text-onto rs (r ∷ others)
+text-onto (r ∷ rs) others = append_assoc (requests_text rs) (request_bytes r) (forward others) ∙ text-onto rs (r ∷ others)
 
-text-is : (rs : List Request) → text rs ≡ forward (onto rs [])
-text-is rs = sym (append-nil (text rs)) ∙ text-onto rs []
+text-is : (rs : List Request) → requests_text rs ≡ forward (onto rs [])
+text-is rs = sym (append-nil (requests_text rs)) ∙ text-onto rs []
 
 all-onto : (rs others : List Request) → list_all is_request rs ≡ true → list_all is_request others ≡ true → list_all is_request (onto rs others) ≡ true
 all-onto [] others a b = b
 all-onto (r ∷ rs) others a b =
-    all-onto rs (r ∷ others) (second_of (is_request r) (list_all is_request rs) a) (both (is_request r) (list_all is_request others) (first_of (is_request r) (list_all is_request rs) a) b)
+    all-onto rs (r ∷ others) ((and_parts (is_request r) (list_all is_request rs) a).1) (and_from (is_request r) (list_all is_request others) ((and_parts (is_request r) (list_all is_request rs) a).0) b)
 
-one_parse : (rs ss : List Request) (x y : List ℕ) → list_all is_request rs ≡ true → list_all is_request ss ≡ true → forward rs ++ x ≡ forward ss ++ y → SpellsNone x → SpellsNone y → (rs ≡ ss) × (x ≡ y)
+one_parse : (rs ss : List Request) (x y : List ℕ) → list_all is_request rs ≡ true → list_all is_request ss ≡ true → forward rs ++ x ≡ forward ss ++ y → SpellsNoRequest x → SpellsNoRequest y → (rs ≡ ss) × (x ≡ y)
 one_parse [] [] x y a b e p q = (refl, e)
 one_parse [] (s ∷ ss) x y a b e p q =
-    absurd (p s (spelling s) (forward ss ++ y) (record { is_request = first_of _ _ b; bytes_are = refl }) (e ∙ append_assoc (spelling s) (forward ss) y))
+    absurd (p s (request_bytes s) (forward ss ++ y) (record { is_request = (and_parts _ _ b).0; bytes_are = refl }) (e ∙ append_assoc (request_bytes s) (forward ss) y))
 one_parse (r ∷ rs) [] x y a b e p q =
-    absurd (q r (spelling r) (forward rs ++ x) (record { is_request = first_of _ _ a; bytes_are = refl }) (sym e ∙ append_assoc (spelling r) (forward rs) x))
+    absurd (q r (request_bytes r) (forward rs ++ x) (record { is_request = (and_parts _ _ a).0; bytes_are = refl }) (sym e ∙ append_assoc (request_bytes r) (forward rs) x))
 one_parse (r ∷ rs) (s ∷ ss) x y a b e p q =
-    let same = one_front r s (forward rs ++ x) (forward ss ++ y) (first_of _ _ a) (first_of _ _ b) (sym (append_assoc (spelling r) (forward rs) x) ∙ e ∙ append_assoc (spelling s) (forward ss) y) in
-    let on = one_parse rs ss x y (second_of _ _ a) (second_of _ _ b) same.1 p q in
+    let same = one_front r s (forward rs ++ x) (forward ss ++ y) ((and_parts _ _ a).0) ((and_parts _ _ b).0) (sym (append_assoc (request_bytes r) (forward rs) x) ∙ e ∙ append_assoc (request_bytes s) (forward ss) y) in
+    let on = one_parse rs ss x y ((and_parts _ _ a).1) ((and_parts _ _ b).1) same.1 p q in
     ((λ i. same.0 i ∷ on.0 i), on.1)
 
 -- bytes are one list of requests, and then what begins none
-pub one_text : (rs ss : List Request) (x y : List ℕ) → list_all is_request rs ≡ true → list_all is_request ss ≡ true → text rs ++ x ≡ text ss ++ y → SpellsNone x → SpellsNone y → (rs ≡ ss) × (x ≡ y)
+pub one_text : (rs ss : List Request) (x y : List ℕ) → list_all is_request rs ≡ true → list_all is_request ss ≡ true → requests_text rs ++ x ≡ requests_text ss ++ y → SpellsNoRequest x → SpellsNoRequest y → (rs ≡ ss) × (x ≡ y)
 one_text rs ss x y a b e p q =
     let same = one_parse (onto rs []) (onto ss []) x y (all-onto rs [] a refl) (all-onto ss [] b refl)
     (ap (λ (l : List ℕ). l ++ x) (sym (text-is rs)) ∙ e ∙ ap (λ (l : List ℕ). l ++ y) (text-is ss)) p q in
@@ -73,21 +63,21 @@ one_text rs ss x y a b e p q =
 
 pub one_frames : (bytes : List ℕ) (rs ss : List Request) → AreFrames bytes rs → AreFrames bytes ss → rs ≡ ss
 one_frames bytes rs ss a b =
-    (one_text rs ss [] [] a.are_requests b.are_requests (append-nil (text rs) ∙ sym a.bytes_are ∙ b.bytes_are ∙ sym (append-nil (text ss))) nothing_spells nothing_spells).0
+    (one_text rs ss [] [] a.are_requests b.are_requests (append-nil (requests_text rs) ∙ sym a.bytes_are ∙ b.bytes_are ∙ sym (append-nil (requests_text ss))) nothing_spells nothing_spells).0
 
 -- ---- one end
 
 -- within the limit the bytes are these requests, and then what begins none
 record Cut (bytes : List ℕ) (rs : List Request) (rest : List ℕ) : Type 0 where
-  parts : take most_bytes bytes ≡ text rs ++ rest
+  parts : take most_bytes bytes ≡ requests_text rs ++ rest
   all : list_all is_request rs ≡ true
-  none : SpellsNone rest
+  none : SpellsNoRequest rest
 
 -- what an end says of that rest
 abbrev Says : End → List Request → List ℕ → List ℕ → Type 0
 Says Finished rs rest bytes = (rest ≡ []) × (length bytes ≤ most_bytes)
-Says (BadAt at) rs rest bytes = (at ≡ length (text rs)) × ((is_bad rest ≡ true) ⊎ ((rest ≢ []) × (length bytes ≤ most_bytes)))
-Says TooMany rs rest bytes = (is_bad rest ≡ false) × (most_bytes < length bytes)
+Says (BadAt at) rs rest bytes = (at ≡ length (requests_text rs)) × ((is_bad_request rest ≡ true) ⊎ ((rest ≢ []) × (length bytes ≤ most_bytes)))
+Says TooMany rs rest bytes = (is_bad_request rest ≡ false) × (most_bytes < length bytes)
 Says SourceFailed rs rest bytes = ⊥
 Says SinkFailed rs rest bytes = ⊥
 Says OutOfMemory rs rest bytes = ⊥
@@ -98,18 +88,18 @@ record Within (bytes : List ℕ) (end : End) (rs : List Request) : Type 0 where
   cut : Cut bytes rs rest
   says : Says end rs rest bytes
 
-take_within : (rs : List Request) (rest bytes : List ℕ) → length (text rs) ≤ most_bytes → bytes ≡ text rs ++ rest → take most_bytes bytes ≡ text rs ++ within_limit rs rest
+take_within : (rs : List Request) (rest bytes : List ℕ) → length (requests_text rs) ≤ most_bytes → bytes ≡ requests_text rs ++ rest → take most_bytes bytes ≡ requests_text rs ++ within_limit rs rest
 take_within rs rest bytes few parts =
-    let n = most_bytes - length (text rs) in
-    let sum : most_bytes ≡ length (text rs) + n = omega arith in
-    ap (take most_bytes) parts ∙ ap (λ (k : ℕ). take k (text rs ++ rest)) sum ∙ take-append-add (text rs) rest n
+    let n = most_bytes - length (requests_text rs) in
+    let sum : most_bytes ≡ length (requests_text rs) + n = omega arith in
+    ap (take most_bytes) parts ∙ ap (λ (k : ℕ). take k (requests_text rs ++ rest)) sum ∙ take-append-add (requests_text rs) rest n
 
-bad_within : (rs : List Request) (rest : List ℕ) → is_bad (within_limit rs rest) ≡ true → length (text rs) ≤ most_bytes
+bad_within : (rs : List Request) (rest : List ℕ) → is_bad_request (within_limit rs rest) ≡ true → length (requests_text rs) ≤ most_bytes
 bad_within rs rest bad =
-    elim (cases_lt most_bytes (length (text rs))) [
+    elim (cases_lt most_bytes (length (requests_text rs))) [
       | inl more ↦ absurd (
-          let none : most_bytes - length (text rs) ≡ 0 = omega arith in
-          let same : true ≡ false = sym bad ∙ ap (λ (k : ℕ). is_bad (take k rest)) none in cc
+          let none : most_bytes - length (requests_text rs) ≡ 0 = omega arith in
+          let same : true ≡ false = sym bad ∙ ap (λ (k : ℕ). is_bad_request (take k rest)) none in cc
           )
       | inr less ↦ less
     ]
@@ -117,7 +107,7 @@ bad_within rs rest bad =
 within : (bytes : List ℕ) (end : End) (rs : List Request) → EndsOf bytes end rs → Within bytes end rs
 within bytes Finished rs x = record {
   rest = x.rest;
-  cut = record { parts = take_all most_bytes bytes x.ends.1 ∙ x.parts; all = x.are_requests; none = subst SpellsNone (sym x.ends.0) nothing_spells };
+  cut = record { parts = take_all most_bytes bytes x.ends.1 ∙ x.parts; all = x.are_requests; none = subst SpellsNoRequest (sym x.ends.0) nothing_spells };
   says = x.ends;
 }
 within bytes (BadAt at) rs x =
@@ -142,10 +132,10 @@ within bytes SourceFailed rs x = absurd x.ends
 within bytes SinkFailed rs x = absurd x.ends
 within bytes OutOfMemory rs x = absurd x.ends
 
-not_bad_yet : (rest : List ℕ) → rest ≡ [] → is_bad rest ≡ true → ⊥
-not_bad_yet rest none bad = let same : true ≡ false = sym bad ∙ ap is_bad none in absurd cc
+not_bad_yet : (rest : List ℕ) → rest ≡ [] → is_bad_request rest ≡ true → ⊥
+not_bad_yet rest none bad = let same : true ≡ false = sym bad ∙ ap is_bad_request none in absurd cc
 
-not_both : (rest : List ℕ) → is_bad rest ≡ true → is_bad rest ≡ false → ⊥
+not_both : (rest : List ℕ) → is_bad_request rest ≡ true → is_bad_request rest ≡ false → ⊥
 not_both rest bad fine = let same : true ≡ false = sym bad ∙ fine in absurd cc
 
 same_end : (rs : List Request) (rest bytes : List ℕ) (e f : End) → Says e rs rest bytes → Says f rs rest bytes → e ≡ f
@@ -201,9 +191,9 @@ module _ (bytes : List ℕ) (left was now : Option (List ℕ)) (old new : Provid
       by_left None e = absurd cc
       by_left (Some more) e = (more, refl, cc)
 
-  parts_of : (end : End) (x : HasServed end (Some bytes) left old new was now) (more : List ℕ) → bytes ≡ x.read ++ more → bytes ≡ text x.requests ++ (x.rest ++ more)
+  parts_of : (end : End) (x : HasServed end (Some bytes) left old new was now) (more : List ℕ) → bytes ≡ x.read ++ more → bytes ≡ requests_text x.requests ++ (x.rest ++ more)
   parts_of end x more e =
-      e ∙ ap (λ (l : List ℕ). l ++ more) (x.parts ∙ ap (λ (l : List ℕ). l ++ x.rest) x.frames.bytes_are) ∙ append_assoc (text x.requests) x.rest more
+      e ∙ ap (λ (l : List ℕ). l ++ more) (x.parts ∙ ap (λ (l : List ℕ). l ++ x.rest) x.frames.bytes_are) ∙ append_assoc (requests_text x.requests) x.rest more
 
   nothing_more : (more : List ℕ) → left ≡ Some more → IsAtEnd left → more ≡ []
   nothing_more more e end = subst IsAtEnd e end
@@ -222,16 +212,16 @@ module _ (bytes : List ℕ) (left was now : Option (List ℕ)) (old new : Provid
   of_all_bytes (BadAt at) x is =
       let all = all_of (BadAt at) x in
       let rs = x.requests in
-      let place : most_bytes - at ≡ most_bytes - length (text rs) = ap (λ (k : ℕ). most_bytes - k) x.ends.place in
+      let place : most_bytes - at ≡ most_bytes - length (requests_text rs) = ap (λ (k : ℕ). most_bytes - k) x.ends.place in
       elim x.ends.cause [
         | inl bad ↦ (
-            let grown = grown_front (most_bytes - length (text rs)) x.rest all.0 in
-            let front : is_bad (take (most_bytes - length (text rs)) x.rest) ≡ true = ap (λ (k : ℕ). is_bad (take k x.rest)) (sym place) ∙ bad in
+            let grown = grown_front (most_bytes - length (requests_text rs)) x.rest all.0 in
+            let front : is_bad_request (take (most_bytes - length (requests_text rs)) x.rest) ≡ true = ap (λ (k : ℕ). is_bad_request (take k x.rest)) (sym place) ∙ bad in
             record {
               rest = x.rest ++ all.0;
               are_requests = x.frames.are_requests;
               parts = parts_of (BadAt at) x all.0 all.2;
-              ends = (x.ends.place, inl (ap is_bad grown.1 ∙ bad-grows (take (most_bytes - length (text rs)) x.rest) grown.0 front));
+              ends = (x.ends.place, inl (ap is_bad_request grown.1 ∙ bad-grows (take (most_bytes - length (requests_text rs)) x.rest) grown.0 front));
             }
             )
         | inr off ↦ (
@@ -240,7 +230,7 @@ module _ (bytes : List ℕ) (left was now : Option (List ℕ)) (old new : Provid
             record {
               rest = x.rest;
               are_requests = x.frames.are_requests;
-              parts = parts_of (BadAt at) x all.0 all.2 ∙ ap (λ (l : List ℕ). text rs ++ l) (ap (λ (l : List ℕ). x.rest ++ l) none ∙ append-nil x.rest);
+              parts = parts_of (BadAt at) x all.0 all.2 ∙ ap (λ (l : List ℕ). requests_text rs ++ l) (ap (λ (l : List ℕ). x.rest ++ l) none ∙ append-nil x.rest);
               ends = (x.ends.place, inr (off.1, off.2, omega (arith, ap length whole, off.3)));
             }
             )
@@ -248,8 +238,8 @@ module _ (bytes : List ℕ) (left was now : Option (List ℕ)) (old new : Provid
   of_all_bytes TooMany x is =
       let all = all_of TooMany x in
       let rs = x.requests in
-      let n = most_bytes - length (text rs) in
-      let size : length x.read ≡ length (text rs) + length x.rest = ap length x.parts ∙ length-append x.front x.rest ∙ ap (λ (k : ℕ). k + length x.rest) (ap length x.frames.bytes_are) in
+      let n = most_bytes - length (requests_text rs) in
+      let size : length x.read ≡ length (requests_text rs) + length x.rest = ap length x.parts ∙ length-append x.front x.rest ∙ ap (λ (k : ℕ). k + length x.rest) (ap length x.frames.bytes_are) in
       let same : take n (x.rest ++ all.0) ≡ take n x.rest = take-append-le n x.rest all.0 (omega (arith, size, x.ends.more)) in
       record {
         rest = x.rest ++ all.0;
@@ -258,8 +248,8 @@ module _ (bytes : List ℕ) (left was now : Option (List ℕ)) (old new : Provid
         ends = record {
           more = omega (arith, x.ends.more, ap length all.2, length-append x.read all.0);
           within = x.ends.within;
-          none = subst SpellsNone (sym same) x.ends.none;
-          not_bad = ap is_bad same ∙ x.ends.not_bad;
+          none = subst SpellsNoRequest (sym same) x.ends.none;
+          not_bad = ap is_bad_request same ∙ x.ends.not_bad;
         };
       }
   of_all_bytes SourceFailed x is = absurd is

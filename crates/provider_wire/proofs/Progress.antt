@@ -1,27 +1,27 @@
 -- How far a server has come, and how it ends.
-use Rattle.std.proofs.Common.{◌≡◌, ◌≢◌, ℕ, suc, ◌+◌, ◌-◌, ◌<◌, ◌≤◌, ◌^◌, Bool, true, false, List, [], ◌∷◌, ◌++◌, length, take, drop, Option, Some, None, refl, sym, ap, subst, ◌∙◌, append_assoc, arith, inl, inr, length-append, length-take, length-drop, take-append-drop}
-use Rattle.std.specs.Prelude.{◌&&◌, IsTrue, IfSome}
-use Rattle.std.specs.List.{list_all}
+use Rattle.std.proofs.Common.{◌≡◌, ◌≢◌, ℕ, ◌+◌, ◌-◌, ◌<◌, ◌≤◌, true, false, List, [], ◌∷◌, ◌++◌, length, take, drop, Option, refl, sym, ap, subst, ◌∙◌, append_assoc, arith, inl, inr, length-append, length-take, length-drop, take-append-drop}
+use Rattle.std.specs.Prelude.{IfSome}
 use Rattle.std.proofs.Math.Seq.{take-take}
-use Rattle.std.proofs.lemmas.Bool.{cases_lt}
+use Rattle.std.proofs.lemmas.Bool.{cases_lt, and_from}
 use Rattle.std.proofs.lemmas.List.{append-nil, take_all, drop-take}
 use Rattle.std.proofs.lemmas.List.Folds.{list_all-append}
 use Rattle.hail_devices.specs.Told.{told_then, then_told, TakesFront}
 use Rattle.hail_devices.specs.Providers.{Provider}
-use Rattle.hail_wire.specs.Requests.{Request, is_request, is_bad, spelling, text, Spells, SpellsNone, AreFrames}
-use Rattle.hail_wire.specs.Replies.{Reply, Answers, Serves, reply_bytes, replies_text}
-use Rattle.hail_wire.specs.Serving.{most_bytes, End, Finished, BadAt, TooMany, SourceFailed, SinkFailed, OutOfMemory, IsAtEnd, BreaksAt, Exceeds, EndsWith, WritesPart, Writes, ServesAll, ServesPart, HasServed}
+use Rattle.hail_devices.proofs.Lasting.{told_then-nothing}
+use Rattle.hail_wire.specs.Requests.{Request, is_request, is_bad_request, request_bytes, requests_text, SpellsNoRequest, AreFrames}
+use Rattle.hail_wire.specs.Replies.{Reply, Serves, reply_bytes, replies_text}
+use Rattle.hail_wire.specs.Serving.{most_bytes, Finished, BadAt, TooMany, SourceFailed, SinkFailed, OutOfMemory, IsAtEnd, WritesPart, ServesAll, ServesPart, HasServed}
 use Rattle.stream_model.specs.declared.fault.WriteFault.{WriteFault}
 use Rattle.stream_model.specs.declared.fault.WriteFault.TheVariants as write_fault
 use Rattle.provider_wire.specs.declared.end.ServeEnd.{ServeEnd}
 use Rattle.provider_wire.specs.Ends.{end_of, end_after}
 use Rattle.stream_model.proofs.ToldLemmas.{told_then-append}
 use Rattle.provider_wire.proofs.Takes.{spelling-some}
-use Rattle.provider_wire.proofs.Served.{both, told_nothing, nothing_told, then_told-append}
+use Rattle.provider_wire.proofs.Served.{nothing_told, then_told-append}
 
-text-append : (more rs : List Request) → text (more ++ rs) ≡ text rs ++ text more
-text-append [] rs = sym (append-nil (text rs))
-text-append (r ∷ more) rs = ap (λ (l : List ℕ). l ++ spelling r) (text-append more rs) ∙ append_assoc (text rs) (text more) (spelling r)
+text-append : (more rs : List Request) → requests_text (more ++ rs) ≡ requests_text rs ++ requests_text more
+text-append [] rs = sym (append-nil (requests_text rs))
+text-append (r ∷ more) rs = ap (λ (l : List ℕ). l ++ request_bytes r) (text-append more rs) ∙ append_assoc (requests_text rs) (requests_text more) (request_bytes r)
 
 replies_text-append : (more as_ : List Reply) → replies_text (more ++ as_) ≡ replies_text as_ ++ replies_text more
 replies_text-append [] as_ = sym (append-nil (replies_text as_))
@@ -35,7 +35,7 @@ Serves-append (r ∷ more) rs (a ∷ others) as_ old mid new first then_ = (then
 
 AreFrames-append : (bytes others : List ℕ) (more rs : List Request) → AreFrames bytes rs → AreFrames others more → AreFrames (bytes ++ others) (more ++ rs)
 AreFrames-append bytes others more rs first then_ = record {
-  are_requests = list_all-append is_request more rs ∙ both _ _ then_.are_requests first.are_requests;
+  are_requests = list_all-append is_request more rs ∙ and_from _ _ then_.are_requests first.are_requests;
   bytes_are = (λ i. first.bytes_are i ++ then_.bytes_are i) ∙ sym (text-append more rs);
 }
 
@@ -63,13 +63,13 @@ starts had p w = record {
   parts = refl;
   frames = record { are_requests = refl; bytes_are = refl };
   served = refl;
-  written = told_nothing w;
+  written = told_then-nothing w;
 }
 
-pub nothing_spells : SpellsNone []
+pub nothing_spells : SpellsNoRequest []
 nothing_spells r front rest s e =
     let some = spelling-some r in
-    let same : length front ≡ length (spelling r) = ap length s.bytes_are in
+    let same : length front ≡ length (request_bytes r) = ap length s.bytes_are in
     let sum : 0 ≡ length front + length rest = ap length e ∙ length-append front rest in
     let lt : 0 < 0 = omega (arith, some, same, sum) in absurd (omega (arith, lt))
 
@@ -80,11 +80,11 @@ module _ (had left : Option (List ℕ)) (taken : ℕ) (waiting : List ℕ) (old 
   front_size : length p.front ≡ taken - length waiting
   front_size = omega (arith, p.count, ap length p.parts, length-append p.front waiting)
 
-  text_size : length (text p.requests) ≡ taken - length waiting
+  text_size : length (requests_text p.requests) ≡ taken - length waiting
   text_size = ap length (sym p.frames.bytes_are) ∙ front_size
 
   -- the source failed
-  pub source_failed : (left' : Option (List ℕ)) → left' ≡ left → taken ≤ most_bytes → SpellsNone waiting → is_bad waiting ≡ false → HasServed SourceFailed had left' old mid was then_
+  pub source_failed : (left' : Option (List ℕ)) → left' ≡ left → taken ≤ most_bytes → SpellsNoRequest waiting → is_bad_request waiting ≡ false → HasServed SourceFailed had left' old mid was then_
   source_failed left' same within none fine = record {
     requests = p.requests;
     replies = p.replies;
@@ -130,7 +130,7 @@ module _ (had left : Option (List ℕ)) (taken : ℕ) (waiting : List ℕ) (old 
         is_empty (x ∷ l) e = absurd (omega (arith, e))
 
     -- the source ended inside a request
-    pub ended_inside : SpellsNone waiting → 0 < length waiting → HasServed (BadAt (taken - length waiting)) had left' old mid was then_
+    pub ended_inside : SpellsNoRequest waiting → 0 < length waiting → HasServed (BadAt (taken - length waiting)) had left' old mid was then_
     ended_inside none some = record {
       requests = p.requests;
       replies = p.replies;
@@ -147,7 +147,7 @@ module _ (had left : Option (List ℕ)) (taken : ℕ) (waiting : List ℕ) (old 
     }
 
     -- the same, with its place told otherwise
-    pub ended_inside_at : SpellsNone waiting → 0 < length waiting → (at : ℕ) → at ≡ taken - length waiting → HasServed (BadAt at) had left' old mid was then_
+    pub ended_inside_at : SpellsNoRequest waiting → 0 < length waiting → (at : ℕ) → at ≡ taken - length waiting → HasServed (BadAt at) had left' old mid was then_
     ended_inside_at none some at is = subst (λ (k : ℕ). HasServed (BadAt k) had left' old mid was then_) (sym is) (ended_inside none some)
 
   -- more bytes were read
@@ -240,7 +240,7 @@ module _ (had left : Option (List ℕ)) (taken : ℕ) (waiting : List ℕ) (old 
   -- what the rest has within the limit
   module _ (few : taken ≤ most_bytes + 1) where
     -- the rest begins no request
-    pub broke : is_bad (take (most_bytes - (taken - length waiting)) waiting) ≡ true → HasServed (BadAt (taken - length waiting)) had left old mid was then_
+    pub broke : is_bad_request (take (most_bytes - (taken - length waiting)) waiting) ≡ true → HasServed (BadAt (taken - length waiting)) had left old mid was then_
     broke bad = record {
       requests = p.requests;
       replies = p.replies;
@@ -257,7 +257,7 @@ module _ (had left : Option (List ℕ)) (taken : ℕ) (waiting : List ℕ) (old 
     }
 
     -- the source gave too much
-    pub exceeded : most_bytes < taken → taken ≤ length waiting + most_bytes → SpellsNone (take (most_bytes - (taken - length waiting)) waiting) → is_bad (take (most_bytes - (taken - length waiting)) waiting) ≡ false → HasServed TooMany had left old mid was then_
+    pub exceeded : most_bytes < taken → taken ≤ length waiting + most_bytes → SpellsNoRequest (take (most_bytes - (taken - length waiting)) waiting) → is_bad_request (take (most_bytes - (taken - length waiting)) waiting) ≡ false → HasServed TooMany had left old mid was then_
     exceeded more inside_ none fine = record {
       requests = p.requests;
       replies = p.replies;
@@ -273,8 +273,8 @@ module _ (had left : Option (List ℕ)) (taken : ℕ) (waiting : List ℕ) (old 
       ends = record {
         more = omega (arith, p.count);
         within = omega (arith, text_size);
-        none = subst (λ (k : ℕ). SpellsNone (take (most_bytes - k) waiting)) (sym text_size) none;
-        not_bad = ap (λ (k : ℕ). is_bad (take (most_bytes - k) waiting)) text_size ∙ fine;
+        none = subst (λ (k : ℕ). SpellsNoRequest (take (most_bytes - k) waiting)) (sym text_size) none;
+        not_bad = ap (λ (k : ℕ). is_bad_request (take (most_bytes - k) waiting)) text_size ∙ fine;
       };
     }
 
@@ -334,14 +334,14 @@ module _ (had left : Option (List ℕ)) (taken w done : ℕ) (waiting bytes : Li
   rest_size : length (drop done waiting) ≡ length waiting - done
   rest_size = length-drop done waiting
 
-  pub turned_bad : (at : ℕ) → at ≡ taken - (length waiting - done) → is_bad (drop done bytes) ≡ true → HasServed (BadAt at) had left old new was now
+  pub turned_bad : (at : ℕ) → at ≡ taken - (length waiting - done) → is_bad_request (drop done bytes) ≡ true → HasServed (BadAt at) had left old new was now
   turned_bad at at_is bad =
       subst (λ (k : ℕ). HasServed (BadAt k) had left old new was now) (ap (λ (k : ℕ). taken - k) rest_size ∙ sym at_is)
-      (broke had left taken (drop done waiting) old new was now turned few (ap is_bad (sym rest_is) ∙ bad))
+      (broke had left taken (drop done waiting) old new was now turned few (ap is_bad_request (sym rest_is) ∙ bad))
 
-  pub turned_long : most_bytes < taken → SpellsNone (drop done bytes) → is_bad (drop done bytes) ≡ false → HasServed TooMany had left old new was now
+  pub turned_long : most_bytes < taken → SpellsNoRequest (drop done bytes) → is_bad_request (drop done bytes) ≡ false → HasServed TooMany had left old new was now
   turned_long more none fine =
-      exceeded had left taken (drop done waiting) old new was now turned few more (omega (arith, rest_size, done_within, w_is)) (subst SpellsNone rest_is none) (ap is_bad (sym rest_is) ∙ fine)
+      exceeded had left taken (drop done waiting) old new was now turned few more (omega (arith, rest_size, done_within, w_is)) (subst SpellsNoRequest rest_is none) (ap is_bad_request (sym rest_is) ∙ fine)
 
   -- all of the bytes are within the limit
   pub all_within : taken ≤ most_bytes → bytes ≡ waiting

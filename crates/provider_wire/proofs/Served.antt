@@ -1,24 +1,16 @@
 -- What a server has done with the requests that came so far.
-use Rattle.std.proofs.Common.{◌≡◌, ◌≢◌, ℕ, suc, ◌+◌, ◌-◌, ◌<◌, ◌≤◌, ◌^◌, Bool, true, false, List, [], ◌∷◌, ◌++◌, length, take, drop, Option, Some, None, refl, sym, ap, subst, ◌∙◌, append_assoc, arith, inl, inr, length-append, length-take, length-drop, take-append-drop}
-use Rattle.std.specs.Prelude.{◌&&◌, IsTrue, IfSome, IfErr, Result, Ok, Err}
+use Rattle.std.proofs.Common.{◌≡◌, ℕ, ◌+◌, ◌-◌, List, [], ◌∷◌, ◌++◌, take, drop, Option, Some, None, refl, sym, ap, subst, ◌∙◌, append_assoc}
+use Rattle.std.specs.Prelude.{IfErr, Result, Ok, Err}
 use Rattle.std.specs.List.{list_all}
-use Rattle.std.proofs.Math.Seq.{take-add, take-append-add}
-use Rattle.std.proofs.lemmas.List.{append-nil, take_at, drop_at, take_all, length-take-le, take-append-le}
-use Rattle.std.proofs.lemmas.List.Folds.{list_all-append}
+use Rattle.std.proofs.Math.Seq.{take-add}
+use Rattle.std.proofs.lemmas.Bool.{and_from}
 use Rattle.hail_devices.specs.Told.{told_then, then_told, TakesFront}
 use Rattle.hail_devices.specs.Providers.{Provider}
-use Rattle.hail_wire.specs.Requests.{Request, is_request, is_bad, spelling, text, Spells, SpellsNone, AreFrames}
-use Rattle.hail_wire.specs.Replies.{Reply, Answers, AnswersIn, Serves, reply_bytes, replies_text}
-use Rattle.hail_wire.specs.Serving.{most_bytes, End, Finished, BadAt, TooMany, SourceFailed, SinkFailed, OutOfMemory, IsAtEnd, BreaksAt, Exceeds, EndsWith, WritesPart, Writes, ServesAll, ServesPart, HasServed}
+use Rattle.hail_devices.proofs.Lasting.{told_then-nothing}
+use Rattle.hail_wire.specs.Requests.{Request, is_request, SpellsRequest, AreFrames}
+use Rattle.hail_wire.specs.Replies.{AnswersIn, reply_bytes, replies_text}
+use Rattle.hail_wire.specs.Serving.{ServesAll, ServesPart}
 use Rattle.stream_model.proofs.ToldLemmas.{told_then-append}
-use Rattle.provider_wire.proofs.Takes.{spelling-some}
-
-pub both : (a b : Bool) → a ≡ true → b ≡ true → (a && b) ≡ true
-both a b p q = λ i. p i && q i
-
-pub told_nothing : (told : Option (List ℕ)) → told ≡ told_then told []
-told_nothing None = refl
-told_nothing (Some bs) = ap (λ (l : List ℕ). Some l) (sym (append-nil bs))
 
 pub nothing_told : (told : Option (List ℕ)) → told ≡ then_told [] told
 nothing_told None = refl
@@ -30,13 +22,13 @@ then_told-append (Some bs) xs ys = ap (λ (l : List ℕ). Some l) (sym (append_a
 
 -- before the first request
 pub serves_none : (p : Provider) (w : Option (List ℕ)) → ServesAll [] p p w w
-serves_none p w = record { requests = []; replies = []; frames = record { are_requests = refl; bytes_are = refl }; served = refl; written = told_nothing w }
+serves_none p w = record { requests = []; replies = []; frames = record { are_requests = refl; bytes_are = refl }; served = refl; written = told_then-nothing w }
 
 module _ (bytes : List ℕ) (at size : ℕ) (r : Request) (old mid new : Provider) (was then_ now : Option (List ℕ)) (piece : List ℕ)
-    (so_far : ServesAll (take at bytes) old mid was then_) (s : Spells (take size (drop at bytes)) r) (a : AnswersIn r mid piece new) where
+    (so_far : ServesAll (take at bytes) old mid was then_) (s : SpellsRequest (take size (drop at bytes)) r) (a : AnswersIn r mid piece new) where
   frames_more : AreFrames (take (at + size) bytes) (r ∷ so_far.requests)
   frames_more = record {
-    are_requests = both (is_request r) (list_all is_request so_far.requests) s.is_request so_far.frames.are_requests;
+    are_requests = and_from (is_request r) (list_all is_request so_far.requests) s.is_request so_far.frames.are_requests;
     bytes_are = take-add at size bytes ∙ (λ i. so_far.frames.bytes_are i ++ s.bytes_are i);
   }
 

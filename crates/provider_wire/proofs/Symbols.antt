@@ -5,57 +5,35 @@ use Rattle.std.specs.List.{list_all}
 use Rattle.std.specs.Int.{w128, to_le_bytes, from_le_bytes, sum_through, byte_worth}
 use Rattle.std.proofs.Math.Seq.{take-add, take-suc, drop-cons}
 use Rattle.std.proofs.lemmas.Grind.{flat_map-append}
-use Rattle.std.proofs.lemmas.List.{append-nil, take_more, take_more_set, take_all, take_at, drop_at, length-take-le}
+use Rattle.std.proofs.lemmas.List.{take_more_set, take_all, take_at, drop_at, length-take-le}
 use Rattle.std.proofs.lemmas.List.Folds.{list_all-append}
 use Rattle.std.proofs.lemmas.Bool.{lt-ltb}
 use Rattle.std.proofs.lemmas.Bool.Decides.{nat_tests}
 use Rattle.hail_columns.specs.Objects.{bytes_of_symbols}
+use Rattle.hail_columns.proofs.SymbolBytes.{bytes_of_symbols-push, bytes_of_symbols-more, length-bytes_of_symbols}
 use Rattle.hail_field.proofs.Bytes.{from_to, to_from}
 use Rattle.record_codec.proofs.Fields.{IsBytes, IsBytes-take, IsBytes-drop, IsWide}
-use Rattle.provider_wire.specs.Reading.{symbols_in}
-
--- one symbol more
-pub bytes-push : (symbols : List ℕ) (x : ℕ) → bytes_of_symbols (symbols ++ x ∷ []) ≡ bytes_of_symbols symbols ++ to_le_bytes w128 x
-bytes-push symbols x =
-    flat_map-append (λ y. to_le_bytes w128 y) symbols (x ∷ [])
-    ∙ ap (λ (l : List ℕ). bytes_of_symbols symbols ++ l) (append-nil (to_le_bytes w128 x))
-
--- a symbol has 16 bytes
-pub symbol_size : (x : ℕ) → length (to_le_bytes w128 x) ≡ 16
-symbol_size x = refl
-
--- 16 bytes a symbol
-pub length-bytes : (symbols : List ℕ) → length (bytes_of_symbols symbols) ≡ 16 * length symbols
-length-bytes [] = refl
-length-bytes (x ∷ symbols) =
-    length-append (to_le_bytes w128 x) (bytes_of_symbols symbols)
-    ∙ (let rest = length-bytes symbols in let one = symbol_size x in let e : length (to_le_bytes w128 x) + length (bytes_of_symbols symbols) ≡ 16 * length (x ∷ symbols) = omega (arith, rest, one) in e)
-
--- the bytes of one symbol more
-pub bytes_more : (symbols : List ℕ) (i x : ℕ) → i < length symbols → x ≡ get_or symbols i x → bytes_of_symbols (take (i + 1) symbols) ≡ bytes_of_symbols (take i symbols) ++ to_le_bytes w128 x
-bytes_more symbols i x less is =
-    ap bytes_of_symbols (take_more symbols i x less) ∙ bytes-push (take i symbols) (get_or symbols i x)
-    ∙ ap (λ (y : ℕ). bytes_of_symbols (take i symbols) ++ to_le_bytes w128 y) (sym is)
+use Rattle.provider_wire.specs.Reading.{symbols_read}
 
 -- one symbol more was pushed
 pub pushed_more : (first mid now symbols piece : List ℕ) (i x : ℕ) → i < length symbols → x ≡ get_or symbols i x → piece ≡ to_le_bytes w128 x →
     mid ≡ first ++ bytes_of_symbols (take i symbols) → now ≡ mid ++ piece → now ≡ first ++ bytes_of_symbols (take (i + 1) symbols)
 pushed_more first mid now symbols piece i x less is piece_is so_far more =
     more ∙ (λ k. so_far k ++ piece_is k) ∙ append_assoc first (bytes_of_symbols (take i symbols)) (to_le_bytes w128 x)
-    ∙ ap (λ (l : List ℕ). first ++ l) (sym (bytes_more symbols i x less is))
+    ∙ ap (λ (l : List ℕ). first ++ l) (sym (bytes_of_symbols-more symbols i x less is))
 
 -- how long the symbols so far are
 pub length-front : (symbols : List ℕ) (i : ℕ) → i ≤ length symbols → length (bytes_of_symbols (take i symbols)) ≡ 16 * i
-length-front symbols i within = length-bytes (take i symbols) ∙ ap (λ (n : ℕ). 16 * n) (length-take-le i symbols within)
+length-front symbols i within = length-bytes_of_symbols (take i symbols) ∙ ap (λ (n : ℕ). 16 * n) (length-take-le i symbols within)
 
 -- one symbol more was taken
 pub took_more : (bytes out : List ℕ) (k n symbol : ℕ) → k < length out → n ≡ 16 → symbol ≡ from_le_bytes w128 (take n (drop (16 * k) bytes)) →
-    take k out ≡ symbols_in k bytes → take (k + 1) (set out k symbol) ≡ symbols_in (k + 1) bytes
-unfolding symbols_in
+    take k out ≡ symbols_read k bytes → take (k + 1) (set out k symbol) ≡ symbols_read (k + 1) bytes
+unfolding symbols_read
 took_more bytes out k n symbol below wide e before =
     take_more_set out k symbol below
     ∙ (λ i. before i ++ (e ∙ ap (λ (m : ℕ). from_le_bytes w128 (take m (drop (16 * k) bytes))) wide) i ∷ [])
-    ∙ ap (λ (m : ℕ). symbols_in m bytes) (sym (add-one k))
+    ∙ ap (λ (m : ℕ). symbols_read m bytes) (sym (add-one k))
 
 -- no power of 256 is zero
 positive : (k : ℕ) → 0 < 256 ^ k
@@ -81,35 +59,35 @@ wide128 = record {
 }
 
 -- the symbols of bytes have these bytes
-pub bytes-symbols : (n : ℕ) (bytes : List ℕ) → 16 * n ≤ length bytes → IsBytes bytes → bytes_of_symbols (symbols_in n bytes) ≡ take (16 * n) bytes
-unfolding symbols_in
+pub bytes-symbols : (n : ℕ) (bytes : List ℕ) → 16 * n ≤ length bytes → IsBytes bytes → bytes_of_symbols (symbols_read n bytes) ≡ take (16 * n) bytes
+unfolding symbols_read
 bytes-symbols zero bytes long fits = refl
 bytes-symbols (suc n) bytes long fits =
     let part = take 16 (drop (16 * n) bytes) in
     let size : length part ≡ 16 = omega (arith, length-take 16 (drop (16 * n) bytes), length-drop (16 * n) bytes) in
     let e : 16 * n + 16 ≡ 16 * suc n = omega arith in
-    bytes-push (symbols_in n bytes) (from_le_bytes w128 part)
+    bytes_of_symbols-push (symbols_read n bytes) (from_le_bytes w128 part)
     ∙ (λ i. bytes-symbols n bytes (omega arith) fits i ++ to_from part size (IsBytes-take 16 (drop (16 * n) bytes) (IsBytes-drop (16 * n) bytes fits)) i)
     ∙ sym (take-add (16 * n) 16 bytes)
     ∙ ap (λ (m : ℕ). take m bytes) e
 
-pub length-symbols : (n : ℕ) (bytes : List ℕ) → length (symbols_in n bytes) ≡ n
-unfolding symbols_in
+pub length-symbols : (n : ℕ) (bytes : List ℕ) → length (symbols_read n bytes) ≡ n
+unfolding symbols_read
 length-symbols zero bytes = refl
 length-symbols (suc n) bytes =
     let x = from_le_bytes w128 (take 16 (drop (16 * n) bytes)) in
-    let e = length-append (symbols_in n bytes) (x ∷ []) in
+    let e = length-append (symbols_read n bytes) (x ∷ []) in
     let rest = length-symbols n bytes in
-    let is : length (symbols_in n bytes ++ x ∷ []) ≡ suc n = omega (arith, e, rest) in is
+    let is : length (symbols_read n bytes ++ x ∷ []) ≡ suc n = omega (arith, e, rest) in is
 
-pub symbols_small : (n : ℕ) (bytes : List ℕ) → IsBytes bytes → list_all (λ symbol. nat_lt symbol (2 ^ 128)) (symbols_in n bytes) ≡ true
-unfolding symbols_in
+pub symbols_small : (n : ℕ) (bytes : List ℕ) → IsBytes bytes → list_all (λ symbol. nat_lt symbol (2 ^ 128)) (symbols_read n bytes) ≡ true
+unfolding symbols_read
 symbols_small zero bytes fits = refl
 symbols_small (suc n) bytes fits =
     let part = take 16 (drop (16 * n) bytes) in
     let x = from_le_bytes w128 part in
     let small : nat_lt x (2 ^ 128) ≡ true = lt-ltb _ _ (wide128.below part (IsBytes-take 16 (drop (16 * n) bytes) (IsBytes-drop (16 * n) bytes fits))) in
-    list_all-append (λ symbol. nat_lt symbol (2 ^ 128)) (symbols_in n bytes) (x ∷ [])
+    list_all-append (λ symbol. nat_lt symbol (2 ^ 128)) (symbols_read n bytes) (x ∷ [])
     ∙ (λ i. symbols_small n bytes fits i && (small i && true))
 
 -- the bytes of symbols from one on
@@ -130,8 +108,8 @@ small_at (x ∷ block) (suc k) below all = small_at block k (omega arith) (rest 
     rest false b e = absurd cc
 
 -- the symbols come back from their bytes
-symbols-front : (block : List ℕ) (k : ℕ) → k ≤ length block → list_all (λ symbol. nat_lt symbol (2 ^ 128)) block ≡ true → symbols_in k (bytes_of_symbols block) ≡ take k block
-unfolding symbols_in
+symbols-front : (block : List ℕ) (k : ℕ) → k ≤ length block → list_all (λ symbol. nat_lt symbol (2 ^ 128)) block ≡ true → symbols_read k (bytes_of_symbols block) ≡ take k block
+unfolding symbols_read
 symbols-front block zero within small = refl
 symbols-front block (suc k) within small =
     let x = get_or block k 0 in
@@ -145,10 +123,10 @@ symbols-front block (suc k) within small =
     (λ i. symbols-front block k (omega arith) small i ++ (ap (from_le_bytes w128) part ∙ from_to x (small_at block k below small)) i ∷ [])
     ∙ sym (take-suc block k 0 below)
 
-pub symbols-bytes : (block : List ℕ) → list_all (λ symbol. nat_lt symbol (2 ^ 128)) block ≡ true → symbols_in (length block) (bytes_of_symbols block) ≡ block
+pub symbols-bytes : (block : List ℕ) → list_all (λ symbol. nat_lt symbol (2 ^ 128)) block ≡ true → symbols_read (length block) (bytes_of_symbols block) ≡ block
 symbols-bytes block small = symbols-front block (length block) (omega arith) small ∙ take_all (length block) block (omega arith)
 
 -- one symbol
-pub one_symbol : (bytes : List ℕ) (x : ℕ) → length bytes ≡ 16 → x ≡ from_le_bytes w128 bytes → x ∷ [] ≡ symbols_in 1 bytes
-unfolding symbols_in
+pub one_symbol : (bytes : List ℕ) (x : ℕ) → length bytes ≡ 16 → x ≡ from_le_bytes w128 bytes → x ∷ [] ≡ symbols_read 1 bytes
+unfolding symbols_read
 one_symbol bytes x size is = λ i. (is ∙ ap (from_le_bytes w128) (sym (take_all 16 bytes (omega (arith, size))))) i ∷ []

@@ -1,32 +1,23 @@
 -- What is read is spelled so, and what is spelled so is read.
-use Rattle.std.proofs.Common.{◌≡◌, ℕ, suc, ◌+◌, ◌*◌, ◌^◌, ◌<◌, ◌≤◌, Bool, true, false, cond, ltb, eqb, List, [], ◌∷◌, ◌++◌, length, take, drop, Option, Some, None, refl, sym, ap, subst, ◌∙◌, append_assoc, arith, length-append, length-take, length-drop, take-append-drop, ⊎_elim}
-use Rattle.std.specs.Prelude.{◌&&◌, nat_lt, nat_le, ◌==◌, IsTrue}
-use Rattle.std.specs.Int.{w32, w64, w128, to_le_bytes, from_le_bytes}
+use Rattle.std.proofs.Common.{◌≡◌, ℕ, ◌+◌, ◌*◌, ◌^◌, ◌<◌, ◌≤◌, Bool, true, false, cond, eqb, List, [], ◌∷◌, ◌++◌, length, take, drop, Option, Some, None, refl, sym, ap, subst, ◌∙◌, append_assoc, arith, length-append, length-take, take-append-drop, ⊎_elim}
+use Rattle.std.specs.Prelude.{◌&&◌, nat_lt, ◌==◌}
+use Rattle.std.specs.Int.{w32, w64, to_le_bytes}
 use Rattle.std.specs.List.{list_all}
-use Rattle.std.proofs.lemmas.Bool.{eqb-true, ltb-false, le-ltb, lt-ltb}
+use Rattle.std.proofs.lemmas.Bool.{eqb-true, ltb-false, le-ltb, lt-ltb, and_from, and_parts}
 use Rattle.std.proofs.lemmas.Bool.Decides.{nat_tests}
-use Rattle.std.proofs.lemmas.List.{take_at, drop_at, append-nil}
+use Rattle.std.proofs.lemmas.List.{take_at, drop_at}
+use Rattle.plain_facts.proofs.Options.{cond-cases}
 use Rattle.hail_columns.specs.Challenges.{Challenge}
 use Rattle.hail_columns.specs.Objects.{bytes_of_symbols}
-use Rattle.hail_wire.specs.Requests.{Request, Store, Fetch, Ask, Remove, is_within, is_block, is_challenge, is_request, place_bytes, block_bytes, challenge_bytes, spelling}
+use Rattle.hail_columns.proofs.SymbolBytes.{length-bytes_of_symbols}
+use Rattle.hail_wire.specs.Requests.{Request, Store, Fetch, Ask, Remove, is_within, is_block, is_challenge, is_request, place_bytes, block_bytes, challenge_bytes, request_bytes}
 use Rattle.record_codec.specs.Reading.{◌>>=◌, number_at}
-use Rattle.record_codec.proofs.Fields.{IsBytes, IsBytes-rest, IsBytes-take, IsBytes-drop, bind_some, chosen, passed, passed_to, stopped, some_is, Takes, Takes-then, wide32, wide64, number_takes, number_again}
-use Rattle.provider_wire.specs.Reading.{symbols_in, within_at, block_at, store_at, fetch_at, seed_at, rows_at, challenge_at, ask_at, remove_at, request_at}
-use Rattle.provider_wire.proofs.Symbols.{length-bytes, bytes-symbols, length-symbols, symbols_small, symbols-bytes}
+use Rattle.record_codec.proofs.Fields.{IsBytes, IsBytes-rest, IsBytes-take, IsBytes-drop, bind_some, passed, stopped, some_is, Takes, Takes-then, wide32, wide64, number_takes, number_again}
+use Rattle.provider_wire.specs.Reading.{symbols_read, within_at, block_read_at, store_at, fetch_at, seed_at, rows_at, challenge_read_at, ask_at, remove_at, request_at}
+use Rattle.provider_wire.proofs.Symbols.{bytes-symbols, length-symbols, symbols_small, symbols-bytes}
 
 abbrev Found : List ℕ → Request × List ℕ → Type 0
-Found bytes x = Takes bytes (spelling x.0) x.1 × (is_request x.0 ≡ true)
-
-both : (a b : Bool) → a ≡ true → b ≡ true → (a && b) ≡ true
-both a b p q = λ i. p i && q i
-
-first_of : (a b : Bool) → (a && b) ≡ true → a ≡ true
-first_of true b e = refl
-first_of false b e = absurd cc
-
-second_of : (a b : Bool) → (a && b) ≡ true → b ≡ true
-second_of true b e = e
-second_of false b e = absurd cc
+Found bytes x = Takes bytes (request_bytes x.0) x.1 × (is_request x.0 ≡ true)
 
 -- ---- a number of one byte
 
@@ -45,14 +36,14 @@ within_again low high n rest good = rw good refl
 
 -- ---- a block
 
-block_takes : (bytes : List ℕ) (x : List ℕ × List ℕ) → IsBytes bytes → block_at bytes ≡ Some x → Takes bytes (block_bytes x.0) x.1 × (is_block x.0 ≡ true)
-unfolding block_at
+block_takes : (bytes : List ℕ) (x : List ℕ × List ℕ) → IsBytes bytes → block_read_at bytes ≡ Some x → Takes bytes (block_bytes x.0) x.1 × (is_block x.0 ≡ true)
+unfolding block_read_at
 block_takes bytes x fits e =
-    let a = bind_some (within_at 1 128 bytes) (λ size. cond (nat_lt (length size.1) (16 * size.0)) None (Some (symbols_in size.0 (take (16 * size.0) size.1), drop (16 * size.0) size.1))) x e in
+    let a = bind_some (within_at 1 128 bytes) (λ size. cond (nat_lt (length size.1) (16 * size.0)) None (Some (symbols_read size.0 (take (16 * size.0) size.1), drop (16 * size.0) size.1))) x e in
     let n = a.0.0 in
     let rest = a.0.1 in
     let first = within_takes 1 128 bytes a.0 fits a.1 in
-    let made : List ℕ × List ℕ = (symbols_in n (take (16 * n) rest), drop (16 * n) rest) in
+    let made : List ℕ × List ℕ = (symbols_read n (take (16 * n) rest), drop (16 * n) rest) in
     let g = stopped (nat_lt (length rest) (16 * n)) (Some made) x a.2 in
     let long : 16 * n ≤ length rest = ltb-false _ _ g.0 in
     let part = take (16 * n) rest in
@@ -62,7 +53,7 @@ block_takes bytes x fits e =
     let many : length made.0 ≡ n = length-symbols n part in
     let parts : bytes ≡ block_bytes made.0 ++ made.1 =
     first.0.parts ∙ ap (λ (l : List ℕ). n ∷ l) (sym (take-append-drop (16 * n) rest)) ∙ (λ i. sym many i ∷ (sym symbols i ++ drop (16 * n) rest)) in
-    let good : is_block made.0 ≡ true = both _ _ (ap (is_within 1 128) many ∙ first.1) (symbols_small n part part_fits) in
+    let good : is_block made.0 ≡ true = and_from _ _ (ap (is_within 1 128) many ∙ first.1) (symbols_small n part part_fits) in
     subst (λ (y : List ℕ × List ℕ). Takes bytes (block_bytes y.0) y.1 × (is_block y.0 ≡ true)) (some_is made x g.1)
     (record { parts = parts; rest_fits = IsBytes-drop (16 * n) rest first.0.rest_fits }, good)
   where
@@ -70,15 +61,15 @@ block_takes bytes x fits e =
     whole [] = refl
     whole (y ∷ l) = ap (λ (m : List ℕ). y ∷ m) (whole l)
 
-block_again : (block rest : List ℕ) → is_block block ≡ true → block_at (block_bytes block ++ rest) ≡ Some (block, rest)
-unfolding block_at
+block_again : (block rest : List ℕ) → is_block block ≡ true → block_read_at (block_bytes block ++ rest) ≡ Some (block, rest)
+unfolding block_read_at
 block_again block rest good =
     let n = length block in
     let body = bytes_of_symbols block in
-    let len : length body ≡ 16 * n = length-bytes block in
+    let len : length body ≡ 16 * n = length-bytes_of_symbols block in
     let long : nat_lt (length (body ++ rest)) (16 * n) ≡ false = le-ltb _ _ (omega (arith, length-append body rest, len)) in
-    let small = second_of _ _ good in
-    ap (λ (o : Option (ℕ × List ℕ)). o >>= λ size. cond (nat_lt (length size.1) (16 * size.0)) None (Some (symbols_in size.0 (take (16 * size.0) size.1), drop (16 * size.0) size.1))) (within_again 1 128 n (body ++ rest) (first_of _ _ good))
+    let small = (and_parts _ _ good).1 in
+    ap (λ (o : Option (ℕ × List ℕ)). o >>= λ size. cond (nat_lt (length size.1) (16 * size.0)) None (Some (symbols_read size.0 (take (16 * size.0) size.1), drop (16 * size.0) size.1))) (within_again 1 128 n (body ++ rest) ((and_parts _ _ good).0))
     ∙ rw (long, take_at body rest (16 * n) len, drop_at body rest (16 * n) len, symbols-bytes block small) refl
 
 -- ---- a store and a fetch
@@ -87,11 +78,11 @@ place-assoc : (a b c rest : List ℕ) → ((a ++ b) ++ c) ++ rest ≡ a ++ (b ++
 place-assoc a b c rest = append_assoc (a ++ b) c rest ∙ append_assoc a b (c ++ rest)
 
 store_takes : (rest : List ℕ) (x : Request × List ℕ) → IsBytes rest → store_at rest ≡ Some x → Found (1 ∷ rest) x
-unfolding store_at spelling
+unfolding store_at request_bytes
 store_takes rest x fits e =
-    let a = bind_some (number_at w64 rest) (λ object. number_at w32 object.1 >>= λ stripe. block_at stripe.1 >>= λ block. Some (Store object.0 stripe.0 block.0, block.1)) x e in
-    let b = bind_some (number_at w32 a.0.1) (λ stripe. block_at stripe.1 >>= λ block. Some (Store a.0.0 stripe.0 block.0, block.1)) x a.2 in
-    let d = bind_some (block_at b.0.1) (λ block. Some (Store a.0.0 b.0.0 block.0, block.1)) x b.2 in
+    let a = bind_some (number_at w64 rest) (λ object. number_at w32 object.1 >>= λ stripe. block_read_at stripe.1 >>= λ block. Some (Store object.0 stripe.0 block.0, block.1)) x e in
+    let b = bind_some (number_at w32 a.0.1) (λ stripe. block_read_at stripe.1 >>= λ block. Some (Store a.0.0 stripe.0 block.0, block.1)) x a.2 in
+    let d = bind_some (block_read_at b.0.1) (λ block. Some (Store a.0.0 b.0.0 block.0, block.1)) x b.2 in
     let made : Request × List ℕ = (Store a.0.0 b.0.0 d.0.0, d.0.1) in
     let first = number_takes w64 (2 ^ 64) wide64 rest a.0 fits a.1 in
     let second = number_takes w32 (2 ^ 32) wide32 a.0.1 b.0 first.0.rest_fits b.1 in
@@ -102,7 +93,7 @@ store_takes rest x fits e =
     subst (Found (1 ∷ rest)) (some_is made x d.2) (record { parts = ap (λ (l : List ℕ). 1 ∷ l) all.parts; rest_fits = all.rest_fits }, good)
 
 fetch_takes : (rest : List ℕ) (x : Request × List ℕ) → IsBytes rest → fetch_at rest ≡ Some x → Found (2 ∷ rest) x
-unfolding fetch_at spelling
+unfolding fetch_at request_bytes
 fetch_takes rest x fits e =
     let a = bind_some (number_at w64 rest) (λ object. number_at w32 object.1 >>= λ stripe. within_at 1 128 stripe.1 >>= λ size. Some (Fetch object.0 stripe.0 size.0, size.1)) x e in
     let b = bind_some (number_at w32 a.0.1) (λ stripe. within_at 1 128 stripe.1 >>= λ size. Some (Fetch a.0.0 stripe.0 size.0, size.1)) x a.2 in
@@ -158,8 +149,8 @@ rows_again rows rest good =
     let small : rows < 2 ^ 64 = grind (arith, nat_tests, good) in
     rw (number_again w64 (2 ^ 64) wide64 rows rest small, good) refl
 
-challenge_takes : (bytes : List ℕ) (x : Challenge × List ℕ) → IsBytes bytes → challenge_at bytes ≡ Some x → Takes bytes (challenge_bytes x.0) x.1 × (is_challenge x.0 ≡ true)
-unfolding challenge_at
+challenge_takes : (bytes : List ℕ) (x : Challenge × List ℕ) → IsBytes bytes → challenge_read_at bytes ≡ Some x → Takes bytes (challenge_bytes x.0) x.1 × (is_challenge x.0 ≡ true)
+unfolding challenge_read_at
 challenge_takes bytes x fits e =
     let a = bind_some (seed_at bytes) (λ seed. rows_at seed.1 >>= λ rows. within_at 1 128 rows.1 >>= λ size. within_at 1 64 size.1 >>= λ picks. Some (record { seed = seed.0; rows = rows.0; size = size.0; picks = picks.0 }, picks.1)) x e in
     let b = bind_some (rows_at a.0.1) (λ rows. within_at 1 128 rows.1 >>= λ size. within_at 1 64 size.1 >>= λ picks. Some (record { seed = a.0.0; rows = rows.0; size = size.0; picks = picks.0 }, picks.1)) x a.2 in
@@ -177,8 +168,8 @@ challenge_takes bytes x fits e =
     let good : is_challenge c ≡ true = (λ i. first.1 i && second.1 i && third.1 i && fourth.1 i) in
     subst (λ (y : Challenge × List ℕ). Takes bytes (challenge_bytes y.0) y.1 × (is_challenge y.0 ≡ true)) (some_is made x f.2) (all, good)
 
-challenge_again : (c : Challenge) (rest : List ℕ) → is_challenge c ≡ true → challenge_at (challenge_bytes c ++ rest) ≡ Some (c, rest)
-unfolding challenge_at within_at
+challenge_again : (c : Challenge) (rest : List ℕ) → is_challenge c ≡ true → challenge_read_at (challenge_bytes c ++ rest) ≡ Some (c, rest)
+unfolding challenge_read_at within_at
 challenge_again c rest good =
     let seed : is_seed c.seed ≡ true = grind (arith, good) in
     let rows : is_within 1 (2 ^ 32) c.rows ≡ true = grind (arith, good) in
@@ -186,14 +177,14 @@ challenge_again c rest good =
     let picks : is_within 1 64 c.picks ≡ true = grind (arith, good) in
     let tail = c.size ∷ c.picks ∷ rest in
     let regrouped : challenge_bytes c ++ rest ≡ c.seed ++ (to_le_bytes w64 c.rows ++ tail) = append_assoc c.seed (to_le_bytes w64 c.rows ++ c.size ∷ c.picks ∷ []) rest ∙ ap (λ (l : List ℕ). c.seed ++ l) (append_assoc (to_le_bytes w64 c.rows) (c.size ∷ c.picks ∷ []) rest) in
-    ap (λ (l : List ℕ). challenge_at l) regrouped
+    ap (λ (l : List ℕ). challenge_read_at l) regrouped
     ∙ rw (seed_again c.seed (to_le_bytes w64 c.rows ++ tail) seed, rows_again c.rows tail rows, size, picks) refl
 
 ask_takes : (rest : List ℕ) (x : Request × List ℕ) → IsBytes rest → ask_at rest ≡ Some x → Found (3 ∷ rest) x
-unfolding ask_at spelling
+unfolding ask_at request_bytes
 ask_takes rest x fits e =
-    let a = bind_some (number_at w64 rest) (λ object. challenge_at object.1 >>= λ c. Some (Ask object.0 c.0, c.1)) x e in
-    let b = bind_some (challenge_at a.0.1) (λ c. Some (Ask a.0.0 c.0, c.1)) x a.2 in
+    let a = bind_some (number_at w64 rest) (λ object. challenge_read_at object.1 >>= λ c. Some (Ask object.0 c.0, c.1)) x e in
+    let b = bind_some (challenge_read_at a.0.1) (λ c. Some (Ask a.0.0 c.0, c.1)) x a.2 in
     let made : Request × List ℕ = (Ask a.0.0 b.0.0, b.0.1) in
     let first = number_takes w64 (2 ^ 64) wide64 rest a.0 fits a.1 in
     let second = challenge_takes a.0.1 b.0 first.0.rest_fits b.1 in
@@ -201,7 +192,7 @@ ask_takes rest x fits e =
     subst (Found (3 ∷ rest)) (some_is made x b.2) (record { parts = ap (λ (l : List ℕ). 3 ∷ l) all.parts; rest_fits = all.rest_fits }, (λ i. lt-ltb _ _ first.1 i && second.1 i))
 
 remove_takes : (rest : List ℕ) (x : Request × List ℕ) → IsBytes rest → remove_at rest ≡ Some x → Found (4 ∷ rest) x
-unfolding remove_at spelling
+unfolding remove_at request_bytes
 remove_takes rest x fits e =
     let a = bind_some (number_at w64 rest) (λ object. Some (Remove object.0, object.1)) x e in
     let made : Request × List ℕ = (Remove a.0.0, a.0.1) in
@@ -214,9 +205,9 @@ remove_takes rest x fits e =
 of_kind : (kind k : ℕ) (rest : List ℕ) (found others : Option (Request × List ℕ)) (x : Request × List ℕ)
     → (found ≡ Some x → Found (k ∷ rest) x) → (others ≡ Some x → Found (kind ∷ rest) x) → cond (eqb kind k) found others ≡ Some x → Found (kind ∷ rest) x
 of_kind kind k rest found others x here on e =
-    ⊎_elim (λ p. subst (λ (j : ℕ). Found (j ∷ rest) x) (sym (eqb-true kind k p.0)) (here p.1)) (λ p. on p.1) (chosen (eqb kind k) found others (Some x) e)
+    ⊎_elim (λ p. subst (λ (j : ℕ). Found (j ∷ rest) x) (sym (eqb-true kind k p.0)) (here p.1)) (λ p. on p.1) (cond-cases (eqb kind k) found others (Some x) e)
 
-pub request_takes : (bytes : List ℕ) (x : Request × List ℕ) → IsBytes bytes → request_at bytes ≡ Some x → Takes bytes (spelling x.0) x.1 × (is_request x.0 ≡ true)
+pub request_takes : (bytes : List ℕ) (x : Request × List ℕ) → IsBytes bytes → request_at bytes ≡ Some x → Takes bytes (request_bytes x.0) x.1 × (is_request x.0 ≡ true)
 unfolding request_at
 request_takes [] x fits e = absurd cc
 request_takes (kind ∷ rest) x fits e =
@@ -227,24 +218,24 @@ request_takes (kind ∷ rest) x fits e =
     none_is : (y : Request × List ℕ) → None ≡ Some y → ⊥
     none_is y h = cc
 
-pub request_again : (r : Request) (rest : List ℕ) → is_request r ≡ true → request_at (spelling r ++ rest) ≡ Some (r, rest)
-unfolding request_at store_at fetch_at ask_at remove_at within_at spelling
+pub request_again : (r : Request) (rest : List ℕ) → is_request r ≡ true → request_at (request_bytes r ++ rest) ≡ Some (r, rest)
+unfolding request_at store_at fetch_at ask_at remove_at within_at request_bytes
 request_again (Store object stripe block) rest fits =
     let object_fits : object < 2 ^ 64 = grind (arith, nat_tests, fits) in
     let stripe_fits : stripe < 2 ^ 32 = grind (arith, nat_tests, fits) in
-    let good : is_block block ≡ true = second_of _ _ fits in
+    let good : is_block block ≡ true = (and_parts _ _ fits).1 in
     let b = block_bytes block in
     ap (λ (l : List ℕ). store_at l) (place-assoc (to_le_bytes w64 object) (to_le_bytes w32 stripe) b rest)
     ∙ rw (number_again w64 (2 ^ 64) wide64 object (to_le_bytes w32 stripe ++ (b ++ rest)) object_fits, number_again w32 (2 ^ 32) wide32 stripe (b ++ rest) stripe_fits, block_again block rest good) refl
 request_again (Fetch object stripe size) rest fits =
     let object_fits : object < 2 ^ 64 = grind (arith, nat_tests, fits) in
     let stripe_fits : stripe < 2 ^ 32 = grind (arith, nat_tests, fits) in
-    let good : is_within 1 128 size ≡ true = second_of _ _ fits in
+    let good : is_within 1 128 size ≡ true = (and_parts _ _ fits).1 in
     ap (λ (l : List ℕ). fetch_at l) (place-assoc (to_le_bytes w64 object) (to_le_bytes w32 stripe) (size ∷ []) rest)
     ∙ rw (number_again w64 (2 ^ 64) wide64 object (to_le_bytes w32 stripe ++ size ∷ rest) object_fits, number_again w32 (2 ^ 32) wide32 stripe (size ∷ rest) stripe_fits, good) refl
 request_again (Ask object c) rest fits =
     let object_fits : object < 2 ^ 64 = grind (arith, nat_tests, fits) in
-    let good : is_challenge c ≡ true = second_of _ _ fits in
+    let good : is_challenge c ≡ true = (and_parts _ _ fits).1 in
     ap (λ (l : List ℕ). ask_at l) (append_assoc (to_le_bytes w64 object) (challenge_bytes c) rest)
     ∙ rw (number_again w64 (2 ^ 64) wide64 object (challenge_bytes c ++ rest) object_fits, challenge_again c rest good) refl
 request_again (Remove object) rest fits =
@@ -252,13 +243,13 @@ request_again (Remove object) rest fits =
     rw (number_again w64 (2 ^ 64) wide64 object rest object_fits) refl
 
 -- no spelling begins another
-pub one_front : (a b : Request) (x y : List ℕ) → is_request a ≡ true → is_request b ≡ true → spelling a ++ x ≡ spelling b ++ y → (a ≡ b) × (x ≡ y)
+pub one_front : (a b : Request) (x y : List ℕ) → is_request a ≡ true → is_request b ≡ true → request_bytes a ++ x ≡ request_bytes b ++ y → (a ≡ b) × (x ≡ y)
 one_front a b x y fits_a fits_b e =
     let same = some_is (a, x) (b, y) (sym (request_again a x fits_a) ∙ ap request_at e ∙ request_again b y fits_b) in
     (ap (λ (p : Request × List ℕ). p.0) same, ap (λ (p : Request × List ℕ). p.1) same)
 
-pub spelling-some : (r : Request) → 0 < length (spelling r)
-unfolding spelling
+pub spelling-some : (r : Request) → 0 < length (request_bytes r)
+unfolding request_bytes
 spelling-some (Store object stripe block) = omega arith
 spelling-some (Fetch object stripe size) = omega arith
 spelling-some (Ask object c) = omega arith

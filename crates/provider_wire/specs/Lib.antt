@@ -1,6 +1,5 @@
 pub mod Asking
 pub mod Reading
-pub mod Seen
 pub mod Ends
 pub mod Loops
 pub mod Linked

@@ -13,19 +13,23 @@ abbrev pub broken_of : {X : Type 0} {g : Ghosts X} → LinkProvider X g → Bool
 broken_of p = p.broken
 
 -- how often a store was answered as failed
-abbrev pub store_faults_of : {X : Type 0} {g : Ghosts X} → LinkProvider X g → ℕ
-store_faults_of p = p.store_faults
+abbrev pub link_store_faults : {X : Type 0} {g : Ghosts X} → LinkProvider X g → ℕ
+link_store_faults p = p.store_faults
 
 -- how often another call was
-abbrev pub other_faults_of : {X : Type 0} {g : Ghosts X} → LinkProvider X g → ℕ
-other_faults_of p = p.other_faults
+abbrev pub link_other_faults : {X : Type 0} {g : Ghosts X} → LinkProvider X g → ℕ
+link_other_faults p = p.other_faults
 
 -- how often it was fetched from
-abbrev pub fetches_of : {X : Type 0} {g : Ghosts X} → LinkProvider X g → ℕ
-fetches_of p = p.fetches
+abbrev pub link_fetches : {X : Type 0} {g : Ghosts X} → LinkProvider X g → ℕ
+link_fetches p = p.fetches
 
--- How a call leaves a provider over a link, whatever the link: out of step it fails, and stays so; and the count of that
--- kind of call is raised exactly where it failed.
+-- how often it was called
+abbrev pub link_calls : {X : Type 0} {g : Ghosts X} → LinkProvider X g → ℕ
+link_calls p = p.calls
+
+-- How a call leaves a provider over a link, whatever the link: out of step it fails, and stays so; and the
+-- count of that kind of call is raised exactly where it failed.
 pub record CountsFaults (was broken : Bool) (failed : Type 0) (before now : ℕ) : Type 0 where
   pub stays : was ≡ true → broken ≡ true
   pub fails : broken ≡ true → failed

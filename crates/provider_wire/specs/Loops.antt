@@ -9,10 +9,12 @@ use Rattle.hail_wire.specs.Links.{Behind}
 use Rattle.provider_wire.specs.declared.loop_link.LoopLink.{LoopLink}
 
 -- what such a link tells: nothing where its provider tells nothing
-abbrev pub behind_loop : {X : Type 0} → (X → Option Held) → (X → ℕ) → (X → ℕ) → (X → ℕ) → LoopLink X → Option Behind
+abbrev pub behind_loop : {X : Type 0} → (X → Option Held) → (X → ℕ) → (X → ℕ) → (X → ℕ) → LoopLink X
+    → Option Behind
 behind_loop held stores others fetches link =
     option_map (λ blocks. record { held = blocks; store_faults = stores link.provider; other_faults = others link.provider; fetches = fetches link.provider; due = drop link.given link.due }) (held link.provider)
 
 -- a provider that holds this, with nothing due
 abbrev pub idle : ℕ → ℕ → ℕ → Held → Behind
-idle stores others fetches held = record { held = held; store_faults = stores; other_faults = others; fetches = fetches; due = [] }
+idle stores others fetches held =
+    record { held = held; store_faults = stores; other_faults = others; fetches = fetches; due = [] }

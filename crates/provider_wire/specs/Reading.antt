@@ -1,4 +1,5 @@
--- Reading a request from left to right: its plain data and what stands behind it; None where no request stands at the front.
+-- Reading a request from left to right: its plain data and what stands behind it; None where no request
+-- stands at the front.
 use Rattle.std.specs.Prelude.{ℕ, zero, suc, ◌+◌, ◌*◌, ◌^◌, List, [], ◌∷◌, ◌++◌, length, take, drop, Option, Some, None, nat_lt, ◌==◌, if◌then◌else◌}
 use Rattle.std.specs.Int.{w32, w64, w128, from_le_bytes}
 use Rattle.record_codec.specs.Reading.{◌>>=◌, number_at}
@@ -6,9 +7,9 @@ use Rattle.hail_columns.specs.Challenges.{Challenge}
 use Rattle.hail_wire.specs.Requests.{Request, Store, Fetch, Ask, Remove, is_within}
 
 -- the symbols of the first bytes, 16 a symbol
-unfoldable pub symbols_in : ℕ → List ℕ → List ℕ
-symbols_in zero bytes = []
-symbols_in (suc n) bytes = symbols_in n bytes ++ from_le_bytes w128 (take 16 (drop (16 * n) bytes)) ∷ []
+unfoldable pub symbols_read : ℕ → List ℕ → List ℕ
+symbols_read zero bytes = []
+symbols_read (suc n) bytes = symbols_read n bytes ++ from_le_bytes w128 (take 16 (drop (16 * n) bytes)) ∷ []
 
 -- a number of one byte within its limits
 unfoldable pub within_at : ℕ → ℕ → List ℕ → Option (ℕ × List ℕ)
@@ -16,17 +17,18 @@ within_at low high [] = None
 within_at low high (n ∷ rest) = if is_within low high n then Some (n, rest) else None
 
 -- a block behind its size
-unfoldable pub block_at : List ℕ → Option (List ℕ × List ℕ)
-block_at bytes = do
+unfoldable pub block_read_at : List ℕ → Option (List ℕ × List ℕ)
+block_read_at bytes = do
   size ← within_at 1 128 bytes
-  if nat_lt (length size.1) (16 * size.0) then None else Some (symbols_in size.0 (take (16 * size.0) size.1), drop (16 * size.0) size.1)
+  if nat_lt (length size.1) (16 * size.0) then None
+      else Some (symbols_read size.0 (take (16 * size.0) size.1), drop (16 * size.0) size.1)
 
 -- a store: its object, its stripe and the block
 unfoldable pub store_at : List ℕ → Option (Request × List ℕ)
 store_at bytes = do
   object ← number_at w64 bytes
   stripe ← number_at w32 object.1
-  block ← block_at stripe.1
+  block ← block_read_at stripe.1
   Some (Store object.0 stripe.0 block.0, block.1)
 
 -- a fetch: its object, its stripe and how many symbols
@@ -48,8 +50,8 @@ rows_at bytes = do
   if is_within 1 (2 ^ 32) rows.0 then Some (rows.0, rows.1) else None
 
 -- a challenge: its seed, its rows, the size of a block and its picks
-unfoldable pub challenge_at : List ℕ → Option (Challenge × List ℕ)
-challenge_at bytes = do
+unfoldable pub challenge_read_at : List ℕ → Option (Challenge × List ℕ)
+challenge_read_at bytes = do
   seed ← seed_at bytes
   rows ← rows_at seed.1
   size ← within_at 1 128 rows.1
@@ -60,7 +62,7 @@ challenge_at bytes = do
 unfoldable pub ask_at : List ℕ → Option (Request × List ℕ)
 ask_at bytes = do
   object ← number_at w64 bytes
-  c ← challenge_at object.1
+  c ← challenge_read_at object.1
   Some (Ask object.0 c.0, c.1)
 
 -- a removal: its object
@@ -73,5 +75,6 @@ remove_at bytes = do
 unfoldable pub request_at : List ℕ → Option (Request × List ℕ)
 request_at [] = None
 request_at (kind ∷ rest) =
-    if kind == 1 then store_at rest else (if kind == 2 then fetch_at rest else (if kind == 3 then ask_at rest else (
+    if kind == 1 then store_at rest else (if kind == 2 then fetch_at rest else
+    (if kind == 3 then ask_at rest else (
     if kind == 4 then remove_at rest else None)))

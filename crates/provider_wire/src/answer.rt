@@ -5,7 +5,7 @@ ghost use Rattle.hail_wire.specs.Requests.{Store, Fetch, Ask, Remove, is_request
 ghost use Rattle.hail_wire.specs.Replies.{AnswersIn};
 ghost use Rattle.hail_columns.specs.Objects.{bytes_of_symbols};
 ghost use Rattle.provider_wire.specs.Asking.{request_of};
-ghost use Rattle.provider_wire.specs.Seen.{as_seen};
+ghost use Rattle.provider_model.specs.Seen.{provider_seen};
 
 use crate::piece::Piece;
 use crate::request::Request;
@@ -49,8 +49,8 @@ pub(crate) fn with_symbols(symbols: &[Symbol]) -> Piece
 fn answer_store<P: Provider>(provider: &mut P, object: u64, stripe: u32, block: &[Symbol]) -> Piece
     requires some { 1 ≤ length block.now }
     requires few { length block.now ≤ 128 }
-    ensures { AnswersIn (Store object stripe block.now) (as_seen P.held P.store_faults P.other_faults P.fetches provider.old)
-        result (as_seen P.held P.store_faults P.other_faults P.fetches provider.new) }
+    ensures { AnswersIn (Store object stripe block.now) (provider_seen P.Provider provider.old)
+        result (provider_seen P.Provider provider.new) }
 {
     match provider.store(object, stripe, block) {
         Ok(()) => plain(DONE),
@@ -62,8 +62,8 @@ fn answer_store<P: Provider>(provider: &mut P, object: u64, stripe: u32, block: 
 fn answer_fetch<P: Provider>(provider: &mut P, object: u64, stripe: u32, size: usize) -> Piece
     requires some { 1 ≤ size }
     requires few { size ≤ 128 }
-    ensures { AnswersIn (Fetch object stripe size) (as_seen P.held P.store_faults P.other_faults P.fetches provider.old)
-        result (as_seen P.held P.store_faults P.other_faults P.fetches provider.new) }
+    ensures { AnswersIn (Fetch object stripe size) (provider_seen P.Provider provider.old)
+        result (provider_seen P.Provider provider.new) }
 {
     let mut room = [Symbol::ZERO; 128];
     let block = &mut room[..size];
@@ -78,8 +78,8 @@ fn answer_fetch<P: Provider>(provider: &mut P, object: u64, stripe: u32, size: u
 }
 
 fn answer_ask<P: Provider>(provider: &mut P, object: u64, challenge: &Challenge) -> Piece
-    ensures { AnswersIn (Ask object (asked challenge.now)) (as_seen P.held P.store_faults P.other_faults P.fetches provider.old)
-        result (as_seen P.held P.store_faults P.other_faults P.fetches provider.new) }
+    ensures { AnswersIn (Ask object (asked challenge.now)) (provider_seen P.Provider provider.old)
+        result (provider_seen P.Provider provider.new) }
 {
     match provider.ask(object, challenge) {
         Ok(Some(symbol)) => {
@@ -92,8 +92,8 @@ fn answer_ask<P: Provider>(provider: &mut P, object: u64, challenge: &Challenge)
 }
 
 fn answer_remove<P: Provider>(provider: &mut P, object: u64) -> Piece
-    ensures { AnswersIn (Remove object) (as_seen P.held P.store_faults P.other_faults P.fetches provider.old)
-        result (as_seen P.held P.store_faults P.other_faults P.fetches provider.new) }
+    ensures { AnswersIn (Remove object) (provider_seen P.Provider provider.old)
+        result (provider_seen P.Provider provider.new) }
 {
     match provider.remove(object) {
         Ok(()) => plain(DONE),
@@ -104,8 +104,8 @@ fn answer_remove<P: Provider>(provider: &mut P, object: u64) -> Piece
 /// Asks a provider for what a request says, and gives the bytes of its answer.
 pub fn answer<P: Provider>(provider: &mut P, request: &Request) -> Piece
     requires { IsTrue (is_request (request_of request.now)) }
-    ensures { AnswersIn (request_of request.now) (as_seen P.held P.store_faults P.other_faults P.fetches provider.old)
-        result (as_seen P.held P.store_faults P.other_faults P.fetches provider.new) }
+    ensures { AnswersIn (request_of request.now) (provider_seen P.Provider provider.old)
+        result (provider_seen P.Provider provider.new) }
 {
     match request {
         Request::Store {

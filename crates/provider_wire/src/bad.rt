@@ -1,5 +1,5 @@
 ghost use Rattle.std.specs.Prelude.{◌≡◌, ◌≤◌, ◌^◌, ◌+◌};
-ghost use Rattle.hail_wire.specs.Requests.{is_bad, misses, number_misses};
+ghost use Rattle.hail_wire.specs.Requests.{is_bad_request, misses, number_misses};
 
 /// Whether the byte at a place is there, and not from `low` to `high`.
 fn misses(place: usize, low: u8, high: u8, bytes: &[u8]) -> bool
@@ -24,7 +24,7 @@ fn rows_miss(bytes: &[u8]) -> bool
 /// Whether bytes begin no request, whatever comes behind them: they have no kind of request, or a field that stands whole
 /// in them is out of its limits.
 pub fn is_bad(bytes: &[u8]) -> bool
-    ensures { result ≡ is_bad bytes.now }
+    ensures { result ≡ is_bad_request bytes.now }
 {
     match bytes {
         [] | [4, ..] => false,

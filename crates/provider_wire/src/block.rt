@@ -1,6 +1,6 @@
 ghost use Rattle.std.specs.Prelude.{◌≡◌, ◌*◌, ◌≤◌, length, IsTrue};
 ghost use Rattle.hail_wire.specs.Requests.{is_block};
-ghost use Rattle.provider_wire.specs.Reading.{symbols_in};
+ghost use Rattle.provider_wire.specs.Reading.{symbols_read};
 
 use crate::symbol_bytes::take_symbols;
 use hail_field::Symbol;
@@ -30,7 +30,7 @@ impl Block {
         requires some { 1 ≤ size }
         requires few { size ≤ 128 }
         requires fits { length bytes.now ≡ 16 * size }
-        ensures { result ≡ symbols_in size bytes.now }
+        ensures { result ≡ symbols_read size bytes.now }
     {
         let mut symbols = [Symbol::ZERO; 128];
         take_symbols(bytes, &mut symbols[..size]);

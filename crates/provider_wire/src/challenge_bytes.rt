@@ -2,7 +2,7 @@
 ghost use Rattle.std.specs.Prelude.{◌≡◌, ◌≤◌, ◌^◌, IfSome};
 ghost use Rattle.std.specs.Option.{option_map};
 ghost use Rattle.challenge.specs.Asked.{asked};
-ghost use Rattle.provider_wire.specs.Reading.{seed_at, rows_at, challenge_at};
+ghost use Rattle.provider_wire.specs.Reading.{seed_at, rows_at, challenge_read_at};
 
 use crate::fields::{u8_at, u64_at};
 use challenge::Challenge;
@@ -42,9 +42,9 @@ fn rows_of(bytes: &[u8]) -> Option<(u64, &[u8])>
 }
 
 /// A challenge: its seed, its rows, the size of a block and its picks.
-#[tactic(auto, unfolding(crate::specs::Reading::challenge_at))]
+#[tactic(auto, unfolding(crate::specs::Reading::challenge_read_at))]
 pub fn challenge_of(bytes: &[u8]) -> Option<(Challenge, &[u8])>
-    ensures { option_map (λ x. (asked x.0, x.1.now)) result ≡ challenge_at bytes.now }
+    ensures { option_map (λ x. (asked x.0, x.1.now)) result ≡ challenge_read_at bytes.now }
 {
     let (seed, rest) = seed_of(bytes)?;
     let (rows, rest) = rows_of(rest)?;

@@ -2,7 +2,7 @@
 ghost use Rattle.std.specs.Prelude.{◌≡◌, ◌≤◌, ◌∷◌, ◌++◌, length};
 ghost use Rattle.std.specs.Int.{w64, to_le_bytes};
 ghost use Rattle.challenge.specs.Asked.{asked};
-ghost use Rattle.hail_wire.specs.Requests.{Store, Fetch, Ask, Remove, Spells, place_bytes};
+ghost use Rattle.hail_wire.specs.Requests.{Store, Fetch, Ask, Remove, SpellsRequest, place_bytes};
 
 use crate::piece::Piece;
 use challenge::Challenge;
@@ -35,7 +35,7 @@ fn placed(kind: u8, object: u64, stripe: u32) -> Piece
 pub fn store_frame(object: u64, stripe: u32, block: &[Symbol]) -> Piece
     requires some { 1 ≤ length block.now }
     requires few { length block.now ≤ 128 }
-    ensures { Spells result (Store object stripe block.now) }
+    ensures { SpellsRequest result (Store object stripe block.now) }
 {
     symbols_are_numbers(block);
     let mut frame = placed(1, object, stripe);
@@ -48,7 +48,7 @@ pub fn store_frame(object: u64, stripe: u32, block: &[Symbol]) -> Piece
 pub fn fetch_frame(object: u64, stripe: u32, size: u8) -> Piece
     requires some { 1 ≤ size }
     requires few { size ≤ 128 }
-    ensures { Spells result (Fetch object stripe size) }
+    ensures { SpellsRequest result (Fetch object stripe size) }
 {
     let mut frame = placed(2, object, stripe);
     frame.push(&[size]);
@@ -57,7 +57,7 @@ pub fn fetch_frame(object: u64, stripe: u32, size: u8) -> Piece
 
 /// The bytes of an ask.
 pub fn ask_frame(object: u64, challenge: &Challenge) -> Piece
-    ensures { Spells result (Ask object (asked challenge.now)) }
+    ensures { SpellsRequest result (Ask object (asked challenge.now)) }
 {
     bytes_are_in_range(&challenge.seed);
     let mut frame = begun(3, object);
@@ -69,7 +69,7 @@ pub fn ask_frame(object: u64, challenge: &Challenge) -> Piece
 
 /// The bytes of a removal.
 pub fn remove_frame(object: u64) -> Piece
-    ensures { Spells result (Remove object) }
+    ensures { SpellsRequest result (Remove object) }
 {
     begun(4, object)
 }

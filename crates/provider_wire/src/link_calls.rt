@@ -4,8 +4,9 @@ ghost use Rattle.provider_model.specs.declared.fault.StoreFault.TheVariants as s
 ghost use Rattle.hail_devices.specs.Faults.{one_more};
 ghost use Rattle.hail_columns.specs.Challenges.{honest_answer};
 ghost use Rattle.challenge.specs.Asked.{asked};
-ghost use Rattle.provider_wire.specs.Linked.{seen_over, StoresAs, FetchedAs, AskedAs, RemovedAs};
-ghost use Rattle.provider_wire.specs.LinkProviders.{CountsFaults, link_of, broken_of, store_faults_of, other_faults_of, fetches_of};
+ghost use Rattle.provider_wire.specs.Linked.{seen_behind, FetchedAs, AskedAs, RemovedAs};
+ghost use Rattle.provider_model.specs.Seen.{StoresAs};
+ghost use Rattle.provider_wire.specs.LinkProviders.{CountsFaults, link_of, broken_of, link_store_faults, link_other_faults, link_fetches, link_calls};
 
 use crate::frame::{ask_frame, fetch_frame, remove_frame, store_frame};
 use crate::link::Link;
@@ -36,11 +37,15 @@ impl<L: Link> LinkProvider<L> {
         requires some { 1 ≤ length block.now }
         requires few { length block.now ≤ 128 }
         ensures answered { StoresAs object stripe block.now result
-            (seen_over (L.behind (link_of self.old)) (store_faults_of self.old) (other_faults_of self.old) (fetches_of self.old))
-            (seen_over (L.behind (link_of self.new)) (store_faults_of self.new) (other_faults_of self.new) (fetches_of self.new)) }
-        ensures counts { CountsFaults (broken_of self.old) (broken_of self.new) (IsErrOf result store_fault.Failed) (store_faults_of self.old) (store_faults_of self.new) }
-        ensures other_faults { other_faults_of self.new ≡ other_faults_of self.old }
-        ensures fetches { fetches_of self.new ≡ fetches_of self.old }
+            (seen_behind (L.behind (link_of self.old)) (link_store_faults self.old)
+            (link_other_faults self.old) (link_fetches self.old))
+            (seen_behind (L.behind (link_of self.new)) (link_store_faults self.new)
+            (link_other_faults self.new) (link_fetches self.new)) }
+        ensures counts { CountsFaults (broken_of self.old) (broken_of self.new)
+            (IsErrOf result store_fault.Failed) (link_store_faults self.old) (link_store_faults self.new) }
+        ensures other_faults { link_other_faults self.new ≡ link_other_faults self.old }
+        ensures fetches { link_fetches self.new ≡ link_fetches self.old }
+        ensures calls { link_calls self.new ≡ link_calls self.old }
     {
         let frame = store_frame(object, stripe, block);
         let answer = self.request(frame.as_slice(), &mut []);
@@ -58,11 +63,15 @@ impl<L: Link> LinkProvider<L> {
     /// Removes an object over the link.
     pub(crate) fn remove_over(&mut self, object: u64) -> Result<(), Failed>
         ensures answered { RemovedAs object result
-            (seen_over (L.behind (link_of self.old)) (store_faults_of self.old) (other_faults_of self.old) (fetches_of self.old))
-            (seen_over (L.behind (link_of self.new)) (store_faults_of self.new) (other_faults_of self.new) (fetches_of self.new)) }
-        ensures counts { CountsFaults (broken_of self.old) (broken_of self.new) (IsErr result) (other_faults_of self.old) (other_faults_of self.new) }
-        ensures store_faults { store_faults_of self.new ≡ store_faults_of self.old }
-        ensures fetches { fetches_of self.new ≡ fetches_of self.old }
+            (seen_behind (L.behind (link_of self.old)) (link_store_faults self.old)
+            (link_other_faults self.old) (link_fetches self.old))
+            (seen_behind (L.behind (link_of self.new)) (link_store_faults self.new)
+            (link_other_faults self.new) (link_fetches self.new)) }
+        ensures counts { CountsFaults (broken_of self.old) (broken_of self.new) (IsErr result)
+            (link_other_faults self.old) (link_other_faults self.new) }
+        ensures store_faults { link_store_faults self.new ≡ link_store_faults self.old }
+        ensures fetches { link_fetches self.new ≡ link_fetches self.old }
+        ensures calls { link_calls self.new ≡ link_calls self.old }
     {
         let frame = remove_frame(object);
         let answer = self.request(frame.as_slice(), &mut []);
@@ -81,11 +90,15 @@ impl<L: Link> LinkProvider<L> {
         challenge: &Challenge,
     ) -> Result<Option<Symbol>, Failed>
         ensures answered { AskedAs (honest_answer (asked challenge.now)) object result
-            (seen_over (L.behind (link_of self.old)) (store_faults_of self.old) (other_faults_of self.old) (fetches_of self.old))
-            (seen_over (L.behind (link_of self.new)) (store_faults_of self.new) (other_faults_of self.new) (fetches_of self.new)) }
-        ensures counts { CountsFaults (broken_of self.old) (broken_of self.new) (IsErr result) (other_faults_of self.old) (other_faults_of self.new) }
-        ensures store_faults { store_faults_of self.new ≡ store_faults_of self.old }
-        ensures fetches { fetches_of self.new ≡ fetches_of self.old }
+            (seen_behind (L.behind (link_of self.old)) (link_store_faults self.old)
+            (link_other_faults self.old) (link_fetches self.old))
+            (seen_behind (L.behind (link_of self.new)) (link_store_faults self.new)
+            (link_other_faults self.new) (link_fetches self.new)) }
+        ensures counts { CountsFaults (broken_of self.old) (broken_of self.new) (IsErr result)
+            (link_other_faults self.old) (link_other_faults self.new) }
+        ensures store_faults { link_store_faults self.new ≡ link_store_faults self.old }
+        ensures fetches { link_fetches self.new ≡ link_fetches self.old }
+        ensures calls { link_calls self.new ≡ link_calls self.old }
     {
         let frame = ask_frame(object, challenge);
         let mut tail = [0u8; SYMBOL_BYTES];
@@ -115,11 +128,15 @@ impl<L: Link> LinkProvider<L> {
         requires few { length out.old ≤ 128 }
         requires room { length tail.old ≡ 16 * length out.old }
         ensures answered { FetchedAs object stripe out.old out.new result
-            (seen_over (L.behind (link_of self.old)) (store_faults_of self.old) (other_faults_of self.old) (fetches_of self.old))
-            (seen_over (L.behind (link_of self.new)) (store_faults_of self.new) (other_faults_of self.new) (fetches_of self.new)) }
-        ensures counts { CountsFaults (broken_of self.old) (broken_of self.new) (IsErr result) (other_faults_of self.old) (other_faults_of self.new) }
-        ensures store_faults { store_faults_of self.new ≡ store_faults_of self.old }
-        ensures fetches { fetches_of self.new ≡ one_more (fetches_of self.old) }
+            (seen_behind (L.behind (link_of self.old)) (link_store_faults self.old)
+            (link_other_faults self.old) (link_fetches self.old))
+            (seen_behind (L.behind (link_of self.new)) (link_store_faults self.new)
+            (link_other_faults self.new) (link_fetches self.new)) }
+        ensures counts { CountsFaults (broken_of self.old) (broken_of self.new) (IsErr result)
+            (link_other_faults self.old) (link_other_faults self.new) }
+        ensures store_faults { link_store_faults self.new ≡ link_store_faults self.old }
+        ensures fetches { link_fetches self.new ≡ one_more (link_fetches self.old) }
+        ensures calls { link_calls self.new ≡ link_calls self.old }
     {
         let frame = fetch_frame(object, stripe, out.len() as u8);
         self.fetches = self.fetches.saturating_add(1);
@@ -147,11 +164,15 @@ impl<L: Link> LinkProvider<L> {
         requires some { 1 ≤ length out.old }
         requires few { length out.old ≤ 128 }
         ensures answered { FetchedAs object stripe out.old out.new result
-            (seen_over (L.behind (link_of self.old)) (store_faults_of self.old) (other_faults_of self.old) (fetches_of self.old))
-            (seen_over (L.behind (link_of self.new)) (store_faults_of self.new) (other_faults_of self.new) (fetches_of self.new)) }
-        ensures counts { CountsFaults (broken_of self.old) (broken_of self.new) (IsErr result) (other_faults_of self.old) (other_faults_of self.new) }
-        ensures store_faults { store_faults_of self.new ≡ store_faults_of self.old }
-        ensures fetches { fetches_of self.new ≡ one_more (fetches_of self.old) }
+            (seen_behind (L.behind (link_of self.old)) (link_store_faults self.old)
+            (link_other_faults self.old) (link_fetches self.old))
+            (seen_behind (L.behind (link_of self.new)) (link_store_faults self.new)
+            (link_other_faults self.new) (link_fetches self.new)) }
+        ensures counts { CountsFaults (broken_of self.old) (broken_of self.new) (IsErr result)
+            (link_other_faults self.old) (link_other_faults self.new) }
+        ensures store_faults { link_store_faults self.new ≡ link_store_faults self.old }
+        ensures fetches { link_fetches self.new ≡ one_more (link_fetches self.old) }
+        ensures calls { link_calls self.new ≡ link_calls self.old }
     {
         let mut room = [0u8; 2048];
         self.fetch_with(object, stripe, &mut room[..SYMBOL_BYTES * out.len()], out)

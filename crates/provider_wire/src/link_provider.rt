@@ -14,24 +14,26 @@ pub struct LinkProvider<L: Link> {
     pub(crate) store_faults: u64,
     pub(crate) other_faults: u64,
     pub(crate) fetches: u64,
+    pub(crate) calls: u64,
     ghost in_step: { out_of_step (L.behind link) broken ≡ [] },
 }
 
 impl<L: Link> LinkProvider<L> {
     ghost use Rattle.std.specs.Prelude.{◌≡◌, ◌^◌, ℕ, List, Some, None, [], false, true, length, IfOk, IfSome, IsSome};
-    ghost use Rattle.hail_wire.specs.Requests.{Request, Spells};
+    ghost use Rattle.hail_wire.specs.Requests.{Request, SpellsRequest};
     ghost use Rattle.hail_wire.specs.Links.{Behind};
     ghost use Rattle.provider_wire.specs.Linked.{AskedFor, answer_size};
-    ghost use Rattle.provider_wire.specs.LinkProviders.{link_of, broken_of, store_faults_of, other_faults_of, fetches_of};
+    ghost use Rattle.provider_wire.specs.LinkProviders.{link_of, broken_of, link_store_faults, link_other_faults, link_fetches, link_calls};
 
     /// A provider behind this link, over which no bytes are due.
     pub fn new(link: L) -> Result<LinkProvider<L>, Memory>
         requires { IfSome (L.behind link) (λ b. b.due ≡ []) }
         ensures link { IfOk result (λ provider. link_of provider ≡ link) }
         ensures broken { IfOk result (λ provider. broken_of provider ≡ false) }
-        ensures store_faults { IfOk result (λ provider. store_faults_of provider ≡ 0) }
-        ensures other_faults { IfOk result (λ provider. other_faults_of provider ≡ 0) }
-        ensures fetches { IfOk result (λ provider. fetches_of provider ≡ 0) }
+        ensures store_faults { IfOk result (λ provider. link_store_faults provider ≡ 0) }
+        ensures other_faults { IfOk result (λ provider. link_other_faults provider ≡ 0) }
+        ensures fetches { IfOk result (λ provider. link_fetches provider ≡ 0) }
+        ensures calls { IfOk result (λ provider. link_calls provider ≡ 0) }
     {
         Ok(LinkProvider {
             link,
@@ -39,6 +41,7 @@ impl<L: Link> LinkProvider<L> {
             store_faults: 0,
             other_faults: 0,
             fetches: 0,
+            calls: 0,
         })
     }
 
@@ -53,16 +56,19 @@ impl<L: Link> LinkProvider<L> {
 
     /// Sends a request, unless the link is out of step, and receives its answer. None where the link is out of step then.
     pub(crate) fn request(&mut self, request: &[u8], symbols: &mut [u8]) -> Option<u8>
-        requires { (r : Request) × Spells request.now r × (length symbols.old ≡ answer_size r) }
-        ensures told { (b : Behind) (r : Request) → L.behind (link_of self.old) ≡ Some b → Spells request.now r
-            → length symbols.old ≡ answer_size r → AskedFor r result symbols.new b (L.behind (link_of self.new)) }
+        requires { (r : Request) × SpellsRequest request.now r × (length symbols.old ≡ answer_size r) }
+        ensures told { (b : Behind) (r : Request) → L.behind (link_of self.old) ≡ Some b
+            → SpellsRequest request.now r
+            → length symbols.old ≡ answer_size r
+            → AskedFor r result symbols.new b (L.behind (link_of self.new)) }
         ensures untold { L.behind (link_of self.old) ≡ None → L.behind (link_of self.new) ≡ None }
         ensures ok { IsSome result → broken_of self.new ≡ broken_of self.old }
         ensures was { broken_of self.old ≡ true → result ≡ None }
         ensures broke { result ≡ None → broken_of self.new ≡ true }
-        ensures store_faults { store_faults_of self.new ≡ store_faults_of self.old }
-        ensures other_faults { other_faults_of self.new ≡ other_faults_of self.old }
-        ensures fetches { fetches_of self.new ≡ fetches_of self.old }
+        ensures store_faults { link_store_faults self.new ≡ link_store_faults self.old }
+        ensures other_faults { link_other_faults self.new ≡ link_other_faults self.old }
+        ensures fetches { link_fetches self.new ≡ link_fetches self.old }
+        ensures calls { link_calls self.new ≡ link_calls self.old }
     {
         if self.broken {
             return None;

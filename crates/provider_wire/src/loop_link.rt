@@ -1,5 +1,5 @@
 ghost use Rattle.std.specs.Prelude.{◌≡◌, ◌+◌, ◌-◌, ◌≤◌, ◌++◌, min, length, take, drop, IfOk, IsOk, IfSome, IfNone};
-ghost use Rattle.hail_wire.specs.Requests.{Request as Asking, Spells};
+ghost use Rattle.hail_wire.specs.Requests.{Request as Asking, SpellsRequest};
 ghost use Rattle.provider_wire.specs.Asking.{request_of};
 
 use crate::answer::answer;
@@ -32,8 +32,8 @@ fn copy_due(bytes: &[u8], at: usize, out: &mut [u8]) -> usize
 
 /// The request that the bytes are, whole.
 fn whole(bytes: &[u8]) -> Option<Request>
-    ensures found { IfSome result (λ request. Spells bytes.now (request_of request)) }
-    ensures none { IfNone result ((r : Asking) → Spells bytes.now r → ⊥) }
+    ensures found { IfSome result (λ request. SpellsRequest bytes.now (request_of request)) }
+    ensures none { IfNone result ((r : Asking) → SpellsRequest bytes.now r → ⊥) }
 {
     let (request, size) = Request::read(bytes)?;
     if size == bytes.len() {
@@ -51,7 +51,8 @@ impl<P: Provider> LoopLink<P> {
     /// A link to this provider, with nothing due.
     pub fn new(provider: P) -> Result<LoopLink<P>, Memory>
         ensures { IfOk result (λ link. behind_loop P.held P.store_faults P.other_faults P.fetches link
-            ≡ option_map (idle (P.store_faults provider) (P.other_faults provider) (P.fetches provider)) (P.held provider)) }
+            ≡ option_map (idle (P.store_faults provider) (P.other_faults provider) (P.fetches provider))
+            (P.held provider)) }
     {
         Ok(LoopLink {
             provider,

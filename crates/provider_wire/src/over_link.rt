@@ -4,8 +4,9 @@ ghost use Rattle.provider_model.specs.declared.fault.StoreFault.TheVariants as s
 ghost use Rattle.hail_columns.specs.Challenges.{honest_answer};
 ghost use Rattle.hail_devices.specs.Faults.{one_more};
 ghost use Rattle.challenge.specs.Asked.{asked};
-ghost use Rattle.provider_wire.specs.Linked.{seen_over, StoresAs, FetchedAs, AskedAs, RemovedAs, held_over, store_faults_over, other_faults_over, fetches_over};
-ghost use Rattle.provider_wire.specs.LinkProviders.{CountsFaults, link_of, broken_of, store_faults_of, other_faults_of, fetches_of};
+ghost use Rattle.provider_wire.specs.Linked.{seen_behind, FetchedAs, AskedAs, RemovedAs, held_over, store_faults_over, other_faults_over, fetches_over};
+ghost use Rattle.provider_model.specs.Seen.{StoresAs};
+ghost use Rattle.provider_wire.specs.LinkProviders.{CountsFaults, link_of, broken_of, link_store_faults, link_other_faults, link_fetches, link_calls};
 
 use crate::link::Link;
 use crate::link_provider::LinkProvider;
@@ -18,22 +19,29 @@ use stream_model::Failed;
 impl<L: Link> Provider for LinkProvider<L> {
     ghost held = { λ p. held_over (L.behind (link_of p)) };
 
-    ghost store_faults = { λ p. store_faults_over (L.behind (link_of p)) (store_faults_of p) };
+    ghost store_faults = { λ p. store_faults_over (L.behind (link_of p)) (link_store_faults p) };
 
-    ghost other_faults = { λ p. other_faults_over (L.behind (link_of p)) (other_faults_of p) };
+    ghost other_faults = { λ p. other_faults_over (L.behind (link_of p)) (link_other_faults p) };
 
-    ghost fetches = { λ p. fetches_over (L.behind (link_of p)) (fetches_of p) };
+    ghost fetches = { λ p. fetches_over (L.behind (link_of p)) (link_fetches p) };
+
+    ghost calls = { λ p. link_calls p };
 
     fn store(&mut self, object: u64, stripe: u32, block: &[Symbol]) -> Result<(), StoreFault>
         requires some { 1 ≤ length block.now }
         requires few { length block.now ≤ 128 }
         ensures answered { StoresAs object stripe block.now result
-            (seen_over (L.behind (link_of self.old)) (store_faults_of self.old) (other_faults_of self.old) (fetches_of self.old))
-            (seen_over (L.behind (link_of self.new)) (store_faults_of self.new) (other_faults_of self.new) (fetches_of self.new)) }
-        ensures counts { CountsFaults (broken_of self.old) (broken_of self.new) (IsErrOf result store_fault.Failed) (store_faults_of self.old) (store_faults_of self.new) }
-        ensures other_faults { other_faults_of self.new ≡ other_faults_of self.old }
-        ensures fetches { fetches_of self.new ≡ fetches_of self.old }
+            (seen_behind (L.behind (link_of self.old)) (link_store_faults self.old)
+            (link_other_faults self.old) (link_fetches self.old))
+            (seen_behind (L.behind (link_of self.new)) (link_store_faults self.new)
+            (link_other_faults self.new) (link_fetches self.new)) }
+        ensures counts { CountsFaults (broken_of self.old) (broken_of self.new)
+            (IsErrOf result store_fault.Failed) (link_store_faults self.old) (link_store_faults self.new) }
+        ensures other_faults { link_other_faults self.new ≡ link_other_faults self.old }
+        ensures fetches { link_fetches self.new ≡ link_fetches self.old }
+        ensures called { link_calls self.new ≡ one_more (link_calls self.old) }
     {
+        self.calls = self.calls.saturating_add(1);
         self.store_over(object, stripe, block)
     }
 
@@ -41,34 +49,49 @@ impl<L: Link> Provider for LinkProvider<L> {
         requires some { 1 ≤ length out.old }
         requires few { length out.old ≤ 128 }
         ensures answered { FetchedAs object stripe out.old out.new result
-            (seen_over (L.behind (link_of self.old)) (store_faults_of self.old) (other_faults_of self.old) (fetches_of self.old))
-            (seen_over (L.behind (link_of self.new)) (store_faults_of self.new) (other_faults_of self.new) (fetches_of self.new)) }
-        ensures counts { CountsFaults (broken_of self.old) (broken_of self.new) (IsErr result) (other_faults_of self.old) (other_faults_of self.new) }
-        ensures store_faults { store_faults_of self.new ≡ store_faults_of self.old }
-        ensures fetches { fetches_of self.new ≡ one_more (fetches_of self.old) }
+            (seen_behind (L.behind (link_of self.old)) (link_store_faults self.old)
+            (link_other_faults self.old) (link_fetches self.old))
+            (seen_behind (L.behind (link_of self.new)) (link_store_faults self.new)
+            (link_other_faults self.new) (link_fetches self.new)) }
+        ensures counts { CountsFaults (broken_of self.old) (broken_of self.new) (IsErr result)
+            (link_other_faults self.old) (link_other_faults self.new) }
+        ensures store_faults { link_store_faults self.new ≡ link_store_faults self.old }
+        ensures fetches { link_fetches self.new ≡ one_more (link_fetches self.old) }
+        ensures called { link_calls self.new ≡ one_more (link_calls self.old) }
     {
+        self.calls = self.calls.saturating_add(1);
         self.fetch_over(object, stripe, out)
     }
 
     fn ask(&mut self, object: u64, challenge: &Challenge) -> Result<Option<Symbol>, Failed>
         ensures answered { AskedAs (honest_answer (asked challenge.now)) object result
-            (seen_over (L.behind (link_of self.old)) (store_faults_of self.old) (other_faults_of self.old) (fetches_of self.old))
-            (seen_over (L.behind (link_of self.new)) (store_faults_of self.new) (other_faults_of self.new) (fetches_of self.new)) }
-        ensures counts { CountsFaults (broken_of self.old) (broken_of self.new) (IsErr result) (other_faults_of self.old) (other_faults_of self.new) }
-        ensures store_faults { store_faults_of self.new ≡ store_faults_of self.old }
-        ensures fetches { fetches_of self.new ≡ fetches_of self.old }
+            (seen_behind (L.behind (link_of self.old)) (link_store_faults self.old)
+            (link_other_faults self.old) (link_fetches self.old))
+            (seen_behind (L.behind (link_of self.new)) (link_store_faults self.new)
+            (link_other_faults self.new) (link_fetches self.new)) }
+        ensures counts { CountsFaults (broken_of self.old) (broken_of self.new) (IsErr result)
+            (link_other_faults self.old) (link_other_faults self.new) }
+        ensures store_faults { link_store_faults self.new ≡ link_store_faults self.old }
+        ensures fetches { link_fetches self.new ≡ link_fetches self.old }
+        ensures called { link_calls self.new ≡ one_more (link_calls self.old) }
     {
+        self.calls = self.calls.saturating_add(1);
         self.ask_over(object, challenge)
     }
 
     fn remove(&mut self, object: u64) -> Result<(), Failed>
         ensures answered { RemovedAs object result
-            (seen_over (L.behind (link_of self.old)) (store_faults_of self.old) (other_faults_of self.old) (fetches_of self.old))
-            (seen_over (L.behind (link_of self.new)) (store_faults_of self.new) (other_faults_of self.new) (fetches_of self.new)) }
-        ensures counts { CountsFaults (broken_of self.old) (broken_of self.new) (IsErr result) (other_faults_of self.old) (other_faults_of self.new) }
-        ensures store_faults { store_faults_of self.new ≡ store_faults_of self.old }
-        ensures fetches { fetches_of self.new ≡ fetches_of self.old }
+            (seen_behind (L.behind (link_of self.old)) (link_store_faults self.old)
+            (link_other_faults self.old) (link_fetches self.old))
+            (seen_behind (L.behind (link_of self.new)) (link_store_faults self.new)
+            (link_other_faults self.new) (link_fetches self.new)) }
+        ensures counts { CountsFaults (broken_of self.old) (broken_of self.new) (IsErr result)
+            (link_other_faults self.old) (link_other_faults self.new) }
+        ensures store_faults { link_store_faults self.new ≡ link_store_faults self.old }
+        ensures fetches { link_fetches self.new ≡ link_fetches self.old }
+        ensures called { link_calls self.new ≡ one_more (link_calls self.old) }
     {
+        self.calls = self.calls.saturating_add(1);
         self.remove_over(object)
     }
 }

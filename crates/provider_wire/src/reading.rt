@@ -1,9 +1,9 @@
 // Reads a request from the front of bytes.
 ghost use Rattle.std.specs.Prelude.{◌≡◌, ◌++◌, ◌≤◌, ◌<◌, false, length, take, IfSome, IfNone};
 ghost use Rattle.std.specs.Option.{option_map};
-ghost use Rattle.hail_wire.specs.Requests.{Spells, SpellsNone, is_bad};
+ghost use Rattle.hail_wire.specs.Requests.{SpellsRequest, SpellsNoRequest, is_bad_request};
 ghost use Rattle.provider_wire.specs.Asking.{request_of};
-ghost use Rattle.provider_wire.specs.Reading.{block_at, store_at, fetch_at, ask_at, remove_at, request_at};
+ghost use Rattle.provider_wire.specs.Reading.{block_read_at, store_at, fetch_at, ask_at, remove_at, request_at};
 
 use crate::block::Block;
 use crate::challenge_bytes::challenge_of;
@@ -12,9 +12,9 @@ use crate::request::Request;
 use crate::symbol_bytes::SYMBOL_BYTES;
 
 /// A block behind its size.
-#[tactic(auto, unfolding(crate::specs::Reading::block_at))]
+#[tactic(auto, unfolding(crate::specs::Reading::block_read_at))]
 fn block_of(bytes: &[u8]) -> Option<(Block, &[u8])>
-    ensures { option_map (λ x. (x.0, x.1.now)) result ≡ block_at bytes.now }
+    ensures { option_map (λ x. (x.0, x.1.now)) result ≡ block_read_at bytes.now }
 {
     let (size, rest) = u8_at(1, 128, bytes)?;
     let size = size as usize;
@@ -98,9 +98,9 @@ impl Request {
     pub fn read(bytes: &[u8]) -> Option<(Request, usize)>
         ensures size { IfSome result (λ x. x.1 ≤ length bytes.now) }
         ensures some { IfSome result (λ x. 0 < x.1) }
-        ensures found { IfSome result (λ x. Spells (take x.1 bytes.now) (request_of x.0)) }
-        ensures none { IfNone result (SpellsNone bytes.now) }
-        ensures short { IfNone result (is_bad bytes.now ≡ false → length bytes.now < 2062) }
+        ensures found { IfSome result (λ x. SpellsRequest (take x.1 bytes.now) (request_of x.0)) }
+        ensures none { IfNone result (SpellsNoRequest bytes.now) }
+        ensures short { IfNone result (is_bad_request bytes.now ≡ false → length bytes.now < 2062) }
     {
         match request_in(bytes) {
             Some((request, rest)) => Some((request, bytes.len() - rest.len())),

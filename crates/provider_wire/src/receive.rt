@@ -1,6 +1,6 @@
 // Sends a request over a link, and receives its answer.
 ghost use Rattle.std.specs.Prelude.{◌≡◌, ◌≢◌, ◌≤◌, ◌++◌, ◌∷◌, ℕ, List, true, Some, None, [], length};
-ghost use Rattle.hail_wire.specs.Requests.{Request, Spells};
+ghost use Rattle.hail_wire.specs.Requests.{Request, SpellsRequest};
 ghost use Rattle.hail_wire.specs.Links.{Behind};
 ghost use Rattle.provider_wire.specs.Linked.{AskedFor, answer_size};
 
@@ -12,7 +12,8 @@ pub const DONE: u8 = 1;
 /// Fills `out`, and tells whether that many bytes came.
 fn receive_all<L: Link>(link: &mut L, out: &mut [u8]) -> bool
     ensures told { (b : Behind) → L.behind link.old ≡ Some b → length out.old ≤ length b.due → (result ≡ true)
-        × ((rest : List ℕ) × (b.due ≡ out.new ++ rest) × (L.behind link.new ≡ Some (record b { due = rest }))) }
+        × ((rest : List ℕ) × (b.due ≡ out.new ++ rest)
+        × (L.behind link.new ≡ Some (record b { due = rest }))) }
     ensures untold { L.behind link.old ≡ None → L.behind link.new ≡ None }
 {
     let mut at = 0;
@@ -44,7 +45,8 @@ fn receive_kind<L: Link>(link: &mut L) -> Option<u8>
 fn receive_answer<L: Link>(link: &mut L, symbols: &mut [u8]) -> Option<u8>
     ensures told { (b : Behind) (kind : ℕ) (tail : List ℕ) → L.behind link.old ≡ Some b → b.due ≡ kind ∷ tail
         → (kind ≡ 1 → length tail ≡ length symbols.old) → (kind ≢ 1 → tail ≡ [])
-        → (result ≡ Some kind) × (L.behind link.new ≡ Some (record b { due = [] })) × (kind ≡ 1 → symbols.new ≡ tail) }
+        → (result ≡ Some kind) × (L.behind link.new ≡ Some (record b { due = [] }))
+        × (kind ≡ 1 → symbols.new ≡ tail) }
     ensures untold { L.behind link.old ≡ None → L.behind link.new ≡ None }
 {
     let kind = receive_kind(link)?;
@@ -61,7 +63,8 @@ fn receive_answer<L: Link>(link: &mut L, symbols: &mut [u8]) -> Option<u8>
 /// Sends a request and receives its answer: its first byte, and behind a 1 the bytes of so many symbols as there is room
 /// for. None where a call of the link failed, or the answer ended early.
 pub fn ask_link<L: Link>(link: &mut L, request: &[u8], symbols: &mut [u8]) -> Option<u8>
-    ensures told { (b : Behind) (r : Request) → L.behind link.old ≡ Some b → b.due ≡ [] → Spells request.now r
+    ensures told { (b : Behind) (r : Request) → L.behind link.old ≡ Some b → b.due ≡ []
+        → SpellsRequest request.now r
         → length symbols.old ≡ answer_size r → AskedFor r result symbols.new b (L.behind link.new) }
     ensures untold { L.behind link.old ≡ None → L.behind link.new ≡ None }
 {

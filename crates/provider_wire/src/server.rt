@@ -2,9 +2,9 @@
 ghost use Rattle.std.specs.Prelude.{◌≡◌, ◌≤◌, ◌<◌, ◌-◌, ℕ, [], false, length, take, drop, IfOk, IfErr, IsErrOf};
 ghost use Rattle.stream_model.specs.declared.fault.WriteFault.TheVariants as write_fault;
 ghost use Rattle.hail_devices.specs.Faults.{HasCause};
-ghost use Rattle.hail_wire.specs.Requests.{SpellsNone, is_bad};
+ghost use Rattle.hail_wire.specs.Requests.{SpellsNoRequest, is_bad_request};
 ghost use Rattle.hail_wire.specs.Serving.{ServesAll, ServesPart, HasServed};
-ghost use Rattle.provider_wire.specs.Seen.{as_seen};
+ghost use Rattle.provider_model.specs.Seen.{provider_seen};
 ghost use Rattle.provider_wire.specs.Ends.{end_of, end_after};
 ghost use Rattle.provider_wire.specs.declared.end.ServeEnd.TheVariants as serve_end;
 
@@ -27,13 +27,14 @@ fn serve_front<P: Provider, K: Sink>(
     bytes: &[u8],
 ) -> Result<usize, WriteFault>
     ensures within { IfOk result (λ n. n ≤ length bytes.now) }
-    ensures ok { IfOk result (λ n. ServesAll (take n bytes.now) (as_seen P.held P.store_faults P.other_faults P.fetches provider.old)
-        (as_seen P.held P.store_faults P.other_faults P.fetches provider.new) (K.written sink.old) (K.written sink.new)) }
-    ensures none { IfOk result (λ n. SpellsNone (drop n bytes.now)) }
-    ensures short { IfOk result (λ n. is_bad (drop n bytes.now) ≡ false → length bytes.now - n < 2062) }
+    ensures ok { IfOk result (λ n. ServesAll (take n bytes.now) (provider_seen P.Provider provider.old)
+        (provider_seen P.Provider provider.new) (K.written sink.old) (K.written sink.new)) }
+    ensures none { IfOk result (λ n. SpellsNoRequest (drop n bytes.now)) }
+    ensures short { IfOk result (λ n. is_bad_request (drop n bytes.now) ≡ false → length bytes.now - n
+        < 2062) }
     ensures err { IfErr result (λ _. (n : ℕ) × (n ≤ length bytes.now)
-        × ServesPart (take n bytes.now) (as_seen P.held P.store_faults P.other_faults P.fetches provider.old)
-        (as_seen P.held P.store_faults P.other_faults P.fetches provider.new) (K.written sink.old) (K.written sink.new)) }
+        × ServesPart (take n bytes.now) (provider_seen P.Provider provider.old)
+        (provider_seen P.Provider provider.new) (K.written sink.old) (K.written sink.new)) }
     ensures cause { HasCause (K.faults sink.old) (K.faults sink.new) (IsErrOf result write_fault.Failed) }
 {
     let mut at = 0;
@@ -65,7 +66,7 @@ fn serve_all<P: Provider, S: Source, K: Sink>(
 ) -> ServeEnd
     requires { window.old ≡ [] }
     ensures served { HasServed (end_of result) (S.left source.old) (S.left source.new)
-        (as_seen P.held P.store_faults P.other_faults P.fetches provider.old) (as_seen P.held P.store_faults P.other_faults P.fetches provider.new)
+        (provider_seen P.Provider provider.old) (provider_seen P.Provider provider.new)
         (K.written sink.old) (K.written sink.new) }
     ensures source { HasCause (S.faults source.old) (S.faults source.new) (result ≡ serve_end.SourceFault) }
     ensures sink { HasCause (K.faults sink.old) (K.faults sink.new) (result ≡ serve_end.SinkFault) }
@@ -114,7 +115,7 @@ pub fn serve<P: Provider, S: Source, K: Sink>(
     sink: &mut K,
 ) -> ServeEnd
     ensures served { HasServed (end_of result) (S.left source.old) (S.left source.new)
-        (as_seen P.held P.store_faults P.other_faults P.fetches provider.old) (as_seen P.held P.store_faults P.other_faults P.fetches provider.new)
+        (provider_seen P.Provider provider.old) (provider_seen P.Provider provider.new)
         (K.written sink.old) (K.written sink.new) }
     ensures source { HasCause (S.faults source.old) (S.faults source.new) (result ≡ serve_end.SourceFault) }
     ensures sink { HasCause (K.faults sink.old) (K.faults sink.new) (result ≡ serve_end.SinkFault) }

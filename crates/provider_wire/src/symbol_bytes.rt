@@ -1,7 +1,7 @@
 // The symbols of bytes: 16 a symbol, the lowest first.
 ghost use Rattle.std.specs.Prelude.{◌≡◌, ◌*◌, ◌≤◌, length};
 ghost use Rattle.std.specs.Int.{w128, from_le_bytes};
-ghost use Rattle.provider_wire.specs.Reading.{symbols_in};
+ghost use Rattle.provider_wire.specs.Reading.{symbols_read};
 
 use hail_field::Symbol;
 
@@ -22,7 +22,7 @@ pub fn symbol_of(bytes: &[u8]) -> Symbol
 pub fn take_symbols(bytes: &[u8], out: &mut [Symbol])
     requires few { length out.old ≤ 128 }
     requires fits { length bytes.now ≡ 16 * length out.old }
-    ensures { out.new ≡ symbols_in (length out.old) bytes.now }
+    ensures { out.new ≡ symbols_read (length out.old) bytes.now }
 {
     for k in 0..out.len() {
         let at = SYMBOL_BYTES * k;

@@ -46,7 +46,8 @@ fn read_behind<S: Source>(
     requires within { end ≤ length bytes.old }
     requires room { len ≤ end }
     ensures few { IfOk result (λ n. n ≤ end - len) }
-    ensures given { IfOk result (λ n. (part : List ℕ) × (take (len + n) bytes.new ≡ take len bytes.old ++ part) × (length part ≡ n)
+    ensures given { IfOk result (λ n. (part : List ℕ) × (take (len + n) bytes.new ≡ take len bytes.old
+        ++ part) × (length part ≡ n)
         × (S.left source.old ≡ then_told part (S.left source.new))) }
     ensures end { IfOk result (λ n. n ≡ 0 → len < end → IfSome (S.left source.old) (λ xs. xs ≡ [])) }
     ensures err { OnErr result (S.left source.new ≡ S.left source.old) }
@@ -94,9 +95,11 @@ impl Window {
     /// Reads some bytes behind the others, at most so many, and tells how many: none only at the end of the source, or
     /// where there is no room.
     pub fn fill<S: Source>(&mut self, most: usize, source: &mut S) -> Result<usize, Failed>
-        ensures given { IfOk result (λ n. (part : List ℕ) × (self.new ≡ self.old ++ part) × (length part ≡ n) × (n ≤ most)
+        ensures given { IfOk result (λ n. (part : List ℕ) × (self.new ≡ self.old ++ part)
+            × (length part ≡ n) × (n ≤ most)
             × (S.left source.old ≡ then_told part (S.left source.new))) }
-        ensures end { IfOk result (λ n. n ≡ 0 → 0 < most → length self.old < 65536 → IfSome (S.left source.old) (λ xs. xs ≡ [])) }
+        ensures end { IfOk result (λ n. n ≡ 0 → 0 < most → length self.old < 65536 → IfSome
+            (S.left source.old) (λ xs. xs ≡ [])) }
         ensures err { OnErr result (S.left source.new ≡ S.left source.old) }
         ensures same { OnErr result (self.new ≡ self.old) }
         ensures cause { HasCause (S.faults source.old) (S.faults source.new) (IsErr result) }

@@ -2,9 +2,9 @@ use Rattle.std.proofs.Common.{◌≡◌, ℕ, ◌-◌, ◌≤◌, true, List, �
 use Rattle.std.proofs.lemmas.List.{take_at, drop_at, drop-replicate, length-replicate}
 use Rattle.std.proofs.lemmas.Bool.Decides.{nat_tests}
 use Rattle.hail_records.specs.Records.{is_name}
-use Rattle.record_codec.specs.NameParts.{IsKept}
+use Rattle.record_codec.specs.NameParts.{IsNameKept}
 
-pub IsKept-made : (name all : List ℕ) (n : ℕ) → all ≡ name ++ drop (length name) (replicate 64 0) → n ≡ length name → length name ≤ 64 → is_name name ≡ true → IsKept (record { bytes = all; len = n })
+pub IsKept-made : (name all : List ℕ) (n : ℕ) → all ≡ name ++ drop (length name) (replicate 64 0) → n ≡ length name → length name ≤ 64 → is_name name ≡ true → IsNameKept (record { bytes = all; len = n })
 IsKept-made name all n all_is n_is short good =
     let padding : drop (length name) (replicate 64 0) ≡ replicate (64 - length name) 0 = drop-replicate (length name) 64 0 in
     let whole : all ≡ name ++ replicate (64 - length name) 0 = all_is ∙ ap (λ (l : List ℕ). name ++ l) padding in

@@ -1,11 +1,12 @@
 -- A record of the program can be made again from its plain data.
 use Rattle.std.proofs.Common.{◌≡◌, ℕ, ◌-◌, ◌+◌, ◌*◌, subst, List, ◌++◌, length, take, replicate, refl, sym, ap, ◌∙◌, arith, length-take, take-append-drop}
-use Rattle.hail_records.specs.Records.{SetUp, PutStart, PutDone, Drop, AuditStart, AuditDone, RepairDone, record_size}
+use Rattle.hail_records.specs.Records.{SetUp, PutStart, PutDone, Drop, AuditStart, AuditDone, RepairDone, PutDoneIn, Version, Resume, InEffect, RepairDue, record_size}
 use Rattle.hail_records.specs.Records.{Record as Entry}
+use Rattle.hail_records.proofs.Grammar.{grammar-spelled}
 use Rattle.record_codec.specs.declared.counts.Counts.{Counts}
 use Rattle.record_codec.specs.declared.records.Record.{Record}
 use Rattle.record_codec.specs.declared.records.Record.TheVariants as kind
-use Rattle.record_codec.specs.Entries.{entry_of, counted, IsPadded, HasPadding, IsInGrammar}
+use Rattle.record_codec.specs.Entries.{entry_of, counted, IsPadded, HasPadding, HasSpelling, IsInGrammar}
 
 abbrev padded : List ℕ → Counts
 padded ks = record { n = length ks; by = ks ++ replicate (16 - length ks) 0 }
@@ -19,6 +20,11 @@ value_of (Drop name) = kind.Drop name
 value_of (AuditStart number) = kind.AuditStart number
 value_of (AuditDone number undecided counts) = kind.AuditDone number undecided (padded counts)
 value_of (RepairDone number) = kind.RepairDone number
+value_of (PutDoneIn id size profile) = kind.PutDoneIn id size profile
+value_of Version = kind.Version
+value_of (Resume id audit) = kind.Resume id audit
+value_of (InEffect id size profile name) = kind.File id size profile name
+value_of (RepairDue number counts) = kind.Due number (padded counts)
 
 padded-counted : (counts : Counts) → IsPadded counts → padded (counted counts) ≡ counts
 padded-counted counts is =
@@ -35,13 +41,28 @@ again (kind.Drop name) is = refl
 again (kind.AuditStart number) is = refl
 again (kind.AuditDone number undecided counts) is = ap (λ (ks : Counts). kind.AuditDone number undecided ks) (padded-counted counts is.padded)
 again (kind.RepairDone number) is = refl
+again (kind.PutDoneIn id length profile) is = refl
+again kind.Version is = refl
+again (kind.Resume id audit) is = refl
+again (kind.File id length profile name) is = refl
+again (kind.Due number counts) is = ap (λ (ks : Counts). kind.Due number ks) (padded-counted counts is.padded)
 
 pub one_value : (r s : Record) → IsInGrammar r → IsInGrammar s → entry_of r ≡ entry_of s → r ≡ s
 one_value r s is_r is_s e = sym (again r is_r) ∙ ap value_of e ∙ again s is_s
 
-pub size_of_counts : (r : Record) (number undecided : ℕ) (counts : Counts) → r ≡ kind.AuditDone number undecided counts → IsInGrammar r → 14 + 4 * counts.n ≡ record_size (entry_of r)
+pub size_of_counts : (r : Record) (number undecided : ℕ) (counts : Counts) → r ≡ kind.AuditDone number undecided counts → HasSpelling r → 14 + 4 * counts.n ≡ record_size (entry_of r)
 size_of_counts r number undecided counts is good =
     let p : IsPadded counts = subst HasPadding is good.padded in
     let len : length (take counts.n counts.by) ≡ counts.n = omega (arith, length-take counts.n counts.by, p.room, p.at_most) in
     let size : 14 + 4 * counts.n ≡ 14 + 4 * length (take counts.n counts.by) = omega (arith, len) in
     size ∙ ap (λ (x : Record). record_size (entry_of x)) (sym is)
+
+pub size_of_due : (r : Record) (number : ℕ) (counts : Counts) → r ≡ kind.Due number counts → HasSpelling r → 10 + 4 * counts.n ≡ record_size (entry_of r)
+size_of_due r number counts is good =
+    let p : IsPadded counts = subst HasPadding is good.padded in
+    let len : length (take counts.n counts.by) ≡ counts.n = omega (arith, length-take counts.n counts.by, p.room, p.at_most) in
+    let size : 10 + 4 * counts.n ≡ 10 + 4 * length (take counts.n counts.by) = omega (arith, len) in
+    size ∙ ap (λ (x : Record). record_size (entry_of x)) (sym is)
+
+pub has_spelling : (r : Record) → IsInGrammar r → HasSpelling r
+has_spelling r is = record { spelled = grammar-spelled (entry_of r) is.spelled; padded = is.padded }

@@ -10,7 +10,7 @@ abbrev pub bytes_of : Inside → List ℕ
 bytes_of a = take a.len a.bytes
 
 -- a name of at most 64 bytes is kept in 64, the rest of them zero
-pub record IsKept (a : Inside) : Type 0 where
+pub record IsNameKept (a : Inside) : Type 0 where
   pub room : length a.bytes ≡ 64
   pub within : a.len ≤ 64
   pub is_name : is_name (take a.len a.bytes) ≡ true
@@ -21,9 +21,10 @@ abbrev pub kept : List ℕ → Inside
 kept name = record { bytes = name ++ replicate (64 - length name) 0; len = length name }
 
 -- a name that is kept gives its parts back
-pub kept-bytes_of : (a : Inside) → IsKept a → kept (bytes_of a) ≡ a
+pub kept-bytes_of : (a : Inside) → IsNameKept a → kept (bytes_of a) ≡ a
 kept-bytes_of a is =
     let len : length (take a.len a.bytes) ≡ a.len = length-take-le a.len a.bytes (subst (λ (n : ℕ). a.len ≤ n) (sym is.room) is.within) in
     let all : take a.len a.bytes ++ replicate (64 - length (take a.len a.bytes)) 0 ≡ a.bytes =
-    ap (λ (k : ℕ). take a.len a.bytes ++ replicate (64 - k) 0) len ∙ ap (λ (l : List ℕ). take a.len a.bytes ++ l) (sym is.zeros) ∙ take-append-drop a.len a.bytes in
+    ap (λ (k : ℕ). take a.len a.bytes ++ replicate (64 - k) 0) len ∙ ap
+    (λ (l : List ℕ). take a.len a.bytes ++ l) (sym is.zeros) ∙ take-append-drop a.len a.bytes in
     (λ i. record { bytes = all i; len = len i })

@@ -7,7 +7,8 @@ ghost use Rattle.record_codec.specs.Entries.{entry_of, IsInGrammar};
 
 /// A record has one spelling, and no spelling begins another: what is read from the front of bytes is determined.
 pub fn one_spelling()
-    ensures { (a b : Entry) (front other x y : List ℕ) → Spells front a → Spells other b → front ++ x ≡ other ++ y → (a ≡ b) × (front ≡ other) × (x ≡ y) }
+    ensures { (a b : Entry) (front other x y : List ℕ) → Spells front a → Spells other b
+        → front ++ x ≡ other ++ y → (a ≡ b) × (front ≡ other) × (x ≡ y) }
 {}
 
 /// Two records of the program in the grammar with the same plain data are the same.

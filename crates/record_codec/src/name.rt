@@ -16,11 +16,11 @@ impl Model for Name {
 
     ghost Value = { List ℕ };
 
-    ghost use Rattle.record_codec.specs.NameParts.{bytes_of, IsKept, kept, kept-bytes_of};
+    ghost use Rattle.record_codec.specs.NameParts.{bytes_of, IsNameKept, kept, kept-bytes_of};
 
     ghost view = { bytes_of };
 
-    ghost invariant = { IsKept };
+    ghost invariant = { IsNameKept };
 
     ghost inverse = { kept };
 

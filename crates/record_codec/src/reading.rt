@@ -1,10 +1,10 @@
-ghost use Rattle.std.specs.Prelude.{◌≡◌, ◌++◌, ◌≤◌, ◌-◌, ℕ, [], List, length, take, drop, replicate, IfSome, IfNone};
+ghost use Rattle.std.specs.Prelude.{◌≡◌, ◌++◌, ◌≤◌, ◌-◌, ℕ, [], List, length, take, drop, replicate, IfSome, IfNone, IsTrue};
 ghost use Rattle.std.specs.Option.{option_map};
 ghost use Rattle.std.specs.Int.{w32, w64};
-ghost use Rattle.hail_records.specs.Records.{Record as Entry};
+ghost use Rattle.hail_records.specs.Records.{Record as Entry, is_spelled, is_held};
 ghost use Rattle.hail_records.specs.Spellings.{spelling, Spells};
-ghost use Rattle.record_codec.specs.Entries.{entry_of, with_master, counted, IsPadded, HasPadding, IsInGrammar};
-ghost use Rattle.record_codec.specs.Reading.{number_at, name_at, keyed_at, setup_at, put_start_at, put_done_at, drop_at, audit_start_at, numbers_at, counts_at, audit_done_at, repair_done_at, record_at};
+ghost use Rattle.record_codec.specs.Entries.{entry_of, with_master, counted, IsPadded, HasPadding, HasSpelling, IsInGrammar};
+ghost use Rattle.record_codec.specs.Reading.{number_at, name_at, keyed_at, setup_at, put_start_at, put_done_at, drop_at, audit_start_at, numbers_at, counts_at, audit_done_at, repair_done_at, profile_at, object_at, put_done_in_at, version_at, resume_at, in_effect_at, repair_due_at, spelled_at};
 
 use crate::counts::Counts;
 use crate::name::Name;
@@ -12,6 +12,11 @@ use crate::records::Record;
 use crate::setup::Setup;
 
 const LARGEST_FILE: u32 = 1 << 22;
+
+const PROFILES: u8 = 5;
+
+/// Whether a journal may hold the kinds of its second version: off until journals of that version are written.
+const HOLDS_SECOND_VERSION: bool = false;
 
 fn u32_at(bytes: &[u8]) -> Option<(u32, &[u8])>
     ensures { option_map (λ x. (x.0, x.1.now)) result ≡ number_at w32 bytes.now }
@@ -53,7 +58,8 @@ fn name_of(bytes: &[u8]) -> Option<(Name, &[u8])>
 
 #[tactic(auto, unfolding(crate::specs::Reading::keyed_at))]
 fn keyed_of(setup: Setup, bytes: &[u8]) -> Option<(Record, &[u8])>
-    ensures value { option_map (λ x. (entry_of x.0, x.1.now)) result ≡ keyed_at (with_master setup []) bytes.now }
+    ensures value { option_map (λ x. (entry_of x.0, x.1.now)) result
+        ≡ keyed_at (with_master setup []) bytes.now }
     ensures padded { IfSome result (λ x. HasPadding x.0) }
 {
     if !setup.check() {
@@ -193,9 +199,103 @@ fn repair_done_of(bytes: &[u8]) -> Option<(Record, &[u8])>
     Some((Record::RepairDone { number }, rest))
 }
 
-#[tactic(auto, unfolding(crate::specs::Reading::record_at))]
-fn record_of(bytes: &[u8]) -> Option<(Record, &[u8])>
-    ensures value { option_map (λ x. (entry_of x.0, x.1.now)) result ≡ record_at bytes.now }
+#[tactic(auto, unfolding(crate::specs::Reading::profile_at))]
+fn profile_of(bytes: &[u8]) -> Option<(u8, &[u8])>
+    ensures { option_map (λ x. (x.0, x.1.now)) result ≡ profile_at bytes.now }
+{
+    let (profile, rest) = bytes.split_first()?;
+    if *profile < PROFILES {
+        Some((*profile, rest))
+    } else {
+        None
+    }
+}
+
+#[tactic(auto, unfolding(crate::specs::Reading::object_at))]
+fn object_of(bytes: &[u8]) -> Option<((u64, u32, u8), &[u8])>
+    ensures { option_map (λ x. (x.0, x.1.now)) result ≡ object_at bytes.now }
+{
+    let (id, rest) = u64_at(bytes)?;
+    let (length, rest) = u32_at(rest)?;
+    let (profile, rest) = profile_of(rest)?;
+    if length > LARGEST_FILE {
+        None
+    } else {
+        Some(((id, length, profile), rest))
+    }
+}
+
+#[tactic(auto, unfolding(crate::specs::Reading::put_done_in_at))]
+fn put_done_in_of(bytes: &[u8]) -> Option<(Record, &[u8])>
+    ensures value { option_map (λ x. (entry_of x.0, x.1.now)) result ≡ put_done_in_at bytes.now }
+    ensures padded { IfSome result (λ x. HasPadding x.0) }
+{
+    let ((id, length, profile), rest) = object_of(bytes)?;
+    Some((
+        Record::PutDoneIn {
+            id,
+            length,
+            profile,
+        },
+        rest,
+    ))
+}
+
+#[tactic(auto, unfolding(crate::specs::Reading::version_at))]
+fn version_of(bytes: &[u8]) -> Option<(Record, &[u8])>
+    ensures value { option_map (λ x. (entry_of x.0, x.1.now)) result ≡ version_at bytes.now }
+    ensures padded { IfSome result (λ x. HasPadding x.0) }
+{
+    match bytes {
+        [2, rest @ ..] => Some((Record::Version, rest)),
+        _ => None,
+    }
+}
+
+#[tactic(auto, unfolding(crate::specs::Reading::resume_at))]
+fn resume_of(bytes: &[u8]) -> Option<(Record, &[u8])>
+    ensures value { option_map (λ x. (entry_of x.0, x.1.now)) result ≡ resume_at bytes.now }
+    ensures padded { IfSome result (λ x. HasPadding x.0) }
+{
+    let (id, rest) = u64_at(bytes)?;
+    let (audit, rest) = u64_at(rest)?;
+    Some((Record::Resume { id, audit }, rest))
+}
+
+#[tactic(auto, unfolding(crate::specs::Reading::in_effect_at))]
+fn file_of(bytes: &[u8]) -> Option<(Record, &[u8])>
+    ensures value { option_map (λ x. (entry_of x.0, x.1.now)) result ≡ in_effect_at bytes.now }
+    ensures padded { IfSome result (λ x. HasPadding x.0) }
+{
+    let ((id, length, profile), rest) = object_of(bytes)?;
+    match name_of(rest) {
+        Some((name, rest)) => Some((
+            Record::File {
+                id,
+                length,
+                profile,
+                name,
+            },
+            rest,
+        )),
+        None => None,
+    }
+}
+
+#[tactic(auto, unfolding(crate::specs::Reading::repair_due_at))]
+fn due_of(bytes: &[u8]) -> Option<(Record, &[u8])>
+    ensures value { option_map (λ x. (entry_of x.0, x.1.now)) result ≡ repair_due_at bytes.now }
+    ensures padded { IfSome result (λ x. HasPadding x.0) }
+{
+    let (number, rest) = u64_at(bytes)?;
+    let (counts, rest) = counts_of(rest)?;
+    Some((Record::Due { number, counts }, rest))
+}
+
+/// Reads a record of any kind.
+#[tactic(auto, unfolding(crate::specs::Reading::spelled_at))]
+fn spelled_of(bytes: &[u8]) -> Option<(Record, &[u8])>
+    ensures value { option_map (λ x. (entry_of x.0, x.1.now)) result ≡ spelled_at bytes.now }
     ensures padded { IfSome result (λ x. HasPadding x.0) }
 {
     match bytes {
@@ -206,21 +306,62 @@ fn record_of(bytes: &[u8]) -> Option<(Record, &[u8])>
         [5, rest @ ..] => audit_start_of(rest),
         [6, rest @ ..] => audit_done_of(rest),
         [7, rest @ ..] => repair_done_of(rest),
+        [8, rest @ ..] => put_done_in_of(rest),
+        [9, rest @ ..] => version_of(rest),
+        [10, rest @ ..] => resume_of(rest),
+        [11, rest @ ..] => file_of(rest),
+        [12, rest @ ..] => due_of(rest),
         _ => None,
     }
 }
 
+/// The record of any kind at the front of the bytes, also one of a kind that no journal holds, and how many bytes it takes;
+/// None exactly where no record is spelled there.
+pub(crate) fn read_spelled(bytes: &[u8]) -> Option<(Record, usize)>
+    ensures size { IfSome result (λ x. x.1 ≤ length bytes.now) }
+    ensures found { IfSome result (λ x. take x.1 bytes.now ≡ spelling (entry_of x.0)) }
+    ensures spelled { IfSome result (λ x. HasSpelling x.0) }
+    ensures none { IfNone result ((entry : Entry) (rest : List ℕ) → IsTrue (is_spelled entry) → bytes.now
+        ≡ spelling entry ++ rest → ⊥) }
+{
+    match spelled_of(bytes) {
+        Some((entry, rest)) => Some((entry, bytes.len() - rest.len())),
+        None => None,
+    }
+}
+
 impl Record {
-    /// The record at the front of the bytes, and how many bytes it takes; None exactly where none stands there.
-    /// Bytes may be any, and what stands behind the record does not count.
+    /// Whether a journal may hold records of this kind.
+    fn is_held(&self) -> bool
+        ensures { result ≡ is_held (entry_of self.now) }
+    {
+        match self {
+            Record::PutDoneIn { .. }
+            | Record::Version
+            | Record::Resume { .. }
+            | Record::File { .. }
+            | Record::Due { .. } => HOLDS_SECOND_VERSION,
+            _ => true,
+        }
+    }
+
+    /// The record at the front of the bytes, and how many bytes it takes; None exactly where none stands there that a
+    /// journal may hold. Bytes may be any, and what stands behind the record does not count.
     pub fn read(bytes: &[u8]) -> Option<(Record, usize)>
         ensures size { IfSome result (λ x. x.1 ≤ length bytes.now) }
         ensures found { IfSome result (λ x. Spells (take x.1 bytes.now) (entry_of x.0)) }
         ensures in_grammar { IfSome result (λ x. IsInGrammar x.0) }
-        ensures none { IfNone result ((entry : Entry) (front rest : List ℕ) → Spells front entry → bytes.now ≡ front ++ rest → ⊥) }
+        ensures none { IfNone result
+            ((entry : Entry) (front rest : List ℕ) → Spells front entry → bytes.now ≡ front ++ rest → ⊥) }
     {
-        match record_of(bytes) {
-            Some((entry, rest)) => Some((entry, bytes.len() - rest.len())),
+        match read_spelled(bytes) {
+            Some((entry, size)) => {
+                if entry.is_held() {
+                    Some((entry, size))
+                } else {
+                    None
+                }
+            }
             None => None,
         }
     }

@@ -38,4 +38,29 @@ pub enum Record {
     RepairDone {
         number: u64,
     },
+    /// All blocks of a put are stored, with this profile: its file is in effect. Of the journal's second version.
+    PutDoneIn {
+        id: u64,
+        length: u32,
+        profile: u8,
+    },
+    /// From here on the journal has its second version.
+    Version,
+    /// A packed journal goes on with these numbers.
+    Resume {
+        id: u64,
+        audit: u64,
+    },
+    /// A file in effect, in a packed journal.
+    File {
+        id: u64,
+        length: u32,
+        profile: u8,
+        name: Name,
+    },
+    /// The audit whose repair is due, in a packed journal.
+    Due {
+        number: u64,
+        counts: Counts,
+    },
 }

@@ -1,3 +1,4 @@
+use super::reading::read_spelled;
 use super::*;
 
 const SETUP: [u8; 41] = [
@@ -13,9 +14,25 @@ const AUDIT_DONE: [u8; 30] = [
     6, 1, 0, 0, 0, 0, 0, 0, 0, 0, 0, 0, 0, 4, 0, 0, 0, 0, 0, 0, 0, 0, 1, 0, 0, 0, 0, 0, 0, 0,
 ];
 
+const DUE: [u8; 26] = [
+    12, 1, 0, 0, 0, 0, 0, 0, 0, 4, 0, 0, 0, 0, 0, 0, 0, 0, 1, 0, 0, 0, 0, 0, 0, 0,
+];
+
 /// Whether one record is read from all of these bytes, and written as these bytes again.
 fn is_record(bytes: &[u8]) -> bool {
     match Record::read(bytes) {
+        Some((record, size)) => {
+            let mut out = [0u8; 80];
+            let n = record.write(&mut out);
+            n == size && n == record.size() && out[..n] == bytes[..]
+        }
+        None => false,
+    }
+}
+
+/// Whether one record of any kind is spelled by all of these bytes, and written as these bytes again.
+fn is_spelled(bytes: &[u8]) -> bool {
+    match read_spelled(bytes) {
         Some((record, size)) => {
             let mut out = [0u8; 80];
             let n = record.write(&mut out);
@@ -39,6 +56,23 @@ fn each_record_is_read_and_written(rt: HostRuntime) {
     ];
     for bytes in records.iter() {
         assert!(rt; is_record(bytes), "{bytes:?}");
+        assert!(rt; is_spelled(bytes), "{bytes:?}");
+    }
+}
+
+/// Kinds 8 to 12 have their spellings, and no journal holds them yet.
+#[test]
+fn each_record_of_the_second_version_is_spelled(rt: HostRuntime) {
+    let records: [&[u8]; 5] = [
+        &[8, 1, 0, 0, 0, 0, 0, 0, 0, 100, 0, 0, 0, 4],
+        &[9, 2],
+        &[10, 3, 0, 0, 0, 0, 0, 0, 0, 2, 0, 0, 0, 0, 0, 0, 0],
+        &[11, 1, 0, 0, 0, 0, 0, 0, 0, 100, 0, 0, 0, 0, 1, 97],
+        &DUE,
+    ];
+    for bytes in records.iter() {
+        assert!(rt; is_spelled(bytes), "{bytes:?}");
+        assert!(rt; Record::read(bytes).is_none(), "{bytes:?}");
     }
 }
 
@@ -53,10 +87,13 @@ fn no_record_is_read(rt: HostRuntime) {
     let mut long_name = [97u8; 67];
     long_name[0] = 4;
     long_name[1] = 65;
-    let none: [&[u8]; 10] = [
+    let none: [&[u8]; 13] = [
         &[],
         &[0],
         &[8],
+        &[8, 1, 0, 0, 0, 0, 0, 0, 0, 100, 0, 0, 0, 5],
+        &[9, 1],
+        &[13],
         &[3, 1, 0, 0, 0, 0, 0, 0, 0, 100, 0, 0],
         &[4, 0],
         &[4, 1, 47],
@@ -67,6 +104,7 @@ fn no_record_is_read(rt: HostRuntime) {
     ];
     for bytes in none.iter() {
         assert!(rt; Record::read(bytes).is_none(), "{bytes:?}");
+        assert!(rt; read_spelled(bytes).is_none(), "{bytes:?}");
     }
 }
 

@@ -1,9 +1,9 @@
-ghost use Rattle.std.specs.Prelude.{◌≡◌, ◌++◌, ◌+◌, ◌*◌, ◌≤◌, length, take, drop};
-ghost use Rattle.std.specs.Int.{w32, to_le_bytes};
+ghost use Rattle.std.specs.Prelude.{◌≡◌, ◌++◌, ◌∷◌, [], ◌+◌, ◌*◌, ◌≤◌, length, take, drop};
+ghost use Rattle.std.specs.Int.{w32, w64, to_le_bytes};
 ghost use Rattle.std.specs.List.{flat_map};
 ghost use Rattle.hail_records.specs.Records.{record_size};
 ghost use Rattle.hail_records.specs.Spellings.{spelling, setup_bytes};
-ghost use Rattle.record_codec.specs.Entries.{entry_of, with_master, IsInGrammar};
+ghost use Rattle.record_codec.specs.Entries.{entry_of, with_master, HasSpelling};
 
 use crate::records::Record;
 use crate::setup::Setup;
@@ -49,12 +49,24 @@ fn put_setup(out: &mut [u8], at: usize, setup: &Setup, master: &[u8; 32]) -> usi
     put(out, at, master)
 }
 
+/// Writes a kind, and the number, length and profile of an object behind it.
+fn put_object(out: &mut [u8], kind: u8, id: u64, size: u32, profile: u8) -> usize
+    requires { 14 ≤ length out.old }
+    ensures at { result ≡ 14 }
+    ensures front { take result out.new ≡ kind ∷ to_le_bytes w64 id ++ to_le_bytes w32 size ++ profile ∷ [] }
+{
+    let at = put(out, 0, &[kind]);
+    let at = put(out, at, &id.to_le_bytes());
+    let at = put(out, at, &size.to_le_bytes());
+    put(out, at, &[profile])
+}
+
 impl Record {
     /// Writes the record's bytes to the front of `out`, and answers how many they are. What stands behind them is not
-    /// promised. Condition: the record is in the grammar.
+    /// promised. Condition: each field is within its limits.
     #[tactic(auto, unfolding(hail_records::specs::Spellings::spelling))]
     pub fn write(&self, out: &mut [u8; 80]) -> usize
-        requires { IsInGrammar self.now }
+        requires { HasSpelling self.now }
         ensures size { result ≡ record_size (entry_of self.now) }
         ensures bytes { take result out.new ≡ spelling (entry_of self.now) }
     {
@@ -99,12 +111,40 @@ impl Record {
                 let at = put(out, 0, &[7]);
                 put(out, at, &number.to_le_bytes())
             }
+            Record::PutDoneIn {
+                id,
+                length,
+                profile,
+            } => put_object(out, 8, *id, *length, *profile),
+            Record::Version => put(out, 0, &[9, 2]),
+            Record::Resume { id, audit } => {
+                let at = put(out, 0, &[10]);
+                let at = put(out, at, &id.to_le_bytes());
+                put(out, at, &audit.to_le_bytes())
+            }
+            Record::File {
+                id,
+                length,
+                profile,
+                name,
+            } => {
+                let name = name.as_bytes();
+                let at = put_object(out, 11, *id, *length, *profile);
+                let at = put(out, at, &[name.len() as u8]);
+                put(out, at, name)
+            }
+            Record::Due { number, counts } => {
+                let at = put(out, 0, &[12]);
+                let at = put(out, at, &number.to_le_bytes());
+                let at = put(out, at, &[counts.n]);
+                put_numbers(out, at, &counts.by[..counts.n as usize])
+            }
         }
     }
 
-    /// How many bytes the record takes, its kind included. Condition: the record is in the grammar.
+    /// How many bytes the record takes, its kind included. Condition: each field is within its limits.
     pub fn size(&self) -> usize
-        requires { IsInGrammar self.now }
+        requires { HasSpelling self.now }
         ensures { result ≡ record_size (entry_of self.now) }
     {
         match self {
@@ -115,6 +155,11 @@ impl Record {
             Record::AuditStart { .. } => 9,
             Record::AuditDone { counts, .. } => 14 + 4 * counts.n as usize,
             Record::RepairDone { .. } => 9,
+            Record::PutDoneIn { .. } => 14,
+            Record::Version => 2,
+            Record::Resume { .. } => 17,
+            Record::File { name, .. } => 15 + name.as_bytes().len(),
+            Record::Due { counts, .. } => 10 + 4 * counts.n as usize,
         }
     }
 }

@@ -3,6 +3,7 @@
 use Rattle.std.proofs.Common.{◌≡◌, ℕ, Bool, true, false, ◌⊎◌, List, [], ◌∷◌, ◌++◌, Option, Some, None, refl, ap, sym, subst, ◌∙◌, inl, inr}
 use Rattle.std.specs.Prelude.{IsTrue, IsSome, is_some, nat_lt}
 use Rattle.std.proofs.lemmas.Bool.{and_from, false≢true}
+use Rattle.plain_facts.proofs.Options.{some-not-none}
 use Rattle.hail_records.specs.Records.{Record, Setup, SetUp, is_setup, is_master, is_in_grammar}
 use Rattle.hail_records.specs.Table.{setup_of}
 use Rattle.hail_devices.specs.Providers.{Held, with_symbol, without_block, HasPlace}
@@ -15,7 +16,7 @@ use Rattle.hail_machine.specs.States.{State, Append, Doubt, given_up, Settles}
 use Rattle.hail_machine.specs.Begins.{new_job, Begins}
 use Rattle.hail_machine.specs.Appends.{bytes_drawn, Moves}
 use Rattle.hail_machine.specs.Steps.{next_action, holder_of, Acts, ActsOrWaits, StepsOn, StepsJob, StepsOpen, Steps}
-use Rattle.hail_machine.specs.Openings.{LeavesDoubt, Stops, Reopens, InitsClosed, InitsBy, Inits, Continues}
+use Rattle.hail_machine.specs.Openings.{LeavesDoubt, Rereads, Stops, Reopens, InitsClosed, InitsBy, Inits, Continues}
 use Rattle.hail_machine.specs.Replacements.{ReplacesAt, ReplacesIf}
 use Rattle.hail_machine.specs.Machine.{Lists, Happens}
 use Rattle.hail_machine.proofs.JobLists.{number_of}
@@ -59,16 +60,13 @@ pub record Direct (old new : State) : Type 0 where
   pub bytes : Bytes_are old new.bytes new.append
   pub opened : new.is_open ≡ true → (old.is_open ≡ true) ⊎ (is_some (setup_of new.records) ≡ true)
 
-clash : {X : Type 0} (o : Option X) (x : X) → o ≡ Some x → o ≡ None → ⊥
-clash o x a b = (let e : None ≡ Some x = sym b ∙ a in cc)
-
 module _ (old : State) where
   -- no append is in flight now that was not before
   no_new : (a : Append) → old.append ≡ Some a → old.append ≡ None → ⊥
-  no_new a = clash old.append a
+  no_new a = some-not-none old.append a
 
   was_moved : (b : Append) → old.append ≡ Some b → (append : Option Append) (a : Append) → append ≡ Some a → old.append ≡ None → ⊥
-  was_moved b flight append a h none = clash old.append b flight none
+  was_moved b flight append a h none = some-not-none old.append b flight none
 
   -- an event of no record, no draw and no setup
   still : (left new : State) → new ≡ left → left.records ≡ old.records → left.doubt ≡ old.doubt → Jobs_are old left.jobs → left.bytes ≡ old.bytes →
@@ -77,7 +75,7 @@ module _ (old : State) where
     records = Records_are.same records;
     doubt = λ d h. Doubt_was.kept (sym doubt ∙ h);
     jobs = jobs;
-    bytes = Bytes_are.same bytes (λ a h none. elim append [ inl e ↦ clash old.append a (sym e ∙ h) none | inr e ↦ clash left.append a h e ]);
+    bytes = Bytes_are.same bytes (λ a h none. elim append [ inl e ↦ some-not-none old.append a (sym e ∙ h) none | inr e ↦ some-not-none left.append a h e ]);
     opened = λ h. elim is_open [ inl e ↦ inl (sym e ∙ h) | inr e ↦ absurd (false≢true (sym e ∙ h)) ];
   })
 
@@ -89,7 +87,7 @@ module _ (old : State) where
     in_doubt a flight maker d h = (let e : record { entry = a.entry; maker = maker } ≡ d = cc in Doubt_was.gated a flight (sym (ap (λ (x : Doubt). x.entry) e)))
 
     no_doubt : (d : Doubt) → None ≡ Some d → Doubt_was old d
-    no_doubt d h = absurd (clash (Some d) d refl (sym h))
+    no_doubt d h = absurd (some-not-none (Some d) d refl (sym h))
 
     first_job : (entry : Record) (a : Append) → Some (record { job = job.number; entry = entry; moves = 1 }) ≡ Some a → a.job ≡ job.number
     first_job entry a h = (let e : record { job = job.number; entry = entry; moves = 1 } ≡ a = cc in sym (ap (λ (x : Append). x.job) e))
@@ -102,7 +100,7 @@ module _ (old : State) where
       bytes = Bytes_are.drew job runs flight (first_job entry) refl;
       opened = λ h. inl h;
     })
-    moves WriteBody (Some a) r new flight free h = absurd (clash (Some a.job) a.job refl free)
+    moves WriteBody (Some a) r new flight free h = absurd (some-not-none (Some a.job) a.job refl free)
     moves WriteBody None (Ended answer.DiskFault) new flight free (faults, low, rose, is) = still _ new is refl refl (Jobs_are.ended job.number refl) refl (inr refl) (inl refl)
     moves WriteBody None (Ended answer.Memory) new flight free (faults, low, is) = still _ new is refl refl (Jobs_are.ended job.number refl) refl (inl refl) (inl refl)
     moves SyncBody (Some a) More new flight free (at, (faults, low, is)) = subst (λ (w : State). Direct old w) (sym is) (record {
@@ -211,24 +209,25 @@ module _ (old : State) where
   }
 
   -- all jobs are given up, and a record in doubt is settled
-  gives_up : (mid left new : State) → new ≡ left → Settled (given_up old) mid → left.records ≡ mid.records → left.doubt ≡ mid.doubt → left.jobs ≡ mid.jobs → left.append ≡ mid.append → left.bytes ≡ mid.bytes →
+  gives_up : (mid left new : State) → new ≡ left → Rereads old mid → left.records ≡ mid.records → left.doubt ≡ mid.doubt → left.jobs ≡ mid.jobs → left.append ≡ mid.append → left.bytes ≡ mid.bytes →
       (left.is_open ≡ true → (left.is_open ≡ mid.is_open) ⊎ (is_some (setup_of mid.records) ≡ true)) → Direct old new
-  gives_up mid left new is s records doubt jobs append bytes is_open = subst (λ (w : State). Direct old w) (sym is) (record {
-    records = subst (Records_are old) (sym records) s.records;
-    doubt = λ d h. absurd (clash left.doubt d h (doubt ∙ s.doubt));
-    jobs = Jobs_are.gone (jobs ∙ s.jobs);
-    bytes = Bytes_are.same (bytes ∙ s.bytes) (λ a h none. clash left.append a h (append ∙ s.append));
-    opened = λ h. elim (is_open h) [ inl e ↦ absurd (false≢true (sym (e ∙ s.is_open) ∙ h)) | inr up ↦ inr (ap (λ rs. is_some (setup_of rs)) records ∙ up) ];
-  })
+  gives_up mid left new is settles records doubt jobs append bytes is_open = (let s = settle_parts (given_up old) mid refl refl settles in
+      subst (λ (w : State). Direct old w) (sym is) (record {
+        records = subst (Records_are old) (sym records) s.records;
+        doubt = λ d h. absurd (some-not-none left.doubt d h (doubt ∙ s.doubt));
+        jobs = Jobs_are.gone (jobs ∙ s.jobs);
+        bytes = Bytes_are.same (bytes ∙ s.bytes) (λ a h none. some-not-none left.append a h (append ∙ s.append));
+        opened = λ h. elim (is_open h) [ inl e ↦ absurd (false≢true (sym (e ∙ s.is_open) ∙ h)) | inr up ↦ inr (ap (λ rs. is_some (setup_of rs)) records ∙ up) ];
+      }))
 
   stops : (r : Outcome) (new : State) → Stops old r new → Direct old new
-  stops Stopped new h = gives_up new new new refl (settle_parts (given_up old) new refl refl h) refl refl refl refl refl (λ h. inl refl)
+  stops Stopped new h = gives_up new new new refl h refl refl refl refl refl (λ h. inl refl)
   stops r new h = absurd h
 
   reopens : (r : Outcome) (new : State) → Reopens old r new → Direct old new
-  reopens Opened new (mid, s, up, enough, (faults, low, is)) = gives_up mid _ new is (settle_parts (given_up old) mid refl refl s) refl refl refl refl refl (λ h. inr up)
-  reopens (Refused refusal.NotSetUp) new (mid, s, none, (faults, low, is)) = gives_up mid _ new is (settle_parts (given_up old) mid refl refl s) refl refl refl refl refl (λ h. inl refl)
-  reopens (Refused refusal.TooFewProviders) new (mid, s, up, few, (faults, low, is)) = gives_up mid _ new is (settle_parts (given_up old) mid refl refl s) refl refl refl refl refl (λ h. inl refl)
+  reopens Opened new (mid, s, up, enough, (faults, low, is)) = gives_up mid _ new is s refl refl refl refl refl (λ h. inr up)
+  reopens (Refused refusal.NotSetUp) new (mid, s, none, (faults, low, is)) = gives_up mid _ new is s refl refl refl refl refl (λ h. inl refl)
+  reopens (Refused refusal.TooFewProviders) new (mid, s, up, few, (faults, low, is)) = gives_up mid _ new is s refl refl refl refl refl (λ h. inl refl)
   reopens (Refused refusal.DiskFault) new (faults, low, rose, is) = still _ new is refl refl (Jobs_are.gone refl) refl (inr refl) (inr refl)
   reopens (Refused refusal.Memory) new (faults, low, is) = still _ new is refl refl (Jobs_are.gone refl) refl (inr refl) (inr refl)
   reopens r new h = absurd h
@@ -257,7 +256,7 @@ module _ (old : State) where
   inits_closed s (Refused refusal.Already) new valid (mid, settles, up, (faults, low, is)) =
       (let t = settle_parts old mid refl refl settles in subst (λ (w : State). Direct old w) (sym is) (record {
         records = t.records;
-        doubt = λ d h. absurd (clash mid.doubt d h t.doubt);
+        doubt = λ d h. absurd (some-not-none mid.doubt d h t.doubt);
         jobs = Jobs_are.same t.jobs;
         bytes = Bytes_are.same t.bytes (λ a h none. no_new a (sym t.append ∙ h) none);
         opened = λ h. inl (sym t.is_open ∙ h);
@@ -265,7 +264,7 @@ module _ (old : State) where
   inits_closed s Ready new valid (mid, settles, none, (faults, low, is)) =
       (let t = settle_parts old mid refl refl settles in subst (λ (w : State). Direct old w) (sym is) (record {
         records = set_up_on s mid.records valid t.either;
-        doubt = λ d h. absurd (clash mid.doubt d h t.doubt);
+        doubt = λ d h. absurd (some-not-none mid.doubt d h t.doubt);
         jobs = Jobs_are.same t.jobs;
         bytes = Bytes_are.same t.bytes (λ a h none. no_new a (sym t.append ∙ h) none);
         opened = λ h. inl (sym t.is_open ∙ h);

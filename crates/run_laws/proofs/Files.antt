@@ -1,11 +1,12 @@
 -- What seen blocks open to is the file, or they hold a forgery against it.
-use Rattle.std.proofs.Common.{◌≡◌, ℕ, zero, suc, ◌+◌, ◌-◌, ◌*◌, ◌<◌, ◌≤◌, Bool, true, false, ◌⊎◌, List, [], ◌∷◌, ◌++◌, length, take, drop, map, get_or, refl, ap, sym, subst, ◌∙◌, inl, inr, arith, get_or-take, get_or-drop}
-use Rattle.std.specs.Prelude.{nat_lt, slice_index}
-use Rattle.std.specs.List.{flat_map, range_with_len}
+use Rattle.std.proofs.Common.{◌≡◌, ℕ, zero, suc, ◌+◌, ◌-◌, ◌*◌, ◌<◌, ◌≤◌, ◌⊎◌, List, [], length, take, drop, map, get_or, ap, sym, subst, ◌∙◌, inl, inr, arith, get_or-take, get_or-drop}
+use Rattle.std.specs.Prelude.{slice_index}
 use Rattle.std.proofs.lemmas.Bool.{cases_eq}
 use Rattle.std.proofs.Math.Nat.{mul-le-mul_right}
 use Rattle.std.proofs.lemmas.List.FromFn.{get_or-map-range_with_len, fill_by_all}
 use Rattle.std.proofs.lemmas.Option.{get_or_from_slice_get}
+use Rattle.plain_facts.proofs.Lists.{flat_map-range_same, map-range_at, same_or_other}
+use Rattle.plain_facts.proofs.Places.{IsPlace, place-of}
 use Rattle.hail_field.specs.Shape.{IsShape}
 use Rattle.hail_codes.specs.Polynomials.{value, interpolate}
 use Rattle.hail_codes.specs.Points.{upto, values_at}
@@ -25,19 +26,6 @@ use Rattle.column_laws.proofs.OtherRows.{forgery-of_other}
 use Rattle.hail_machine.specs.Events.{AreBytes}
 use Rattle.run_laws.proofs.SymbolBytes.{bytes_back}
 
--- two lists of numbers are equal or they are not
-same_or_other : (xs ys : List ℕ) → (xs ≡ ys) ⊎ (xs ≡ ys → ⊥)
-same_or_other [] [] = inl refl
-same_or_other [] (y ∷ ys) = inr (λ e. cc)
-same_or_other (x ∷ xs) [] = inr (λ e. cc)
-same_or_other (x ∷ xs) (y ∷ ys) = elim (cases_eq x y) [
-  | inr other ↦ inr (λ e. other (let f : x ≡ y = cc in f))
-  | inl same ↦ elim (same_or_other xs ys) [
-    | inl rest ↦ inl (let f : x ∷ xs ≡ y ∷ ys = cc in f)
-    | inr other ↦ inr (λ e. other (let f : xs ≡ ys = cc in f))
-  ]
-]
-
 -- of so many numbers all are of one kind, or there is one of the other
 all_or_one : (P Q : ℕ → Type 0) (n : ℕ) → ((k : ℕ) → k < n → P k ⊎ Q k) → ((k : ℕ) → k < n → P k) ⊎ ((k : ℕ) × (k < n) × Q k)
 all_or_one P Q zero h = inl (λ k l. absurd (omega (arith, l)))
@@ -48,45 +36,6 @@ all_or_one P Q (suc n) h = elim (all_or_one P Q n (λ k l. h k (omega (arith, l)
     | inl p ↦ inl (λ k l. elim (cases_eq k n) [ inl e ↦ subst P (sym e) p | inr other ↦ all k (omega (arith, l, other)) ])
   ]
 ]
-
--- two lists of values are equal at each place
-map_at : (f g : ℕ → ℕ) (a n : ℕ) → map f (range_with_len a n) ≡ map g (range_with_len a n) → (j : ℕ) → a ≤ j → j < a + n → f j ≡ g j
-map_at f g a zero e j low high = absurd (omega (arith, low, high))
-map_at f g a (suc n) e j low high =
-    let parts : f a ∷ map f (range_with_len (a + 1) n) ≡ g a ∷ map g (range_with_len (a + 1) n) = e in
-    let first : f a ≡ g a = cc in
-    let rest : map f (range_with_len (a + 1) n) ≡ map g (range_with_len (a + 1) n) = cc in
-    elim (cases_eq j a) [
-      | inl here ↦ ap f here ∙ (first ∙ ap g (sym here))
-      | inr other ↦ map_at f g (a + 1) n rest j (omega (arith, low, other)) (omega (arith, high))
-    ]
-
-flat_map_same : (f g : ℕ → List ℕ) (a n : ℕ) → ((k : ℕ) → k < a + n → f k ≡ g k) → flat_map f (range_with_len a n) ≡ flat_map g (range_with_len a n)
-flat_map_same f g a zero h = refl
-flat_map_same f g a (suc n) h = (λ i. h a (omega arith) i ++ flat_map_same f g (a + 1) n (λ k l. h k (omega (arith, l))) i)
-
--- each number below l * keep is a place of one of l blocks
-record IsPlace (l keep i : ℕ) : Type 0 where
-  block : ℕ
-  place : ℕ
-  block_in : block < l
-  place_in : place < keep
-  sum : i ≡ block * keep + place
-
-place-of : (l keep i : ℕ) → i < l * keep → IsPlace l keep i
-place-of zero keep i below = absurd (omega (arith, below))
-place-of (suc l) keep i below = go (nat_lt i (l * keep)) refl (place-of l keep i)
-  where
-    split : suc l * keep ≡ l * keep + keep
-    split = grind arith
-
-    go : (b : Bool) → nat_lt i (l * keep) ≡ b → (i < l * keep → IsPlace l keep i) → IsPlace (suc l) keep i
-    go true is before =
-        let h = before (grind (arith, is)) in
-        record { block = h.block; place = h.place; block_in = omega (arith, h.block_in); place_in = h.place_in; sum = h.sum }
-    go false is before =
-        let out : l * keep ≤ i = grind (arith, is) in
-        record { block = l; place = i - l * keep; block_in = omega arith; place_in = omega (arith, out, below, split); sum = omega (arith, out) }
 
 module _ (o : Object) (bytes : List ℕ) where
   -- a symbol of a stripe, in layout order
@@ -130,7 +79,7 @@ module _ (o : Object) (bytes : List ℕ) where
         by_row one = elim (same_or_other (values_at (upto o.shape.l) one.row) (primary_row o (symbols_in o bytes stripe) place)) [
           | inl same ↦ inl (λ j l.
               get_or_from_slice_get symbols (j * o.profile.keep + place) (value one.row j) 0 (one.values j l)
-              ∙ map_at (value one.row) (λ k. slice_index (codeword o.profile (kept_by o (symbols_in o bytes stripe) k)) place) 0 o.shape.l same j (omega arith) (omega (arith, l))
+              ∙ map-range_at (value one.row) (λ k. slice_index (codeword o.profile (kept_by o (symbols_in o bytes stripe) k)) place) 0 o.shape.l same j (omega arith) (omega (arith, l))
               ∙ primary-symbol stripe place j kept (omega (arith, kept, profile-room o number is)) l)
           | inr other ↦ inr (forgery-of_stripe o bytes seen stripe place
               (forgery-of_other o bytes number seen stripe place gives.opened one.row is shape (record { stripe_in = below; place_in = kept }) gives.opens one.accepted other))
@@ -149,7 +98,7 @@ module _ (o : Object) (bytes : List ℕ) where
         elim (all_or_one (λ stripe. opens.symbols stripe ≡ symbols_in o bytes stripe) (λ stripe. (place : ℕ) × IsForgery o bytes seen stripe place) (stripes o (length bytes))
         (λ stripe below. stripe_right_or_forged stripe (opens.symbols stripe) below (opens.given stripe below))) [
           | inl all ↦ inl (opens.cut
-              ∙ ap (take (length bytes)) (flat_map_same (λ stripe. bytes_of_symbols (opens.symbols stripe)) (λ stripe. bytes_of_symbols (symbols_in o bytes stripe)) 0 (stripes o (length bytes)) (λ k l. ap bytes_of_symbols (all k (omega (arith, l)))))
+              ∙ ap (take (length bytes)) (flat_map-range_same (λ stripe. bytes_of_symbols (opens.symbols stripe)) (λ stripe. bytes_of_symbols (symbols_in o bytes stripe)) 0 (stripes o (length bytes)) (λ k l. ap bytes_of_symbols (all k (omega (arith, l)))))
               ∙ bytes_back o bytes shape.2 (subst (λ p. 1 ≤ p.keep) (sym is) (some_kept number)) fits)
           | inr (stripe, below, (place, forged)) ↦ inr (stripe, place, forged)
         ]

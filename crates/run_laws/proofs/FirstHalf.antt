@@ -10,7 +10,7 @@ use Rattle.hail_machine.specs.Setups.{setup_or_none}
 use Rattle.hail_machine.specs.Answers as answer
 use Rattle.hail_machine.specs.Answers.{Answer}
 use Rattle.hail_machine.specs.Events.{Event, Step, Outcome, Ended}
-use Rattle.hail_machine.specs.States.{State, IsStart, setup_in, object_in}
+use Rattle.hail_machine.specs.States.{State, IsStart, setup_in, file_object}
 use Rattle.hail_machine.specs.Runs.{Moment, now, first_moments, IsRun}
 use Rattle.hail_machine.specs.Given.{blocks_given}
 use Rattle.hail_machine.specs.Heard.{heard_by, given_to}
@@ -48,7 +48,7 @@ got_right limit start m ms job name bytes clean run e =
     record {
       file = got.file;
       in_effect = got.in_effect;
-      right = elim (file_or_forged (object_in b got.file.id) (b.bytes got.file.id) (setup_in b).profile refl shape
+      right = elim (file_or_forged (file_object b got.file) (b.bytes got.file.id) (setup_in b).profile refl shape
           (blocks_given (given_to job.number (heard_by (Some job))) (setup_in b).n got.file.id) bytes held.bytes got.opens) [
             | inl same ↦ inl same
             | inr (stripe, place, forged) ↦ inr (record { stripe = stripe; place = place; forgery = forged })

@@ -1,18 +1,20 @@
 -- What holds at each moment of a run of the setup in effect and of the bytes of files.
-use Rattle.std.proofs.Common.{◌≡◌, ℕ, ◌+◌, ◌<◌, ◌≤◌, ◌==◌, ◌&&◌, true, List, [], ◌∷◌, length, Option, Some, None, refl, ap, sym, subst, ◌∙◌, inl, inr, arith}
+use Rattle.std.proofs.Common.{◌≡◌, ℕ, ◌+◌, ◌<◌, ◌≤◌, ◌==◌, ◌&&◌, true, List, [], ◌∷◌, length, Some, None, refl, ap, sym, subst, ◌∙◌, inl, inr, arith}
 use Rattle.std.specs.Prelude.{is_some}
 use Rattle.std.proofs.lemmas.Bool.{cases_Bool, cases_eq, cases_lt, eq-eqb, and_from, and_parts, false≢true}
+use Rattle.plain_facts.proofs.Options.{some-not-none}
 use Rattle.hail_field.specs.Shape.{IsShape}
-use Rattle.hail_records.specs.Records.{Record, Setup, SetUp, PutStart, PutDone, Drop, AuditStart, AuditDone, RepairDone, is_setup, is_master}
-use Rattle.hail_records.specs.Table.{File, setup_of, next_id, started_as, is_start_of, is_same_name, file_of}
+use Rattle.hail_records.specs.Records.{Record, Setup, SetUp, PutStart, PutDone, Drop, AuditStart, AuditDone, RepairDone, PutDoneIn, Version, Resume, InEffect, RepairDue, is_setup, is_master}
+use Rattle.hail_records.specs.Table.{File, file_as, profile_in, version_of, setup_of, next_id, started_as, is_start_of, is_same_name, file_of}
 use Rattle.hail_machine.specs.Jobs.{Kind, PutJob, GetJob, DropJob, AuditJob, RepairJob, Job, job_of}
 use Rattle.hail_machine.specs.Actions.{WriteBody, SyncGate}
 use Rattle.hail_machine.specs.Events.{AreBytes, IsSpelledKind}
-use Rattle.hail_machine.specs.States.{State, Append, Doubt, AreFirst, IsStart, file_in}
-use Rattle.hail_machine.specs.Appends.{Writes, is_first_append, bytes_drawn}
+use Rattle.hail_machine.specs.States.{State, Append, Doubt, AreFirst, IsStart, setup_in, file_in}
+use Rattle.hail_machine.specs.Appends.{Writes, done_record, is_first_append, bytes_drawn}
 use Rattle.hail_machine.specs.Steps.{next_action}
 use Rattle.hail_machine.specs.Runs.{Moment, now, IsRun}
 use Rattle.hail_machine.proofs.JobLists.{cond_true, cond_false, same_value, found_none, found_with, found_without, found_more}
+use Rattle.hail_machine.proofs.Done.{by_version}
 use Rattle.hail_machine.proofs.Changes.{IsPlain, Job_is, Append_is, Changes}
 use Rattle.hail_machine.proofs.Events.{changes}
 use Rattle.hail_machine.proofs.Numbers.{objects, Draws, HasNumber, next_of_records, at_three, first_above, first_below, drawn_later, drawn_first}
@@ -33,6 +35,11 @@ up_more (Drop name) rs h = h
 up_more (AuditStart number) rs h = h
 up_more (AuditDone number undecided counts) rs h = h
 up_more (RepairDone number) rs h = h
+up_more (PutDoneIn id size profile) rs h = h
+up_more Version rs h = h
+up_more (Resume next audit) rs h = h
+up_more (InEffect id size profile kept) rs h = h
+up_more (RepairDue number counts) rs h = h
 
 up_on : (old : State) (rs : List Record) → Records_are old rs → IsUp old.records → IsUp rs
 up_on old rs (Records_are.same e) h = subst IsUp (sym e) h
@@ -52,6 +59,8 @@ pub record Holds (w : State) (id size : ℕ) : Type 0 where
 abbrev Fine : State → Record → Type 0
 Fine w (SetUp s) = IsValid s
 Fine w (PutDone id size) = Holds w id size
+Fine w (PutDoneIn id size profile) = Holds w id size
+Fine w (InEffect id size profile name) = Holds w id size
 Fine w r = Unit {0}
 
 setup_more : (w : State) (r : Record) (rs : List Record) (s : Setup) → Fine w r → ((t : Setup) → setup_of rs ≡ Some t → IsValid t) → setup_of (r ∷ rs) ≡ Some s → IsValid s
@@ -62,6 +71,11 @@ setup_more w (Drop name) rs s fine h e = h s e
 setup_more w (AuditStart number) rs s fine h e = h s e
 setup_more w (AuditDone number undecided counts) rs s fine h e = h s e
 setup_more w (RepairDone number) rs s fine h e = h s e
+setup_more w (PutDoneIn id size profile) rs s fine h e = h s e
+setup_more w Version rs s fine h e = h s e
+setup_more w (Resume next audit) rs s fine h e = h s e
+setup_more w (InEffect id size profile kept) rs s fine h e = h s e
+setup_more w (RepairDue number counts) rs s fine h e = h s e
 
 -- all files of records are held
 abbrev AreHeld : State → List Record → Type 0
@@ -71,10 +85,10 @@ held_more : (w : State) (r : Record) (rs : List Record) → Fine w r → AreHeld
 held_more w (SetUp t) rs fine h name f e = h name f e
 held_more w (PutStart id n) rs fine h name f e = h name f e
 held_more w (PutDone id size) rs fine h name f e = elim (cases_Bool (is_start_of name (started_as rs id))) [
-  | inl t ↦ (let same : record { name = name; id = id; size = size } ≡ f =
-      same_value _ (record { name = name; id = id; size = size }) f (cond_true (is_start_of name (started_as rs id)) (Some (record { name = name; id = id; size = size })) (file_of rs name) t) e in
+  | inl t ↦ (let same : file_as name id size (profile_in (setup_of rs)) ≡ f =
+      same_value _ (file_as name id size (profile_in (setup_of rs))) f (cond_true (is_start_of name (started_as rs id)) (Some (file_as name id size (profile_in (setup_of rs)))) (file_of rs name) t) e in
       subst (λ (x : File). Holds w x.id x.size) same fine)
-  | inr n ↦ h name f (sym (cond_false (is_start_of name (started_as rs id)) (Some (record { name = name; id = id; size = size })) (file_of rs name) n) ∙ e)
+  | inr n ↦ h name f (sym (cond_false (is_start_of name (started_as rs id)) (Some (file_as name id size (profile_in (setup_of rs)))) (file_of rs name) n) ∙ e)
 ]
 held_more w (Drop n) rs fine h name f e = elim (cases_Bool (is_same_name n name)) [
   | inl t ↦ absurd (let g : None ≡ Some f = sym (cond_true (is_same_name n name) None (file_of rs name) t) ∙ e in cc)
@@ -83,12 +97,28 @@ held_more w (Drop n) rs fine h name f e = elim (cases_Bool (is_same_name n name)
 held_more w (AuditStart number) rs fine h name f e = h name f e
 held_more w (AuditDone number undecided counts) rs fine h name f e = h name f e
 held_more w (RepairDone number) rs fine h name f e = h name f e
+held_more w (PutDoneIn id size profile) rs fine h name f e = elim (cases_Bool (is_start_of name (started_as rs id))) [
+  | inl t ↦ (let same : file_as name id size profile ≡ f =
+      same_value _ (file_as name id size profile) f (cond_true (is_start_of name (started_as rs id)) (Some (file_as name id size profile)) (file_of rs name) t) e in
+      subst (λ (x : File). Holds w x.id x.size) same fine)
+  | inr n ↦ h name f (sym (cond_false (is_start_of name (started_as rs id)) (Some (file_as name id size profile)) (file_of rs name) n) ∙ e)
+]
+held_more w Version rs fine h name f e = h name f e
+held_more w (Resume next audit) rs fine h name f e = h name f e
+held_more w (InEffect id size profile kept) rs fine h name f e = elim (cases_Bool (is_same_name kept name)) [
+  | inl t ↦ (let same : file_as name id size profile ≡ f =
+      same_value _ (file_as name id size profile) f (cond_true (is_same_name kept name) (Some (file_as name id size profile)) (file_of rs name) t) e in
+      subst (λ (x : File). Holds w x.id x.size) same fine)
+  | inr n ↦ h name f (sym (cond_false (is_same_name kept name) (Some (file_as name id size profile)) (file_of rs name) n) ∙ e)
+]
+held_more w (RepairDue number counts) rs fine h name f e = h name f e
 
 -- the record that a job writes
 writes_fine : (w : State) (job : Job) (kind : Kind) (entry : Record) → ((name bytes : List ℕ) → kind ≡ PutJob name bytes → 4 ≤ job.place → Holds w job.subject (length bytes)) → Writes w job kind entry → Fine w entry
 writes_fine w job (PutJob name bytes) entry h writes = elim (cases_lt job.place 4) [
-  | inl l ↦ subst (Fine w) (sym (writes ∙ cond_true (is_first_append job) (PutStart (next_id w.records) name) (PutDone job.subject (length bytes)) (first_below job l))) tt
-  | inr l ↦ subst (Fine w) (sym (writes ∙ cond_false (is_first_append job) (PutStart (next_id w.records) name) (PutDone job.subject (length bytes)) (first_above job l))) (h name bytes refl l)
+  | inl l ↦ subst (Fine w) (sym (writes ∙ cond_true (is_first_append job) (PutStart (next_id w.records) name) (done_record (version_of w.records) job.subject (length bytes) (setup_in w).profile) (first_below job l))) tt
+  | inr l ↦ subst (Fine w) (sym (writes ∙ cond_false (is_first_append job) (PutStart (next_id w.records) name) (done_record (version_of w.records) job.subject (length bytes) (setup_in w).profile) (first_above job l)))
+      (by_version (version_of w.records) job.subject (length bytes) (setup_in w).profile (Fine w) (h name bytes refl l) (h name bytes refl l))
 ]
 writes_fine w job (GetJob name) entry h writes = absurd writes
 writes_fine w job (DropJob name) entry h writes = subst (Fine w) (sym writes) tt
@@ -103,9 +133,6 @@ drawn_bytes : (w : State) (job : Job) (kind : Kind) (name bytes : List ℕ) (id 
 drawn_bytes w job kind name bytes id is first e =
     ap (λ kd. bytes_drawn w job kd id) is
     ∙ cond_true (is_first_append job && (id == next_id w.records)) bytes (w.bytes id) (and_from (is_first_append job) (id == next_id w.records) first (eq-eqb id (next_id w.records) e))
-
-clash : {X : Type 0} (o : Option X) (x : X) → o ≡ Some x → o ≡ None → ⊥
-clash o x a b = (let e : None ≡ Some x = sym b ∙ a in cc)
 
 -- ---- what holds
 
@@ -124,7 +151,7 @@ module _ (limit : ℕ) (start : State) (m : Moment) (ms : List Moment) (N : num.
   holds_on id size h =
       (let same : m.state.bytes id ≡ (now start ms).bytes id = X.bytes id h.below in
       record {
-        below = (let l = h.below in let g = next_of_records objects (now start ms) m.state X.records in omega arith);
+        below = (let l = h.below in let g = next_of_records objects (now start ms) m.state N.written X.records in omega arith);
         bytes = subst AreBytes (sym same) h.bytes;
         size_is = ap length same ∙ h.size_is;
         up = up_on (now start ms) m.state.records D.records h.up;
@@ -138,6 +165,11 @@ module _ (limit : ℕ) (start : State) (m : Moment) (ms : List Moment) (N : num.
   fine_on (AuditStart number) h = tt
   fine_on (AuditDone number undecided counts) h = tt
   fine_on (RepairDone number) h = tt
+  fine_on (PutDoneIn id size profile) h = holds_on id size h
+  fine_on Version h = tt
+  fine_on (Resume next audit) h = tt
+  fine_on (InEffect id size profile kept) h = holds_on id size h
+  fine_on (RepairDue number counts) h = tt
 
   fine_of : (r s : Record) → r ≡ s → Fine (now start ms) s → Fine m.state r
   fine_of r s e h = fine_on r (subst (Fine (now start ms)) (sym e) h)
@@ -177,7 +209,7 @@ module _ (limit : ℕ) (start : State) (m : Moment) (ms : List Moment) (N : num.
   runs_up : (k : ℕ) (j : Job) → job_of (now start ms).jobs k ≡ Some j → IsUp (now start ms).records
   runs_up k j runs = elim (cases_Bool (now start ms).is_open) [
     | inl t ↦ F.opened t
-    | inr f ↦ absurd (found_none (now start ms).jobs k j (N.idle f).0 runs)
+    | inr f ↦ absurd (found_none (now start ms).jobs k j (N.idle.idle f).0 runs)
   ]
 
   number_is : (k : ℕ) (j : Job) (name bytes : List ℕ) → job_of (now start ms).jobs k ≡ Some j → j.kind ≡ PutJob name bytes → 4 ≤ j.place → HasNumber objects j
@@ -215,7 +247,7 @@ module _ (limit : ℕ) (start : State) (m : Moment) (ms : List Moment) (N : num.
   bytes_stay : (b : Append) → (now start ms).append ≡ Some b → m.state.bytes ≡ (now start ms).bytes
   bytes_stay b flight = elim D.bytes [
     | Bytes_are.same e no_new ↦ e
-    | Bytes_are.drew x runs free mine e ↦ absurd (clash (now start ms).append b flight free)
+    | Bytes_are.drew x runs free mine e ↦ absurd (some-not-none (now start ms).append b flight free)
   ]
 
   -- a job that drew found no append in flight
@@ -239,8 +271,8 @@ module _ (limit : ℕ) (start : State) (m : Moment) (ms : List Moment) (N : num.
       | Job_is.begun kd is k_is allowed rec2 ↦ absurd (let l = N.holder b flight in omega arith)
       | Job_is.plain x action runs next_is is_plain goes rec2 st ↦
           carried b flight x goes.subject (sym goes.kind ∙ kind) (let e = goes.place in omega arith) (subst (λ n. job_of (now start ms).jobs n ≡ Some x) job_is runs)
-      | Job_is.drew x runs next_is free is rec2 ↦ absurd (clash (now start ms).append b flight free)
-      | Job_is.finished x c runs next_is flight_c mine is rec2 free ↦ absurd (clash m.state.append a h free)
+      | Job_is.drew x runs next_is free is rec2 ↦ absurd (some-not-none (now start ms).append b flight free)
+      | Job_is.finished x c runs next_is flight_c mine is rec2 free ↦ absurd (some-not-none m.state.append a h free)
     ]
     | Append_is.drew x runs next_is mine writes found rec ↦
         (let is = same_value _ j _ (subst (λ n. job_of m.state.jobs n ≡ Some j) mine hj) found in
@@ -315,10 +347,10 @@ start_facts : (start : State) → IsStart start → Facts start
 start_facts start clean = record {
   spelled = λ k j h. absurd (found_none start.jobs k j clean.jobs h);
   setup = first_setup start.records clean.records;
-  append_fine = λ a h. absurd (clash start.append a h clean.append);
-  doubt_fine = λ d h. absurd (clash start.doubt d h clean.doubt);
+  append_fine = λ a h. absurd (some-not-none start.append a h clean.append);
+  doubt_fine = λ d h. absurd (some-not-none start.doubt d h clean.doubt);
   opened = λ h. absurd (false≢true (sym clean.closed ∙ h));
-  fresh = λ a j name bytes h hj kind small. absurd (clash start.append a h clean.append);
+  fresh = λ a j name bytes h hj kind small. absurd (some-not-none start.append a h clean.append);
   kept = λ k j name bytes h kind late. absurd (found_none start.jobs k j clean.jobs h);
   files = first_files start start.records clean.records;
 }

@@ -1,10 +1,11 @@
 -- The bytes of the symbols of a file are the file with zeros after it.
 use Rattle.std.proofs.Common.{◌≡◌, ℕ, zero, suc, ◌+◌, ◌-◌, ◌*◌, ◌/◌, ◌%◌, ◌<◌, ◌≤◌, List, [], ◌∷◌, ◌++◌, length, take, drop, map, get_or, refl, ap, sym, ◌∙◌, arith}
 use Rattle.std.specs.List.{flat_map, range_with_len, list_all}
-use Rattle.std.specs.Int.{w128, from_le_bytes, to_le_bytes, byte_worth, sum_through}
+use Rattle.std.specs.Int.{w128, from_le_bytes, to_le_bytes}
 use Rattle.std.proofs.lemmas.Bool.{ltb-true, and_parts}
 use Rattle.std.proofs.lemmas.List.{drop-drop}
 use Rattle.std.proofs.Math.Nat.{mul-le-mul, div-add-mod, mod-lt}
+use Rattle.plain_facts.proofs.Numbers.{from_le_bytes-same}
 use Rattle.hail_field.proofs.Bytes.{to_from}
 use Rattle.hail_records.specs.Records.{is_byte}
 use Rattle.hail_codes.specs.Points.{upto}
@@ -67,16 +68,6 @@ fits-padded (suc n) (x ∷ xs) h zero = h 0
 fits-padded (suc n) (x ∷ xs) h (suc i) = fits-padded n xs (λ j. h (suc j)) i
 
 -- ---- numbers of the same first 16 bytes
-
-sum_through-same : (f g : ℕ → ℕ) (k : ℕ) → ((i : ℕ) → i ≤ k → f i ≡ g i) → sum_through f k ≡ sum_through g k
-sum_through-same f g zero same = same 0 (omega arith)
-sum_through-same f g (suc k) same =
-    (λ i. sum_through-same f g k (λ j below. same j (omega (arith, below))) i + same (suc k) (omega arith) i)
-
-from_le_bytes-same : (xs ys : List ℕ) → ((i : ℕ) → i < 16 → get_or xs i 0 ≡ get_or ys i 0) → from_le_bytes w128 xs ≡ from_le_bytes w128 ys
-from_le_bytes-same xs ys same =
-    sum_through-same (λ i. byte_worth i (get_or xs i 0)) (λ i. byte_worth i (get_or ys i 0)) 15
-    (λ i below. ap (byte_worth i) (same i (omega (arith, below))))
 
 sixteen : (xs : List ℕ) → Fits xs → to_le_bytes w128 (from_le_bytes w128 xs) ≡ padded 16 xs
 sixteen xs h =

@@ -13,36 +13,42 @@ ghost use Rattle.hail_machine.specs.Events.{AreBytes};
 ghost use Rattle.hail_machine.specs.Jobs.{Job};
 ghost use Rattle.hail_machine.specs.Halves.{IsRightGet, EndsGet, FirstHalfHolds};
 ghost use Rattle.hail_machine.specs.Heard.{heard_by, HoldsForgery};
-ghost use Rattle.hail_machine.specs.States.{State, IsStart, object_in, file_in};
+ghost use Rattle.hail_machine.specs.States.{State, IsStart, file_object, file_in};
 ghost use Rattle.hail_machine.specs.Survival.{EndsPut};
 ghost use Rattle.hail_machine.specs.Runs.{Moment, IsRun, now, first_moments};
 
 /// The bytes of the symbols of all stripes of a file, cut to its length, are the file.
 pub fn symbols_give_bytes_back()
     ensures { (o : Object) (bytes : List ℕ) → 1 ≤ o.shape.l → 1 ≤ o.profile.keep → AreBytes bytes →
-        take (length bytes) (flat_map (λ stripe. bytes_of_symbols (symbols_in o bytes stripe)) (upto (stripes o (length bytes)))) ≡ bytes }
+        take (length bytes) (flat_map (λ stripe. bytes_of_symbols (symbols_in o bytes stripe))
+        (upto (stripes o (length bytes)))) ≡ bytes }
 {}
 
 /// A setup in effect is in the grammar of records: each of its numbers is within its limits and its master key has 32 bytes, so its
 /// providers are a shape.
 pub fn setup_in_effect_is_valid()
-    ensures grammar { (limit : ℕ) (start : State) (ms : List Moment) (s : Setup) → IsStart start → IsRun limit start ms →
+    ensures grammar { (limit : ℕ) (start : State) (ms : List Moment) (s : Setup) → IsStart start
+        → IsRun limit start ms →
         setup_of (now start ms).records ≡ Some s → IsTrue (is_in_grammar (SetUp s)) }
-    ensures shape { (limit : ℕ) (start : State) (ms : List Moment) (s : Setup) → IsStart start → IsRun limit start ms →
+    ensures shape { (limit : ℕ) (start : State) (ms : List Moment) (s : Setup) → IsStart start
+        → IsRun limit start ms →
         setup_of (now start ms).records ≡ Some s → IsShape s.n s.l s.b }
 {}
 
 /// What a state keeps of the object number of a file in effect are bytes, and as many as the file has.
 pub fn object_bytes_are_bytes()
-    ensures bytes { (limit : ℕ) (start : State) (ms : List Moment) (name : List ℕ) (file : File) → IsStart start → IsRun limit start ms →
+    ensures bytes { (limit : ℕ) (start : State) (ms : List Moment) (name : List ℕ) (file : File)
+        → IsStart start → IsRun limit start ms →
         file_in (now start ms) name ≡ Some file → AreBytes ((now start ms).bytes file.id) }
-    ensures size { (limit : ℕ) (start : State) (ms : List Moment) (name : List ℕ) (file : File) → IsStart start → IsRun limit start ms →
+    ensures size { (limit : ℕ) (start : State) (ms : List Moment) (name : List ℕ) (file : File)
+        → IsStart start → IsRun limit start ms →
         file_in (now start ms) name ≡ Some file → length ((now start ms).bytes file.id) ≡ file.size }
 {}
 
 /// What seen blocks open to, as bytes of a file's size, is the file, or the blocks hold a forgery against it.
 pub fn opened_file_is_right_or_forged()
-    ensures { (o : Object) (bytes : List ℕ) (number : ℕ) → o.profile ≡ profile_of number → IsShape o.shape.n o.shape.l o.shape.b →
+    ensures { (o : Object) (bytes : List ℕ) (number : ℕ) → o.profile ≡ profile_of number
+        → IsShape o.shape.n o.shape.l o.shape.b →
         (seen : ℕ → List SeenBlock) (got : List ℕ) → AreBytes bytes → OpensFile o (length bytes) seen got →
         (got ≡ bytes) ⊎ ((stripe : ℕ) × (place : ℕ) × IsForgery o bytes seen stripe place) }
 {}
@@ -50,8 +56,10 @@ pub fn opened_file_is_right_or_forged()
 /// A get that ended with bytes gave those that were in effect under its name at its begin, or what it fetched holds a forgery
 /// against them.
 pub fn got_bytes_are_right()
-    ensures { (limit : ℕ) (start : State) (m : Moment) (ms : List Moment) (job : Job) (name bytes : List ℕ) → IsStart start →
-        IsRun limit start (m ∷ ms) → EndsGet start m ms job name bytes → IsRightGet (now start (first_moments job.begun ms)) job name bytes }
+    ensures { (limit : ℕ) (start : State) (m : Moment) (ms : List Moment) (job : Job) (name bytes : List ℕ)
+        → IsStart start →
+        IsRun limit start (m ∷ ms) → EndsGet start m ms job name bytes
+        → IsRightGet (now start (first_moments job.begun ms)) job name bytes }
 {}
 
 /// The first half of the main theorem: in every run, calm or not, every get that ended with bytes gave those that were in effect under
@@ -62,7 +70,8 @@ pub fn first_half()
 
 /// From the end of a put that ended well on, what each state keeps of its object number are the bytes of that put.
 pub fn put_bytes_stay()
-    ensures { (limit : ℕ) (start : State) (later ms : List Moment) (m : Moment) (job : Job) (name bytes : List ℕ) → IsStart start →
+    ensures { (limit : ℕ) (start : State) (later ms : List Moment) (m : Moment) (job : Job)
+        (name bytes : List ℕ) → IsStart start →
         IsRun limit start (later ++ m ∷ ms) → EndsPut start m ms job name bytes →
         (now start (later ++ m ∷ ms)).bytes job.subject ≡ bytes }
 {}
@@ -70,9 +79,11 @@ pub fn put_bytes_stay()
 /// A get that ended with bytes, and at whose begin the file in effect under its name was that of a put that had ended well, gave the
 /// bytes of that put, or what it fetched holds a forgery against them.
 pub fn put_bytes_are_got()
-    ensures { (limit : ℕ) (start : State) (m p : Moment) (ms later before : List Moment) (put get : Job) (name bytes got : List ℕ)
+    ensures { (limit : ℕ) (start : State) (m p : Moment) (ms later before : List Moment) (put get : Job)
+        (name bytes got : List ℕ)
         (file : File) → IsStart start → IsRun limit start (m ∷ ms) → EndsGet start m ms get name got →
         first_moments get.begun ms ≡ later ++ p ∷ before → EndsPut start p before put name bytes →
         file_in (now start (first_moments get.begun ms)) name ≡ Some file → file.id ≡ put.subject →
-        (got ≡ bytes) ⊎ HoldsForgery (object_in (now start (first_moments get.begun ms)) file.id) bytes get.number (heard_by (Some get)) }
+        (got ≡ bytes) ⊎ HoldsForgery (file_object (now start (first_moments get.begun ms)) file) bytes
+        get.number (heard_by (Some get)) }
 {}

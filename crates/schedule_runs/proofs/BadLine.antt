@@ -3,8 +3,8 @@ use Rattle.std.proofs.Common.{List, [], ◌∷◌, length, refl, ap, inl, inr, a
 use Rattle.std.specs.Prelude.{codes}
 use Rattle.hail_machine.specs.Events.{Init, Begin, Step, Alter, Lose, Stop, Reopen, Names, Continue}
 use Rattle.hail_machine.specs.Jobs.{PutJob, GetJob, DropJob, AuditJob, RepairJob}
-use Rattle.hail_machine.specs.Transcripts.{Command, Once, RunJob}
-use Rattle.schedule_text.specs.Grammar.{Word, Spells}
+use Rattle.hail_machine.specs.Transcripts.{Instruction, Once, RunJob}
+use Rattle.schedule_text.specs.Grammar.{Word, SpellsCommand}
 use Rattle.schedule_text.specs.Schedules.{IsLine, IsFirstBadLine}
 use Rattle.schedule_runs.specs.Schedule.{bad_text}
 
@@ -12,7 +12,7 @@ use Rattle.schedule_runs.specs.Schedule.{bad_text}
 abbrev too_many : List Word
 too_many = codes "lose" ∷ codes "2" ∷ codes "1" ∷ codes "0" ∷ codes "2" ∷ codes "1" ∷ codes "0" ∷ []
 
-spells-none : (command : Command) → Spells too_many command → ⊥
+spells-none : (command : Instruction) → SpellsCommand too_many command → ⊥
 spells-none (Once (Init setup)) s = (let e = ap length s.8 in omega (arith, e))
 spells-none (Once Reopen) s = (let e = ap length s in omega (arith, e))
 spells-none (Once (Begin (PutJob name bytes))) s = (let e = ap length s.1 in omega (arith, e))

@@ -15,12 +15,13 @@ use Rattle.hail_machine.specs.Runs.{Moment, IsRun}
 use Rattle.hail_machine.specs.Transcripts.{Once, CarriesOut}
 use Rattle.hail_machine.specs.Examples.{set_up}
 use Rattle.hail_machine.proofs.RunParts.{begun, job_at, stepped, not_more, reopened}
-use Rattle.damage_run.specs.Schedule.{name, byte, schedule, written}
-use Rattle.damage_run.proofs.Values.{block, block_sized, symbols, byte_back, without_zero_give}
+use Rattle.step_laws.proofs.ByteSteps.{block_sized, block}
+use Rattle.damage_run.specs.Schedule.{name, byte, schedule, written_lines}
+use Rattle.damage_run.proofs.Values.{symbols, byte_back, without_zero_give}
 use Rattle.damage_run.proofs.Steps.{state_57}
 use Rattle.damage_run.proofs.Run.{moments, is_run, writes}
 use Rattle.damage_run.proofs.CalmRun.{outright}
-use Rattle.schedule_runs.specs.Schedule.{stopped_schedule, stopped_written, IsStopped}
+use Rattle.schedule_runs.specs.Schedule.{stopped_schedule, stopped_written, IsStoppedRun}
 
 -- the states
 abbrev fetched : State → ℕ → Provider
@@ -115,10 +116,10 @@ is_stopped_run = (small_6, happens_65, (small_6, happens_64, (small_6, happens_6
 
 -- what they write
 abbrev lines_58 : List ℕ
-lines_58 = written ++ (codes "stopped" ++ 10 ∷ [])
+lines_58 = written_lines ++ (codes "stopped" ++ 10 ∷ [])
 
 writes_58 : CarriesOut (Once (Stop []) ∷ schedule) stopped lines_58
-writes_58 = (record { event = Stop []; outcome = Stopped; state = state_58 }, moments, written, refl, refl, writes, refl)
+writes_58 = (record { event = Stop []; outcome = Stopped; state = state_58 }, moments, written_lines, refl, refl, writes, refl)
 
 abbrev lines_59 : List ℕ
 lines_59 = lines_58 ++ (codes "opened" ++ 10 ∷ [])
@@ -137,7 +138,7 @@ writes_66 : CarriesOut stopped_schedule stopped_moments stopped_written
 unfolding digits
 writes_66 = (record { event = Step 6; outcome = Ended (Got byte); state = state_66 }, steps, getting, lines_60, refl, record { step = refl; over = not_more (Got byte); before = (refl, refl, (refl, refl, (refl, refl, (refl, refl, (refl, refl, tt))))) }, writes_60, refl)
 
-pub is_stopped : IsStopped stopped_moments
+pub is_stopped : IsStoppedRun stopped_moments
 is_stopped = record {
   clean = outright.clean;
   run = is_stopped_run;

@@ -1,9 +1,11 @@
 -- The devices that a run has left, and what a replay or a trial over them goes on to.
 --
---   left_by w                  == devices of a state: the disk reads the text of the records in effect, and no byte of it is loose
+--   devices_left w                  == devices of a state: the disk reads the text of the records in
+--                                      effect, and no byte of it is loose
 --   DidNothing old new end     == no event was done
 --   GoesOnWith start ms old new end == no event was done, or moments go on with this very run
---   KeepsItsFile start ms name file old new end == the same, and the file is kept for as long as no record takes it out
+--   KeepsItsFile start ms name file old new end == the same, and the file is kept for as long as no record
+--                                          takes it out
 use Rattle.std.specs.Prelude.{ℕ, List, ◌++◌, map, Some, ◌⊎◌}
 use Rattle.hail_codes.specs.Points.{upto}
 use Rattle.hail_devices.specs.Cells.{firm}
@@ -13,14 +15,14 @@ use Rattle.hail_machine.specs.Runs.{Moment, now}
 use Rattle.hail_machine.specs.States.{State}
 use Rattle.hail_machine.specs.Survival.{NeverTakenOut, IsKept}
 use Rattle.hail_commands.specs.Seen.{Seen, Ending}
-use Rattle.vault.specs.Devices.{Devices, devices}
-use Rattle.hail_replay.specs.Answers.{IsUndone, devices_seen}
+use Rattle.vault.specs.Devices.{Devices, devices, devices_seen}
+use Rattle.hail_replay.specs.Answers.{IsUndone, devices_of_seen}
 use Rattle.hail_replay.specs.Starts.{called_behind}
-use Rattle.hail_top.specs.Carried.{GoesOn}
+use Rattle.hail_top.specs.Carried.{RunGoesOn}
 
 -- devices of a state
-abbrev pub left_by : State → Devices
-left_by w = devices (Some (firm (text w.records))) w.disk_faults (map w.providers (upto w.handed))
+abbrev pub devices_left : State → Devices
+devices_left w = devices (Some (firm (text w.records))) w.disk_faults (map w.providers (upto w.handed))
 
 -- no event was done
 abbrev pub DidNothing : Seen → Seen → Ending → Type 0
@@ -28,12 +30,14 @@ DidNothing old new end = (status : ℕ) × (at : ℕ) × IsUndone status at old 
 
 -- no event was done, or moments go on with this run
 abbrev pub GoesOnWith : State → List Moment → Seen → Seen → Ending → Type 0
-GoesOnWith start ms old new end = DidNothing old new end ⊎ GoesOn start ms end.heard (devices_seen new)
+GoesOnWith start ms old new end = DidNothing old new end ⊎ RunGoesOn start ms end.heard (devices_of_seen new)
 
 -- moments go on with this run, and keep a file of it
-pub record KeepsFile (start : State) (ms : List Moment) (name : List ℕ) (file : File) (new : Seen) (end : Ending) : Type 0 where
-  pub goes_on : GoesOn start ms end.heard (devices_seen new)
-  pub kept : NeverTakenOut name goes_on.later → IsKept (now start (goes_on.later ++ called_behind start ms)) name file
+pub record KeepsFile (start : State) (ms : List Moment) (name : List ℕ) (file : File) (new : Seen)
+    (end : Ending) : Type 0 where
+  pub goes_on : RunGoesOn start ms end.heard (devices_of_seen new)
+  pub kept : NeverTakenOut name goes_on.later
+      → IsKept (now start (goes_on.later ++ called_behind start ms)) name file
 
 -- no event was done, or moments go on with this run, and keep a file of it
 abbrev pub KeepsItsFile : State → List Moment → List ℕ → File → Seen → Seen → Ending → Type 0

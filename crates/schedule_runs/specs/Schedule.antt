@@ -1,10 +1,12 @@
 -- A schedule as text, with damage, an audit, a repair, a stop and gets, and what carries it out.
 --
---   stopped_schedule    == the commands of the run with damage, and then a stop, a reopening and a get, the newest first
+--   stopped_schedule    == the commands of the run with damage, and then a stop, a reopening and a get, the
+--                          newest first
 --   stopped_written     == all that they write
 --   stopped_text        == the text that spells them
 --   bad_text            == a text whose second line has too many words
---   IsStopped ms        == these moments carry it out, from a start of four providers; the last of them gives the file
+--   IsStoppedRun ms        == these moments carry it out, from a start of four providers; the last of them
+--                             gives the file
 use Rattle.std.specs.Prelude.{ℕ, List, [], ◌∷◌, ◌++◌, codes}
 use Rattle.std.specs.List.{flat_map}
 use Rattle.hail_machine.specs.Answers.{Got}
@@ -14,17 +16,18 @@ use Rattle.hail_machine.specs.Jobs.{GetJob}
 use Rattle.hail_machine.specs.Lines.{line}
 use Rattle.hail_machine.specs.Runs.{Moment, IsRun}
 use Rattle.hail_machine.specs.States.{IsStart}
-use Rattle.hail_machine.specs.Transcripts.{Command, Once, RunJob, CarriesOut}
-use Rattle.damage_run.specs.Schedule.{name, byte, schedule, written}
+use Rattle.hail_machine.specs.Transcripts.{Instruction, Once, RunJob, CarriesOut}
+use Rattle.damage_run.specs.Schedule.{name, byte, schedule, written_lines}
 use Rattle.damage_run.specs.Points.{EndsBy}
 
 -- the commands, the newest first
-abbrev pub stopped_schedule : List Command
+abbrev pub stopped_schedule : List Instruction
 stopped_schedule = RunJob 6 ∷ Once (Begin (GetJob name)) ∷ Once Reopen ∷ Once (Stop []) ∷ schedule
 
 -- all that they write
 abbrev pub stopped_written : List ℕ
-stopped_written = written ++ flat_map line (codes "stopped" ∷ codes "opened" ∷ codes "job 6" ∷ codes "got 6f" ∷ [])
+stopped_written =
+    written_lines ++ flat_map line (codes "stopped" ∷ codes "opened" ∷ codes "job 6" ∷ codes "got 6f" ∷ [])
 
 -- the text that spells them, in their order
 abbrev pub stopped_text : List ℕ
@@ -39,7 +42,7 @@ abbrev pub bad_text : List ℕ
 bad_text = flat_map line (codes "reopen" ∷ codes "lose 2 1 0 2 1 0" ∷ [])
 
 -- these moments carry it out
-pub record IsStopped (ms : List Moment) : Type 0 where
+pub record IsStoppedRun (ms : List Moment) : Type 0 where
   pub clean : IsStart set_up
   pub run : IsRun 8 set_up ms
   pub carried_out : CarriesOut stopped_schedule ms stopped_written

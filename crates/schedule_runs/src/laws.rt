@@ -5,21 +5,22 @@ ghost use Rattle.hail_commands.specs.Seen.{Seen, Ending, sinking};
 ghost use Rattle.hail_machine.specs.Examples.{set_up};
 ghost use Rattle.hail_machine.specs.Runs.{Moment, now, IsRun};
 ghost use Rattle.hail_machine.specs.States.{State, IsStart};
-ghost use Rattle.hail_machine.specs.Transcripts.{Command};
+ghost use Rattle.hail_machine.specs.Transcripts.{Instruction};
 ghost use Rattle.hail_client.specs.Examples.{fresh};
 ghost use Rattle.hail_client.specs.Start.{start_of};
 ghost use Rattle.schedule_text.specs.Schedules.{IsSchedule, IsFirstBadLine};
 ghost use Rattle.schedule_text.specs.Spelling.{CanBeSpelled};
 ghost use Rattle.hail_replay.specs.Starts.{AreLeft};
 ghost use Rattle.hail_replay.specs.Replayed.{Replays};
-ghost use Rattle.hail_replay.specs.Answers.{DoesSchedule, DoesTrial, devices_seen};
+ghost use Rattle.hail_replay.specs.Answers.{DoesSchedule, DoesTrial, devices_of_seen};
 ghost use Rattle.hail_replay.specs.Trials.{RunsTrial, RunsTo};
 ghost use Rattle.trial_maker.specs.Trials.{trial_commands};
 ghost use Rattle.hail_top.specs.Carried.{KeepsTheHeadline};
 ghost use Rattle.damage_run.specs.Schedule.{name, IsOutright};
 ghost use Rattle.fault_run.specs.Faults.{other, IsFaulty};
-ghost use Rattle.schedule_runs.specs.Left.{left_by, GoesOnWith, KeepsItsFile};
-ghost use Rattle.schedule_runs.specs.Schedule.{stopped_schedule, stopped_text, bad_text, IsStopped};
+ghost use Rattle.schedule_runs.specs.Left.{devices_left, GoesOnWith, KeepsItsFile};
+ghost use Rattle.schedule_runs.specs.Schedule.{stopped_schedule, stopped_text, bad_text, IsStoppedRun};
+ghost use Rattle.vault.specs.Devices.{devices_seen};
 
 use damage_run::runs::damage_is_found_and_repaired;
 use fault_run::runs::faults_are_met;
@@ -30,11 +31,12 @@ use sound_states::laws::runs_are_sound;
 /// Each run has left devices that tell: those of its last state. So have the run of no event, over a disk before its first use, and the runs
 /// given outright: one with damage, an audit that finds it and a repair; one with calls of every device that fail, and a stop.
 pub fn runs_leave_devices()
-    ensures each { (start : State) (ms : List Moment) → IsStart start → IsRun 8 start ms → AreLeft start ms (left_by (now start ms)) }
-    ensures tell { (start : State) (ms : List Moment) → IsSome (left_by (now start ms)).holds }
+    ensures each { (start : State) (ms : List Moment) → IsStart start → IsRun 8 start ms
+        → AreLeft start ms (devices_left (now start ms)) }
+    ensures tell { (start : State) (ms : List Moment) → IsSome (devices_left (now start ms)).holds }
     ensures fresh { AreLeft (start_of fresh []) [] fresh }
-    ensures damaged { (ms : List Moment) × IsOutright ms × AreLeft set_up ms (left_by (now set_up ms)) }
-    ensures faulty { (ms : List Moment) × IsFaulty ms × AreLeft set_up ms (left_by (now set_up ms)) }
+    ensures damaged { (ms : List Moment) × IsOutright ms × AreLeft set_up ms (devices_left (now set_up ms)) }
+    ensures faulty { (ms : List Moment) × IsFaulty ms × AreLeft set_up ms (devices_left (now set_up ms)) }
 {
     runs_are_sound();
     a_fresh_disk_has_a_start();
@@ -48,9 +50,11 @@ pub fn a_schedule_has_its_run()
     ensures spells { IsSchedule stopped_text (reverse stopped_schedule) }
     ensures fits { AllByRecursion CanBeSpelled (reverse stopped_schedule) }
     ensures bad_line { IsFirstBadLine bad_text 2 }
-    ensures run { (ms : List Moment) × IsStopped ms × AreLeft set_up ms (left_by (now set_up ms)) }
-    ensures used { (ms : List Moment) × IsStopped ms × ((old new : Seen) (end : Ending) → devices_seen old ≡ left_by (now set_up ms) →
-        KeepsTheHeadline old new end → KeepsItsFile set_up ms name (record { name = name; id = 1; size = 1 }) old new end) }
+    ensures run { (ms : List Moment) × IsStoppedRun ms × AreLeft set_up ms (devices_left (now set_up ms)) }
+    ensures used { (ms : List Moment) × IsStoppedRun ms
+        × ((old new : Seen) (end : Ending) → devices_of_seen old ≡ devices_left (now set_up ms) →
+        KeepsTheHeadline old new end
+        → KeepsItsFile set_up ms name (record { name = name; id = 1; size = 1; profile = 0 }) old new end) }
 {
     runs_leave_devices();
     acknowledged_files_survive();
@@ -58,21 +62,33 @@ pub fn a_schedule_has_its_run()
 
 /// So a replay or a trial over the devices that a run has left does nothing, or goes on with that very run, and the headline holds of the whole.
 pub fn commands_go_on_with_them()
-    ensures each { (start : State) (ms : List Moment) (old new : Seen) (end : Ending) → IsStart start → IsRun 8 start ms →
-        devices_seen old ≡ left_by (now start ms) → KeepsTheHeadline old new end → GoesOnWith start ms old new end }
-    ensures fresh { (old new : Seen) (end : Ending) → devices_seen old ≡ fresh → KeepsTheHeadline old new end →
+    ensures each { (start : State) (ms : List Moment) (old new : Seen) (end : Ending) → IsStart start
+        → IsRun 8 start ms →
+        devices_of_seen old ≡ devices_left (now start ms) → KeepsTheHeadline old new end
+        → GoesOnWith start ms old new end }
+    ensures fresh { (old new : Seen) (end : Ending) → devices_of_seen old ≡ fresh
+        → KeepsTheHeadline old new end →
         GoesOnWith (start_of fresh []) [] old new end }
-    ensures damaged { (ms : List Moment) × IsOutright ms × ((old new : Seen) (end : Ending) → devices_seen old ≡ left_by (now set_up ms) →
-        KeepsTheHeadline old new end → KeepsItsFile set_up ms name (record { name = name; id = 1; size = 1 }) old new end) }
-    ensures faulty { (ms : List Moment) × IsFaulty ms × ((old new : Seen) (end : Ending) → devices_seen old ≡ left_by (now set_up ms) →
-        KeepsTheHeadline old new end → KeepsItsFile set_up ms other (record { name = other; id = 3; size = 0 }) old new end) }
-    ensures replay { (start : State) (ms : List Moment) (text : List ℕ) (old new : Seen) (end : Ending) → IsStart start → IsRun 8 start ms →
-        devices_seen old ≡ left_by (now start ms) → DoesSchedule text old new end →
-        (commands : List Command) × IsSchedule text commands × Replays start ms commands end.status (sinking old new) end.heard (devices_seen new) }
-    ensures trial { (start : State) (ms : List Moment) (number : ℕ) (old new : Seen) (end : Ending) → IsStart start → IsRun 8 start ms →
-        devices_seen old ≡ left_by (now start ms) → DoesTrial number old new end →
-        RunsTrial number start ms end.status (sinking old new) end.heard (devices_seen new)
-        ⊎ ((end.status ≡ 70) × (new.sink ≡ old.sink) × RunsTo start ms (trial_commands number) end.heard (devices_seen new)) }
+    ensures damaged { (ms : List Moment) × IsOutright ms
+        × ((old new : Seen) (end : Ending) → devices_of_seen old ≡ devices_left (now set_up ms) →
+        KeepsTheHeadline old new end
+        → KeepsItsFile set_up ms name (record { name = name; id = 1; size = 1; profile = 0 }) old new end) }
+    ensures faulty { (ms : List Moment) × IsFaulty ms
+        × ((old new : Seen) (end : Ending) → devices_of_seen old ≡ devices_left (now set_up ms) →
+        KeepsTheHeadline old new end
+        → KeepsItsFile set_up ms other (record { name = other; id = 3; size = 0; profile = 0 }) old new
+        end) }
+    ensures replay { (start : State) (ms : List Moment) (text : List ℕ) (old new : Seen) (end : Ending)
+        → IsStart start → IsRun 8 start ms →
+        devices_of_seen old ≡ devices_left (now start ms) → DoesSchedule text old new end →
+        (commands : List Instruction) × IsSchedule text commands
+        × Replays start ms commands end.status (sinking old new) end.heard (devices_of_seen new) }
+    ensures trial { (start : State) (ms : List Moment) (number : ℕ) (old new : Seen) (end : Ending)
+        → IsStart start → IsRun 8 start ms →
+        devices_of_seen old ≡ devices_left (now start ms) → DoesTrial number old new end →
+        RunsTrial number start ms end.status (sinking old new) end.heard (devices_of_seen new)
+        ⊎ ((end.status ≡ 70) × (new.sink ≡ old.sink)
+        × RunsTo start ms (trial_commands number) end.heard (devices_of_seen new)) }
 {
     runs_leave_devices();
     acknowledged_files_survive();

@@ -1,19 +1,20 @@
 -- What the words spell is read, and what is read is what they spell.
 use Rattle.std.proofs.Common.{◌≡◌, ℕ, false, List, [], ◌∷◌, Option, Some, None, refl, sym, ap, ◌∙◌, inl, inr, ◌⊎◌}
 use Rattle.std.specs.Prelude.{codes, ◌==◌, slice_index}
-use Rattle.std.proofs.lemmas.Bool.{eqb-true}
+use Rattle.std.proofs.lemmas.Bool.{eqb-true, eq-eqb}
+use Rattle.plain_facts.proofs.Options.{cond-cases}
 use Rattle.hail_records.specs.Records.{Setup}
+use Rattle.record_codec.proofs.Fields.{bind_some}
 use Rattle.hail_machine.specs.Jobs.{PutJob, GetJob, DropJob, AuditJob, RepairJob}
 use Rattle.hail_machine.specs.Events.{Init, Begin, Step, Alter, Lose, Stop, Reopen, Names, Continue}
-use Rattle.hail_machine.specs.Transcripts.{Command, Once, RunJob}
-use Rattle.schedule_text.specs.Grammar.{Word, IsNumber, IsHex, IsKey, Spells, SpellsInit, IsSkipped}
-use Rattle.schedule_text.specs.Reading.{setup_at, init_at, put_at, get_at, drop_at, begun_at, begin_at, step_at, run_at, alter_at, lose_at, stop_at, apart_at, behind_at, line_at}
-use Rattle.schedule_text.proofs.Pieces.{equal}
-use Rattle.schedule_text.proofs.Fields.{bind_some, chosen, numeral-again, number-again, bytes-again, key-again}
+use Rattle.hail_machine.specs.Transcripts.{Instruction, Once, RunJob}
+use Rattle.schedule_text.specs.Grammar.{Word, IsNumber, IsHex, IsKey, SpellsCommand, SpellsInit, IsSkipped}
+use Rattle.schedule_text.specs.Reading.{setup_words_at, init_at, put_at, get_at, drop_words_at, begun_at, begin_at, step_at, run_at, alter_at, lose_at, stop_at, apart_at, behind_at, line_at}
+use Rattle.schedule_text.proofs.Fields.{numeral-again, number-again, bytes-again, key-again}
 use Rattle.schedule_text.proofs.Forms.{behind-takes}
 
 -- a line that is not skipped, by its first word
-line-again : (first : Word) (ws : List Word) (command : Command) → (slice_index first 0 == 35) ≡ false → behind_at first ws ≡ Some command
+line-again : (first : Word) (ws : List Word) (command : Instruction) → (slice_index first 0 == 35) ≡ false → behind_at first ws ≡ Some command
     → line_at (first ∷ ws) ≡ Some (Some command)
 unfolding line_at
 line-again first ws command other read = rw (other, read) refl
@@ -23,7 +24,7 @@ init_behind-again : (n l b profile rounds picks tolerance key : Word) (setup : S
     → IsNumber 8 n setup.n → IsNumber 8 l setup.l → IsNumber 8 b setup.b → IsNumber 8 profile setup.profile
     → IsNumber 8 rounds setup.rounds → IsNumber 8 picks setup.picks → IsNumber 16 tolerance setup.tolerance → IsKey key setup.master
     → behind_at (codes "init") (n ∷ l ∷ b ∷ profile ∷ rounds ∷ picks ∷ tolerance ∷ key ∷ []) ≡ Some (Once (Init setup))
-unfolding behind_at init_at setup_at
+unfolding behind_at init_at setup_words_at
 init_behind-again n l b profile rounds picks tolerance key setup is_n is_l is_b is_profile is_rounds is_picks is_tolerance is_key =
     rw (
       number-again 8 n (l ∷ b ∷ profile ∷ rounds ∷ picks ∷ tolerance ∷ key ∷ []) setup.n is_n,
@@ -99,11 +100,11 @@ unfolding line_at behind_at begin_at begun_at get_at
 get-again name = refl
 
 drop-again : (name : Word) → line_at (codes "begin" ∷ codes "drop" ∷ name ∷ []) ≡ Some (Some (Once (Begin (DropJob name))))
-unfolding line_at behind_at begin_at begun_at drop_at
+unfolding line_at behind_at begin_at begun_at drop_words_at
 drop-again name = refl
 
 -- the words of a command are read as this command
-pub line-spelled : (ws : List Word) (command : Command) → Spells ws command → line_at ws ≡ Some (Some command)
+pub line-spelled : (ws : List Word) (command : Instruction) → SpellsCommand ws command → line_at ws ≡ Some (Some command)
 line-spelled ws (Once (Init setup)) is = init-again ws setup is
 line-spelled ws (Once Reopen) is = ap (λ (t : List Word). line_at t) is ∙ reopen-again
 line-spelled ws (Once (Begin (PutJob name bytes))) is =
@@ -133,33 +134,33 @@ line-spelled ws (Once Continue) is = absurd is
 pub line-skipped : (ws : List Word) → IsSkipped ws → line_at ws ≡ Some None
 unfolding line_at
 line-skipped [] is = refl
-line-skipped (word ∷ ws) is = rw (equal (slice_index word 0) 35 is) refl
+line-skipped (word ∷ ws) is = rw (eq-eqb (slice_index word 0) 35 is) refl
 
-abbrev skip : Option (Option Command)
+abbrev skip : Option (Option Instruction)
 skip = Some None
 
 -- what is read as skipped is skipped
 pub skipped-line : (ws : List Word) → line_at ws ≡ Some None → IsSkipped ws
 unfolding line_at
 skipped-line [] e = tt
-skipped-line (word ∷ ws) e = elim (chosen (slice_index word 0 == 35) skip _ skip e) [
+skipped-line (word ∷ ws) e = elim (cond-cases (slice_index word 0 == 35) skip _ skip e) [
   | inl comment ↦ eqb-true (slice_index word 0) 35 comment.0
   | inr other ↦
       let a = bind_some (behind_at word ws) (λ command. Some (Some command)) None other.1 in
       absurd (never a.0 a.2)
 ]
   where
-    never : (command : Command) → Some (Some command) ≡ skip → ⊥
+    never : (command : Instruction) → Some (Some command) ≡ skip → ⊥
     never command e = cc
 
 -- what is read as a command spells it
-pub spelled-line : (ws : List Word) (command : Command) → line_at ws ≡ Some (Some command) → Spells ws command
+pub spelled-line : (ws : List Word) (command : Instruction) → line_at ws ≡ Some (Some command) → SpellsCommand ws command
 unfolding line_at
 spelled-line [] command e = absurd (never e)
   where
     never : skip ≡ Some (Some command) → ⊥
     never e = cc
-spelled-line (word ∷ ws) command e = elim (chosen (slice_index word 0 == 35) skip _ (Some (Some command)) e) [
+spelled-line (word ∷ ws) command e = elim (cond-cases (slice_index word 0 == 35) skip _ (Some (Some command)) e) [
   | inl comment ↦ absurd (never comment.1)
   | inr other ↦
       let a = bind_some (behind_at word ws) (λ command. Some (Some command)) (Some command) other.1 in
@@ -169,11 +170,11 @@ spelled-line (word ∷ ws) command e = elim (chosen (slice_index word 0 == 35) s
     never : skip ≡ Some (Some command) → ⊥
     never e = cc
 
-    same : (found : Command) → Some (Some found) ≡ Some (Some command) → Some found ≡ Some command
+    same : (found : Instruction) → Some (Some found) ≡ Some (Some command) → Some found ≡ Some command
     same found e = cc
 
 -- where nothing is read, the line is outside the grammar
-pub line-none : (ws : List Word) → line_at ws ≡ None → IsSkipped ws ⊎ ((command : Command) × Spells ws command) → ⊥
+pub line-none : (ws : List Word) → line_at ws ≡ None → IsSkipped ws ⊎ ((command : Instruction) × SpellsCommand ws command) → ⊥
 line-none ws e (inl skipped) = never (sym (line-skipped ws skipped) ∙ e)
   where
     never : skip ≡ None → ⊥
@@ -184,13 +185,13 @@ line-none ws e (inr spelled) = never (sym (line-spelled ws spelled.0 spelled.1) 
     never e = cc
 
 -- a line is not skipped and spelled, and it spells one command
-pub spelled-not_skipped : (ws : List Word) (command : Command) → IsSkipped ws → Spells ws command → ⊥
+pub spelled-not_skipped : (ws : List Word) (command : Instruction) → IsSkipped ws → SpellsCommand ws command → ⊥
 spelled-not_skipped ws command skipped spelled = never (sym (line-skipped ws skipped) ∙ line-spelled ws command spelled)
   where
     never : skip ≡ Some (Some command) → ⊥
     never e = cc
 
-pub Spells-once : (ws : List Word) (command other : Command) → Spells ws command → Spells ws other → command ≡ other
+pub Spells-once : (ws : List Word) (command other : Instruction) → SpellsCommand ws command → SpellsCommand ws other → command ≡ other
 Spells-once ws command other first second = same (sym (line-spelled ws command first) ∙ line-spelled ws other second)
   where
     same : Some (Some command) ≡ Some (Some other) → command ≡ other

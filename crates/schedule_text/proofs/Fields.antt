@@ -1,36 +1,22 @@
 -- A field that was read is one word, which spells it; and what a word spells is read.
-use Rattle.std.proofs.Common.{◌≡◌, ℕ, ◌^◌, Bool, true, false, cond, ltb, List, [], ◌∷◌, length, Option, Some, None, refl, sym, ap, subst, inl, inr, ◌⊎◌}
+use Rattle.std.proofs.Common.{◌≡◌, ℕ, ◌^◌, Bool, true, false, cond, ltb, List, [], ◌∷◌, length, Option, Some, None, refl, sym, ap, subst, inl, inr}
 use Rattle.std.specs.Prelude.{codes, ◌==◌, Result, Ok, Err}
 use Rattle.std.specs.Str.{bytes_eq}
-use Rattle.std.proofs.lemmas.Bool.{eqb-true, lt-ltb, ltb-true}
+use Rattle.std.proofs.lemmas.Bool.{eqb-true, lt-ltb, ltb-true, eq-eqb}
 use Rattle.std.proofs.lemmas.Slice.Eq.{bytes_eq-Decides}
 use Rattle.hex.specs.Hex.{decode_of}
-use Rattle.hail_machine.specs.Transcripts.{Command}
+use Rattle.plain_facts.proofs.Options.{cond-cases}
+use Rattle.record_codec.specs.Reading.{◌>>=◌}
+use Rattle.record_codec.proofs.Fields.{bind_some, some_is, done}
+use Rattle.hail_machine.specs.Transcripts.{Instruction}
 use Rattle.hail_commands.specs.Words.{IsNumberWord}
 use Rattle.schedule_text.specs.Grammar.{Word, IsNumber, IsHex, IsKey}
-use Rattle.schedule_text.specs.Reading.{◌>>=◌, only_if, found_in, word_at, ended, number_in, bytes_in, key_in, numeral_at, number_at, bytes_at, key_at}
-use Rattle.schedule_text.proofs.Pieces.{equal}
+use Rattle.schedule_text.specs.Reading.{only_if, found_in, word_at, only_command, number_in, bytes_in, key_in, numeral_at, number_word_at, bytes_at, key_at}
 use Rattle.schedule_text.proofs.Numbers.{word-number_in, number_in-word}
-
--- the value of a step that did not fail
-pub bind_some : {A B : Type 0} (r : Option A) (f : A → Option B) (y : B) → (r >>= f) ≡ Some y → (x : A) × (r ≡ Some x) × (f x ≡ Some y)
-bind_some (Some x) f y e = (x, refl, e)
-bind_some None f y e = absurd cc
 
 pub passed : {A : Type 0} (test : Bool) (x y : A) → only_if test x ≡ Some y → (test ≡ true) × (x ≡ y)
 passed true x y e = (refl, cc)
 passed false x y e = absurd cc
-
--- which way a test went
-pub chosen : {A : Type 0} (test : Bool) (x y z : A) → cond test x y ≡ z → ((test ≡ true) × (x ≡ z)) ⊎ ((test ≡ false) × (y ≡ z))
-chosen true x y z e = inl (refl, e)
-chosen false x y z e = inr (refl, e)
-
-abbrev done : {A : Type 0} → A → Option A
-done x = Some x
-
-pub some_is : {A : Type 0} (x y : A) → done x ≡ done y → x ≡ y
-some_is x y e = cc
 
 -- one word was taken from the front, and it spells the value
 abbrev pub Took : {A : Type 0} → (Word → A → Type 0) → List Word → A × List Word → Type 0
@@ -40,7 +26,7 @@ pub word-took : (ws : List Word) (x : Word × List Word) → word_at ws ≡ Some
 word-took [] x e = absurd cc
 word-took (word ∷ ws) x e = ap (λ (y : Word × List Word). y.0 ∷ y.1) (some_is (word, ws) x e)
 
-pub ended-took : (command other : Command) (ws : List Word) → ended command ws ≡ Some other → (ws ≡ []) × (command ≡ other)
+pub ended-took : (command other : Instruction) (ws : List Word) → only_command command ws ≡ Some other → (ws ≡ []) × (command ≡ other)
 ended-took command other [] e = (refl, some_is command other e)
 ended-took command other (word ∷ ws) e = absurd cc
 
@@ -57,8 +43,8 @@ pub numeral-took : (ws : List Word) (x : ℕ × List Word) → numeral_at ws ≡
 unfolding numeral_at
 numeral-took ws x e = took IsNumberWord number_in word-number_in ws x e
 
-pub number-took : (bits : ℕ) (ws : List Word) (x : ℕ × List Word) → number_at bits ws ≡ Some x → Took (IsNumber bits) ws x
-unfolding number_at
+pub number-took : (bits : ℕ) (ws : List Word) (x : ℕ × List Word) → number_word_at bits ws ≡ Some x → Took (IsNumber bits) ws x
+unfolding number_word_at
 number-took bits ws x e =
     let a = bind_some (numeral_at ws) (λ number. only_if (ltb number.0 (2 ^ bits)) number) x e in
     let b = passed (ltb a.0.0 (2 ^ bits)) a.0 x a.2 in
@@ -71,7 +57,7 @@ found-in (Ok x) value e = ap (λ y. Ok y) (some_is x value e)
 found-in (Err fault) value e = absurd cc
 
 bytes-sound : (word : Word) (bytes : List ℕ) → bytes_in word ≡ Some bytes → IsHex word bytes
-bytes-sound word bytes e = elim (chosen (bytes_eq word (codes "-")) (done []) (found_in (decode_of word)) (Some bytes) e) [
+bytes-sound word bytes e = elim (cond-cases (bytes_eq word (codes "-")) (done []) (found_in (decode_of word)) (Some bytes) e) [
   | inl none ↦ inl ((bytes_eq-Decides word (codes "-")).0 none.0, sym (some_is [] bytes none.1))
   | inr some ↦ inr (found-in (decode_of word) bytes some.1)
 ]
@@ -81,7 +67,7 @@ unfolding bytes_at
 bytes-took ws x e = took IsHex bytes_in bytes-sound ws x e
 
 key-sound : (word : Word) (key : List ℕ) → key_in word ≡ Some key → IsKey word key
-key-sound word key e = elim (chosen (length word == 64) (found_in (decode_of word)) None (Some key) e) [
+key-sound word key e = elim (cond-cases (length word == 64) (found_in (decode_of word)) None (Some key) e) [
   | inl long ↦ (eqb-true (length word) 64 long.0, found-in (decode_of word) key long.1)
   | inr short ↦ absurd cc
 ]
@@ -96,8 +82,8 @@ pub numeral-again : (word : Word) (ws : List Word) (number : ℕ) → IsNumberWo
 unfolding numeral_at
 numeral-again word ws number is = rw (number_in-word word number is) refl
 
-pub number-again : (bits : ℕ) (word : Word) (ws : List Word) (number : ℕ) → IsNumber bits word number → number_at bits (word ∷ ws) ≡ Some (number, ws)
-unfolding number_at
+pub number-again : (bits : ℕ) (word : Word) (ws : List Word) (number : ℕ) → IsNumber bits word number → number_word_at bits (word ∷ ws) ≡ Some (number, ws)
+unfolding number_word_at
 number-again bits word ws number is = rw (numeral-again word ws number is.0, lt-ltb _ _ is.1) refl
 
 pub bytes-again : (word : Word) (ws : List Word) (bytes : List ℕ) → IsHex word bytes → bytes_at (word ∷ ws) ≡ Some (bytes, ws)
@@ -120,4 +106,4 @@ bytes-again word ws bytes is = ap (λ (read : Option (List ℕ)). read >>= λ va
 
 pub key-again : (word : Word) (ws : List Word) (key : List ℕ) → IsKey word key → key_at (word ∷ ws) ≡ Some (key, ws)
 unfolding key_at
-key-again word ws key is = rw (equal (length word) 64 is.0, is.1) refl
+key-again word ws key is = rw (eq-eqb (length word) 64 is.0, is.1) refl

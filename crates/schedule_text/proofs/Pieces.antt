@@ -2,10 +2,10 @@
 use Rattle.std.proofs.Common.{◌≡◌, ◌≢◌, ℕ, zero, suc, ◌<◌, ◌≤◌, Bool, true, false, cond, List, [], ◌∷◌, ◌++◌, length, take, drop, refl, sym, ◌∙◌, ap, arith, inl, inr, ◌⊎◌}
 use Rattle.std.specs.Prelude.{◌==◌, slice_index}
 use Rattle.std.specs.List.{filter}
-use Rattle.std.proofs.lemmas.Bool.{eqb-true}
+use Rattle.std.proofs.lemmas.Bool.{eqb-true, eq-eqb}
 use Rattle.std.proofs.lemmas.Bool.Decides.{nat_tests}
 use Rattle.memchr.specs.Find.{is_byte, Nowhere, Passes}
-use Rattle.schedule_text.specs.Grammar.{begun, pieces, has_bytes, words}
+use Rattle.schedule_text.specs.Grammar.{begun_piece, pieces, has_bytes, words}
 
 -- no byte is c
 abbrev pub Free : ℕ → List ℕ → Type 0
@@ -16,21 +16,18 @@ Free c (b ∷ bytes) = (b ≢ c) × Free c bytes
 pub differ : (a b : ℕ) → a ≢ b → (a == b) ≡ false
 differ a b other = grind (arith, nat_tests)
 
-pub equal : (a b : ℕ) → a ≡ b → (a == b) ≡ true
-equal a b same = grind (arith, nat_tests)
-
 -- a text in which the byte is nowhere
 pub free_from : (c : ℕ) (text : List ℕ) → Nowhere (Passes (is_byte c) text) 0 (length text) → Free c text
 free_from c [] none = tt
 free_from c (b ∷ text) none =
-    ((λ same. none 0 (omega arith) (omega arith) (equal b c same)), free_from c text (λ k low high. none (suc k) (omega arith) (omega arith)))
+    ((λ same. none 0 (omega arith) (omega arith) (eq-eqb b c same)), free_from c text (λ k low high. none (suc k) (omega arith) (omega arith)))
 
 -- the front before the first place of the byte
 pub free_before : (c : ℕ) (text : List ℕ) (end : ℕ) → end ≤ length text → Nowhere (Passes (is_byte c) text) 0 end → Free c (take end text)
 free_before c text zero within none = tt
 free_before c [] (suc end) within none = tt
 free_before c (b ∷ text) (suc end) within none =
-    ((λ same. none 0 (omega arith) (omega arith) (equal b c same)), free_before c text end (omega arith) (λ k low high. none (suc k) (omega arith) (omega arith)))
+    ((λ same. none 0 (omega arith) (omega arith) (eq-eqb b c same)), free_before c text end (omega arith) (λ k low high. none (suc k) (omega arith) (omega arith)))
 
 -- the text around a place of the byte
 pub around : (c : ℕ) (text : List ℕ) (end : ℕ) → end < length text → Passes (is_byte c) text end → text ≡ take end text ++ c ∷ drop (suc end) text
@@ -45,7 +42,7 @@ pieces-free c [] free = refl
 pieces-free c (b ∷ text) free = rw (differ b c free.0, pieces-free c text free.1) refl
 
 pub pieces-append : (c : ℕ) (front rest : List ℕ) → Free c front → pieces c (front ++ c ∷ rest) ≡ front ∷ pieces c rest
-pieces-append c [] rest free = rw (equal c c refl) refl
+pieces-append c [] rest free = rw (eq-eqb c c refl) refl
 pieces-append c (b ∷ front) rest free = rw (differ b c free.0, pieces-append c front rest free.1) refl
 
 -- ---- words
@@ -92,9 +89,9 @@ pieces-some c [] = ([], [], refl)
 pieces-some c (b ∷ text) = at (b == c) (pieces c text) (pieces-some c text)
   where
     at : (test : Bool) (all : List (List ℕ)) → ((piece : List ℕ) × (others : List (List ℕ)) × (all ≡ piece ∷ others))
-        → (piece : List ℕ) × (others : List (List ℕ)) × (cond test ([] ∷ all) (begun b all) ≡ piece ∷ others)
+        → (piece : List ℕ) × (others : List (List ℕ)) × (cond test ([] ∷ all) (begun_piece b all) ≡ piece ∷ others)
     at true all some = ([], all, refl)
-    at false all some = (b ∷ some.0, some.1, ap (λ (ps : List (List ℕ)). begun b ps) some.2)
+    at false all some = (b ∷ some.0, some.1, ap (λ (ps : List (List ℕ)). begun_piece b ps) some.2)
 
 -- and a word, where no space is at the front
 pub words-some : (line : List ℕ) → 0 < length line → slice_index line 0 ≢ 32 → (word : List ℕ) × (others : List (List ℕ)) × (words line ≡ word ∷ others)
@@ -103,6 +100,6 @@ words-some (b ∷ line) some front =
     let rest = pieces-some 32 line in (
       b ∷ rest.0,
       filter has_bytes rest.1,
-      ap (λ (test : Bool). filter has_bytes (cond test ([] ∷ pieces 32 line) (begun b (pieces 32 line)))) (differ b 32 front)
-          ∙ ap (λ (ps : List (List ℕ)). filter has_bytes (begun b ps)) rest.2,
+      ap (λ (test : Bool). filter has_bytes (cond test ([] ∷ pieces 32 line) (begun_piece b (pieces 32 line)))) (differ b 32 front)
+          ∙ ap (λ (ps : List (List ℕ)). filter has_bytes (begun_piece b ps)) rest.2,
     )

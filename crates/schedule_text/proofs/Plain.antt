@@ -8,9 +8,10 @@ use Rattle.std.proofs.lemmas.Bool.Decides.{nat_tests}
 use Rattle.std.proofs.lemmas.Fmt.{decimal_is_IsNumeral_wide, decimal_by_steps_wide}
 use Rattle.std.proofs.lemmas.List.{get_or_append_left}
 use Rattle.std.proofs.lemmas.Str.Parse.{digit_from_value}
-use Rattle.hex.specs.Hex.{encode_with, encode_lower, lower_digits, IsBytes}
+use Rattle.hex.specs.Hex.{encode_with, encode_lower, lower_digits}
 use Rattle.hex.proofs.HexLemmas.{decode_of-encode_lower, length-encode_with}
 use Rattle.hail_records.specs.Records.{is_byte, is_master}
+use Rattle.record_codec.proofs.Takes.{IsBytes-from_all}
 use Rattle.hail_commands.specs.Words.{IsNumberWord}
 use Rattle.schedule_text.specs.Grammar.{Word, IsNumber, IsHex, IsKey}
 use Rattle.schedule_text.specs.Spelling.{IsInWord, IsName, hex_of}
@@ -134,20 +135,15 @@ pub plain-hex_of : (bytes : List ℕ) → IsPlain (hex_of bytes)
 plain-hex_of [] = plain_by_test (codes "-") (omega arith) refl
 plain-hex_of (b ∷ bytes) = plain-encode (b ∷ bytes) (omega arith)
 
-bytes_fit : (bytes : List ℕ) → list_all is_byte bytes ≡ true → IsBytes bytes
-bytes_fit [] all i = omega arith
-bytes_fit (b ∷ bytes) all zero = grind (arith, nat_tests)
-bytes_fit (b ∷ bytes) all (suc i) = bytes_fit bytes (grind (arith, nat_tests)) i
-
 pub hex-hex_of : (bytes : List ℕ) → IsTrue (list_all is_byte bytes) → IsHex (hex_of bytes) bytes
 hex-hex_of [] all = inl (refl, refl)
-hex-hex_of (b ∷ bytes) all = inr (decode_of-encode_lower (b ∷ bytes) (bytes_fit (b ∷ bytes) all))
+hex-hex_of (b ∷ bytes) all = inr (decode_of-encode_lower (b ∷ bytes) (IsBytes-from_all (b ∷ bytes) all))
 
 pub key-encode : (key : List ℕ) → IsTrue (is_master key) → IsKey (encode_lower key) key
 key-encode key is =
     let size : length key ≡ 32 = grind (arith, nat_tests) in
     let all : list_all is_byte key ≡ true = grind (arith, nat_tests) in
-    (omega (arith, size, length-encode_with lower_digits key), decode_of-encode_lower key (bytes_fit key all))
+    (omega (arith, size, length-encode_with lower_digits key), decode_of-encode_lower key (IsBytes-from_all key all))
 
 pub size-master : (key : List ℕ) → IsTrue (is_master key) → 0 < length key
 size-master key is =

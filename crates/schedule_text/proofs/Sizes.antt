@@ -2,12 +2,12 @@
 use Rattle.std.proofs.Common.{◌≡◌, inl, inr, ℕ, ◌+◌, ◌==◌, ◌&&◌, ◌≤◌, Bool, true, false, List, [], ◌∷◌, length, refl, ap, sym, subst, arith}
 use Rattle.std.specs.Prelude.{slice_index}
 use Rattle.std.proofs.lemmas.Bool.{cases_Bool}
-use Rattle.hail_machine.specs.Transcripts.{Command}
+use Rattle.hail_machine.specs.Transcripts.{Instruction}
 use Rattle.hail_machine.proofs.JobLists.{cond_true, cond_false}
-use Rattle.schedule_text.specs.Grammar.{begun, pieces}
+use Rattle.schedule_text.specs.Grammar.{begun_piece, pieces}
 use Rattle.schedule_text.specs.Schedules.{without_returns, lines, AreLines, IsSchedule}
 
-begun-length : (b : ℕ) (ps : List (List ℕ)) → length (begun b ps) ≡ length ps
+begun-length : (b : ℕ) (ps : List (List ℕ)) → length (begun_piece b ps) ≡ length ps
 begun-length b [] = refl
 begun-length b (p ∷ ps) = refl
 
@@ -17,8 +17,8 @@ few-pieces c (b ∷ text) =
     (let few = few-pieces c text in
     let begins = begun-length b (pieces c text) in
     elim (cases_Bool (b == c)) [
-      | inl t ↦ subst (λ (ps : List (List ℕ)). length ps ≤ length (b ∷ text) + 1) (sym (cond_true (b == c) ([] ∷ pieces c text) (begun b (pieces c text)) t)) (omega (arith, few))
-      | inr f ↦ subst (λ (ps : List (List ℕ)). length ps ≤ length (b ∷ text) + 1) (sym (cond_false (b == c) ([] ∷ pieces c text) (begun b (pieces c text)) f)) (omega (arith, few, begins))
+      | inl t ↦ subst (λ (ps : List (List ℕ)). length ps ≤ length (b ∷ text) + 1) (sym (cond_true (b == c) ([] ∷ pieces c text) (begun_piece b (pieces c text)) t)) (omega (arith, few))
+      | inr f ↦ subst (λ (ps : List (List ℕ)). length ps ≤ length (b ∷ text) + 1) (sym (cond_false (b == c) ([] ∷ pieces c text) (begun_piece b (pieces c text)) f)) (omega (arith, few, begins))
     ])
 
 fewer-bytes : (text : List ℕ) → length (without_returns text) ≤ length text
@@ -30,13 +30,13 @@ fewer-bytes (b ∷ text) =
       | inr f ↦ subst (λ (l : List ℕ). length l ≤ length (b ∷ text)) (sym (cond_false _ (without_returns text) (b ∷ without_returns text) f)) (omega (arith, few))
     ])
 
-few-commands : (ls : List (List ℕ)) (commands : List Command) → AreLines ls commands → length commands ≤ length ls
+few-commands : (ls : List (List ℕ)) (commands : List Instruction) → AreLines ls commands → length commands ≤ length ls
 few-commands [] commands is = (let e = ap length is in omega (arith, e))
 few-commands (line ∷ ls) commands (inl (skipped, are)) = (let few = few-commands ls commands are in omega (arith, few))
 few-commands (line ∷ ls) commands (inr (first, more, is, spells, are)) =
     (let few = few-commands ls more are in let e = ap length is in omega (arith, few, e))
 
-pub few : (text : List ℕ) (commands : List Command) → IsSchedule text commands → length commands ≤ length text + 1
+pub few : (text : List ℕ) (commands : List Instruction) → IsSchedule text commands → length commands ≤ length text + 1
 few text commands is =
     (let a = few-commands (lines text) commands is in
     let b = few-pieces 10 (without_returns text) in

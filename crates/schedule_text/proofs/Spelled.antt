@@ -6,10 +6,10 @@ use Rattle.std.specs.Fmt.{decimal}
 use Rattle.hex.specs.Hex.{encode_lower}
 use Rattle.hail_machine.specs.Jobs.{PutJob, GetJob, DropJob, AuditJob, RepairJob}
 use Rattle.hail_machine.specs.Events.{Init, Begin, Step, Alter, Lose, Stop, Reopen, Names, Continue}
-use Rattle.hail_machine.specs.Transcripts.{Command, Once, RunJob}
-use Rattle.schedule_text.specs.Grammar.{Word, pieces, words, Spells}
+use Rattle.hail_machine.specs.Transcripts.{Instruction, Once, RunJob}
+use Rattle.schedule_text.specs.Grammar.{Word, pieces, words, SpellsCommand}
 use Rattle.schedule_text.specs.Schedules.{without_returns, lines, AreLines, IsSchedule}
-use Rattle.schedule_text.specs.Spelling.{CanBeSpelled, hex_of, words_of, spaced, spelling}
+use Rattle.schedule_text.specs.Spelling.{CanBeSpelled, hex_of, words_of, spaced, schedule_bytes}
 use Rattle.schedule_text.proofs.Pieces.{Free, differ, pieces-append, words-append}
 use Rattle.schedule_text.proofs.Lines.{keep}
 use Rattle.schedule_text.proofs.Plain.{IsPlain, plain_by_test, plain-name, plain-decimal, plain-encode, plain-hex_of, number-decimal, hex-hex_of, key-encode, size-master}
@@ -87,12 +87,12 @@ small : (n : ℕ) → n < 2 ^ 64 → n < 2 ^ 128
 small n fits = omega (arith, fits)
 
 -- the words of a command are words, and spell it
-pub record IsSpelling (command : Command) (ws : List Word) : Type 0 where
+pub record IsSpelling (command : Instruction) (ws : List Word) : Type 0 where
   pub plain : AllByRecursion IsPlain ws
   pub some : 0 < length ws
-  pub spells : Spells ws command
+  pub spells : SpellsCommand ws command
 
-word_spelling : (command : Command) → CanBeSpelled command → IsSpelling command (words_of command)
+word_spelling : (command : Instruction) → CanBeSpelled command → IsSpelling command (words_of command)
 word_spelling (Once (Init s)) can =
     record {
       plain = (plain_by_test (codes "init") (omega arith) refl, (plain-decimal s.n (omega (arith, can.0)), (plain-decimal s.l (omega (arith, can.1)), (plain-decimal s.b (omega (arith, can.2)), (plain-decimal s.profile (omega (arith, can.3)), (plain-decimal s.rounds (omega (arith, can.4)), (plain-decimal s.picks (omega (arith, can.5)), (plain-decimal s.tolerance (omega (arith, can.6)), (plain-encode s.master (size-master s.master can.7), tt)))))))));
@@ -197,11 +197,11 @@ body_line : (ws : List Word) → 0 < length ws → AllByRecursion IsPlain ws →
 body_line [] some all = absurd (omega arith)
 body_line (word ∷ ws) some all = body-ends word ws all
 
-pub spelling_is : (commands : List Command) → AllByRecursion CanBeSpelled commands → IsSchedule (spelling commands) commands
+pub spelling_is : (commands : List Instruction) → AllByRecursion CanBeSpelled commands → IsSchedule (schedule_bytes commands) commands
 spelling_is [] can = inl (tt, refl)
 spelling_is (command ∷ commands) can =
     let ws = words_of command in
     let line = word_spelling command can.0 in
-    let split = lines-line (body ws) (spelling commands) (body_line ws line.some line.plain) in
-    let spells : Spells (words (body ws)) command = subst (λ (t : List Word). Spells t command) (sym (words-body ws line.plain)) line.spells in
+    let split = lines-line (body ws) (schedule_bytes commands) (body_line ws line.some line.plain) in
+    let spells : SpellsCommand (words (body ws)) command = subst (λ (t : List Word). SpellsCommand t command) (sym (words-body ws line.plain)) line.spells in
     subst (λ (ls : List (List ℕ)). AreLines ls (command ∷ commands)) (sym split) (inr (command, commands, refl, spells, spelling_is commands can.1))

@@ -3,18 +3,18 @@ use Rattle.std.proofs.Common.{◌≡◌, ℕ, suc, ◌+◌, ◌<◌, ◌≤◌, 
 use Rattle.std.specs.Prelude.{IfSome, IfOk, IfErr, MatchResult, Result, Ok, Err}
 use Rattle.std.specs.List.{AllByRecursion}
 use Rattle.std.proofs.lemmas.List.{map-append}
-use Rattle.hail_machine.specs.Transcripts.{Command}
-use Rattle.schedule_text.specs.Grammar.{words, Spells, IsSkipped}
+use Rattle.hail_machine.specs.Transcripts.{Instruction}
+use Rattle.schedule_text.specs.Grammar.{words, SpellsCommand, IsSkipped}
 use Rattle.schedule_text.specs.Schedules.{lines, IsLine, AreLines, IsSchedule, IsFirstBadLine}
 use Rattle.schedule_text.specs.declared.event.Event.{Event}
 use Rattle.schedule_text.specs.declared.fault.ScheduleFault.{ScheduleFault}
 use Rattle.schedule_text.specs.declared.fault.ScheduleFault.TheVariants as faults
-use Rattle.schedule_text.specs.Events.{command_of, commands_of}
+use Rattle.schedule_text.specs.Events.{event_command, commands_of}
 use Rattle.schedule_text.specs.Answers.{lines_behind, IsCauseOf}
 use Rattle.schedule_text.proofs.Again.{spelled-not_skipped, Spells-once}
 
 -- lines spell one list of commands
-pub AreLines-once : (ls : List (List ℕ)) (commands others : List Command) → AreLines ls commands → AreLines ls others → commands ≡ others
+pub AreLines-once : (ls : List (List ℕ)) (commands others : List Instruction) → AreLines ls commands → AreLines ls others → commands ≡ others
 AreLines-once [] commands others a b = a ∙ sym b
 AreLines-once (line ∷ ls) commands others (inl a) (inl b) = AreLines-once ls commands others a.1 b.1
 AreLines-once (line ∷ ls) commands others (inl a) (inr b) = absurd (spelled-not_skipped (words line) b.0 a.0 b.3)
@@ -22,17 +22,17 @@ AreLines-once (line ∷ ls) commands others (inr a) (inl b) = absurd (spelled-no
 AreLines-once (line ∷ ls) commands others (inr a) (inr b) =
     let first : a.0 ≡ b.0 = Spells-once (words line) a.0 b.0 a.3 b.3 in
     let more : a.1 ≡ b.1 = AreLines-once ls a.1 b.1 a.4 b.4 in
-    a.2 ∙ ap (λ (c : Command). c ∷ a.1) first ∙ ap (λ (cs : List Command). b.0 ∷ cs) more ∙ sym b.2
+    a.2 ∙ ap (λ (c : Instruction). c ∷ a.1) first ∙ ap (λ (cs : List Instruction). b.0 ∷ cs) more ∙ sym b.2
 
 -- a line outside the grammar spoils all
-bad_excluded : (before : List (List ℕ)) (line : List ℕ) (behind : List (List ℕ)) (commands : List Command)
+bad_excluded : (before : List (List ℕ)) (line : List ℕ) (behind : List (List ℕ)) (commands : List Instruction)
     → ¬ (IsLine line) → AreLines (before ++ line ∷ behind) commands → ⊥
 bad_excluded [] line behind commands bad (inl a) = bad (inl a.0)
 bad_excluded [] line behind commands bad (inr a) = bad (inr (a.0, a.3))
 bad_excluded (x ∷ before) line behind commands bad (inl a) = bad_excluded before line behind commands bad a.1
 bad_excluded (x ∷ before) line behind commands bad (inr a) = bad_excluded before line behind a.1 bad a.4
 
-pub first_bad_excluded : (text : List ℕ) (number : ℕ) (commands : List Command) → IsFirstBadLine text number → IsSchedule text commands → ⊥
+pub first_bad_excluded : (text : List ℕ) (number : ℕ) (commands : List Instruction) → IsFirstBadLine text number → IsSchedule text commands → ⊥
 first_bad_excluded text number commands bad all =
     bad_excluded bad.before bad.line bad.behind commands bad.bad (subst (λ (ls : List (List ℕ)). AreLines ls commands) bad.lines_are all)
 
@@ -58,20 +58,20 @@ first_bad-once text number other a b =
 
 -- ---- one line more
 
-AreLines-skip : (front : List (List ℕ)) (line : List ℕ) (commands : List Command) → AreLines front commands → IsSkipped (words line) → AreLines (front ++ line ∷ []) commands
+AreLines-skip : (front : List (List ℕ)) (line : List ℕ) (commands : List Instruction) → AreLines front commands → IsSkipped (words line) → AreLines (front ++ line ∷ []) commands
 AreLines-skip [] line commands before skipped = inl (skipped, before)
 AreLines-skip (x ∷ front) line commands (inl a) skipped = inl (a.0, AreLines-skip front line commands a.1 skipped)
 AreLines-skip (x ∷ front) line commands (inr a) skipped = inr (a.0, a.1, a.2, a.3, AreLines-skip front line a.1 a.4 skipped)
 
-AreLines-push : (front : List (List ℕ)) (line : List ℕ) (commands : List Command) (command : Command) → AreLines front commands → Spells (words line) command
+AreLines-push : (front : List (List ℕ)) (line : List ℕ) (commands : List Instruction) (command : Instruction) → AreLines front commands → SpellsCommand (words line) command
     → AreLines (front ++ line ∷ []) (commands ++ command ∷ [])
 AreLines-push [] line commands command before spelled =
-    inr (command, [], ap (λ (cs : List Command). cs ++ command ∷ []) before, spelled, refl)
+    inr (command, [], ap (λ (cs : List Instruction). cs ++ command ∷ []) before, spelled, refl)
 AreLines-push (x ∷ front) line commands command (inl a) spelled = inl (a.0, AreLines-push front line commands command a.1 spelled)
 AreLines-push (x ∷ front) line commands command (inr a) spelled =
-    inr (a.0, a.1 ++ command ∷ [], ap (λ (cs : List Command). cs ++ command ∷ []) a.2, a.3, AreLines-push front line a.1 command a.4 spelled)
+    inr (a.0, a.1 ++ command ∷ [], ap (λ (cs : List Instruction). cs ++ command ∷ []) a.2, a.3, AreLines-push front line a.1 command a.4 spelled)
 
-AreLines-good : (front : List (List ℕ)) (commands : List Command) → AreLines front commands → AllByRecursion IsLine front
+AreLines-good : (front : List (List ℕ)) (commands : List Instruction) → AreLines front commands → AllByRecursion IsLine front
 AreLines-good [] commands all = tt
 AreLines-good (x ∷ front) commands (inl a) = (inl a.0, AreLines-good front commands a.1)
 AreLines-good (x ∷ front) commands (inr a) = (inr (a.0, a.3), AreLines-good front a.1 a.4)
@@ -84,7 +84,7 @@ size_left None = 0
 size_left (Some behind) = length behind + 1
 
 -- so many lines were read as these commands, and this is left
-pub record HasRead (text : List ℕ) (left : Option (List ℕ)) (number : ℕ) (commands : List Command) : Type 0 where
+pub record HasRead (text : List ℕ) (left : Option (List ℕ)) (number : ℕ) (commands : List Instruction) : Type 0 where
   pub front : List (List ℕ)
   pub parts : lines text ≡ front ++ lines_behind left
   pub count : number ≡ length front
@@ -104,7 +104,7 @@ less_left : (number total rest : ℕ) (behind : Option (List ℕ)) → number + 
 less_left number total rest None room shorter = omega (arith, room)
 less_left number total rest (Some b) room shorter = omega (arith, room, shorter)
 
-pub has_skipped : (text rest line : List ℕ) (behind : Option (List ℕ)) (number : ℕ) (commands : List Command)
+pub has_skipped : (text rest line : List ℕ) (behind : Option (List ℕ)) (number : ℕ) (commands : List Instruction)
     → HasRead text (Some rest) number commands → lines rest ≡ line ∷ lines_behind behind → IfSome behind (λ b. length b < length rest)
     → IsSkipped (words line) → HasRead text behind (number + 1) commands
 has_skipped text rest line behind number commands so_far first shorter skipped = record {
@@ -115,9 +115,9 @@ has_skipped text rest line behind number commands so_far first shorter skipped =
   room = less_left number (length text + 1) (length rest) behind so_far.room shorter;
 }
 
-pub has_pushed : (text rest line : List ℕ) (behind : Option (List ℕ)) (number : ℕ) (commands : List Command) (command : Command)
+pub has_pushed : (text rest line : List ℕ) (behind : Option (List ℕ)) (number : ℕ) (commands : List Instruction) (command : Instruction)
     → HasRead text (Some rest) number commands → lines rest ≡ line ∷ lines_behind behind → IfSome behind (λ b. length b < length rest)
-    → Spells (words line) command → HasRead text behind (number + 1) (commands ++ command ∷ [])
+    → SpellsCommand (words line) command → HasRead text behind (number + 1) (commands ++ command ∷ [])
 has_pushed text rest line behind number commands command so_far first shorter spelled = record {
   front = so_far.front ++ line ∷ [];
   parts = more_parts text rest line behind so_far.front so_far.parts first;
@@ -126,7 +126,7 @@ has_pushed text rest line behind number commands command so_far first shorter sp
   room = less_left number (length text + 1) (length rest) behind so_far.room shorter;
 }
 
-pub is_bad : (text rest line : List ℕ) (behind : Option (List ℕ)) (number : ℕ) (commands : List Command)
+pub is_bad : (text rest line : List ℕ) (behind : Option (List ℕ)) (number : ℕ) (commands : List Instruction)
     → HasRead text (Some rest) number commands → lines rest ≡ line ∷ lines_behind behind → ¬ (IsLine line) → IsFirstBadLine text (number + 1)
 is_bad text rest line behind number commands so_far first bad = record {
   before = so_far.front;
@@ -138,7 +138,7 @@ is_bad text rest line behind number commands so_far first bad = record {
   bad = bad;
 }
 
-pub all_read : (text : List ℕ) (number : ℕ) (commands : List Command) → HasRead text None number commands → IsSchedule text commands
+pub all_read : (text : List ℕ) (number : ℕ) (commands : List Instruction) → HasRead text None number commands → IsSchedule text commands
 all_read text number commands so_far =
     subst (λ (ls : List (List ℕ)). AreLines ls commands) (sym (so_far.parts ∙ none so_far.front)) so_far.read
   where
@@ -147,19 +147,19 @@ all_read text number commands so_far =
     none (x ∷ front) = ap (λ (ls : List (List ℕ)). x ∷ ls) (none front)
 
 -- the commands of one event more
-pub commands_of-push : (old new : List Event) (event : Event) → new ≡ old ++ event ∷ [] → commands_of old ++ command_of event ∷ [] ≡ commands_of new
-commands_of-push old new event pushed = sym (ap (λ (es : List Event). commands_of es) pushed ∙ map-append command_of old (event ∷ []))
+pub commands_of-push : (old new : List Event) (event : Event) → new ≡ old ++ event ∷ [] → commands_of old ++ event_command event ∷ [] ≡ commands_of new
+commands_of-push old new event pushed = sym (ap (λ (es : List Event). commands_of es) pushed ∙ map-append event_command old (event ∷ []))
 
 -- ---- what was answered is what must be
 
-pub reads_as : {V : Type 0} (commands_in : V → List Command) (text : List ℕ) (read : Result V ScheduleFault)
+pub reads_as : {V : Type 0} (commands_in : V → List Instruction) (text : List ℕ) (read : Result V ScheduleFault)
     → IfOk read (λ v. IsSchedule text (commands_in v)) → IfErr read (IsCauseOf text)
-    → (commands : List Command) → IsSchedule text commands → MatchResult read (λ v. commands_in v ≡ commands) (λ fault. fault ≡ faults.Memory)
+    → (commands : List Instruction) → IsSchedule text commands → MatchResult read (λ v. commands_in v ≡ commands) (λ fault. fault ≡ faults.Memory)
 reads_as commands_in text (Ok v) ok bad commands is = AreLines-once (lines text) (commands_in v) commands ok is
 reads_as commands_in text (Err (faults.BadLine number)) ok bad commands is = absurd (first_bad_excluded text number commands bad is)
 reads_as commands_in text (Err faults.Memory) ok bad commands is = refl
 
-pub refuses_for : {V : Type 0} (commands_in : V → List Command) (text : List ℕ) (read : Result V ScheduleFault)
+pub refuses_for : {V : Type 0} (commands_in : V → List Instruction) (text : List ℕ) (read : Result V ScheduleFault)
     → IfOk read (λ v. IsSchedule text (commands_in v)) → IfErr read (IsCauseOf text)
     → (number : ℕ) → IsFirstBadLine text number → MatchResult read (λ _. ⊥) (λ fault. (fault ≡ faults.BadLine number) ⊎ (fault ≡ faults.Memory))
 refuses_for commands_in text (Ok v) ok bad number is = first_bad_excluded text number (commands_in v) is ok

@@ -1,21 +1,24 @@
 -- What a line of a schedule spells.
 --
---   pieces c text              == what stands between the places of the byte c in a text; one piece more than there are places
+--   pieces c text              == what stands between the places of the byte c in a text; one piece more
+--                                 than there are places
 --   words line                 == the pieces between spaces, without those that are empty
 --   IsNumber bits word number  == a number word of a number below 2 ^ bits
---   IsHex word bytes           == the hexadecimal digits of the bytes, two for each, of either case; or `-` for no bytes
+--   IsHex word bytes           == the hexadecimal digits of the bytes, two for each, of either case; or `-`
+--                                 for no bytes
 --   IsKey word key             == 64 hexadecimal digits of either case, of the 32 bytes of a master key
---   Spells words command       == the words of a line are those of the command
+--   SpellsCommand words command       == the words of a line are those of the command
 --   IsSkipped words            == there are no words, or the first begins with `#`
 --
--- A name is any word, whether or not a file can have it. A tab and a carriage return are bytes of a word as others are.
+-- A name is any word, whether or not a file can have it. A tab and a carriage return are bytes of a word as
+-- others are.
 use Rattle.std.specs.Prelude.{◌≡◌, ◌⊎◌, ℕ, ◌^◌, ◌<◌, ◌==◌, Bool, true, false, List, [], ◌∷◌, length, slice_index, codes, Ok, if◌then◌else◌}
 use Rattle.std.specs.List.{filter}
 use Rattle.hex.specs.Hex.{decode_of}
 use Rattle.hail_records.specs.Records.{Setup}
 use Rattle.hail_machine.specs.Jobs.{PutJob, GetJob, DropJob, AuditJob, RepairJob}
 use Rattle.hail_machine.specs.Events.{Init, Begin, Step, Alter, Lose, Stop, Reopen, Names, Continue}
-use Rattle.hail_machine.specs.Transcripts.{Command, Once, RunJob}
+use Rattle.hail_machine.specs.Transcripts.{Instruction, Once, RunJob}
 use Rattle.hail_commands.specs.Words.{IsNumberWord}
 
 -- the bytes of a word
@@ -23,14 +26,14 @@ abbrev pub Word : Type 0
 Word = List ℕ
 
 -- the pieces with a byte before the first of them
-abbrev pub begun : ℕ → List (List ℕ) → List (List ℕ)
-begun b [] = []
-begun b (piece ∷ others) = (b ∷ piece) ∷ others
+abbrev pub begun_piece : ℕ → List (List ℕ) → List (List ℕ)
+begun_piece b [] = []
+begun_piece b (piece ∷ others) = (b ∷ piece) ∷ others
 
 -- what stands between the places of the byte c
 abbrev pub pieces : ℕ → List ℕ → List (List ℕ)
 pieces c [] = [] ∷ []
-pieces c (b ∷ text) = if b == c then [] ∷ pieces c text else begun b (pieces c text)
+pieces c (b ∷ text) = if b == c then [] ∷ pieces c text else begun_piece b (pieces c text)
 
 -- a piece has bytes
 abbrev pub has_bytes : List ℕ → Bool
@@ -66,7 +69,8 @@ SpellsInit ws s =
 abbrev pub SpellsAlter : List Word → (provider object stripe place symbol : ℕ) → Type 0
 SpellsAlter ws provider object stripe place symbol =
     (p o s k x : Word) × (ws ≡ codes "alter" ∷ p ∷ o ∷ s ∷ k ∷ x ∷ [])
-    × IsNumber 32 p provider × IsNumber 64 o object × IsNumber 32 s stripe × IsNumber 32 k place × IsNumber 128 x symbol
+    × IsNumber 32 p provider × IsNumber 64 o object × IsNumber 32 s stripe × IsNumber 32 k place
+    × IsNumber 128 x symbol
 
 -- the words of a `lose`: the provider, the object's number and the stripe
 abbrev pub SpellsLose : List Word → (provider object stripe : ℕ) → Type 0
@@ -75,22 +79,25 @@ SpellsLose ws provider object stripe =
     × IsNumber 32 p provider × IsNumber 64 o object × IsNumber 32 s stripe
 
 -- the words are those of the command
-abbrev pub Spells : List Word → Command → Type 0
-Spells ws (Once (Init setup)) = SpellsInit ws setup
-Spells ws (Once Reopen) = ws ≡ codes "reopen" ∷ []
-Spells ws (Once (Begin (PutJob name bytes))) =
+abbrev pub SpellsCommand : List Word → Instruction → Type 0
+SpellsCommand ws (Once (Init setup)) = SpellsInit ws setup
+SpellsCommand ws (Once Reopen) = ws ≡ codes "reopen" ∷ []
+SpellsCommand ws (Once (Begin (PutJob name bytes))) =
     (digits : Word) × (ws ≡ codes "begin" ∷ codes "put" ∷ name ∷ digits ∷ []) × IsHex digits bytes
-Spells ws (Once (Begin (GetJob name))) = ws ≡ codes "begin" ∷ codes "get" ∷ name ∷ []
-Spells ws (Once (Begin (DropJob name))) = ws ≡ codes "begin" ∷ codes "drop" ∷ name ∷ []
-Spells ws (Once (Begin AuditJob)) = ws ≡ codes "begin" ∷ codes "audit" ∷ []
-Spells ws (Once (Begin RepairJob)) = ws ≡ codes "begin" ∷ codes "repair" ∷ []
-Spells ws (Once (Step job)) = (number : Word) × (ws ≡ codes "step" ∷ number ∷ []) × IsNumber 32 number job
-Spells ws (RunJob job) = (number : Word) × (ws ≡ codes "run" ∷ number ∷ []) × IsNumber 32 number job
-Spells ws (Once (Alter provider object stripe place symbol)) = SpellsAlter ws provider object stripe place symbol
-Spells ws (Once (Lose provider object stripe)) = SpellsLose ws provider object stripe
-Spells ws (Once (Stop picks)) = (digits : Word) × (ws ≡ codes "stop" ∷ digits ∷ []) × IsHex digits picks
-Spells ws (Once Names) = ws ≡ codes "list" ∷ []
-Spells ws (Once Continue) = ⊥
+SpellsCommand ws (Once (Begin (GetJob name))) = ws ≡ codes "begin" ∷ codes "get" ∷ name ∷ []
+SpellsCommand ws (Once (Begin (DropJob name))) = ws ≡ codes "begin" ∷ codes "drop" ∷ name ∷ []
+SpellsCommand ws (Once (Begin AuditJob)) = ws ≡ codes "begin" ∷ codes "audit" ∷ []
+SpellsCommand ws (Once (Begin RepairJob)) = ws ≡ codes "begin" ∷ codes "repair" ∷ []
+SpellsCommand ws (Once (Step job)) =
+    (number : Word) × (ws ≡ codes "step" ∷ number ∷ []) × IsNumber 32 number job
+SpellsCommand ws (RunJob job) = (number : Word) × (ws ≡ codes "run" ∷ number ∷ []) × IsNumber 32 number job
+SpellsCommand ws (Once (Alter provider object stripe place symbol)) =
+    SpellsAlter ws provider object stripe place symbol
+SpellsCommand ws (Once (Lose provider object stripe)) = SpellsLose ws provider object stripe
+SpellsCommand ws (Once (Stop picks)) =
+    (digits : Word) × (ws ≡ codes "stop" ∷ digits ∷ []) × IsHex digits picks
+SpellsCommand ws (Once Names) = ws ≡ codes "list" ∷ []
+SpellsCommand ws (Once Continue) = ⊥
 
 -- a line that is passed over: there are no words, or the first begins with `#`
 abbrev pub IsSkipped : List Word → Type 0

@@ -1,31 +1,26 @@
--- Reading the words of a line from left to right: what was read and the words behind it; None where no line is so. The laws
--- of `proofs/` say that this finds exactly what the grammar says.
+-- Reading the words of a line from left to right: what was read and the words behind it; None where no line
+-- is so. The laws of `proofs/` say that this finds exactly what the grammar says.
 use Rattle.std.specs.Prelude.{◌≡◌, ℕ, ◌^◌, ◌==◌, ◌&&◌, ◌||◌, not, Bool, List, [], ◌∷◌, length, slice_index, codes, nat_lt, Option, None, Some, Result, Ok, Err, if◌then◌else◌}
 use Rattle.std.specs.Str.{bytes_eq, all_ascii_digits}
 use Rattle.std.specs.Str.Parse.{digits_value}
 use Rattle.hex.specs.Hex.{decode_of}
 use Rattle.hail_records.specs.Records.{Setup}
+use Rattle.record_codec.specs.Reading.{◌>>=◌}
 use Rattle.hail_machine.specs.Jobs.{PutJob, GetJob, DropJob, AuditJob, RepairJob}
 use Rattle.hail_machine.specs.Events.{Init, Begin, Step, Alter, Lose, Stop, Reopen, Names}
-use Rattle.hail_machine.specs.Transcripts.{Command, Once, RunJob}
+use Rattle.hail_machine.specs.Transcripts.{Instruction, Once, RunJob}
 use Rattle.schedule_text.specs.declared.fault.LineFault.{LineFault}
 use Rattle.schedule_text.specs.declared.fault.LineFault.TheVariants as faults
 use Rattle.schedule_text.specs.Grammar.{Word}
 
 -- what a reader answers is what reading gives, unless memory ran out
-abbrev pub Fails : {Y : Type 0} → LineFault → Option Y → Type 0
-Fails faults.Memory read = Unit {0}
-Fails faults.Bad read = read ≡ None
+abbrev pub FailsToRead : {Y : Type 0} → LineFault → Option Y → Type 0
+FailsToRead faults.Memory read = Unit {0}
+FailsToRead faults.Bad read = read ≡ None
 
 abbrev pub Gives : {X Y : Type 0} → (X → Y) → Result X LineFault → Option Y → Type 0
 Gives view (Ok x) read = read ≡ Some (view x)
-Gives view (Err fault) read = Fails fault read
-
--- a step that reads on where the one before found something
-infixl 10 ◌>>=◌
-abbrev pub ◌>>=◌ : {A B : Type 0} → Option A → (A → Option B) → Option B
-None >>= f = None
-(Some x) >>= f = f x
+Gives view (Err fault) read = FailsToRead fault read
 
 -- a value where the test holds
 abbrev pub only_if : {A : Type 0} → Bool → A → Option A
@@ -42,13 +37,15 @@ word_at [] = None
 word_at (word ∷ ws) = Some (word, ws)
 
 -- a command with no word behind it
-abbrev pub ended : Command → List Word → Option Command
-ended command [] = Some command
-ended command (word ∷ ws) = None
+abbrev pub only_command : Instruction → List Word → Option Instruction
+only_command command [] = Some command
+only_command command (word ∷ ws) = None
 
 -- the word is a number word
 abbrev pub is_number_word : Word → Bool
-is_number_word word = all_ascii_digits word && nat_lt 0 (length word) && (not (slice_index word 0 == 48) || (length word == 1))
+is_number_word word =
+    all_ascii_digits word && nat_lt 0 (length word)
+    && (not (slice_index word 0 == 48) || (length word == 1))
     && nat_lt (digits_value 10 word) (2 ^ 128)
 
 -- the number of a word
@@ -71,8 +68,8 @@ numeral_at ws = do
   Some (number, word.1)
 
 -- a number word of a number below 2 ^ bits
-unfoldable pub number_at : ℕ → List Word → Option (ℕ × List Word)
-number_at bits ws = do
+unfoldable pub number_word_at : ℕ → List Word → Option (ℕ × List Word)
+number_word_at bits ws = do
   number ← numeral_at ws
   only_if (nat_lt number.0 (2 ^ bits)) number
 
@@ -91,106 +88,106 @@ key_at ws = do
   Some (key, word.1)
 
 -- the seven numbers of a setup, without its key
-unfoldable pub setup_at : List Word → Option (Setup × List Word)
-setup_at ws = do
-  n ← number_at 8 ws
-  l ← number_at 8 n.1
-  b ← number_at 8 l.1
-  profile ← number_at 8 b.1
-  rounds ← number_at 8 profile.1
-  picks ← number_at 8 rounds.1
-  tolerance ← number_at 16 picks.1
+unfoldable pub setup_words_at : List Word → Option (Setup × List Word)
+setup_words_at ws = do
+  n ← number_word_at 8 ws
+  l ← number_word_at 8 n.1
+  b ← number_word_at 8 l.1
+  profile ← number_word_at 8 b.1
+  rounds ← number_word_at 8 profile.1
+  picks ← number_word_at 8 rounds.1
+  tolerance ← number_word_at 16 picks.1
   Some (record { n = n.0; l = l.0; b = b.0; profile = profile.0; rounds = rounds.0; picks = picks.0; tolerance = tolerance.0; master = [] }, tolerance.1)
 
-unfoldable pub init_at : List Word → Option Command
+unfoldable pub init_at : List Word → Option Instruction
 init_at ws = do
-  setup ← setup_at ws
+  setup ← setup_words_at ws
   key ← key_at setup.1
-  ended (Once (Init (record setup.0 { master = key.0 }))) key.1
+  only_command (Once (Init (record setup.0 { master = key.0 }))) key.1
 
-unfoldable pub put_at : List Word → Option Command
+unfoldable pub put_at : List Word → Option Instruction
 put_at ws = do
   name ← word_at ws
   bytes ← bytes_at name.1
-  ended (Once (Begin (PutJob name.0 bytes.0))) bytes.1
+  only_command (Once (Begin (PutJob name.0 bytes.0))) bytes.1
 
-unfoldable pub get_at : List Word → Option Command
+unfoldable pub get_at : List Word → Option Instruction
 get_at ws = do
   name ← word_at ws
-  ended (Once (Begin (GetJob name.0))) name.1
+  only_command (Once (Begin (GetJob name.0))) name.1
 
-unfoldable pub drop_at : List Word → Option Command
-drop_at ws = do
+unfoldable pub drop_words_at : List Word → Option Instruction
+drop_words_at ws = do
   name ← word_at ws
-  ended (Once (Begin (DropJob name.0))) name.1
+  only_command (Once (Begin (DropJob name.0))) name.1
 
 -- what is behind the word that says what is begun
-unfoldable pub begun_at : Word → List Word → Option Command
+unfoldable pub begun_at : Word → List Word → Option Instruction
 begun_at kind ws =
     if bytes_eq kind (codes "put") then put_at ws
     else if bytes_eq kind (codes "get") then get_at ws
-    else if bytes_eq kind (codes "drop") then drop_at ws
-    else if bytes_eq kind (codes "audit") then ended (Once (Begin AuditJob)) ws
-    else if bytes_eq kind (codes "repair") then ended (Once (Begin RepairJob)) ws
+    else if bytes_eq kind (codes "drop") then drop_words_at ws
+    else if bytes_eq kind (codes "audit") then only_command (Once (Begin AuditJob)) ws
+    else if bytes_eq kind (codes "repair") then only_command (Once (Begin RepairJob)) ws
     else None
 
-unfoldable pub begin_at : List Word → Option Command
+unfoldable pub begin_at : List Word → Option Instruction
 begin_at ws = do
   kind ← word_at ws
   begun_at kind.0 kind.1
 
-unfoldable pub step_at : List Word → Option Command
+unfoldable pub step_at : List Word → Option Instruction
 step_at ws = do
-  job ← number_at 32 ws
-  ended (Once (Step job.0)) job.1
+  job ← number_word_at 32 ws
+  only_command (Once (Step job.0)) job.1
 
-unfoldable pub run_at : List Word → Option Command
+unfoldable pub run_at : List Word → Option Instruction
 run_at ws = do
-  job ← number_at 32 ws
-  ended (RunJob job.0) job.1
+  job ← number_word_at 32 ws
+  only_command (RunJob job.0) job.1
 
-unfoldable pub alter_at : List Word → Option Command
+unfoldable pub alter_at : List Word → Option Instruction
 alter_at ws = do
-  provider ← number_at 32 ws
-  object ← number_at 64 provider.1
-  stripe ← number_at 32 object.1
-  place ← number_at 32 stripe.1
+  provider ← number_word_at 32 ws
+  object ← number_word_at 64 provider.1
+  stripe ← number_word_at 32 object.1
+  place ← number_word_at 32 stripe.1
   symbol ← numeral_at place.1
-  ended (Once (Alter provider.0 object.0 stripe.0 place.0 symbol.0)) symbol.1
+  only_command (Once (Alter provider.0 object.0 stripe.0 place.0 symbol.0)) symbol.1
 
-unfoldable pub lose_at : List Word → Option Command
+unfoldable pub lose_at : List Word → Option Instruction
 lose_at ws = do
-  provider ← number_at 32 ws
-  object ← number_at 64 provider.1
-  stripe ← number_at 32 object.1
-  ended (Once (Lose provider.0 object.0 stripe.0)) stripe.1
+  provider ← number_word_at 32 ws
+  object ← number_word_at 64 provider.1
+  stripe ← number_word_at 32 object.1
+  only_command (Once (Lose provider.0 object.0 stripe.0)) stripe.1
 
-unfoldable pub stop_at : List Word → Option Command
+unfoldable pub stop_at : List Word → Option Instruction
 stop_at ws = do
   picks ← bytes_at ws
-  ended (Once (Stop picks.0)) picks.1
+  only_command (Once (Stop picks.0)) picks.1
 
 -- what is behind the first word of a line that speaks of no job and of no vault
-unfoldable pub apart_at : Word → List Word → Option Command
+unfoldable pub apart_at : Word → List Word → Option Instruction
 apart_at first ws =
     if bytes_eq first (codes "alter") then alter_at ws
     else if bytes_eq first (codes "lose") then lose_at ws
     else if bytes_eq first (codes "stop") then stop_at ws
-    else if bytes_eq first (codes "list") then ended (Once Names) ws
+    else if bytes_eq first (codes "list") then only_command (Once Names) ws
     else None
 
 -- what is behind the first word of a line
-unfoldable pub behind_at : Word → List Word → Option Command
+unfoldable pub behind_at : Word → List Word → Option Instruction
 behind_at first ws =
     if bytes_eq first (codes "init") then init_at ws
-    else if bytes_eq first (codes "reopen") then ended (Once Reopen) ws
+    else if bytes_eq first (codes "reopen") then only_command (Once Reopen) ws
     else if bytes_eq first (codes "begin") then begin_at ws
     else if bytes_eq first (codes "step") then step_at ws
     else if bytes_eq first (codes "run") then run_at ws
     else apart_at first ws
 
 -- a line: None in Some where it is skipped
-unfoldable pub line_at : List Word → Option (Option Command)
+unfoldable pub line_at : List Word → Option (Option Instruction)
 line_at [] = Some None
 line_at (first ∷ ws) = if slice_index first 0 == 35 then Some None else (do
   command ← behind_at first ws

@@ -3,7 +3,8 @@
 --   IsName name            == the bytes of a word: some bytes, and none of them a space or a newline
 --   CanBeSpelled command   == its numbers fit their fields, its bytes are bytes, and its name is a word
 --   words_of command       == the words of its line
---   spelling commands      == the lines of the commands: each word with a space behind it, and a newline
+--   schedule_bytes commands      == the lines of the commands: each word with a space behind it, and a
+--                                   newline
 use Rattle.std.specs.Prelude.{◌≢◌, ℕ, ◌^◌, ◌<◌, List, [], ◌∷◌, ◌++◌, length, codes}
 use Rattle.std.specs.List.{AllByRecursion, flat_map}
 use Rattle.std.specs.Fmt.{decimal}
@@ -11,7 +12,7 @@ use Rattle.hex.specs.Hex.{encode_lower}
 use Rattle.hail_records.specs.Records.{Setup}
 use Rattle.hail_machine.specs.Jobs.{Kind, PutJob, GetJob, DropJob, AuditJob, RepairJob}
 use Rattle.hail_machine.specs.Events.{Init, Begin, Step, Alter, Lose, Stop, Reopen, Names, Continue, IsSpelled}
-use Rattle.hail_machine.specs.Transcripts.{Command, Once, RunJob}
+use Rattle.hail_machine.specs.Transcripts.{Instruction, Once, RunJob}
 use Rattle.schedule_text.specs.Grammar.{Word}
 
 -- a byte that may stand in a word
@@ -31,7 +32,7 @@ IsNamed AuditJob = Unit {0}
 IsNamed RepairJob = Unit {0}
 
 -- the command has a line
-abbrev pub CanBeSpelled : Command → Type 0
+abbrev pub CanBeSpelled : Instruction → Type 0
 CanBeSpelled (RunJob job) = job < 2 ^ 32
 CanBeSpelled (Once (Begin kind)) = IsSpelled (Begin kind) × IsNamed kind
 CanBeSpelled (Once Continue) = ⊥
@@ -44,7 +45,9 @@ hex_of (b ∷ bytes) = encode_lower (b ∷ bytes)
 
 -- the words of an `init`
 abbrev pub init_words : Setup → List Word
-init_words s = codes "init" ∷ decimal s.n ∷ decimal s.l ∷ decimal s.b ∷ decimal s.profile ∷ decimal s.rounds ∷ decimal s.picks ∷ decimal s.tolerance
+init_words s =
+    codes "init" ∷ decimal s.n ∷ decimal s.l ∷ decimal s.b ∷ decimal s.profile ∷ decimal s.rounds
+    ∷ decimal s.picks ∷ decimal s.tolerance
     ∷ encode_lower s.master ∷ []
 
 -- the words of a begin
@@ -56,7 +59,7 @@ begin_words AuditJob = codes "begin" ∷ codes "audit" ∷ []
 begin_words RepairJob = codes "begin" ∷ codes "repair" ∷ []
 
 -- the words of a command's line
-abbrev pub words_of : Command → List Word
+abbrev pub words_of : Instruction → List Word
 words_of (Once (Init setup)) = init_words setup
 words_of (Once Reopen) = codes "reopen" ∷ []
 words_of (Once (Begin kind)) = begin_words kind
@@ -64,7 +67,8 @@ words_of (Once (Step job)) = codes "step" ∷ decimal job ∷ []
 words_of (RunJob job) = codes "run" ∷ decimal job ∷ []
 words_of (Once (Alter provider object stripe place symbol)) =
     codes "alter" ∷ decimal provider ∷ decimal object ∷ decimal stripe ∷ decimal place ∷ decimal symbol ∷ []
-words_of (Once (Lose provider object stripe)) = codes "lose" ∷ decimal provider ∷ decimal object ∷ decimal stripe ∷ []
+words_of (Once (Lose provider object stripe)) =
+    codes "lose" ∷ decimal provider ∷ decimal object ∷ decimal stripe ∷ []
 words_of (Once (Stop picks)) = codes "stop" ∷ hex_of picks ∷ []
 words_of (Once Names) = codes "list" ∷ []
 words_of (Once Continue) = []
@@ -74,9 +78,9 @@ abbrev pub spaced : Word → List ℕ
 spaced word = word ++ 32 ∷ []
 
 -- the line of a command
-abbrev pub line_of : Command → List ℕ
+abbrev pub line_of : Instruction → List ℕ
 line_of command = flat_map spaced (words_of command) ++ 10 ∷ []
 
 -- the lines of the commands
-abbrev pub spelling : List Command → List ℕ
-spelling commands = flat_map line_of commands
+abbrev pub schedule_bytes : List Instruction → List ℕ
+schedule_bytes commands = flat_map line_of commands

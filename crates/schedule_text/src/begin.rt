@@ -2,8 +2,8 @@
 ghost use Rattle.std.specs.Prelude.{◌≡◌, false, codes, IfErr};
 ghost use Rattle.std.specs.Str.{bytes_eq};
 ghost use Rattle.schedule_text.specs.Grammar.{words};
-ghost use Rattle.schedule_text.specs.Events.{command_of};
-ghost use Rattle.schedule_text.specs.Reading.{Gives, put_at, get_at, drop_at, begun_at, begin_at};
+ghost use Rattle.schedule_text.specs.Events.{event_command};
+ghost use Rattle.schedule_text.specs.Reading.{Gives, put_at, get_at, drop_words_at, begun_at, begin_at};
 
 use crate::event::Event;
 use crate::fault::LineFault;
@@ -15,7 +15,7 @@ use stream_model::Bytes;
 /// The begin of a put.
 #[tactic(auto, unfolding(crate::specs::Reading::put_at))]
 fn read_put(alloc: Global, line: &[u8]) -> Result<Event, LineFault>
-    ensures { Gives command_of result (put_at (words line.now)) }
+    ensures { Gives event_command result (put_at (words line.now)) }
 {
     let (name, left) = take_word(line)?;
     let (bytes, left) = take_bytes(alloc, left)?;
@@ -26,7 +26,7 @@ fn read_put(alloc: Global, line: &[u8]) -> Result<Event, LineFault>
 /// The begin of a get.
 #[tactic(auto, unfolding(crate::specs::Reading::get_at))]
 fn read_get(alloc: Global, line: &[u8]) -> Result<Event, LineFault>
-    ensures { Gives command_of result (get_at (words line.now)) }
+    ensures { Gives event_command result (get_at (words line.now)) }
 {
     let (name, left) = take_word(line)?;
     let name = Bytes::from_slice(alloc, name)?;
@@ -34,9 +34,9 @@ fn read_get(alloc: Global, line: &[u8]) -> Result<Event, LineFault>
 }
 
 /// The begin of a drop.
-#[tactic(auto, unfolding(crate::specs::Reading::drop_at))]
+#[tactic(auto, unfolding(crate::specs::Reading::drop_words_at))]
 fn read_drop(alloc: Global, line: &[u8]) -> Result<Event, LineFault>
-    ensures { Gives command_of result (drop_at (words line.now)) }
+    ensures { Gives event_command result (drop_words_at (words line.now)) }
 {
     let (name, left) = take_word(line)?;
     let name = Bytes::from_slice(alloc, name)?;
@@ -46,7 +46,7 @@ fn read_drop(alloc: Global, line: &[u8]) -> Result<Event, LineFault>
 /// The begin of a job of this kind.
 #[tactic(auto, unfolding(crate::specs::Reading::begun_at))]
 fn read_begun(alloc: Global, kind: &[u8], line: &[u8]) -> Result<Event, LineFault>
-    ensures read { Gives command_of result (begun_at kind.now (words line.now)) }
+    ensures read { Gives event_command result (begun_at kind.now (words line.now)) }
     ensures bad { bytes_eq kind.now (codes "put") ≡ false → bytes_eq kind.now (codes "get") ≡ false
         → bytes_eq kind.now (codes "drop") ≡ false → IfErr result (λ fault. fault ≡ LineFault.Bad) }
 {
@@ -68,7 +68,7 @@ fn read_begun(alloc: Global, kind: &[u8], line: &[u8]) -> Result<Event, LineFaul
 /// A `begin`.
 #[tactic(auto, unfolding(crate::specs::Reading::begin_at))]
 pub(crate) fn read_begin(alloc: Global, line: &[u8]) -> Result<Event, LineFault>
-    ensures { Gives command_of result (begin_at (words line.now)) }
+    ensures { Gives event_command result (begin_at (words line.now)) }
 {
     let (kind, left) = take_word(line)?;
     read_begun(alloc, kind, left)

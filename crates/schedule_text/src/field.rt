@@ -2,7 +2,7 @@
 ghost use Rattle.std.specs.Prelude.{◌≡◌, MatchOption, IfOk, IfErr, None, Some};
 ghost use Rattle.std.specs.Option.{option_map};
 ghost use Rattle.schedule_text.specs.Grammar.{words};
-ghost use Rattle.schedule_text.specs.Reading.{Gives, number_in, bytes_in, key_in, numeral_at, number_at, bytes_at, key_at};
+ghost use Rattle.schedule_text.specs.Reading.{Gives, number_in, bytes_in, key_in, numeral_at, number_word_at, bytes_at, key_at};
 
 use crate::fault::LineFault;
 use crate::word::take_word;
@@ -58,9 +58,9 @@ pub(crate) fn take_u128(line: &[u8]) -> Result<(u128, &[u8]), LineFault>
 }
 
 /// A number of one byte.
-#[tactic(auto, unfolding(crate::specs::Reading::number_at))]
+#[tactic(auto, unfolding(crate::specs::Reading::number_word_at))]
 pub(crate) fn take_u8(line: &[u8]) -> Result<(u8, &[u8]), LineFault>
-    ensures read { Gives (λ x. (x.0, words x.1.now)) result (number_at 8 (words line.now)) }
+    ensures read { Gives (λ x. (x.0, words x.1.now)) result (number_word_at 8 (words line.now)) }
     ensures bad { IfErr result (λ fault. fault ≡ LineFault.Bad) }
 {
     let (number, left) = take_u128(line)?;
@@ -71,9 +71,9 @@ pub(crate) fn take_u8(line: &[u8]) -> Result<(u8, &[u8]), LineFault>
 }
 
 /// A number of two bytes.
-#[tactic(auto, unfolding(crate::specs::Reading::number_at))]
+#[tactic(auto, unfolding(crate::specs::Reading::number_word_at))]
 pub(crate) fn take_u16(line: &[u8]) -> Result<(u16, &[u8]), LineFault>
-    ensures read { Gives (λ x. (x.0, words x.1.now)) result (number_at 16 (words line.now)) }
+    ensures read { Gives (λ x. (x.0, words x.1.now)) result (number_word_at 16 (words line.now)) }
     ensures bad { IfErr result (λ fault. fault ≡ LineFault.Bad) }
 {
     let (number, left) = take_u128(line)?;
@@ -84,9 +84,9 @@ pub(crate) fn take_u16(line: &[u8]) -> Result<(u16, &[u8]), LineFault>
 }
 
 /// A number of four bytes.
-#[tactic(auto, unfolding(crate::specs::Reading::number_at))]
+#[tactic(auto, unfolding(crate::specs::Reading::number_word_at))]
 pub(crate) fn take_u32(line: &[u8]) -> Result<(u32, &[u8]), LineFault>
-    ensures read { Gives (λ x. (x.0, words x.1.now)) result (number_at 32 (words line.now)) }
+    ensures read { Gives (λ x. (x.0, words x.1.now)) result (number_word_at 32 (words line.now)) }
     ensures bad { IfErr result (λ fault. fault ≡ LineFault.Bad) }
 {
     let (number, left) = take_u128(line)?;
@@ -97,9 +97,9 @@ pub(crate) fn take_u32(line: &[u8]) -> Result<(u32, &[u8]), LineFault>
 }
 
 /// A number of eight bytes.
-#[tactic(auto, unfolding(crate::specs::Reading::number_at))]
+#[tactic(auto, unfolding(crate::specs::Reading::number_word_at))]
 pub(crate) fn take_u64(line: &[u8]) -> Result<(u64, &[u8]), LineFault>
-    ensures read { Gives (λ x. (x.0, words x.1.now)) result (number_at 64 (words line.now)) }
+    ensures read { Gives (λ x. (x.0, words x.1.now)) result (number_word_at 64 (words line.now)) }
     ensures bad { IfErr result (λ fault. fault ≡ LineFault.Bad) }
 {
     let (number, left) = take_u128(line)?;

@@ -2,8 +2,8 @@
 ghost use Rattle.std.specs.Prelude.{[]};
 ghost use Rattle.record_codec.specs.Entries.{with_master};
 ghost use Rattle.schedule_text.specs.Grammar.{words};
-ghost use Rattle.schedule_text.specs.Events.{command_of};
-ghost use Rattle.schedule_text.specs.Reading.{Gives, setup_at, init_at, step_at, run_at, alter_at, lose_at, stop_at};
+ghost use Rattle.schedule_text.specs.Events.{event_command};
+ghost use Rattle.schedule_text.specs.Reading.{Gives, setup_words_at, init_at, step_at, run_at, alter_at, lose_at, stop_at};
 
 use crate::event::Event;
 use crate::fault::LineFault;
@@ -14,9 +14,9 @@ use record_codec::Setup;
 use std::alloc::Global;
 
 /// The seven numbers of a setup.
-#[tactic(auto, unfolding(crate::specs::Reading::setup_at))]
+#[tactic(auto, unfolding(crate::specs::Reading::setup_words_at))]
 fn take_setup(line: &[u8]) -> Result<(Setup, &[u8]), LineFault>
-    ensures { Gives (λ x. (with_master x.0 [], words x.1.now)) result (setup_at (words line.now)) }
+    ensures { Gives (λ x. (with_master x.0 [], words x.1.now)) result (setup_words_at (words line.now)) }
 {
     let (n, left) = take_u8(line)?;
     let (l, left) = take_u8(left)?;
@@ -40,7 +40,7 @@ fn take_setup(line: &[u8]) -> Result<(Setup, &[u8]), LineFault>
 /// An `init`.
 #[tactic(auto, unfolding(crate::specs::Reading::init_at))]
 pub(crate) fn read_init(line: &[u8]) -> Result<Event, LineFault>
-    ensures { Gives command_of result (init_at (words line.now)) }
+    ensures { Gives event_command result (init_at (words line.now)) }
 {
     let (setup, left) = take_setup(line)?;
     let (master, left) = take_key(left)?;
@@ -50,7 +50,7 @@ pub(crate) fn read_init(line: &[u8]) -> Result<Event, LineFault>
 /// A `step`.
 #[tactic(auto, unfolding(crate::specs::Reading::step_at))]
 pub(crate) fn read_step(line: &[u8]) -> Result<Event, LineFault>
-    ensures { Gives command_of result (step_at (words line.now)) }
+    ensures { Gives event_command result (step_at (words line.now)) }
 {
     let (job, left) = take_u32(line)?;
     ended(Event::Step { job }, left)
@@ -59,7 +59,7 @@ pub(crate) fn read_step(line: &[u8]) -> Result<Event, LineFault>
 /// A `run`.
 #[tactic(auto, unfolding(crate::specs::Reading::run_at))]
 pub(crate) fn read_run(line: &[u8]) -> Result<Event, LineFault>
-    ensures { Gives command_of result (run_at (words line.now)) }
+    ensures { Gives event_command result (run_at (words line.now)) }
 {
     let (job, left) = take_u32(line)?;
     ended(Event::Run { job }, left)
@@ -68,7 +68,7 @@ pub(crate) fn read_run(line: &[u8]) -> Result<Event, LineFault>
 /// An `alter`.
 #[tactic(auto, unfolding(crate::specs::Reading::alter_at))]
 pub(crate) fn read_alter(line: &[u8]) -> Result<Event, LineFault>
-    ensures { Gives command_of result (alter_at (words line.now)) }
+    ensures { Gives event_command result (alter_at (words line.now)) }
 {
     let (provider, left) = take_u32(line)?;
     let (object, left) = take_u64(left)?;
@@ -88,7 +88,7 @@ pub(crate) fn read_alter(line: &[u8]) -> Result<Event, LineFault>
 /// A `lose`.
 #[tactic(auto, unfolding(crate::specs::Reading::lose_at))]
 pub(crate) fn read_lose(line: &[u8]) -> Result<Event, LineFault>
-    ensures { Gives command_of result (lose_at (words line.now)) }
+    ensures { Gives event_command result (lose_at (words line.now)) }
 {
     let (provider, left) = take_u32(line)?;
     let (object, left) = take_u64(left)?;
@@ -104,7 +104,7 @@ pub(crate) fn read_lose(line: &[u8]) -> Result<Event, LineFault>
 /// A `stop`.
 #[tactic(auto, unfolding(crate::specs::Reading::stop_at))]
 pub(crate) fn read_stop(alloc: Global, line: &[u8]) -> Result<Event, LineFault>
-    ensures { Gives command_of result (stop_at (words line.now)) }
+    ensures { Gives event_command result (stop_at (words line.now)) }
 {
     let (picks, left) = take_bytes(alloc, line)?;
     ended(Event::Stop { picks }, left)

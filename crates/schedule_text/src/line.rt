@@ -1,7 +1,7 @@
 // Reads one line.
 ghost use Rattle.std.specs.Option.{option_map};
 ghost use Rattle.schedule_text.specs.Grammar.{words};
-ghost use Rattle.schedule_text.specs.Events.{command_of};
+ghost use Rattle.schedule_text.specs.Events.{event_command};
 ghost use Rattle.schedule_text.specs.Reading.{Gives, apart_at, behind_at, line_at};
 
 use crate::begin::read_begin;
@@ -14,7 +14,7 @@ use std::alloc::Global;
 /// The event whose line begins with this word, where it speaks of no job and of no vault.
 #[tactic(auto, unfolding(crate::specs::Reading::apart_at))]
 fn read_apart(alloc: Global, first: &[u8], line: &[u8]) -> Result<Event, LineFault>
-    ensures { Gives command_of result (apart_at first.now (words line.now)) }
+    ensures { Gives event_command result (apart_at first.now (words line.now)) }
 {
     if first == b"alter".as_slice() {
         read_alter(line)
@@ -32,7 +32,7 @@ fn read_apart(alloc: Global, first: &[u8], line: &[u8]) -> Result<Event, LineFau
 /// The event whose line begins with this word.
 #[tactic(auto, unfolding(crate::specs::Reading::behind_at))]
 fn read_behind(alloc: Global, first: &[u8], line: &[u8]) -> Result<Event, LineFault>
-    ensures { Gives command_of result (behind_at first.now (words line.now)) }
+    ensures { Gives event_command result (behind_at first.now (words line.now)) }
 {
     if first == b"init".as_slice() {
         read_init(line)
@@ -52,7 +52,7 @@ fn read_behind(alloc: Global, first: &[u8], line: &[u8]) -> Result<Event, LineFa
 /// The event of a line, or `None` where the line is skipped.
 #[tactic(auto, unfolding(crate::specs::Reading::line_at))]
 pub(crate) fn read_line(alloc: Global, line: &[u8]) -> Result<Option<Event>, LineFault>
-    ensures { Gives (option_map command_of) result (line_at (words line.now)) }
+    ensures { Gives (option_map event_command) result (line_at (words line.now)) }
 {
     let Ok((first, left)) = take_word(line) else {
         return Ok(None);

@@ -1,7 +1,7 @@
 // Reads a whole text, line by line.
 ghost use Rattle.std.specs.Prelude.{◌≡◌, ◌∷◌, ◌⊎◌, ◌<◌, ℕ, List, length, IfOk, IfSome, IfErr, MatchResult};
 ghost use Rattle.std.specs.Option.{option_map};
-ghost use Rattle.hail_machine.specs.Transcripts.{Command};
+ghost use Rattle.hail_machine.specs.Transcripts.{Instruction};
 ghost use Rattle.schedule_text.specs.Schedules.{lines, IsSchedule, IsFirstBadLine};
 ghost use Rattle.schedule_text.specs.Events.{commands_of};
 ghost use Rattle.schedule_text.specs.Answers.{without_return, lines_behind, IsCauseOf};
@@ -25,8 +25,10 @@ fn without_return(line: &[u8]) -> &[u8]
 
 /// The first line of a text, and what is behind its newline, if it has one.
 fn first_line(text: &[u8]) -> (&[u8], Option<&[u8]>)
-    ensures lines { lines text.now ≡ result.0.now ∷ lines_behind (option_map (λ behind. behind.now) result.1) }
-    ensures shorter { IfSome (option_map (λ behind. behind.now) result.1) (λ behind. length behind < length text.now) }
+    ensures lines { lines text.now ≡ result.0.now ∷ lines_behind
+        (option_map (λ behind. behind.now) result.1) }
+    ensures shorter { IfSome (option_map (λ behind. behind.now) result.1)
+        (λ behind. length behind < length text.now) }
 {
     match memchr(b'\n', text) {
         Some(end) => (without_return(&text[..end]), Some(&text[end + 1..])),
@@ -60,8 +62,9 @@ fn read_lines(alloc: Global, text: &[u8]) -> Result<Vec<Event>, ScheduleFault>
 pub fn read_schedule(alloc: Global, text: &[u8]) -> Result<Vec<Event>, ScheduleFault>
     ensures ok { IfOk result (λ events. IsSchedule text.now (commands_of events.items)) }
     ensures bad { IfErr result (IsCauseOf text.now) }
-    ensures reads { (commands : List Command) → IsSchedule text.now commands
-        → MatchResult result (λ events. commands_of events.items ≡ commands) (λ fault. fault ≡ faults.Memory) }
+    ensures reads { (commands : List Instruction) → IsSchedule text.now commands
+        → MatchResult result (λ events. commands_of events.items ≡ commands)
+        (λ fault. fault ≡ faults.Memory) }
     ensures refuses { (number : ℕ) → IsFirstBadLine text.now number
         → MatchResult result (λ _. ⊥) (λ fault. (fault ≡ faults.BadLine number) ⊎ (fault ≡ faults.Memory)) }
 {

@@ -1,8 +1,8 @@
 // Takes the words of a line from its front.
 ghost use Rattle.std.specs.Prelude.{◌≡◌, ◌≢◌, ◌⊎◌, length, slice_index, IfErr};
 ghost use Rattle.schedule_text.specs.Grammar.{words};
-ghost use Rattle.schedule_text.specs.Events.{command_of};
-ghost use Rattle.schedule_text.specs.Reading.{Gives, word_at, ended};
+ghost use Rattle.schedule_text.specs.Events.{event_command};
+ghost use Rattle.schedule_text.specs.Reading.{Gives, word_at, only_command};
 
 use crate::event::Event;
 use crate::fault::LineFault;
@@ -37,7 +37,7 @@ pub(crate) fn take_word(line: &[u8]) -> Result<(&[u8], &[u8]), LineFault>
 
 /// The event, where no word is left behind it.
 pub(crate) fn ended(event: Event, line: &[u8]) -> Result<Event, LineFault>
-    ensures read { Gives command_of result (ended (command_of event) (words line.now)) }
+    ensures read { Gives event_command result (only_command (event_command event) (words line.now)) }
     ensures bad { IfErr result (λ fault. fault ≡ LineFault.Bad) }
 {
     if without_spaces(line).is_empty() {

@@ -1,9 +1,10 @@
 -- The steps of decoding by the symbols behind the kept ones.
 use Rattle.std.proofs.Common.{◌≡◌, ◌≢◌, ◌≤◌, ◌<◌, ◌+◌, ◌-◌, ◌++◌, inr, ℕ, sym, ◌∙◌, ap, subst, refl, arith, List, [], ◌∷◌, length, take, drop, set, add-one, zero-add, add-zero}
 use Rattle.std.specs.List.{range_with_len}
-use Rattle.std.proofs.Math.Seq.{take-append_seam, drop-append_seam}
+use Rattle.std.proofs.Math.Seq.{drop-append_seam}
 use Rattle.std.proofs.lemmas.List.{take_more_set, take_all, length-append, length-drop}
 use Rattle.std.proofs.lemmas.List.FromFn.{length-range_with_len}
+use Rattle.plain_facts.proofs.Lists.{take-front}
 use Rattle.field_laws.specs.Field.{Apart}
 use Rattle.field_laws.proofs.Solve.{v, o, ◌⊞◌, ◌⊡◌, solve}
 use Rattle.hail_field.specs.Nim.{nim, nim_add, nim_mul}
@@ -25,16 +26,12 @@ value-root_times r c (a ∷ p) x =
     (((v 0 ⊡ v 2) ⊞ v 1) ⊞ (v 3 ⊡ (((v 0 ⊞ v 3) ⊡ v 4) ⊞ v 2)))
     (((v 0 ⊞ v 3) ⊡ (v 2 ⊞ (v 3 ⊡ v 4))) ⊞ v 1) refl
 
--- the front of two parts
-front_part : (part rest : List ℕ) (n : ℕ) → length part ≡ n → take n (part ++ rest) ≡ part
-front_part part rest n e = rw (← e) (take-append_seam part rest)
-
 -- a coefficient more in its place
 pub grown : (items part made : List ℕ) (count r last : ℕ) → count < length items → part ≡ take count items → length made ≡ count →
     made ++ last ∷ [] ≡ root_times r 0 part → take (count + 1) (set (made ++ drop count items) count last) ≡ root_times r 0 (take count items)
 grown items part made count r last room is_part long is =
     take_more_set (made ++ drop count items) count last (omega (arith, length-append made (drop count items), length-drop count items)) ∙
-    ap (λ t. t ++ last ∷ []) (front_part made (drop count items) count long) ∙ is ∙ ap (root_times r 0) is_part
+    ap (λ t. t ++ last ∷ []) (take-front made (drop count items) count long) ∙ is ∙ ap (root_times r 0) is_part
 
 -- the product over no points
 pub points_start : (items : List ℕ) (count place x : ℕ) →
@@ -86,7 +83,7 @@ pub rest_product : (rest items front made whole : List ℕ) (count keep : ℕ) �
     (x : ℕ) → value (trim (take (count + keep) made)) x ≡ nim_mul (value rest x) (value whole x)
 rest_product rest items front made whole count keep is_count is_front is x =
     value-trim nim nim_laws (take (count + keep) made) x ∙ is x ∙
-    ap (λ p. nim_mul (value p x) (value whole x)) (ap (take count) is_front ∙ front_part rest (drop (length rest) items) count (sym is_count))
+    ap (λ p. nim_mul (value p x) (value whole x)) (ap (take count) is_front ∙ take-front rest (drop (length rest) items) count (sym is_count))
 
 -- the points behind the first are apart
 pub behind_apart : (points : List ℕ) (keep n : ℕ) → points ≡ range_with_len keep n → Apart points

@@ -1,7 +1,8 @@
 -- What a code makes of the kept symbols and of blocks.
-use Rattle.std.proofs.Common.{◌≡◌, ◌≤◌, ◌<◌, ◌+◌, ◌-◌, ◌++◌, ◌⊎◌, inl, inr, ℕ, suc, List, [], ◌∷◌, Bool, true, false, cond, nat_eq, Some, refl, length, take, drop, map, get_or, sym, ap, ◌∙◌, arith, length-append}
-use Rattle.std.proofs.lemmas.List.{take-append-drop, length-take, get_or_append_left, get_or-append_right}
+use Rattle.std.proofs.Common.{◌≡◌, ◌≤◌, ◌<◌, ◌+◌, ◌-◌, ◌++◌, ◌⊎◌, inl, inr, ℕ, suc, List, [], ◌∷◌, Bool, true, false, cond, nat_eq, Some, refl, length, map, get_or, sym, ap, ◌∙◌, arith, length-append}
+use Rattle.std.proofs.lemmas.List.{get_or_append_left, get_or-append_right}
 use Rattle.std.proofs.lemmas.List.FromFn.{fill_by_all, length-map-range_with_len, length-range_with_len}
+use Rattle.std.proofs.lemmas.Bool.{cases_lt}
 use Rattle.poly_laws.specs.Poly.{agree as agree_over, is_seen as is_seen_over}
 use Rattle.hail_codes.specs.Polynomials.{value, agree, interpolate}
 use Rattle.hail_codes.specs.Points.{upto, values_at}
@@ -9,13 +10,8 @@ use Rattle.hail_codes.specs.Profiles.{Profile}
 use Rattle.hail_codes.specs.Sums.{dot}
 use Rattle.hail_codes.specs.ServerCode.{codeword, differences, Opens}
 use Rattle.hail_codes.proofs.Generators.{value-kept, get_or-codeword}
-use Rattle.hail_codes.proofs.Codewords.{opens_itself}
 use Rattle.server_code.specs.Generator.{row_at, sums, IsGenerator}
 use Rattle.server_code.proofs.RowSteps.{get_or-sums}
-
--- a place before the seam or behind it
-before_or_behind : (k n : ℕ) → (k < n) ⊎ (n ≤ k)
-before_or_behind k n = grind arith
 
 -- the kept symbols and their sums are the codeword
 pub extended_is_codeword : (profile : Profile) (rows kept : List ℕ) (n : ℕ) → IsGenerator profile rows → length kept ≡ profile.keep →
@@ -23,7 +19,7 @@ pub extended_is_codeword : (profile : Profile) (rows kept : List ℕ) (n : ℕ) 
 extended_is_codeword profile rows kept n generator long sizes =
     fill_by_all (value (interpolate (upto profile.keep) kept)) (kept ++ sums rows kept n) profile.size 0
     (length-append kept (sums rows kept n) ∙ omega (arith, length-map-range_with_len (λ r. dot (row_at (length kept) rows r) kept) 0 n))
-    (λ k h. at k h (before_or_behind k profile.keep))
+    (λ k h. at k h (cases_lt k profile.keep))
   where
     at : (k : ℕ) → k < profile.size → (k < profile.keep) ⊎ (profile.keep ≤ k) → get_or (kept ++ sums rows kept n) k 0 ≡ value (interpolate (upto profile.keep) kept) k
     at k h (inl before) = get_or_append_left kept (sums rows kept n) 0 k (omega arith) ∙ sym (value-kept profile.keep kept k long before)

@@ -1,7 +1,7 @@
 -- Codewords are the blocks whose syndromes are all 0.
 use Rattle.std.proofs.Common.{◌≡◌, ◌≤◌, ◌+◌, ◌-◌, ℕ, List, length, sym, ◌∙◌, arith}
 use Rattle.std.proofs.lemmas.List.FromFn.{length-range_with_len}
-use Rattle.field_laws.specs.Field.{Each}
+use Rattle.plain_facts.specs.Lists.{Each}
 use Rattle.hail_codes.specs.Points.{upto}
 use Rattle.hail_codes.specs.Profiles.{Profile}
 use Rattle.hail_codes.specs.ServerCode.{IsCodeword}

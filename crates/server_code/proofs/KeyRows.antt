@@ -3,7 +3,7 @@ use Rattle.std.proofs.Common.{◌≡◌, ◌≤◌, ◌<◌, ◌+◌, ◌-◌, �
 use Rattle.std.specs.List.{range_with_len}
 use Rattle.std.proofs.lemmas.List.{take-append-drop, get_or-drop, length-take, length-drop}
 use Rattle.std.proofs.lemmas.List.FromFn.{length-range_with_len}
-use Rattle.field_laws.specs.Field.{Each}
+use Rattle.plain_facts.specs.Lists.{Each}
 use Rattle.hail_field.specs.Nim.{nim, nim_add, nim_mul}
 use Rattle.hail_field.proofs.AllNumbers.{nim_laws, nim_ring, nim_endless}
 use Rattle.poly_laws.specs.Poly.{FirstRow, plus as plus_over}

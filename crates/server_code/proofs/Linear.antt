@@ -2,7 +2,6 @@
 use Rattle.std.proofs.Common.{◌≡◌, ◌≤◌, ◌+◌, ◌*◌, ℕ, zero, suc, sym, ◌∙◌, ap, refl, arith, List, [], ◌∷◌, length, map, take, replicate, Some}
 use Rattle.std.specs.List.{range_with_len}
 use Rattle.std.proofs.lemmas.List.FromFn.{length-range_with_len, length-map-range_with_len, take-map-range_with_len}
-use Rattle.field_laws.specs.Field.{Each}
 use Rattle.hail_field.specs.Nim.{nim}
 use Rattle.hail_field.proofs.AllNumbers.{nim_laws}
 use Rattle.poly_laws.specs.Poly.{plus as plus_over, scale as scale_over, value as value_over, present as present_over}
@@ -16,16 +15,7 @@ use Rattle.hail_codes.specs.Profiles.{Profile}
 use Rattle.hail_codes.specs.ServerCode.{codeword, IsCodeword, Opens}
 use Rattle.hail_codes.proofs.Points.{one_not_zero, Apart-range}
 use Rattle.hail_codes.proofs.Codewords.{codeword-short}
-
--- polynomials of one value everywhere have the same values
-values-same : (points p q : List ℕ) → ((x : ℕ) → value p x ≡ value q x) → values_at points p ≡ values_at points q
-values-same [] p q same = refl
-values-same (x ∷ points) p q same = cc (same x, values-same points p q same)
-
--- a polynomial that takes another's values has them
-takes_same : (p q points : List ℕ) → Takes q points (values_at points p) → Each (λ x. value p x ≡ value q x) points
-takes_same p q [] t = tt
-takes_same p q (x ∷ points) t = (sym t.0, takes_same p q points t.1)
+use Rattle.hail_codes.proofs.Values.{values_at-same, takes_same}
 
 -- the codeword of kept symbols is a codeword
 pub codeword_is : (profile : Profile) (kept : List ℕ) → length kept ≡ profile.keep → IsCodeword profile (codeword profile kept)
@@ -38,7 +28,7 @@ codeword_is profile kept long = record {
 -- a codeword is that of its first keep symbols
 pub codeword_of_front : (profile : Profile) (block : List ℕ) → profile.keep ≤ profile.size → IsCodeword profile block → block ≡ codeword profile (take profile.keep block)
 codeword_of_front profile block le is =
-    is.values ∙ values-same (upto profile.size) p q same ∙ ap (λ kept. codeword profile kept) (sym front)
+    is.values ∙ values_at-same (upto profile.size) p q same ∙ ap (λ kept. codeword profile kept) (sym front)
   where
     p : List ℕ
     p = is.polynomial
@@ -74,7 +64,7 @@ present-all (s ∷ block) = let h = present-all block in omega (arith, h)
 pub opened_is_one : (profile : Profile) (block a b : List ℕ) → profile.size ≡ profile.keep + 2 * profile.fix → Opens profile block a → Opens profile block b → a ≡ b
 opened_is_one profile block a b sizes is_a is_b =
     is_a.opened_is ∙
-    values-same (upto profile.size) is_a.polynomial is_b.polynomial
+    values_at-same (upto profile.size) is_a.polynomial is_b.polynomial
     (same_values nim nim_laws is_a.polynomial is_b.polynomial
     (unique nim nim_laws is_a.polynomial is_b.polynomial (upto profile.size) (map Some block) profile.keep (Apart-range 0 profile.size)
     is_a.near.decodes.short is_b.near.decodes.short

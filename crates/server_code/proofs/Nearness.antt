@@ -1,5 +1,5 @@
 -- What is near a block is a codeword and what is near the sums of both.
-use Rattle.std.proofs.Common.{◌≡◌, ◌≤◌, ◌<◌, ℕ, subst, sym, ◌∙◌, ap, refl, arith, List, [], ◌∷◌, Bool, true, false, nat_eq, eqb-true, Option, Some, None, length, take, map, get_or}
+use Rattle.std.proofs.Common.{◌≡◌, ◌≤◌, ◌<◌, ℕ, subst, sym, ◌∙◌, ap, refl, arith, List, [], ◌∷◌, Option, Some, None, length, take, map, get_or}
 use Rattle.std.specs.Prelude.{IfNone, IfSome, OnSome}
 use Rattle.std.proofs.lemmas.List.FromFn.{fill_by_all, length-range_with_len, length-map-range_with_len, take-map-range_with_len}
 use Rattle.field_laws.proofs.Solve.{v, ◌⊞◌, solve}
@@ -12,32 +12,20 @@ use Rattle.hail_codes.specs.Polynomials.{value, agree, plus, interpolate}
 use Rattle.hail_codes.specs.Points.{upto, values_at}
 use Rattle.hail_codes.specs.Profiles.{Profile}
 use Rattle.hail_codes.specs.ServerCode.{codeword, differences, IsNear, Opens, OpensToNone}
-use Rattle.hail_codes.proofs.Points.{nat_eq-differ}
 use Rattle.hail_codes.proofs.Generators.{value-kept}
 use Rattle.hail_codes.proofs.Codewords.{codeword-short, opens_itself}
+use Rattle.hail_codes.proofs.Values.{equal-added}
 use Rattle.server_code.specs.Behind.{TakesNear}
 use Rattle.server_code.proofs.Blocks.{agree-differences, near_opens}
 use Rattle.server_code.proofs.KeyRows.{length-sums}
 use Rattle.server_code.proofs.Linear.{codeword_of_front}
-
--- a test of two numbers, after the same was added to both
-test-added : (y w c : ℕ) → nat_eq (nim_add y c) (nim_add w c) ≡ nat_eq y w
-test-added y w c = go (nat_eq y w) refl
-  where
-    back : nim_add w c ≡ nim_add y c → w ≡ y
-    back e =
-        cc (e, nim_ring.add_assoc w c c, nim_ring.add_assoc y c c, nim_ring.add_self c, nim_ring.add_zero w, nim_ring.add_zero y)
-
-    go : (b : Bool) → nat_eq y w ≡ b → nat_eq (nim_add y c) (nim_add w c) ≡ b
-    go true is = ap (λ t. nat_eq (nim_add y c) (nim_add t c)) (sym (eqb-true y w is)) ∙ nim_laws.eq_refl (nim_add y c)
-    go false is = nat_eq-differ (nim_add y c) (nim_add w c) (λ e. let same : true ≡ false = sym (nim_laws.eq_refl y) ∙ ap (nat_eq y) (sym (back e)) ∙ is in cc)
 
 -- what agrees with the symbols, after the same polynomial was added to both
 agree-added : (p q xs ys : List ℕ) → length ys ≡ length xs → agree (plus p q) xs (map Some (plus ys (values_at xs q))) ≡ agree p xs (map Some ys)
 unfolding agree_over is_seen_over plus_over
 agree-added p q [] ys even = refl
 agree-added p q (x ∷ xs) [] even = absurd (omega arith)
-agree-added p q (x ∷ xs) (y ∷ ys) even = cc (value-plus nim nim_laws p q x, test-added y (value p x) (value q x), agree-added p q xs ys (omega arith))
+agree-added p q (x ∷ xs) (y ∷ ys) even = cc (value-plus nim nim_laws p q x, equal-added y (value p x) (value q x), agree-added p q xs ys (omega arith))
 
 module _ (profile : Profile) (block kept p : List ℕ) (long : length kept ≡ profile.keep) (near : IsNear profile block p) where
   -- the polynomial of the kept symbols

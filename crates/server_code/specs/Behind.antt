@@ -8,13 +8,14 @@ use Rattle.hail_codes.specs.Profiles.{Profile}
 use Rattle.hail_codes.specs.ServerCode.{IsNear}
 use Rattle.hail_poly.specs.Registers.{Registers}
 
--- the registers hold the interpolation of shares at the points from keep on; a share times the product of x + point over the points
--- before these is the sum of the block's symbol and the word's
+-- the registers hold the interpolation of shares at the points from keep on; a share times the product of x
+-- + point over the points before these is the sum of the block's symbol and the word's
 pub record IsLoadedBehind (keep : ℕ) (block word : List ℕ) (size : ℕ) (work : Registers) : Type 0 where
   pub shares : List ℕ
   pub full : keep + length shares ≡ length block
   pub each : (k : ℕ) → k < length shares →
-      nim_mul (slice_index shares k) (value (vanish (upto keep)) (keep + k)) ≡ nim_add (slice_index block (keep + k)) (slice_index word (keep + k))
+      nim_mul (slice_index shares k) (value (vanish (upto keep)) (keep + k))
+      ≡ nim_add (slice_index block (keep + k)) (slice_index word (keep + k))
   pub loaded : work ≡ record {
     size = size;
     whole = vanish (range_with_len keep (length shares));

@@ -12,7 +12,8 @@ row_at keep rows r = take keep (drop (r * keep) rows)
 -- the rows are those of the places from keep on
 pub record IsGenerator (profile : Profile) (rows : List ℕ) : Type 0 where
   pub full : length rows ≡ (profile.size - profile.keep) * profile.keep
-  pub each : (r : ℕ) → profile.keep + r < profile.size → IsGeneratorRow profile (profile.keep + r) (row_at profile.keep rows r)
+  pub each : (r : ℕ) → profile.keep + r < profile.size
+      → IsGeneratorRow profile (profile.keep + r) (row_at profile.keep rows r)
 
 -- the sums of the kept symbols by the first rows
 abbrev pub sums : List ℕ → List ℕ → ℕ → List ℕ

@@ -1,7 +1,7 @@
 ghost use Rattle.std.specs.Prelude.{◌≡◌, ◌≤◌, ◌↔◌, IfOk, IfNone, OnSome, IfSome, IsTrue, length};
 ghost use Rattle.hail_codes.specs.ServerCode.{codeword, IsCodeword, Opens, OpensToNone, differences};
 ghost use Rattle.code_points.specs.Profile.{plain_profile};
-ghost use Rattle.server_code.specs.Any.{profile_of};
+ghost use Rattle.server_code.specs.Any.{code_profile};
 
 use crate::code::ServerCode;
 use code_points::Profile;
@@ -39,7 +39,7 @@ macro_rules! with_code {
 impl AnyCode {
     /// The code of a profile, with its coefficients.
     pub fn new(alloc: Global, profile: Profile) -> Result<AnyCode, Memory>
-        ensures { IfOk result (λ code. profile_of code ≡ profile) }
+        ensures { IfOk result (λ code. code_profile code ≡ profile) }
     {
         match profile.number {
             0 => Ok(AnyCode::P0(ServerCode::new(alloc, profile)?)),
@@ -52,24 +52,24 @@ impl AnyCode {
 
     /// The profile.
     pub fn profile(&self) -> Profile
-        ensures { result ≡ profile_of self.now }
+        ensures { result ≡ code_profile self.now }
     {
         with_code!(self, code => code.profile)
     }
 
     /// Fills `out` with the codeword of the kept symbols.
     pub fn encode_into(&self, kept: &[Symbol], out: &mut [Symbol])
-        requires kept { length kept.now ≡ (profile_of self.now).keep }
-        requires out { length out.old ≡ (profile_of self.now).size }
-        ensures { out.new ≡ codeword (plain_profile (profile_of self.now)) kept.now }
+        requires kept { length kept.now ≡ (code_profile self.now).keep }
+        requires out { length out.old ≡ (code_profile self.now).size }
+        ensures { out.new ≡ codeword (plain_profile (code_profile self.now)) kept.now }
     {
         with_code!(self, code => code.encode_into(kept, out))
     }
 
     /// Whether a block is a codeword.
     pub fn is_codeword(&self, block: &[Symbol]) -> bool
-        requires { length block.now ≡ (profile_of self.now).size }
-        ensures { IsTrue result ↔ IsCodeword (plain_profile (profile_of self.now)) block.now }
+        requires { length block.now ≡ (code_profile self.now).size }
+        ensures { IsTrue result ↔ IsCodeword (plain_profile (code_profile self.now)) block.now }
     {
         with_code!(self, code => code.is_codeword(block))
     }
@@ -77,11 +77,11 @@ impl AnyCode {
     /// Corrects up to `fix` wrong symbols of a block, and tells how many it changed. None where no codeword is so near;
     /// then the block is unchanged.
     pub fn decode_in(&self, block: &mut [Symbol], work: &mut Work) -> Option<u32>
-        requires block { length block.old ≡ (profile_of self.now).size }
-        requires room { (profile_of self.now).size ≤ work.old.size }
-        ensures none { IfNone result (OpensToNone (plain_profile (profile_of self.now)) block.old) }
+        requires block { length block.old ≡ (code_profile self.now).size }
+        requires room { (code_profile self.now).size ≤ work.old.size }
+        ensures none { IfNone result (OpensToNone (plain_profile (code_profile self.now)) block.old) }
         ensures unchanged { IfNone result (block.new ≡ block.old) }
-        ensures opened { OnSome result (Opens (plain_profile (profile_of self.now)) block.old block.new) }
+        ensures opened { OnSome result (Opens (plain_profile (code_profile self.now)) block.old block.new) }
         ensures changed { IfSome result (λ count. count ≡ differences block.old block.new) }
         ensures work { work.new.size ≡ work.old.size }
     {

@@ -107,7 +107,8 @@ fn multiply_points(products: &[Multiples], keep: usize, count: usize, items: &mu
     requires few { keep ≤ 256 }
     requires room { count + keep ≤ length items.old }
     ensures length { length items.new ≡ length items.old }
-    ensures product { (x : ℕ) → value (take (count + keep) items.new) x ≡ nim_mul (value (take count items.old) x) (value (vanish (upto keep)) x) }
+    ensures product { (x : ℕ) → value (take (count + keep) items.new) x ≡ nim_mul
+        (value (take count items.old) x) (value (vanish (upto keep)) x) }
 {
     for place in (0..keep).rev() {
         grow(products, place as u8, count + (keep - 1 - place), items);
@@ -171,7 +172,8 @@ fn multiply_rest_within(products: &[Multiples], keep: usize, items: &mut [Symbol
     ensures size { work.new.size ≡ work.old.size }
     ensures factor { work.new.factor ≡ work.old.factor }
     ensures short { length work.new.rest ≤ length work.old.rest + keep }
-    ensures product { (x : ℕ) → value work.new.rest x ≡ nim_mul (value work.old.rest x) (value (vanish (upto keep)) x) }
+    ensures product { (x : ℕ) → value work.new.rest x ≡ nim_mul (value work.old.rest x)
+        (value (vanish (upto keep)) x) }
 {
     let count = work.rest().len();
     put_front(items, work.rest());
@@ -187,7 +189,8 @@ fn multiply_rest(products: &[Multiples], keep: usize, work: &mut Work)
     ensures size { work.new.size ≡ work.old.size }
     ensures factor { work.new.factor ≡ work.old.factor }
     ensures short { length work.new.rest ≤ length work.old.rest + keep }
-    ensures product { (x : ℕ) → value work.new.rest x ≡ nim_mul (value work.old.rest x) (value (vanish (upto keep)) x) }
+    ensures product { (x : ℕ) → value work.new.rest x ≡ nim_mul (value work.old.rest x)
+        (value (vanish (upto keep)) x) }
 {
     let mut items = [Symbol::ZERO; MOST];
     multiply_rest_within(products, keep, &mut items, work);
@@ -201,7 +204,8 @@ fn find_quotient(tables: &Tables, word: &[Symbol], block: &[Symbol], work: &mut 
     requires same { take tables.now.profile.keep block.now ≡ take tables.now.profile.keep word.now }
     requires room { tables.now.profile.size ≤ work.old.size }
     ensures size { work.new.size ≡ work.old.size }
-    ensures found { OnTrue result (TakesNear (plain_profile tables.now.profile) (plus block.now word.now) work.new.rest) }
+    ensures found { OnTrue result (TakesNear (plain_profile tables.now.profile) (plus block.now word.now)
+        work.new.rest) }
     ensures none { OnFalse result (OpensToNone (plain_profile tables.now.profile) (plus block.now word.now)) }
 {
     let keep = tables.profile.keep as usize;
@@ -214,7 +218,8 @@ fn find_quotient(tables: &Tables, word: &[Symbol], block: &[Symbol], work: &mut 
 /// Adds to each symbol the value of the rest at its place.
 fn add_values(work: &Work, kept: &mut [Symbol])
     ensures length { length kept.new ≡ length kept.old }
-    ensures values { (k : ℕ) → k < length kept.old → slice_index kept.new k ≡ nim_add (slice_index kept.old k) (value work.now.rest k) }
+    ensures values { (k : ℕ) → k < length kept.old
+        → slice_index kept.new k ≡ nim_add (slice_index kept.old k) (value work.now.rest k) }
 {
     for k in 0..kept.len() {
         kept[k] = kept[k].add(work.value(Symbol(k as u128)));

@@ -56,7 +56,8 @@ pub fn try_kept(
     ensures unchanged { IfNone result (block.new ≡ block.old) }
     ensures opened { OnSome result (Opens (plain_profile tables.now.profile) block.old block.new) }
     ensures changed { IfSome result (λ count. count ≡ differences block.old block.new) }
-    ensures far { IfNone result (tables.now.profile.fix < differences block.old (codeword (plain_profile tables.now.profile) kept.now)) }
+    ensures far { IfNone result (tables.now.profile.fix < differences block.old
+        (codeword (plain_profile tables.now.profile) kept.now)) }
 {
     tables.encode(kept, word);
     take_over(word, tables.profile.fix, block)

@@ -81,7 +81,8 @@ pub fn is_extended(products: &[Multiples], rows: &[u8], keep: usize, block: &[Sy
     requires products { AreProducts products.now }
     requires room { keep ≤ length block.now }
     requires rows { length rows.now ≡ (length block.now - keep) * keep }
-    ensures { IsTrue result ↔ (drop keep block.now ≡ sums rows.now (take keep block.now) (length block.now - keep)) }
+    ensures { IsTrue result ↔ (drop keep block.now ≡ sums rows.now (take keep block.now)
+        (length block.now - keep)) }
 {
     are_sums(products, rows, &block[..keep], &block[keep..])
 }

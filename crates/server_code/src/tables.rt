@@ -46,7 +46,8 @@ impl Tables {
 
     /// The points behind the kept ones.
     pub fn points_behind(&self) -> &[Symbol]
-        ensures { result.now ≡ range_with_len self.now.profile.keep (self.now.profile.size - self.now.profile.keep) }
+        ensures { result.now ≡ range_with_len self.now.profile.keep
+            (self.now.profile.size - self.now.profile.keep) }
     {
         &self.points[self.profile.keep as usize..]
     }

@@ -1,10 +1,12 @@
 -- Sound states after a begin that was not refused.
 use Rattle.std.proofs.Common.{◌≡◌, ℕ, ◌+◌, ◌-◌, ◌<◌, ◌≤◌, ◌^◌, Bool, true, false, not, ◌⊎◌, ◌||◌, ◌&&◌, List, [], ◌∷◌, ◌++◌, length, Option, Some, None, refl, ap, sym, subst, ◌∙◌, inl, inr, arith, sum, sum_by, length-append}
 use Rattle.std.specs.Prelude.{is_some, IsTrue, nat_lt, nat_le}
-use Rattle.std.proofs.lemmas.Bool.{cases_Bool, cases_eq, false≢true, eq-eqb}
+use Rattle.std.proofs.lemmas.Bool.{cases_Bool, cases_eq, false≢true, eq-eqb, not-false}
 use Rattle.std.proofs.lemmas.Bool.Decides.{nat_tests}
 use Rattle.std.proofs.lemmas.List.Folds.{list_any-append}
 use Rattle.std.proofs.lemmas.List.Sums.{sum_by-take-drop}
+use Rattle.plain_facts.specs.Lists.{Each}
+use Rattle.plain_facts.proofs.Options.{some-not-none}
 use Rattle.hail_records.specs.Records.{is_name, largest_file, largest_journal, most_files}
 use Rattle.hail_records.specs.Journal.{text_size}
 use Rattle.hail_records.specs.Table.{Due, file_of, due_of, is_same_name}
@@ -16,31 +18,26 @@ use Rattle.hail_machine.specs.Refusals.{Cause, first_refusal}
 use Rattle.hail_machine.specs.Events.{IsSpelledKind}
 use Rattle.hail_machine.specs.States.{State, setup_in, file_in}
 use Rattle.hail_machine.specs.Space.{append_sizes, reserved, is_full, is_too_full, are_numbers_used_up}
-use Rattle.hail_machine.specs.Begins.{is_check, is_busy, is_listed, names_taken, causes, begin_refusal, due_number, subject_at_begin, new_job}
-use Rattle.hail_machine.proofs.ActionLists.{Each}
-use Rattle.hail_machine.proofs.JobLists.{cond_true, cond_false, found_more}
+use Rattle.hail_machine.specs.Begins.{is_check, is_busy, is_name_among, names_taken, causes, begin_refusal, due_number, subject_at_begin, new_job}
+use Rattle.hail_machine.proofs.JobLists.{cond_true, cond_false, found_more, still_found}
 use Rattle.hail_machine.proofs.Pins.{check_alone}
 use Rattle.sound_states.specs.Orders.{moves_made, IsInOrder}
 use Rattle.sound_states.specs.SoundJobs.{IsWish, IsReady, IsSoundJob}
 use Rattle.sound_states.specs.Sound.{IsPutUnderWay, IsSound}
 use Rattle.sound_states.proofs.Orders.{in_order}
-use Rattle.sound_states.proofs.JobLists.{sum-more, still-more, numbered-more, numbered-below, made-some}
+use Rattle.sound_states.proofs.JobLists.{sum-more, numbered-more, numbered-below, made-some}
 use Rattle.sound_states.proofs.NamesTaken.{are_put, puts_name, taken_by, once-taken, listed-taken, fewer, taken-fewer}
-use Rattle.sound_states.proofs.Records.{some-none, is_some-at, due-spelled}
+use Rattle.sound_states.proofs.Records.{is_some-at, due-spelled}
 use Rattle.sound_states.proofs.Pinning.{pins-ascend, pins-few, pins-stored, has-pins}
 
 -- ---- no cause of a refusal applies
 
-none-applies : (cs : List Cause) → first_refusal cs ≡ None → Each (λ (c : Cause). c.applies ≡ false) cs
+pub none-applies : (cs : List Cause) → first_refusal cs ≡ None → Each (λ (c : Cause). c.applies ≡ false) cs
 none-applies [] h = tt
 none-applies (c ∷ cs) h = elim (cases_Bool c.applies) [
-  | inl t ↦ absurd (some-none _ c.refusal (cond_true c.applies (Some c.refusal) (first_refusal cs) t) h)
+  | inl t ↦ absurd (some-not-none _ c.refusal (cond_true c.applies (Some c.refusal) (first_refusal cs) t) h)
   | inr f ↦ (f, none-applies cs (sym (cond_false c.applies (Some c.refusal) (first_refusal cs) f) ∙ h))
 ]
-
-not-false : (b : Bool) → not b ≡ false → b ≡ true
-not-false true h = refl
-not-false false h = absurd (false≢true (sym h))
 
 at-most : (a b : ℕ) → nat_lt a b ≡ false → b ≤ a
 at-most a b h = grind (arith, h)
@@ -112,9 +109,9 @@ module _ (limit : ℕ) (old : State) (kind : Kind) (allowed : begin_refusal limi
       by_kind RepairJob e h = inl (enough RepairJob h)
 
   -- its name finds a place
-  begun-name : (name bytes : List ℕ) → kind ≡ PutJob name bytes → (is_listed (names_taken old) name ≡ true) ⊎ (length (names_taken old) + 1 ≤ most_files)
+  begun-name : (name bytes : List ℕ) → kind ≡ PutJob name bytes → (is_name_among (names_taken old) name ≡ true) ⊎ (length (names_taken old) + 1 ≤ most_files)
   begun-name name bytes e = (let a = none-applies (causes limit old (PutJob name bytes)) (ap (begin_refusal limit old) (sym e) ∙ allowed) in
-      crowd (is_listed (names_taken old) name) (length (names_taken old)) a.1.1.1.1.0)
+      crowd (is_name_among (names_taken old) name) (length (names_taken old)) a.1.1.1.1.0)
     where
       crowd : (there : Bool) (n : ℕ) → (nat_le most_files n && not there) ≡ false → (there ≡ true) ⊎ (n + 1 ≤ most_files)
       crowd true n h = inl refl
@@ -209,19 +206,19 @@ module _ (limit moment : ℕ) (old : State) (S : IsSound limit old) (kind : Kind
           split true false c h = inr refl
           split false false c h = inr h
 
-          more : (n : List ℕ) → is_listed (taken_by old.records (old.jobs ++ added ∷ [])) n ≡ true → (is_same_name n name ≡ true) ⊎ (is_listed (names_taken old) n ≡ true)
+          more : (n : List ℕ) → is_name_among (taken_by old.records (old.jobs ++ added ∷ [])) n ≡ true → (is_same_name n name ≡ true) ⊎ (is_name_among (names_taken old) n ≡ true)
           more n g = (let h = sym (listed-taken old.records (old.jobs ++ added ∷ []) n ∙ ap (λ b. b || is_some (file_of old.records n)) (put-more n ∙ ap (λ kd. are_put n old.jobs || (puts_name n kd || false)) e)) ∙ g in
               elim (split (are_put n old.jobs) (is_same_name n name) (is_some (file_of old.records n)) h) [
                 | inl same ↦ inl same
                 | inr was ↦ inr (listed-taken old.records old.jobs n ∙ was)
               ])
 
-          among : (n : List ℕ) → is_listed (names_taken old) name ≡ true → (is_same_name n name ≡ true) ⊎ (is_listed (names_taken old) n ≡ true) → is_listed (names_taken old) n ≡ true
-          among n there (inl same) = subst (λ m. is_listed (names_taken old) m ≡ true) (sym (same-eq n name same)) there
+          among : (n : List ℕ) → is_name_among (names_taken old) name ≡ true → (is_same_name n name ≡ true) ⊎ (is_name_among (names_taken old) n ≡ true) → is_name_among (names_taken old) n ≡ true
+          among n there (inl same) = subst (λ m. is_name_among (names_taken old) m ≡ true) (sym (same-eq n name same)) there
           among n there (inr was) = was
 
-          with-name : (n : List ℕ) → (is_same_name n name ≡ true) ⊎ (is_listed (names_taken old) n ≡ true) → (is_same_name n name || is_listed (names_taken old) n) ≡ true
-          with-name n (inl same) = ap (λ b. b || is_listed (names_taken old) n) same
+          with-name : (n : List ℕ) → (is_same_name n name ≡ true) ⊎ (is_name_among (names_taken old) n ≡ true) → (is_same_name n name || is_name_among (names_taken old) n) ≡ true
+          with-name n (inl same) = ap (λ b. b || is_name_among (names_taken old) n) same
           with-name n (inr was) = ap (λ b. is_same_name n name || b) was ∙ or-true (is_same_name n name)
             where
               or-true : (a : Bool) → (a || true) ≡ true
@@ -280,7 +277,7 @@ module _ (limit moment : ℕ) (old : State) (S : IsSound limit old) (kind : Kind
     ];
     append = λ a h. (let A = S.append a h in record {
       job = A.job;
-      runs = still-more old.jobs added a.job A.job A.runs;
+      runs = still_found old.jobs added a.job A.job A.runs;
       begun = A.begun;
       undone = A.undone;
       writes = A.writes;

@@ -1,12 +1,14 @@
 -- Sound states after the fourth move of an append: its record is in effect.
-use Rattle.std.proofs.Common.{◌≡◌, ℕ, ◌+◌, ◌<◌, ◌≤◌, ◌==◌, Bool, true, false, cond, ◌⊎◌, ◌||◌, ◌&&◌, List, [], ◌∷◌, length, Option, Some, None, refl, ap, sym, subst, ◌∙◌, inl, inr, arith, sum_by}
+use Rattle.std.proofs.Common.{◌≡◌, ℕ, ◌+◌, ◌<◌, ◌≤◌, ◌==◌, Bool, true, false, cond, ◌⊎◌, ◌||◌, ◌&&◌, List, [], ◌∷◌, Option, Some, None, refl, ap, sym, subst, ◌∙◌, inl, inr, arith, sum_by}
 use Rattle.std.specs.Prelude.{is_some, IsTrue}
 use Rattle.std.proofs.lemmas.Bool.{cases_Bool, cases_lt, false≢true, eq-eqb, ne_eqb, and_from}
+use Rattle.plain_facts.proofs.Options.{some-not-none}
 use Rattle.hail_columns.specs.Verdicts.{Sums}
-use Rattle.hail_records.specs.Records.{Setup, Record, SetUp, PutStart, PutDone, Drop, AuditStart, AuditDone, RepairDone, largest_journal}
+use Rattle.hail_records.specs.Records.{Setup, Record, SetUp, PutStart, PutDone, Drop, AuditStart, AuditDone, RepairDone, largest_journal, PutDoneIn, Version, Resume, InEffect, RepairDue}
+use Rattle.std.proofs.lemmas.Bool.Decides.{nat_tests}
 use Rattle.hail_records.specs.Journal.{text_size}
 use Rattle.hail_records.specs.Table.{File, next_id, next_audit, started_as, file_of, running_audit, due_of, is_same_name}
-use Rattle.hail_records.specs.Acceptance.{is_due}
+use Rattle.hail_records.specs.Acceptance.{refused, is_due, AreAccepted}
 use Rattle.hail_records.proofs.FilesLaws.{same-refl}
 use Rattle.hail_machine.specs.Jobs.{Kind, PutJob, GetJob, DropJob, AuditJob, RepairJob, Pinned, Job, job_of, with_job}
 use Rattle.hail_machine.specs.Actions.{SyncGate, actions_left, appends_left}
@@ -18,14 +20,14 @@ use Rattle.hail_machine.specs.Steps.{next_action}
 use Rattle.hail_machine.proofs.JobLists.{cond_true, cond_false, same_value, found_with}
 use Rattle.hail_machine.proofs.Numbers.{first_below}
 use Rattle.hail_machine.proofs.PinFacts.{setup_same}
-use Rattle.hail_machine.proofs.RecordFacts.{IsProper}
+use Rattle.hail_machine.proofs.Done.{put_ended}
 use Rattle.sound_states.specs.Orders.{moves_made, IsInOrder}
 use Rattle.sound_states.specs.SoundJobs.{IsPin, IsOlder, HasDrawn, IsReady, IsSoundJob}
 use Rattle.sound_states.specs.Sound.{IsSoundAppend, IsPutUnderWay, IsSound}
 use Rattle.sound_states.proofs.Orders.{put-first, put-later, audit-later, drop-first, repair-first}
 use Rattle.sound_states.proofs.JobLists.{sum-with, length-with, numbered-with, mine, other}
 use Rattle.sound_states.proofs.NamesTaken.{are_put, puts_name, put-in, taken-fewer}
-use Rattle.sound_states.proofs.Records.{some-none, is_some-at, up-more, setup-more, next_id-grows, accepted-proper, sound-accepted, spelled-more, held-more, file-came}
+use Rattle.sound_states.proofs.Records.{is_some-at, up-more, setup-more, next_id-grows, sound-accepted, spelled-more, held-more, file-came}
 use Rattle.sound_states.proofs.Rooms.{room_of, room-step, put-writes_first, put-writes_later, audit-writes_first, audit-writes_later}
 use Rattle.sound_states.proofs.Written.{runs-open, sizes}
 use Rattle.sound_states.proofs.Turns.{put-with}
@@ -37,6 +39,7 @@ abbrev IsNoCheck : Record → Type 0
 IsNoCheck (AuditStart number) = ⊥
 IsNoCheck (AuditDone number undecided counts) = ⊥
 IsNoCheck (RepairDone number) = ⊥
+IsNoCheck (RepairDue number counts) = ⊥
 IsNoCheck r = Unit {0}
 
 running-same : (r : Record) (rs : List Record) → IsNoCheck r → running_audit (r ∷ rs) ≡ running_audit rs
@@ -47,6 +50,11 @@ running-same (Drop name) rs h = refl
 running-same (AuditStart number) rs h = absurd h
 running-same (AuditDone number undecided counts) rs h = absurd h
 running-same (RepairDone number) rs h = absurd h
+running-same (PutDoneIn id size profile) rs h = refl
+running-same Version rs h = refl
+running-same (Resume next audit) rs h = refl
+running-same (InEffect id size profile kept) rs h = refl
+running-same (RepairDue number counts) rs h = absurd h
 
 due-same : (r : Record) (rs : List Record) → IsNoCheck r → due_of (r ∷ rs) ≡ due_of rs
 due-same (SetUp s) rs h = refl
@@ -56,6 +64,11 @@ due-same (Drop name) rs h = refl
 due-same (AuditStart number) rs h = absurd h
 due-same (AuditDone number undecided counts) rs h = absurd h
 due-same (RepairDone number) rs h = absurd h
+due-same (PutDoneIn id size profile) rs h = refl
+due-same Version rs h = refl
+due-same (Resume next audit) rs h = refl
+due-same (InEffect id size profile kept) rs h = refl
+due-same (RepairDue number counts) rs h = absurd h
 
 -- a job that is no check writes no such record
 no-check : (w : State) (job : Job) (kind : Kind) (entry : Record) → (is_check kind ≡ true → ⊥) → Writes w job kind entry → IsNoCheck entry
@@ -69,41 +82,69 @@ no-check w job AuditJob entry n h = absurd (n refl)
 no-check w job RepairJob entry n h = absurd (n refl)
 
 -- the end of a put is written by a put behind its first append
-done-by : (w : State) (job : Job) (kind : Kind) (entry : Record) (id size : ℕ) → Writes w job kind entry → entry ≡ PutDone id size → IsPutUnderWay job kind × (job.subject ≡ id)
-done-by w job (PutJob name bytes) entry id size h e = elim (cases_lt job.place 4) [
-  | inl l ↦ absurd (let f : PutStart (next_id w.records) name ≡ PutDone id size = sym (put-writes_first w job name bytes entry l h) ∙ e in cc)
-  | inr l ↦ (l, (let f : PutDone job.subject (length bytes) ≡ PutDone id size = sym (put-writes_later w job name bytes entry l h) ∙ e in cc))
+done-by : (w : State) (job : Job) (kind : Kind) (entry : Record) (id : ℕ) → Writes w job kind entry →
+    put_ended entry ≡ Some id → IsPutUnderWay job kind × (job.subject ≡ id)
+done-by w job (PutJob name bytes) entry id h e = elim (cases_lt job.place 4) [
+  | inl l ↦ absurd (let wrote = put-writes_first w job name bytes entry l h in
+      let f : None ≡ Some id = sym (ap put_ended wrote) ∙ e in cc)
+  | inr l ↦ (
+    l,
+    (let wrote = put-writes_later w job name bytes entry l h in
+        let f : Some job.subject ≡ Some id = sym (ap put_ended wrote) ∙ e in cc),
+  )
 ]
-done-by w job (GetJob name) entry id size h e = absurd h
-done-by w job (DropJob name) entry id size h e = absurd (let f : Drop name ≡ PutDone id size = sym h ∙ e in cc)
-done-by w job AuditJob entry id size h e = elim (cases_lt job.place 4) [
-  | inl l ↦ absurd (let f : AuditStart (next_audit w.records) ≡ PutDone id size = sym (audit-writes_first w job entry l h) ∙ e in cc)
-  | inr l ↦ absurd (let g = audit-writes_later w job entry l h in let sums : Sums = g.0 in let f : AuditDone job.subject sums.undecided sums.counts ≡ PutDone id size = sym g.2 ∙ e in cc)
+done-by w job (GetJob name) entry id h e = absurd h
+done-by w job (DropJob name) entry id h e = absurd (let f : None ≡ Some id = sym (ap put_ended h) ∙ e in cc)
+done-by w job AuditJob entry id h e = elim (cases_lt job.place 4) [
+  | inl l ↦ absurd (let wrote = audit-writes_first w job entry l h in
+      let f : None ≡ Some id = sym (ap put_ended wrote) ∙ e in cc)
+  | inr l ↦ absurd (let wrote = audit-writes_later w job entry l h in
+      let f : None ≡ Some id = sym (ap put_ended wrote.2) ∙ e in cc)
 ]
-done-by w job RepairJob entry id size h e = absurd (let f : RepairDone job.subject ≡ PutDone id size = sym h ∙ e in cc)
+done-by w job RepairJob entry id h e = absurd (let f : None ≡ Some id = sym (ap put_ended h) ∙ e in cc)
 
 -- a started put stays so until its own end
-started-stays : (rs : List Record) (r : Record) (id : ℕ) (name : List ℕ) → IsProper rs r → id < next_id rs → ((size : ℕ) → r ≡ PutDone id size → ⊥) → started_as rs id ≡ Some name → started_as (r ∷ rs) id ≡ Some name
-started-stays rs (SetUp s) id name proper l n h = h
-started-stays rs (PutStart k m) id name proper l n h = cond_false (k == id) (Some m) (started_as rs id) (ne_eqb k id (λ e. omega (arith, l, proper, e))) ∙ h
-started-stays rs (PutDone k size) id name proper l n h = cond_false (k == id) None (started_as rs id) (ne_eqb k id (λ e. n size (ap (λ x. PutDone x size) e))) ∙ h
-started-stays rs (Drop m) id name proper l n h = h
-started-stays rs (AuditStart number) id name proper l n h = h
-started-stays rs (AuditDone number undecided counts) id name proper l n h = h
-started-stays rs (RepairDone number) id name proper l n h = h
+started-stays : (rs : List Record) (r : Record) (id : ℕ) (name : List ℕ) → refused rs r ≡ None → id < next_id rs →
+    (put_ended r ≡ Some id → ⊥) → started_as rs id ≡ Some name → started_as (r ∷ rs) id ≡ Some name
+started-stays rs (SetUp s) id name a l n h = h
+started-stays rs (PutStart k m) id name a l n h =
+    let drawn : k ≡ next_id rs = grind (arith, nat_tests, a) in
+    cond_false (k == id) (Some m) (started_as rs id) (ne_eqb k id (λ e. omega (arith, l, drawn, e))) ∙ h
+started-stays rs (PutDone k size) id name a l n h =
+    cond_false (k == id) None (started_as rs id) (ne_eqb k id (λ e. n (ap Some e))) ∙ h
+started-stays rs (Drop m) id name a l n h = h
+started-stays rs (AuditStart number) id name a l n h = h
+started-stays rs (AuditDone number undecided counts) id name a l n h = h
+started-stays rs (RepairDone number) id name a l n h = h
+started-stays rs (PutDoneIn k size profile) id name a l n h =
+    cond_false (k == id) None (started_as rs id) (ne_eqb k id (λ e. n (ap Some e))) ∙ h
+started-stays rs Version id name a l n h = h
+started-stays rs (Resume next audit) id name a l n h = h
+started-stays rs (InEffect k size profile kept) id name a l n h = h
+started-stays rs (RepairDue number counts) id name a l n h = h
 
-module _ (s : Setup) (rs : List Record) (bytes : ℕ → List ℕ) (entry : Record) where
+module _ (s : Setup) (rs : List Record) (bytes : ℕ → List ℕ) (entry : Record)
+    (accepted : AreAccepted (entry ∷ rs)) where
+  grows : next_id rs ≤ next_id (entry ∷ rs)
+  grows = next_id-grows entry rs accepted
+
   pin-more : (f : Pinned) → IsPin rs bytes f → IsPin (entry ∷ rs) bytes f
-  pin-more f p = record { drawn = (let a = p.drawn in let b = next_id-grows entry rs in omega (arith, a, b)); bytes_are = p.bytes_are; spelled = p.spelled; size = p.size }
+  pin-more f p = record {
+    drawn = (let a = p.drawn in let b = grows in omega (arith, a, b));
+    bytes_are = p.bytes_are;
+    spelled = p.spelled;
+    size = p.size;
+  }
 
   older-more : (older : List ℕ) → IsOlder rs older → IsOlder (entry ∷ rs) older
   older-more older (inl e) = inl e
-  older-more older (inr (id, e, l)) = inr (id, e, (let b = next_id-grows entry rs in omega (arith, l, b)))
+  older-more older (inr (id, e, l)) = inr (id, e, (let b = grows in omega (arith, l, b)))
 
   -- another job, whose record this is not
-  kept-more : (moves : ℕ) (job : Job) → moves ≡ 0 → IsProper rs entry → (IsPutUnderWay job job.kind → (size : ℕ) → entry ≡ PutDone job.subject size → ⊥) → (IsTrue (is_check job.kind) → IsNoCheck entry) →
+  kept-more : (moves : ℕ) (job : Job) → moves ≡ 0 → (IsPutUnderWay job job.kind → put_ended entry ≡ Some job.subject → ⊥) →
+      (IsTrue (is_check job.kind) → IsNoCheck entry) →
       IsSoundJob s rs bytes moves job → IsSoundJob s (entry ∷ rs) bytes 0 job
-  kept-more moves job none proper apart quiet J = record {
+  kept-more moves job none apart quiet J = record {
     spelled = J.spelled;
     wish = J.wish;
     pins = J.pins;
@@ -117,11 +158,12 @@ module _ (s : Setup) (rs : List Record) (bytes : ℕ → List ℕ) (entry : Reco
     ready = ready job.kind apart quiet J.ready;
   }
     where
-      ready : (kind : Kind) → (IsPutUnderWay job kind → (size : ℕ) → entry ≡ PutDone job.subject size → ⊥) → (IsTrue (is_check kind) → IsNoCheck entry) → IsReady s rs bytes job kind → IsReady s (entry ∷ rs) bytes job kind
+      ready : (kind : Kind) → (IsPutUnderWay job kind → put_ended entry ≡ Some job.subject → ⊥) →
+          (IsTrue (is_check kind) → IsNoCheck entry) → IsReady s rs bytes job kind → IsReady s (entry ∷ rs) bytes job kind
       ready (PutJob name content) apart quiet r = λ l. (let d = r l in record {
-        drawn = (let a = d.drawn in let b = next_id-grows entry rs in omega (arith, a, b));
+        drawn = (let a = d.drawn in let b = grows in omega (arith, a, b));
         bytes_are = d.bytes_are;
-        started = λ k. started-stays rs entry job.subject name proper d.drawn (apart l) (d.started k);
+        started = λ k. started-stays rs entry job.subject name accepted.0 d.drawn (apart l) (d.started k);
       })
       ready (GetJob name) apart quiet r = tt
       ready (DropJob name) apart quiet r = tt
@@ -182,8 +224,8 @@ module _ (limit : ℕ) (old : State) (S : IsSound limit old) (job : Job) (runs :
   done-bytes : (id : ℕ) → bytes_drawn old job job.kind id ≡ old.bytes id
   done-bytes id = subst (λ (x : Job). bytes_drawn old x x.kind id ≡ old.bytes id) is_job ((S.append a flight).bytes id)
 
-  proper : IsProper old.records a.entry
-  proper = accepted-proper old.records a.entry (S.append a flight).follows.accepted
+  accepted : AreAccepted rs_now
+  accepted = ((S.append a flight).follows.accepted, S.accepted)
 
   pub gate-order : IsInOrder 3 (actions_left s job)
   gate-order = subst (λ m. IsInOrder m (actions_left s job)) (ap (λ f. moves_made f job.number) flight ∙ (mine a job.number own ∙ three)) (S.jobs job.number job runs).order
@@ -233,7 +275,7 @@ module _ (limit : ℕ) (old : State) (S : IsSound limit old) (job : Job) (runs :
           started = λ k. cond_true (next_id old.records == job.subject) (Some name) (started_as old.records job.subject) (eq-eqb (next_id old.records) job.subject (sym n));
         }))
     | inr f ↦ (let d = r f in record {
-      drawn = (let b = d.drawn in let c = next_id-grows a.entry old.records in omega (arith, b, c));
+      drawn = (let b = d.drawn in let c = next_id-grows a.entry old.records accepted in omega (arith, b, c));
       bytes_are = d.bytes_are;
       started = λ k. absurd (let b = put-later s job name bytes kind f in let c = one-less in omega (arith, k, b, c));
     })
@@ -264,9 +306,10 @@ module _ (limit : ℕ) (old : State) (S : IsSound limit old) (job : Job) (runs :
     pins = (S.jobs job.number job runs).pins;
     few = (S.jobs job.number job runs).few;
     ascending = (S.jobs job.number job runs).ascending;
-    pinned = λ f i. pin-more s old.records old.bytes a.entry f ((S.jobs job.number job runs).pinned f i);
+    pinned = λ f i. pin-more s old.records old.bytes a.entry accepted f ((S.jobs job.number job runs).pinned f i);
     subject = (S.jobs job.number job runs).subject;
-    older = older-more s old.records old.bytes a.entry older_now (taken-older old job job.kind (λ name file e. ((sound-accepted old.records S.accepted).file name file e).0));
+    older = older-more s old.records old.bytes a.entry accepted older_now
+        (taken-older old job job.kind (λ name file e. ((sound-accepted old.records S.accepted).file name file e).0));
     undecided = after-undecided job.kind refl done-writes;
     order = goes.0;
     ready = after-ready job.kind refl done-writes (S.jobs job.number job runs).ready;
@@ -274,10 +317,10 @@ module _ (limit : ℕ) (old : State) (S : IsSound limit old) (job : Job) (runs :
 
   -- another job
   other-job : (k : ℕ) (j : Job) → (k ≡ job.number → ⊥) → job_of old.jobs k ≡ Some j → IsSoundJob s rs_now old.bytes 0 j
-  other-job k j n r = kept-more s old.records old.bytes a.entry (moves_made old.append k) j
+  other-job k j n r = kept-more s old.records old.bytes a.entry accepted (moves_made old.append k) j
       (ap (λ f. moves_made f k) flight ∙ other a k (λ e. n (sym e ∙ own)))
-      proper
-      (λ u size e. (let d = done-by old job job.kind a.entry j.subject size done-writes e in n (S.apart k job.number j job r runs u d.0 (sym d.1))))
+      (λ u e. (let d = done-by old job job.kind a.entry j.subject done-writes e in
+      n (S.apart k job.number j job r runs u d.0 (sym d.1))))
       (λ c. no-check old job job.kind a.entry (λ d. n (S.one_check k job.number j job r runs c d)) done-writes)
       (S.jobs k j r)
 
@@ -287,22 +330,23 @@ module _ (limit : ℕ) (old : State) (S : IsSound limit old) (job : Job) (runs :
     where
       by_kind : (kind : Kind) → job.kind ≡ kind → Writes old job kind a.entry → IsReady s old.records old.bytes job kind → are_put n old.jobs ≡ true
       by_kind (PutJob name bytes) kind h r =
-          (let d = done-by old job (PutJob name bytes) a.entry id size h e in
+          (let d = done-by old job (PutJob name bytes) a.entry id h (ap put_ended e) in
           let left : 0 < appends_left s job = (let c = one-less in omega (arith, c)) in
           let st : started_as old.records job.subject ≡ Some name = (r d.0).started left in
           let is : n ≡ name = same_value (started_as old.records id) n name started (ap (started_as old.records) (sym d.1) ∙ st) in
           put-in n old.jobs job.number job runs (ap (puts_name n) kind ∙ (ap (is_same_name n) (sym is) ∙ same-refl n)))
       by_kind (GetJob name) kind h r = absurd h
-      by_kind (DropJob name) kind h r = absurd (done-by old job (DropJob name) a.entry id size h e).0
-      by_kind AuditJob kind h r = absurd (done-by old job AuditJob a.entry id size h e).0
-      by_kind RepairJob kind h r = absurd (done-by old job RepairJob a.entry id size h e).0
+      by_kind (DropJob name) kind h r = absurd (done-by old job (DropJob name) a.entry id h (ap put_ended e)).0
+      by_kind AuditJob kind h r = absurd (done-by old job AuditJob a.entry id h (ap put_ended e)).0
+      by_kind RepairJob kind h r = absurd (done-by old job RepairJob a.entry id h (ap put_ended e)).0
 
   names-were : (n : List ℕ) → (are_put n (with_job old.jobs after) || is_some (file_of rs_now n)) ≡ true → (are_put n old.jobs || is_some (file_of old.records n)) ≡ true
   names-were n h = elim (cases_Bool (are_put n old.jobs)) [
     | inl t ↦ ap (λ b. b || is_some (file_of old.records n)) t
     | inr f ↦ (let g : is_some (file_of rs_now n) ≡ true = sym (ap (λ b. b || is_some (file_of rs_now n)) (put-with n old.jobs after job runs refl ∙ f)) ∙ h in
         let file = is_some-at (file_of rs_now n) g in
-        ap (λ b. b || is_some (file_of old.records n)) f ∙ elim (file-came a.entry old.records n file.0 file.1) [
+        let follows = (S.append a flight).follows in
+        ap (λ b. b || is_some (file_of old.records n)) f ∙ elim (file-came a.entry old.records n file.0 follows.in_grammar file.1) [
           | inl was ↦ ap is_some was
           | inr new ↦ absurd (false≢true (sym f ∙ done-name n file.0.id file.0.size new.0 new.1))
         ])
@@ -374,12 +418,13 @@ module _ (limit : ℕ) (old : State) (S : IsSound limit old) (job : Job) (runs :
 
   pub done-sound : IsSound limit new
   done-sound = record {
-    accepted = ((S.append a flight).follows.accepted, S.accepted);
+    accepted = accepted;
     in_grammar = spelled-more a.entry old.records (S.append a flight).follows.in_grammar S.in_grammar;
     room = (let e = ap (λ t. sum_by (reserved t) (with_job old.jobs after)) setup-stays in let r = done-room in omega (arith, e, r));
-    files = held-more old.bytes a.entry old.records (S.append a flight).follows.held S.files;
+    files = (let follows = (S.append a flight).follows in
+        held-more old.bytes a.entry old.records follows.in_grammar follows.held S.files);
     names = (let f = taken-fewer old.records rs_now old.jobs (with_job old.jobs after) names-were in let b = S.names in omega (arith, f, b));
-    closed = λ closed. absurd (some-none (job_of old.jobs job.number) job runs (ap (λ l. job_of l job.number) (S.closed closed).0));
+    closed = λ closed. absurd (some-not-none (job_of old.jobs job.number) job runs (ap (λ l. job_of l job.number) (S.closed closed).0));
     set_up = λ o. up-more a.entry old.records (S.set_up o);
     handed = λ o. (let h = S.handed o in let e = ap (λ (t : Setup). t.n) setup-stays in omega (arith, h, e));
     few = (let f = length-with old.jobs after in let b = S.few in omega (arith, f, b));

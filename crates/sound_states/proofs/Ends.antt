@@ -2,6 +2,7 @@
 use Rattle.std.proofs.Common.{◌≡◌, ℕ, ◌==◌, Bool, true, false, ◌||◌, List, [], ◌∷◌, Option, Some, None, refl, ap, sym, ◌∙◌, inl, inr, arith}
 use Rattle.std.specs.Prelude.{is_some}
 use Rattle.std.proofs.lemmas.Bool.{cases_Bool}
+use Rattle.plain_facts.proofs.Options.{some-not-none}
 use Rattle.hail_records.specs.Table.{file_of}
 use Rattle.hail_machine.specs.Jobs.{Job, job_of, without_job}
 use Rattle.hail_machine.specs.States.{State, Append, Doubt, setup_in, ended}
@@ -12,7 +13,6 @@ use Rattle.sound_states.specs.Follows.{MayFollow}
 use Rattle.sound_states.specs.Sound.{IsDoubtOf, IsSoundAppend, IsSound}
 use Rattle.sound_states.proofs.JobLists.{sum-without, length-without, numbered-without, still-without, mine, other}
 use Rattle.sound_states.proofs.NamesTaken.{are_put, puts_name, taken-fewer}
-use Rattle.sound_states.proofs.Records.{some-none}
 use Rattle.sound_states.proofs.Going.{kept}
 
 or-right : (a b c : Bool) → (b ≡ true → c ≡ true) → (a || b) ≡ true → (a || c) ≡ true
@@ -54,7 +54,7 @@ module _ (limit : ℕ) (old : State) (S : IsSound limit old) (job : Job) (runs :
     room = (let a = sum-without (reserved (setup_in old)) old.jobs job.number job runs in let c = S.room in omega (arith, a, c));
     files = S.files;
     names = (let a = taken-fewer old.records old.records old.jobs (without_job old.jobs job.number) (λ n h. or-left (are_put n (without_job old.jobs job.number)) (is_some (file_of old.records n)) (are_put n old.jobs) (put-without n old.jobs job.number) h) in let b = S.names in omega (arith, a, b));
-    closed = λ closed. absurd (some-none (job_of old.jobs job.number) job runs (ap (λ l. job_of l job.number) (S.closed closed).0));
+    closed = λ closed. absurd (some-not-none (job_of old.jobs job.number) job runs (ap (λ l. job_of l job.number) (S.closed closed).0));
     set_up = S.set_up;
     handed = S.handed;
     few = (let a = length-without old.jobs job.number in let b = S.few in omega (arith, a, b));

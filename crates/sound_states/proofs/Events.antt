@@ -2,12 +2,13 @@
 use Rattle.std.proofs.Common.{◌≡◌, ℕ, ◌+◌, ◌==◌, Bool, true, false, List, [], ◌∷◌, length, drop, Option, Some, None, refl, ap, sym, subst, ◌∙◌, inl, inr, arith}
 use Rattle.std.specs.Prelude.{IsSome, nat_lt, slice_get}
 use Rattle.std.proofs.lemmas.Bool.{cases_Bool, false≢true, and_parts, eqb-true}
+use Rattle.plain_facts.proofs.Options.{some-not-none}
+use Rattle.plain_facts.proofs.Lists.{drop-get}
 use Rattle.hail_devices.specs.Providers.{Held, Provider, with_symbol, without_block, HasPlace}
 use Rattle.hail_machine.specs.Jobs.{Kind, PutJob, GetJob, DropJob, AuditJob, RepairJob, Job, Given, Fetched, Answered, Worked, job_of, advanced}
 use Rattle.hail_machine.specs.Actions.{Action, WriteBody, SyncBody, WriteGate, SyncGate, Store, Fetch, Ask, Work, Remove, End, ends_append, actions_of, actions_left}
 use Rattle.hail_machine.specs.Refusals as refusal
 use Rattle.hail_machine.specs.Answers as answer
-use Rattle.hail_machine.specs.Answers.{Answer}
 use Rattle.hail_machine.specs.Events.{Event, Init, Begin, Step, Alter, Lose, Stop, Reopen, Names, Continue, IsSpelled, IsSpelledKind, Outcome, Refused, Begun, More, Waiting, Ended, Replaced, NothingHeld, Listed, Closed}
 use Rattle.hail_machine.specs.States.{State, IsStart, Append, Doubt, setup_in, with_provider, going_on, ended}
 use Rattle.hail_machine.specs.Begins.{Begins}
@@ -20,8 +21,7 @@ use Rattle.hail_machine.proofs.JobLists.{cond_true, cond_false, same_value, numb
 use Rattle.sound_states.specs.Orders.{moves_made, moves_before, moves_after, IsInOrder}
 use Rattle.sound_states.specs.Follows.{MayFollow}
 use Rattle.sound_states.specs.Sound.{IsGatedDoubt, IsDoubtOf, IsSound}
-use Rattle.sound_states.proofs.Orders.{drop-get, moves-first}
-use Rattle.sound_states.proofs.Records.{some-none}
+use Rattle.sound_states.proofs.Orders.{moves-first}
 use Rattle.sound_states.proofs.Going.{onward}
 use Rattle.sound_states.proofs.Turns.{gone_on, plain-sound}
 use Rattle.sound_states.proofs.Moves.{begun-sound, moved-sound}
@@ -128,12 +128,12 @@ module _ (limit moment : ℕ) (old : State) (S : IsSound limit old) where
     gated a flight d h = (let e : record { entry = a.entry; maker = Some (advanced job) } ≡ d = cc in subst (λ (x : Doubt). MayFollow old.records old.bytes x.entry) e (S.append a flight).follows)
 
     none-flies : old.append ≡ None → (a : Append) → old.append ≡ Some a → a.job ≡ job.number
-    none-flies none a h = absurd (some-none old.append a h none)
+    none-flies none a h = absurd (some-not-none old.append a h none)
 
     moves : (action : Action) (flight : Option Append) (r : Outcome) (new : State) → old.append ≡ flight → next_action old job ≡ Some action → holder_of flight action ≡ None → Moves old job action flight r new → IsSound limit new
     moves WriteBody None More new flight next free (entry, writes, (faults, low, is)) = subst (IsSound limit) (sym is)
         (devices-sound limit _ old.providers faults (begun-sound limit old S job runs entry opened unbarred flight next writes))
-    moves WriteBody (Some a) r new flight next free h = absurd (some-none (Some a.job) a.job refl free)
+    moves WriteBody (Some a) r new flight next free h = absurd (some-not-none (Some a.job) a.job refl free)
     moves WriteBody None (Ended answer.DiskFault) new flight next free (faults, low, rose, is) = bars old.doubt faults new (none-flies flight) S.doubt is
     moves WriteBody None (Ended answer.Memory) new flight next free (faults, low, is) = ends WriteBody old.providers faults new next refl is
     moves SyncBody (Some a) More new flight next free (at, (faults, low, is)) = subst (IsSound limit) (sym is)

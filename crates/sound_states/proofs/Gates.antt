@@ -2,15 +2,18 @@
 use Rattle.std.proofs.Common.{◌≡◌, ℕ, zero, suc, ◌+◌, ◌-◌, ◌≤◌, List, [], ◌∷◌, ◌++◌, length, drop, Some, None, refl, ap, sym, subst, ◌∙◌, inl, inr, arith}
 use Rattle.std.specs.Prelude.{slice_get}
 use Rattle.std.proofs.Math.Seq.{drop-append-add}
+use Rattle.plain_facts.specs.Lists.{Each}
+use Rattle.plain_facts.proofs.Each.{each_get, each_append}
 use Rattle.hail_records.specs.Records.{Setup}
 use Rattle.hail_machine.specs.Jobs.{PutJob, DropJob, AuditJob, RepairJob, Job, advanced}
 use Rattle.hail_machine.specs.Actions.{Action, WriteBody, SyncBody, WriteGate, SyncGate, Store, Fetch, Ask, Work, Remove, End, append_actions, store_actions, remove_actions, actions_by, actions_of, actions_left, appends_left}
 use Rattle.hail_machine.specs.States.{State, setup_in}
 use Rattle.hail_machine.specs.Steps.{next_action}
-use Rattle.hail_machine.proofs.ActionLists.{Each, each_append, each_get, split_get}
+use Rattle.hail_machine.proofs.ActionLists.{split_get}
 use Rattle.hail_machine.proofs.Fair.{gate_place}
+use Rattle.hail_machine.proofs.NextActions.{next_stands}
 use Rattle.sound_states.specs.Orders.{IsInOrder}
-use Rattle.sound_states.proofs.Orders.{IsOther, others-removals, put_rest, drop_rest, put-list, in_order-removals, appends-removals, appends-cons, appends_in, next-listed, next-left}
+use Rattle.sound_states.proofs.Orders.{IsOther, others-removals, put_rest, drop_rest, put-list, in_order-removals, appends-removals, appends-cons, appends_in, next-left}
 
 -- a job one action further that takes these objects away
 abbrev pub decided : Job → List ℕ → Job
@@ -108,7 +111,7 @@ module _ (w : State) (job : Job) (older : List ℕ) (next : next_action w job �
 
   pub drop-first_gate : (name : List ℕ) → job.kind ≡ DropJob name → GoesOn
   drop-first_gate name kind =
-      (let at = drop-gate (setup_in w) job job.place (ap (λ xs. slice_get xs job.place) (sym (drop-list (setup_in w) job name kind)) ∙ next-listed w job SyncGate next not-end) in
+      (let at = drop-gate (setup_in w) job job.place (ap (λ xs. slice_get xs job.place) (sym (drop-list (setup_in w) job name kind)) ∙ next_stands w job SyncGate next not-end) in
       let four : job.place + 1 ≡ 4 + 0 = omega (arith, at) in
       let behind : actions_left (setup_in w) (decided job older) ≡ drop_rest (setup_in w) (decided job older) =
       ap (drop (job.place + 1)) (drop-list (setup_in w) (decided job older) name kind) ∙ (ap (λ n. drop n (append_actions ++ drop_rest (setup_in w) (decided job older))) four ∙ drop-append-add append_actions (drop_rest (setup_in w) (decided job older)) 0) in

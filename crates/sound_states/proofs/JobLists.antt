@@ -55,13 +55,6 @@ still-without (x ∷ js) n k j apart h = elim (cases_Bool (x.number == n)) [
   ]
 ]
 
-pub still-more : (js : List Job) (x : Job) (k : ℕ) (j : Job) → job_of js k ≡ Some j → job_of (js ++ x ∷ []) k ≡ Some j
-still-more [] x k j h = absurd (let e : None ≡ Some j = h in cc)
-still-more (y ∷ js) x k j h = elim (at_first y js k j h) [
-  | inl p ↦ cond_true (y.number == k) (Some y) (job_of (js ++ x ∷ []) k) (eq-eqb y.number k p.0) ∙ ap Some (sym p.1)
-  | inr q ↦ cond_false (y.number == k) (Some y) (job_of (js ++ x ∷ []) k) q.0 ∙ still-more js x k j q.1
-]
-
 -- ---- sums
 
 pub sum-with : (f : Job → ℕ) (js : List Job) (job before : Job) → job_of js job.number ≡ Some before → sum_by f (with_job js job) + f before ≡ sum_by f js + f job
@@ -157,3 +150,10 @@ made-some (Some a) number l = elim (cases_eq a.job number) [
   | inl e ↦ (a, refl, e, sym (mine a number e))
   | inr n ↦ absurd (let z = other a number n in omega (arith, l, z))
 ]
+
+-- jobs of higher numbers stay where one of a lower is taken out
+pub without_job-none : (js : List Job) (low next k : ℕ) → AreNumbered low js next → k < low → without_job js k ≡ js
+without_job-none [] low next k are less = refl
+without_job-none (x ∷ js) low next k are less =
+    cond_false (x.number == k) (without_job js k) (x ∷ without_job js k) (ne_eqb x.number k (λ e. absurd (omega (arith, are.0, less, e))))
+    ∙ ap (λ (l : List Job). x ∷ l) (without_job-none js (x.number + 1) next k are.1 (omega (arith, are.0, less)))

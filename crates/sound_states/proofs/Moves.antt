@@ -1,6 +1,7 @@
 -- Sound states after the first three moves of an append.
-use Rattle.std.proofs.Common.{◌≡◌, ℕ, ◌+◌, ◌<◌, ◌≤◌, ◌^◌, ◌==◌, Bool, true, false, cond, ◌&&◌, List, Option, Some, None, refl, ap, sym, subst, ◌∙◌, inl, inr, arith}
-use Rattle.std.proofs.lemmas.Bool.{cases_lt, cases_eq, false≢true, ne_eqb}
+use Rattle.std.proofs.Common.{◌≡◌, ℕ, ◌+◌, ◌<◌, ◌≤◌, ◌^◌, ◌==◌, Bool, true, false, cond, List, Option, Some, None, refl, ap, sym, subst, ◌∙◌, inl, inr, arith}
+use Rattle.std.proofs.lemmas.Bool.{cases_lt, cases_eq, false≢true}
+use Rattle.plain_facts.proofs.Options.{some-not-none}
 use Rattle.hail_records.specs.Records.{Record, largest_journal}
 use Rattle.hail_records.specs.Table.{next_id, next_audit}
 use Rattle.hail_machine.specs.Jobs.{Kind, PutJob, GetJob, DropJob, AuditJob, RepairJob, Given, Job, job_of, with_job}
@@ -8,31 +9,20 @@ use Rattle.hail_machine.specs.Actions.{Action, WriteBody, End, ends_append, appe
 use Rattle.hail_machine.specs.States.{State, Append, Doubt, setup_in}
 use Rattle.hail_machine.specs.Appends.{Writes, is_first_append, subject_drawn, bytes_drawn, audits_drawn}
 use Rattle.hail_machine.specs.Steps.{next_action}
-use Rattle.hail_machine.proofs.JobLists.{cond_false, same_value, found_itself}
+use Rattle.hail_machine.proofs.JobLists.{same_value, found_itself}
 use Rattle.hail_machine.proofs.Numbers.{objects, Draws, first_above, drawn_later}
+use Rattle.hail_machine.proofs.Events.{drawn_bytes}
 use Rattle.sound_states.specs.Orders.{moves_made, moves_after, IsInOrder}
 use Rattle.sound_states.specs.Follows.{MayFollow}
 use Rattle.sound_states.specs.SoundJobs.{IsSoundJob}
 use Rattle.sound_states.specs.Sound.{IsGatedDoubt, IsDoubtOf, IsSoundAppend, IsPutUnderWay, IsSound}
 use Rattle.sound_states.proofs.Orders.{put-second, audit-second}
 use Rattle.sound_states.proofs.JobLists.{mine, other}
-use Rattle.sound_states.proofs.Records.{some-none}
 use Rattle.sound_states.proofs.Written.{ids-small, audits-small, written-follows}
 use Rattle.sound_states.proofs.Going.{onward, not-three, went}
 use Rattle.sound_states.proofs.Turns.{follows-on, writes-on, drawn-on, bytes-on, gone_on, going-sound, order-now, count-now}
 
 -- ---- what a first move draws
-
-pub drawn-below : (w : State) (job : Job) (kind : Kind) (id : ℕ) → id < next_id w.records → bytes_drawn w job kind id ≡ w.bytes id
-drawn-below w job (PutJob name bytes) id l = other_id (is_first_append job) (ne_eqb id (next_id w.records) (λ e. omega (arith, l, e)))
-  where
-    other_id : (b : Bool) → (id == next_id w.records) ≡ false → cond (b && (id == next_id w.records)) bytes (w.bytes id) ≡ w.bytes id
-    other_id true f = cond_false (id == next_id w.records) bytes (w.bytes id) f
-    other_id false f = refl
-drawn-below w job (GetJob name) id l = refl
-drawn-below w job (DropJob name) id l = refl
-drawn-below w job AuditJob id l = refl
-drawn-below w job RepairJob id l = refl
 
 drawn-small : (w : State) (job : Job) (kind : Kind) → next_id w.records ≤ largest_journal → next_audit w.records ≤ largest_journal → job.subject < 2 ^ 64 → subject_drawn w job kind < 2 ^ 64
 drawn-small w job (PutJob name bytes) i a s = by_first (is_first_append job)
@@ -97,7 +87,7 @@ module _ (limit : ℕ) (old : State) (S : IsSound limit old) (job : Job) (runs :
       by_kind RepairJob kind = same (ap (subject_drawn old job) kind)
 
   pub begun-follows : (entry : Record) → next_action old job ≡ Some WriteBody → Writes old job job.kind entry → MayFollow old.records (bytes_drawn old job job.kind) entry
-  begun-follows entry next writes = follows-on old.records old.bytes (bytes_drawn old job job.kind) entry S.accepted (drawn-below old job job.kind) (written-follows limit old S job.number job runs entry next writes)
+  begun-follows entry next writes = follows-on old.records old.bytes (bytes_drawn old job job.kind) entry S.accepted (drawn_bytes old job job.kind) (written-follows limit old S job.number job runs entry next writes)
 
   abbrev first_flight : Record → Append
   first_flight entry = record { job = job.number; entry = entry; moves = 1 }
@@ -122,9 +112,9 @@ module _ (limit : ℕ) (old : State) (S : IsSound limit old) (job : Job) (runs :
       (let o = body-order next in
       let undoubted : old.doubt ≡ None = subst (λ f. IsDoubtOf f old.doubt) free (S.undoubted opened unbarred) in
       going-sound limit old S job runs (onward job drawn_number job.given) (Some (first_flight entry)) old.doubt (bytes_drawn old job job.kind) (audits_drawn old job job.kind) refl refl
-      (drawn-below old job job.kind)
+      (drawn_bytes old job job.kind)
       (λ k n. other (first_flight entry) k (λ e. n (sym e)) ∙ ap (λ f. moves_made f k) (sym free))
-      (went (setup_in old) old.records old.bytes (bytes_drawn old job job.kind) (drawn-below old job job.kind) old (moves_made old.append job.number) (moves_made (Some (first_flight entry)) job.number) job drawn_number job.given WriteBody next refl later-same repair-same
+      (went (setup_in old) old.records old.bytes (bytes_drawn old job job.kind) (drawn_bytes old job job.kind) old (moves_made old.append job.number) (moves_made (Some (first_flight entry)) job.number) job drawn_number job.given WriteBody next refl later-same repair-same
       (drawn-small old job job.kind (ids-small limit old S) (audits-small limit old S) own-job.subject) o.1
       (subst (λ m. IsInOrder m (actions_left (setup_in old) (onward job drawn_number job.given))) (sym (mine (first_flight entry) job.number refl)) o.0) own-job)
       (under-way job.kind drawn_number WriteBody job.given refl next refl later-same)
@@ -132,7 +122,7 @@ module _ (limit : ℕ) (old : State) (S : IsSound limit old) (job : Job) (runs :
       (λ a flight. subst (λ x. IsSoundAppend (gone_on old (onward job drawn_number job.given) (Some (first_flight entry)) old.doubt (bytes_drawn old job job.kind) (audits_drawn old job job.kind)) x) (the-one entry a flight) (begun-append entry next writes))
       (λ b. absurd (false≢true (sym unbarred ∙ b)))
       (λ p q. undoubted)
-      (λ d h. absurd (some-none old.doubt d h undoubted)))
+      (λ d h. absurd (some-not-none old.doubt d h undoubted)))
     where
       the-one : (entry : Record) (a : Append) → Some (first_flight entry) ≡ Some a → first_flight entry ≡ a
       the-one entry a h = cc

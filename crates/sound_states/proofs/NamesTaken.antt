@@ -3,34 +3,24 @@ use Rattle.std.proofs.Common.{◌≡◌, ℕ, suc, ◌+◌, ◌≤◌, Bool, tru
 use Rattle.std.specs.Prelude.{is_some}
 use Rattle.std.specs.List.{list_any}
 use Rattle.std.proofs.lemmas.Bool.{cases_Bool, false≢true}
-use Rattle.std.proofs.lemmas.Bool.Decides.{nat_tests}
 use Rattle.hail_records.specs.Records.{Record}
-use Rattle.hail_records.specs.Table.{File, is_same_name, is_name_before, files_of, file_of, find_file, are_ordered}
-use Rattle.hail_records.proofs.FilesLaws.{same-eq, same-refl, find-files_of}
+use Rattle.hail_records.specs.Table.{File, is_same_name, files_of, file_of, find_file, are_ordered}
+use Rattle.hail_records.proofs.FilesLaws.{same-eq, same-refl, find-files_of, same-sym, before-irrefl}
 use Rattle.hail_records.proofs.OrderLaws.{is_below, ordered-files_of}
 use Rattle.hail_machine.specs.Jobs.{Kind, PutJob, GetJob, DropJob, AuditJob, RepairJob, Job, job_of}
-use Rattle.hail_machine.specs.Begins.{is_listed, with_name, names_in, with_puts}
+use Rattle.hail_machine.specs.Begins.{is_name_among, with_name, names_in, with_puts}
 use Rattle.hail_machine.proofs.JobLists.{cond_true, cond_false}
 use Rattle.hail_machine.proofs.Pins.{any_job}
 
 -- names that stand once each
 abbrev pub AreOnce : List (List ℕ) → Type 0
 AreOnce [] = Unit {0}
-AreOnce (x ∷ xs) = (is_listed xs x ≡ false) × AreOnce xs
+AreOnce (x ∷ xs) = (is_name_among xs x ≡ false) × AreOnce xs
 
 -- a job puts under a name
 abbrev pub puts_name : List ℕ → Kind → Bool
 puts_name n (PutJob name bytes) = is_same_name n name
 puts_name n kind = false
-
-same-sym : (m n : List ℕ) → is_same_name m n ≡ is_same_name n m
-same-sym m n = elim (cases_Bool (is_same_name m n)) [
-  | inl t ↦ (let e = same-eq m n t in t ∙ sym (subst (λ x. is_same_name x m ≡ true) e (same-refl m)))
-  | inr f ↦ elim (cases_Bool (is_same_name n m)) [
-    | inl t ↦ absurd (let e = same-eq n m t in false≢true (sym f ∙ subst (λ x. is_same_name x n ≡ true) e (same-refl n)))
-    | inr g ↦ f ∙ sym g
-  ]
-]
 
 -- ---- what is listed
 
@@ -42,33 +32,33 @@ length-without_le : (ys : List (List ℕ)) (x : List ℕ) → length (names_with
 length-without_le [] x = omega arith
 length-without_le (y ∷ ys) x = grind (arith, length-without_le ys x)
 
-length-without_listed : (ys : List (List ℕ)) (x : List ℕ) → is_listed ys x ≡ true → length (names_without ys x) + 1 ≤ length ys
+length-without_listed : (ys : List (List ℕ)) (x : List ℕ) → is_name_among ys x ≡ true → length (names_without ys x) + 1 ≤ length ys
 length-without_listed [] x h = absurd (false≢true h)
 length-without_listed (y ∷ ys) x h = grind (arith, h, length-without_listed ys x, length-without_le ys x)
 
-listed-without : (ys : List (List ℕ)) (x n : List ℕ) → is_same_name x n ≡ false → is_listed (names_without ys x) n ≡ is_listed ys n
+listed-without : (ys : List (List ℕ)) (x n : List ℕ) → is_same_name x n ≡ false → is_name_among (names_without ys x) n ≡ is_name_among ys n
 listed-without [] x n f = refl
 listed-without (y ∷ ys) x n f = grind (arith, f, listed-without ys x n f, same-eq x y, same-sym n x)
 
 -- names that stand once each and all stand among others are no more than those
-pub fewer : (xs ys : List (List ℕ)) → AreOnce xs → ((n : List ℕ) → is_listed xs n ≡ true → is_listed ys n ≡ true) → length xs ≤ length ys
+pub fewer : (xs ys : List (List ℕ)) → AreOnce xs → ((n : List ℕ) → is_name_among xs n ≡ true → is_name_among ys n ≡ true) → length xs ≤ length ys
 fewer [] ys o h = omega arith
 fewer (x ∷ xs) ys o h =
-    (let here : is_listed ys x ≡ true = h x (grind (arith, same-refl x)) in
+    (let here : is_name_among ys x ≡ true = h x (grind (arith, same-refl x)) in
     let r = fewer xs (names_without ys x) o.1 (λ n i. later n i (cases_Bool (is_same_name x n))) in
     let l = length-without_listed ys x here in omega (arith, r, l))
   where
-    later : (n : List ℕ) → is_listed xs n ≡ true → (is_same_name x n ≡ true) ⊎ (is_same_name x n ≡ false) → is_listed (names_without ys x) n ≡ true
-    later n i (inl t) = absurd (false≢true (sym o.0 ∙ subst (λ m. is_listed xs m ≡ true) (sym (same-eq x n t)) i))
+    later : (n : List ℕ) → is_name_among xs n ≡ true → (is_same_name x n ≡ true) ⊎ (is_same_name x n ≡ false) → is_name_among (names_without ys x) n ≡ true
+    later n i (inl t) = absurd (false≢true (sym o.0 ∙ subst (λ m. is_name_among xs m ≡ true) (sym (same-eq x n t)) i))
     later n i (inr f) = listed-without ys x n f ∙ h n (grind (arith, i))
 
-listed-with_name : (names : List (List ℕ)) (name n : List ℕ) → is_listed (with_name names name) n ≡ (is_same_name n name || is_listed names n)
+listed-with_name : (names : List (List ℕ)) (name n : List ℕ) → is_name_among (with_name names name) n ≡ (is_same_name n name || is_name_among names n)
 listed-with_name names name n = grind (arith, same-eq n name)
 
 once-with_name : (names : List (List ℕ)) (name : List ℕ) → AreOnce names → AreOnce (with_name names name)
-once-with_name names name o = elim (cases_Bool (is_listed names name)) [
-  | inl t ↦ subst AreOnce (sym (cond_true (is_listed names name) names (name ∷ names) t)) o
-  | inr f ↦ subst AreOnce (sym (cond_false (is_listed names name) names (name ∷ names) f)) (f, o)
+once-with_name names name o = elim (cases_Bool (is_name_among names name)) [
+  | inl t ↦ subst AreOnce (sym (cond_true (is_name_among names name) names (name ∷ names) t)) o
+  | inr f ↦ subst AreOnce (sym (cond_false (is_name_among names name) names (name ∷ names) f)) (f, o)
 ]
 
 -- one more job
@@ -89,29 +79,25 @@ once-with_puts names (j ∷ js) o = by_kind j.kind refl (once-with_puts names js
 abbrev pub are_put : List ℕ → List Job → Bool
 are_put n js = list_any (λ (j : Job). puts_name n j.kind) js
 
-pub listed-with_puts : (names : List (List ℕ)) (js : List Job) (n : List ℕ) → is_listed (with_puts names js) n ≡ (are_put n js || is_listed names n)
+pub listed-with_puts : (names : List (List ℕ)) (js : List Job) (n : List ℕ) → is_name_among (with_puts names js) n ≡ (are_put n js || is_name_among names n)
 listed-with_puts names [] n = refl
 listed-with_puts names (j ∷ js) n = by_kind j.kind refl (listed-with_puts names js n)
   where
-    by_kind : (kind : Kind) → j.kind ≡ kind → is_listed (with_puts names js) n ≡ (are_put n js || is_listed names n) → is_listed (with_puts names (j ∷ js)) n ≡ ((puts_name n j.kind || are_put n js) || is_listed names n)
-    by_kind (PutJob name bytes) e r = ap (λ l. is_listed l n) (with_puts-cons names j js (PutJob name bytes) e)
-        ∙ (listed-with_name (with_puts names js) name n ∙ (ap (λ b. is_same_name n name || b) r ∙ (rw e (join (is_same_name n name) (are_put n js) (is_listed names n)))))
+    by_kind : (kind : Kind) → j.kind ≡ kind → is_name_among (with_puts names js) n ≡ (are_put n js || is_name_among names n) → is_name_among (with_puts names (j ∷ js)) n ≡ ((puts_name n j.kind || are_put n js) || is_name_among names n)
+    by_kind (PutJob name bytes) e r = ap (λ l. is_name_among l n) (with_puts-cons names j js (PutJob name bytes) e)
+        ∙ (listed-with_name (with_puts names js) name n ∙ (ap (λ b. is_same_name n name || b) r ∙ (rw e (join (is_same_name n name) (are_put n js) (is_name_among names n)))))
       where
         join : (a b c : Bool) → (a || (b || c)) ≡ ((a || b) || c)
         join true b c = refl
         join false b c = refl
-    by_kind (GetJob name) e r = ap (λ l. is_listed l n) (with_puts-cons names j js (GetJob name) e) ∙ (r ∙ rw e refl)
-    by_kind (DropJob name) e r = ap (λ l. is_listed l n) (with_puts-cons names j js (DropJob name) e) ∙ (r ∙ rw e refl)
-    by_kind AuditJob e r = ap (λ l. is_listed l n) (with_puts-cons names j js AuditJob e) ∙ (r ∙ rw e refl)
-    by_kind RepairJob e r = ap (λ l. is_listed l n) (with_puts-cons names j js RepairJob e) ∙ (r ∙ rw e refl)
+    by_kind (GetJob name) e r = ap (λ l. is_name_among l n) (with_puts-cons names j js (GetJob name) e) ∙ (r ∙ rw e refl)
+    by_kind (DropJob name) e r = ap (λ l. is_name_among l n) (with_puts-cons names j js (DropJob name) e) ∙ (r ∙ rw e refl)
+    by_kind AuditJob e r = ap (λ l. is_name_among l n) (with_puts-cons names j js AuditJob e) ∙ (r ∙ rw e refl)
+    by_kind RepairJob e r = ap (λ l. is_name_among l n) (with_puts-cons names j js RepairJob e) ∙ (r ∙ rw e refl)
 
 -- ---- the names of files
 
-before-irrefl : (m : List ℕ) → is_name_before m m ≡ false
-before-irrefl [] = refl
-before-irrefl (a ∷ m) = grind (arith, nat_tests, before-irrefl m)
-
-below-listed : (fs : List File) (name : List ℕ) → is_below name fs ≡ true → is_listed (names_in fs) name ≡ false
+below-listed : (fs : List File) (name : List ℕ) → is_below name fs ≡ true → is_name_among (names_in fs) name ≡ false
 below-listed [] name h = refl
 below-listed (f ∷ fs) name h = grind (arith, h, below-listed fs name, same-eq name f.name, before-irrefl name)
 
@@ -122,11 +108,11 @@ once-ordered (f ∷ fs) h = (below-listed fs f.name (grind (arith, h)), once-ord
 pub once-files : (rs : List Record) → AreOnce (names_in (files_of rs))
 once-files rs = once-ordered (files_of rs) (ordered-files_of rs)
 
-listed-files : (fs : List File) (n : List ℕ) → is_listed (names_in fs) n ≡ is_some (find_file fs n)
+listed-files : (fs : List File) (n : List ℕ) → is_name_among (names_in fs) n ≡ is_some (find_file fs n)
 listed-files [] n = refl
 listed-files (f ∷ fs) n = grind (arith, listed-files fs n, same-sym n f.name)
 
-pub listed-files_of : (rs : List Record) (n : List ℕ) → is_listed (names_in (files_of rs)) n ≡ is_some (file_of rs n)
+pub listed-files_of : (rs : List Record) (n : List ℕ) → is_name_among (names_in (files_of rs)) n ≡ is_some (file_of rs n)
 listed-files_of rs n = listed-files (files_of rs) n ∙ ap is_some (find-files_of rs n)
 
 pub length-names_in : (fs : List File) → length (names_in fs) ≡ length fs
@@ -141,7 +127,7 @@ taken_by rs js = with_puts (names_in (files_of rs)) js
 pub once-taken : (rs : List Record) (js : List Job) → AreOnce (taken_by rs js)
 once-taken rs js = once-with_puts (names_in (files_of rs)) js (once-files rs)
 
-pub listed-taken : (rs : List Record) (js : List Job) (n : List ℕ) → is_listed (taken_by rs js) n ≡ (are_put n js || is_some (file_of rs n))
+pub listed-taken : (rs : List Record) (js : List Job) (n : List ℕ) → is_name_among (taken_by rs js) n ≡ (are_put n js || is_some (file_of rs n))
 listed-taken rs js n = listed-with_puts (names_in (files_of rs)) js n ∙ ap (λ b. are_put n js || b) (listed-files_of rs n)
 
 -- names that are taken now and were taken before are no more than before

@@ -3,16 +3,18 @@ use Rattle.std.proofs.Common.{◌≡◌, ℕ, zero, suc, ◌+◌, ◌-◌, ◌<�
 use Rattle.std.specs.Prelude.{slice_get}
 use Rattle.std.specs.List.{flat_map}
 use Rattle.std.proofs.lemmas.List.Sums.{sum_by-cons, sum_by-append, sum_by-take-drop}
-use Rattle.std.proofs.lemmas.Bool.{cases_Bool}
+use Rattle.plain_facts.specs.Lists.{Each}
+use Rattle.plain_facts.proofs.Each.{each_get, each_append, each_map, each_flat}
+use Rattle.plain_facts.proofs.Lists.{drop-get}
 use Rattle.hail_codes.specs.Points.{upto}
 use Rattle.hail_records.specs.Records.{Setup}
 use Rattle.hail_machine.specs.Jobs.{Kind, PutJob, GetJob, DropJob, AuditJob, RepairJob, Pinned, Job}
 use Rattle.hail_machine.specs.Actions.{Action, WriteBody, SyncBody, WriteGate, SyncGate, Store, Fetch, Ask, Work, Remove, End, append_actions, on_each_provider, on_each_stripe, store_actions, open_actions, read_actions, rewrite_actions, repair_actions, rounds_of, ask_actions, remove_actions, actions_by, actions_of, actions_left, ends_append, appends_left}
 use Rattle.hail_machine.specs.Setups.{stripes_of}
 use Rattle.hail_machine.specs.States.{State, setup_in}
-use Rattle.hail_machine.specs.Steps.{next_action, is_idle_drop}
-use Rattle.hail_machine.proofs.JobLists.{cond_true, cond_false}
-use Rattle.hail_machine.proofs.ActionLists.{Each, each_append, each_map, each_flat, split_get, each_get}
+use Rattle.hail_machine.specs.Steps.{next_action}
+use Rattle.hail_machine.proofs.ActionLists.{split_get}
+use Rattle.hail_machine.proofs.NextActions.{next_stands}
 use Rattle.sound_states.specs.Orders.{moves_before, moves_after, IsInOrder}
 
 -- ---- lists of actions
@@ -81,11 +83,6 @@ get-drop [] zero = refl
 get-drop [] (suc p) = refl
 get-drop (x ∷ xs) zero = refl
 get-drop (x ∷ xs) (suc p) = get-drop xs p
-
-pub drop-get : {X : Type 0} (xs : List X) (p : ℕ) (x : X) → slice_get xs p ≡ Some x → drop p xs ≡ x ∷ drop (p + 1) xs
-drop-get [] p x h = absurd (let e : None ≡ Some x = h in cc)
-drop-get (y ∷ ys) zero x h = (let e : Some y ≡ Some x = h in let f : y ≡ x = cc in ap (λ z. z ∷ ys) f)
-drop-get (y ∷ ys) (suc p) x h = drop-get ys p x h ∙ ap (λ n. x ∷ drop n (y ∷ ys)) (let e : suc (p + 1) ≡ suc p + 1 = omega arith in e)
 
 -- ---- the lists of jobs
 
@@ -292,16 +289,9 @@ drop-body s job p h = elim (split_get append_actions (drop_rest s job) p WriteBo
 
 -- ---- the next action
 
--- the next action stands in the list, unless it is the End
-pub next-listed : (w : State) (job : Job) (action : Action) → next_action w job ≡ Some action → (action ≡ End → ⊥) → slice_get (actions_of (setup_in w) job) job.place ≡ Some action
-next-listed w job action h n = elim (cases_Bool (is_idle_drop w job job.kind)) [
-  | inl t ↦ absurd (n (let e : Some End ≡ Some action = sym (cond_true (is_idle_drop w job job.kind) (Some End) (slice_get (actions_of (setup_in w) job) job.place) t) ∙ h in let f : End ≡ action = cc in sym f))
-  | inr f ↦ sym (cond_false (is_idle_drop w job job.kind) (Some End) (slice_get (actions_of (setup_in w) job) job.place) f) ∙ h
-]
-
 -- so what is left begins with it
 pub next-left : (w : State) (job : Job) (action : Action) → next_action w job ≡ Some action → (action ≡ End → ⊥) → actions_left (setup_in w) job ≡ action ∷ drop (job.place + 1) (actions_of (setup_in w) job)
-next-left w job action h n = drop-get (actions_of (setup_in w) job) job.place action (next-listed w job action h n)
+next-left w job action h n = drop-get (actions_of (setup_in w) job) job.place action (next_stands w job action h n)
 
 -- ---- the first move of a first append
 
@@ -333,7 +323,7 @@ second-order s job rest e one =
 pub put-second : (w : State) (job next : Job) (name bytes : List ℕ) → job.kind ≡ PutJob name bytes → next_action w job ≡ Some WriteBody → job.place < 4 → next.kind ≡ job.kind → next.place ≡ job.place + 1 →
     IsInOrder 1 (actions_left (setup_in w) next) × (appends_left (setup_in w) next ≡ appends_left (setup_in w) job)
 put-second w job next name bytes kind is l same place =
-    (let zero_place = body-within (put_rest (setup_in w) job bytes) job.place l (ap (λ xs. slice_get xs job.place) (sym (put-list (setup_in w) job name bytes kind)) ∙ next-listed w job WriteBody is (λ e. cc)) in
+    (let zero_place = body-within (put_rest (setup_in w) job bytes) job.place l (ap (λ xs. slice_get xs job.place) (sym (put-list (setup_in w) job name bytes kind)) ∙ next_stands w job WriteBody is (λ e. cc)) in
     let one : next.place ≡ 1 = omega (arith, zero_place, place) in (
       second-order (setup_in w) next (put_rest (setup_in w) next bytes) (put-list (setup_in w) next name bytes (same ∙ kind)) one,
       put-first (setup_in w) next name bytes (same ∙ kind) (omega (arith, one)) ∙ sym (put-first (setup_in w) job name bytes kind l),
@@ -342,7 +332,7 @@ put-second w job next name bytes kind is l same place =
 pub audit-second : (w : State) (job next : Job) → job.kind ≡ AuditJob → next_action w job ≡ Some WriteBody → job.place < 4 → next.kind ≡ job.kind → next.place ≡ job.place + 1 →
     IsInOrder 1 (actions_left (setup_in w) next) × (appends_left (setup_in w) next ≡ appends_left (setup_in w) job)
 audit-second w job next kind is l same place =
-    (let zero_place = body-within (audit_rest (setup_in w) job) job.place l (ap (λ xs. slice_get xs job.place) (sym (audit-list (setup_in w) job kind)) ∙ next-listed w job WriteBody is (λ e. cc)) in
+    (let zero_place = body-within (audit_rest (setup_in w) job) job.place l (ap (λ xs. slice_get xs job.place) (sym (audit-list (setup_in w) job kind)) ∙ next_stands w job WriteBody is (λ e. cc)) in
     let one : next.place ≡ 1 = omega (arith, zero_place, place) in (
       second-order (setup_in w) next (audit_rest (setup_in w) next) (audit-list (setup_in w) next (same ∙ kind)) one,
       audit-first (setup_in w) next (same ∙ kind) (omega (arith, one)) ∙ sym (audit-first (setup_in w) job kind l),

@@ -1,8 +1,9 @@
 -- The files that a job works on from its begin on: each once, in ascending order, and stored.
-use Rattle.std.proofs.Common.{◌≡◌, ℕ, suc, ◌+◌, ◌≤◌, true, false, ◌⊎◌, List, [], ◌∷◌, length, Option, Some, None, refl, ap, sym, subst, ◌∙◌, inl, inr, arith}
+use Rattle.std.proofs.Common.{◌≡◌, ℕ, suc, ◌+◌, ◌≤◌, true, false, List, [], ◌∷◌, length, Option, Some, None, refl, ap, sym, subst, ◌∙◌, inl, inr, arith}
 use Rattle.std.specs.Prelude.{is_some, nat_lt}
 use Rattle.std.specs.List.{Contains}
 use Rattle.std.proofs.lemmas.Bool.{cases_Bool, cases_eq, false≢true, ltb-true}
+use Rattle.plain_facts.specs.Lists.{In}
 use Rattle.hail_records.specs.Records.{most_files}
 use Rattle.hail_records.specs.Table.{File, file_of, files_of, is_same_name}
 use Rattle.hail_records.specs.Acceptance.{AreAccepted}
@@ -10,48 +11,25 @@ use Rattle.hail_records.proofs.FilesLaws.{same-refl}
 use Rattle.hail_records.proofs.OrderLaws.{few-files_of}
 use Rattle.hail_machine.specs.Jobs.{Kind, PutJob, GetJob, DropJob, AuditJob, RepairJob, Pinned}
 use Rattle.hail_machine.specs.States.{State, file_in}
-use Rattle.hail_machine.specs.Begins.{is_listed, names_in, pinned_file, pin, pin_all, pin_one, pinned_for}
+use Rattle.hail_machine.specs.Begins.{is_name_among, names_in, pinned_file, pin, pin_all, pin_one, pinned_for}
 use Rattle.hail_machine.proofs.Held.{contains_in}
 use Rattle.hail_machine.proofs.JobLists.{cond_true, cond_false}
-use Rattle.hail_machine.proofs.Pins.{Stands, pinned_stands}
-use Rattle.hail_machine.proofs.RecordFacts.{In, AreSound, listed_file}
+use Rattle.hail_machine.proofs.Pins.{Stands, pinned_stands, in_all}
+use Rattle.hail_machine.proofs.RecordFacts.{AreSound, listed_file}
 use Rattle.sound_states.specs.Orders.{AreAscending}
 use Rattle.sound_states.specs.Follows.{AreHeld}
 use Rattle.sound_states.specs.SoundJobs.{HasPins, IsPin}
 use Rattle.sound_states.proofs.NamesTaken.{AreOnce, once-files}
 use Rattle.sound_states.proofs.Records.{is_some-at, AreSpelled, sound-accepted, file-spelled}
 
-in-pin : (p : Pinned) (ps : List Pinned) (f : Pinned) → In f (pin p ps) → (f ≡ p) ⊎ In f ps
-in-pin p [] f (inl e) = inl e
-in-pin p [] f (inr i) = absurd i
-in-pin p (q ∷ qs) f h = elim (cases_Bool (nat_lt p.id q.id)) [
-  | inl t ↦ here (subst (λ l. In f l) (cond_true (nat_lt p.id q.id) (p ∷ q ∷ qs) (q ∷ pin p qs) t) h)
-  | inr o ↦ later (in-pin p qs f) (subst (λ l. In f l) (cond_false (nat_lt p.id q.id) (p ∷ q ∷ qs) (q ∷ pin p qs) o) h)
-]
-  where
-    here : In f (p ∷ q ∷ qs) → (f ≡ p) ⊎ In f (q ∷ qs)
-    here (inl e) = inl e
-    here (inr i) = inr i
-
-    later : (In f (pin p qs) → (f ≡ p) ⊎ In f qs) → In f (q ∷ pin p qs) → (f ≡ p) ⊎ In f (q ∷ qs)
-    later rest (inl e) = inr (inl e)
-    later rest (inr i) = elim (rest i) [ inl e ↦ inl e | inr k ↦ inr (inr k) ]
-
-in-all : (w : State) (fs : List File) (f : Pinned) → In f (pin_all w fs) → (g : File) × In g fs × (f ≡ pinned_file w g)
-in-all w [] f h = absurd h
-in-all w (g ∷ gs) f h = elim (in-pin (pinned_file w g) (pin_all w gs) f h) [
-  | inl e ↦ (g, inl refl, e)
-  | inr i ↦ (let r = in-all w gs f i in (r.0, inr r.1, r.2))
-]
-
-length-pin : (p : Pinned) (qs : List Pinned) → length (pin p qs) ≡ suc (length qs)
+pub length-pin : (p : Pinned) (qs : List Pinned) → length (pin p qs) ≡ suc (length qs)
 length-pin p [] = refl
 length-pin p (q ∷ qs) = elim (cases_Bool (nat_lt p.id q.id)) [
   | inl t ↦ ap length (cond_true (nat_lt p.id q.id) (p ∷ q ∷ qs) (q ∷ pin p qs) t)
   | inr f ↦ ap length (cond_false (nat_lt p.id q.id) (p ∷ q ∷ qs) (q ∷ pin p qs) f) ∙ ap suc (length-pin p qs)
 ]
 
-length-pin_all : (w : State) (fs : List File) → length (pin_all w fs) ≡ length fs
+pub length-pin_all : (w : State) (fs : List File) → length (pin_all w fs) ≡ length fs
 length-pin_all w [] = refl
 length-pin_all w (f ∷ fs) = length-pin (pinned_file w f) (pin_all w fs) ∙ ap suc (length-pin_all w fs)
 
@@ -75,7 +53,7 @@ ascending-pin low p (q ∷ qs) h l n = elim (cases_Bool (nat_lt p.id q.id)) [
         not-below : (a b : ℕ) → nat_lt a b ≡ false → b ≤ a
         not-below a b f = grind (arith, f)
 
-unlisted : (fs : List File) (g : File) (name : List ℕ) → is_listed (names_in fs) name ≡ false → In g fs → name ≡ g.name → ⊥
+unlisted : (fs : List File) (g : File) (name : List ℕ) → is_name_among (names_in fs) name ≡ false → In g fs → name ≡ g.name → ⊥
 unlisted [] g name f i e = absurd i
 unlisted (x ∷ fs) g name f (inl s) e = false≢true (sym f ∙ (let t : is_same_name name x.name ≡ true = ap (is_same_name name) (sym (e ∙ ap (λ (z : File). z.name) s)) ∙ same-refl name in grind (arith, t)))
 unlisted (x ∷ fs) g name f (inr i) e = unlisted fs g name (grind (arith, f)) i e
@@ -83,7 +61,7 @@ unlisted (x ∷ fs) g name f (inr i) e = unlisted fs g name (grind (arith, f)) i
 ascending-all : (w : State) (fs : List File) → AreSound w.records → AreOnce (names_in fs) → ((g : File) → In g fs → file_of w.records g.name ≡ Some g) → AreAscending 0 (pin_all w fs)
 ascending-all w [] S once held = tt
 ascending-all w (f ∷ fs) S once held = ascending-pin 0 (pinned_file w f) (pin_all w fs) (ascending-all w fs S once.1 (λ g i. held g (inr i))) (omega arith)
-    (λ q i e. (let r = in-all w fs q i in
+    (λ q i e. (let r = in_all w fs q i in
     unlisted fs r.0 f.name once.0 r.1 (S.one_name f.name r.0.name f r.0 (held f (inl refl)) (held r.0 (inr r.1)) (e ∙ ap (λ (x : Pinned). x.id) r.2))))
 
 module _ (w : State) (accepted : AreAccepted w.records) (spelled : AreSpelled w.records) (files : AreHeld w.bytes w.records) where

@@ -1,116 +1,25 @@
 -- What holds of records that the fold accepts and that are in the grammar, and how one record more keeps it.
-use Rattle.std.proofs.Common.{◌≡◌, ℕ, ◌<◌, ◌≤◌, ◌==◌, ◌^◌, true, false, ◌⊎◌, List, [], ◌∷◌, length, Option, Some, None, refl, ap, sym, subst, ◌∙◌, inl, inr, arith}
+use Rattle.std.proofs.Common.{◌≡◌, ℕ, ◌+◌, ◌<◌, ◌≤◌, ◌==◌, ◌^◌, true, false, ◌⊎◌, List, [], ◌∷◌, length, Option, Some, None, refl, ap, sym, subst, ◌∙◌, inl, inr, arith}
 use Rattle.std.specs.Prelude.{is_some, IsTrue}
 use Rattle.std.specs.List.{list_all}
 use Rattle.std.proofs.lemmas.Bool.{cases_Bool, false≢true}
 use Rattle.std.proofs.lemmas.Bool.Decides.{nat_tests}
-use Rattle.hail_records.specs.Records.{Setup, Record, SetUp, PutStart, PutDone, Drop, AuditStart, AuditDone, RepairDone, is_name, is_in_grammar, largest_file}
+use Rattle.plain_facts.proofs.Options.{some-not-none}
+use Rattle.hail_records.specs.Records.{Setup, Record, SetUp, PutStart, PutDone, Drop, AuditStart, AuditDone, RepairDone, is_name, is_in_grammar, largest_file, PutDoneIn, Version, Resume, InEffect, RepairDue}
 use Rattle.hail_records.specs.Journal.{text_size}
-use Rattle.hail_records.specs.Table.{File, Due, setup_of, next_id, next_audit, started_as, is_same_name, is_start_of, file_of, due_of, exceeds}
+use Rattle.hail_records.specs.Table.{File, Due, file_as, profile_in, setup_of, version_of, next_id, next_audit, started_as, is_same_name, is_start_of, file_of, due_of, exceeds}
 use Rattle.hail_records.specs.Acceptance as no
 use Rattle.hail_records.proofs.FilesLaws.{same-eq}
-use Rattle.hail_records.specs.Acceptance.{Refused, refused, AreAccepted}
+use Rattle.hail_records.specs.Acceptance.{refused, AreAccepted, Refused}
+use Rattle.hail_records.proofs.SoundLaws.{are_sound, next_id-more}
 use Rattle.hail_machine.specs.Events.{AreBytes}
 use Rattle.hail_machine.proofs.JobLists.{cond_true, cond_false, same_value}
-use Rattle.hail_machine.proofs.RecordFacts.{IsProper, AreSound, sound-more, sound-none}
+use Rattle.hail_machine.proofs.RecordFacts.{AreSound}
 use Rattle.sound_states.specs.Follows.{IsHeld, BringsHeld, AreHeld}
-
-pub some-none : {X : Type 0} (o : Option X) (x : X) → o ≡ Some x → o ≡ None → ⊥
-some-none o x a b = (let e : None ≡ Some x = sym b ∙ a in cc)
 
 pub is_some-at : {X : Type 0} (o : Option X) → is_some o ≡ true → (x : X) × (o ≡ Some x)
 is_some-at None h = absurd (false≢true h)
 is_some-at (Some x) h = (x, refl)
-
--- ---- numbers
-
-pub next_id-le : (rs : List Record) → next_id rs ≤ text_size rs
-next_id-le [] = omega arith
-next_id-le (SetUp s ∷ rs) = (let l = next_id-le rs in omega (arith, l))
-next_id-le (PutStart id name ∷ rs) = (let l = next_id-le rs in omega (arith, l))
-next_id-le (PutDone id size ∷ rs) = (let l = next_id-le rs in omega (arith, l))
-next_id-le (Drop name ∷ rs) = (let l = next_id-le rs in omega (arith, l))
-next_id-le (AuditStart number ∷ rs) = (let l = next_id-le rs in omega (arith, l))
-next_id-le (AuditDone number undecided counts ∷ rs) = (let l = next_id-le rs in omega (arith, l))
-next_id-le (RepairDone number ∷ rs) = (let l = next_id-le rs in omega (arith, l))
-
-pub next_audit-le : (rs : List Record) → next_audit rs ≤ text_size rs
-next_audit-le [] = omega arith
-next_audit-le (SetUp s ∷ rs) = (let l = next_audit-le rs in omega (arith, l))
-next_audit-le (PutStart id name ∷ rs) = (let l = next_audit-le rs in omega (arith, l))
-next_audit-le (PutDone id size ∷ rs) = (let l = next_audit-le rs in omega (arith, l))
-next_audit-le (Drop name ∷ rs) = (let l = next_audit-le rs in omega (arith, l))
-next_audit-le (AuditStart number ∷ rs) = (let l = next_audit-le rs in omega (arith, l))
-next_audit-le (AuditDone number undecided counts ∷ rs) = (let l = next_audit-le rs in omega (arith, l))
-next_audit-le (RepairDone number ∷ rs) = (let l = next_audit-le rs in omega (arith, l))
-
-pub next_id-grows : (r : Record) (rs : List Record) → next_id rs ≤ next_id (r ∷ rs)
-next_id-grows (SetUp s) rs = omega arith
-next_id-grows (PutStart id name) rs = omega arith
-next_id-grows (PutDone id size) rs = omega arith
-next_id-grows (Drop name) rs = omega arith
-next_id-grows (AuditStart number) rs = omega arith
-next_id-grows (AuditDone number undecided counts) rs = omega arith
-next_id-grows (RepairDone number) rs = omega arith
-
--- ---- acceptance
-
-refused-up : (rs : List Record) (r : Record) → is_some (setup_of rs) ≡ true → refused rs r ≡ no.refused_after rs r
-refused-up rs r up = cond_true (is_some (setup_of rs)) (no.refused_after rs r) (no.refused_first r) up
-
-refused-empty : (rs : List Record) (r : Record) → is_some (setup_of rs) ≡ false → refused rs r ≡ no.refused_first r
-refused-empty rs r up = cond_false (is_some (setup_of rs)) (no.refused_after rs r) (no.refused_first r) up
-
--- only a setup comes first
-first-is : (r : Record) → no.refused_first r ≡ None → (s : Setup) × (r ≡ SetUp s)
-first-is (SetUp s) h = (s, refl)
-first-is (PutStart id name) h = absurd (some-none _ no.NoSetup refl h)
-first-is (PutDone id size) h = absurd (some-none _ no.NoSetup refl h)
-first-is (Drop name) h = absurd (some-none _ no.NoSetup refl h)
-first-is (AuditStart number) h = absurd (some-none _ no.NoSetup refl h)
-first-is (AuditDone number undecided counts) h = absurd (some-none _ no.NoSetup refl h)
-first-is (RepairDone number) h = absurd (some-none _ no.NoSetup refl h)
-
-pub up-more : (r : Record) (rs : List Record) → is_some (setup_of rs) ≡ true → is_some (setup_of (r ∷ rs)) ≡ true
-up-more (SetUp s) rs h = refl
-up-more (PutStart id name) rs h = h
-up-more (PutDone id size) rs h = h
-up-more (Drop name) rs h = h
-up-more (AuditStart number) rs h = h
-up-more (AuditDone number undecided counts) rs h = h
-up-more (RepairDone number) rs h = h
-
--- accepted records with no setup are none
-pub none-set_up : (rs : List Record) → AreAccepted rs → is_some (setup_of rs) ≡ false → rs ≡ []
-none-set_up [] a h = refl
-none-set_up (r ∷ rs) a h = elim (cases_Bool (is_some (setup_of rs))) [
-  | inl t ↦ absurd (false≢true (sym h ∙ up-more r rs t))
-  | inr f ↦ absurd (let s = first-is r (sym (refused-empty rs r f) ∙ a.0) in false≢true (sym h ∙ ap (λ x. is_some (setup_of (x ∷ rs))) s.1))
-]
-
--- a setup in effect stays
-pub setup-more : (r : Record) (rs : List Record) → is_some (setup_of rs) ≡ true → refused rs r ≡ None → setup_of (r ∷ rs) ≡ setup_of rs
-setup-more (SetUp s) rs up h = absurd (some-none _ no.SecondSetup refl (sym (refused-up rs (SetUp s) up) ∙ h))
-setup-more (PutStart id name) rs up h = refl
-setup-more (PutDone id size) rs up h = refl
-setup-more (Drop name) rs up h = refl
-setup-more (AuditStart number) rs up h = refl
-setup-more (AuditDone number undecided counts) rs up h = refl
-setup-more (RepairDone number) rs up h = refl
-
--- a put's start has the number that is next
-pub accepted-proper : (rs : List Record) (r : Record) → refused rs r ≡ None → IsProper rs r
-accepted-proper rs (PutStart id name) h = grind (arith, nat_tests, h)
-accepted-proper rs (SetUp s) h = tt
-accepted-proper rs (PutDone id size) h = tt
-accepted-proper rs (Drop name) h = tt
-accepted-proper rs (AuditStart number) h = tt
-accepted-proper rs (AuditDone number undecided counts) h = tt
-accepted-proper rs (RepairDone number) h = tt
-
-pub sound-accepted : (rs : List Record) → AreAccepted rs → AreSound rs
-sound-accepted [] a = sound-none
-sound-accepted (r ∷ rs) a = sound-more rs r (accepted-proper rs r a.0) (sound-accepted rs a.1)
 
 -- ---- grammar
 
@@ -126,8 +35,145 @@ spelled-rest r rs h = grind (arith, h)
 pub spelled-more : (r : Record) (rs : List Record) → IsTrue (is_in_grammar r) → AreSpelled rs → AreSpelled (r ∷ rs)
 spelled-more r rs g h = grind (arith, g, h)
 
+-- records in the grammar are of the first version
+version-more : (r : Record) (rs : List Record) → IsTrue (is_in_grammar r) → version_of (r ∷ rs) ≡ version_of rs
+version-more (SetUp s) rs g = refl
+version-more (PutStart id name) rs g = refl
+version-more (PutDone id size) rs g = refl
+version-more (Drop name) rs g = refl
+version-more (AuditStart number) rs g = refl
+version-more (AuditDone number undecided counts) rs g = refl
+version-more (RepairDone number) rs g = refl
+version-more (PutDoneIn id size profile) rs g = refl
+version-more Version rs g = absurd (false≢true g)
+version-more (Resume next audit) rs g = refl
+version-more (InEffect id size profile kept) rs g = refl
+version-more (RepairDue number counts) rs g = refl
+
+pub version-first : (rs : List Record) → AreSpelled rs → version_of rs ≡ 1
+version-first [] g = refl
+version-first (r ∷ rs) g = version-more r rs (spelled-first r rs g) ∙ version-first rs (spelled-rest r rs g)
+
+-- ---- numbers
+
+next_id-one : (r : Record) (rs : List Record) → IsTrue (is_in_grammar r) → next_id (r ∷ rs) ≤ next_id rs + 1
+next_id-one (SetUp s) rs g = omega arith
+next_id-one (PutStart id name) rs g = omega arith
+next_id-one (PutDone id size) rs g = omega arith
+next_id-one (Drop name) rs g = omega arith
+next_id-one (AuditStart number) rs g = omega arith
+next_id-one (AuditDone number undecided counts) rs g = omega arith
+next_id-one (RepairDone number) rs g = omega arith
+next_id-one (PutDoneIn id size profile) rs g = omega arith
+next_id-one Version rs g = omega arith
+next_id-one (Resume next audit) rs g = absurd (false≢true g)
+next_id-one (InEffect id size profile kept) rs g = omega arith
+next_id-one (RepairDue number counts) rs g = omega arith
+
+pub next_id-le : (rs : List Record) → AreSpelled rs → next_id rs ≤ text_size rs
+next_id-le [] g = omega arith
+next_id-le (r ∷ rs) g =
+    let l = next_id-le rs (spelled-rest r rs g) in
+    let one = next_id-one r rs (spelled-first r rs g) in
+    omega (arith, l, one)
+
+next_audit-one : (r : Record) (rs : List Record) → IsTrue (is_in_grammar r) → next_audit (r ∷ rs) ≤ next_audit rs + 1
+next_audit-one (SetUp s) rs g = omega arith
+next_audit-one (PutStart id name) rs g = omega arith
+next_audit-one (PutDone id size) rs g = omega arith
+next_audit-one (Drop name) rs g = omega arith
+next_audit-one (AuditStart number) rs g = omega arith
+next_audit-one (AuditDone number undecided counts) rs g = omega arith
+next_audit-one (RepairDone number) rs g = omega arith
+next_audit-one (PutDoneIn id size profile) rs g = omega arith
+next_audit-one Version rs g = omega arith
+next_audit-one (Resume next audit) rs g = absurd (false≢true g)
+next_audit-one (InEffect id size profile kept) rs g = omega arith
+next_audit-one (RepairDue number counts) rs g = omega arith
+
+pub next_audit-le : (rs : List Record) → AreSpelled rs → next_audit rs ≤ text_size rs
+next_audit-le [] g = omega arith
+next_audit-le (r ∷ rs) g =
+    let l = next_audit-le rs (spelled-rest r rs g) in
+    let one = next_audit-one r rs (spelled-first r rs g) in
+    omega (arith, l, one)
+
+pub next_id-grows : (r : Record) (rs : List Record) → AreAccepted (r ∷ rs) → next_id rs ≤ next_id (r ∷ rs)
+next_id-grows r rs a = next_id-more rs r (are_sound rs a.1) a.0
+
+-- ---- acceptance
+
+refused-up : (rs : List Record) (r : Record) → is_some (setup_of rs) ≡ true → refused rs r ≡ no.refused_after rs r
+refused-up rs r up = cond_true (is_some (setup_of rs)) (no.refused_after rs r) (no.refused_first r) up
+
+refused-empty : (rs : List Record) (r : Record) → is_some (setup_of rs) ≡ false → refused rs r ≡ no.refused_first r
+refused-empty rs r up = cond_false (is_some (setup_of rs)) (no.refused_after rs r) (no.refused_first r) up
+
+-- only a setup comes first
+first-is : (r : Record) → no.refused_first r ≡ None → (s : Setup) × (r ≡ SetUp s)
+first-is (SetUp s) h = (s, refl)
+first-is (PutStart id name) h = absurd (some-not-none _ no.NoSetup refl h)
+first-is (PutDone id size) h = absurd (some-not-none _ no.NoSetup refl h)
+first-is (Drop name) h = absurd (some-not-none _ no.NoSetup refl h)
+first-is (AuditStart number) h = absurd (some-not-none _ no.NoSetup refl h)
+first-is (AuditDone number undecided counts) h = absurd (some-not-none _ no.NoSetup refl h)
+first-is (RepairDone number) h = absurd (some-not-none _ no.NoSetup refl h)
+first-is (PutDoneIn id size profile) h = absurd (some-not-none _ no.NoSetup refl h)
+first-is Version h = absurd (some-not-none _ no.NoSetup refl h)
+first-is (Resume next audit) h = absurd (some-not-none _ no.NoSetup refl h)
+first-is (InEffect id size profile kept) h = absurd (some-not-none _ no.NoSetup refl h)
+first-is (RepairDue number counts) h = absurd (some-not-none _ no.NoSetup refl h)
+
+pub up-more : (r : Record) (rs : List Record) → is_some (setup_of rs) ≡ true → is_some (setup_of (r ∷ rs)) ≡ true
+up-more (SetUp s) rs h = refl
+up-more (PutStart id name) rs h = h
+up-more (PutDone id size) rs h = h
+up-more (Drop name) rs h = h
+up-more (AuditStart number) rs h = h
+up-more (AuditDone number undecided counts) rs h = h
+up-more (RepairDone number) rs h = h
+up-more (PutDoneIn id size profile) rs h = h
+up-more Version rs h = h
+up-more (Resume next audit) rs h = h
+up-more (InEffect id size profile kept) rs h = h
+up-more (RepairDue number counts) rs h = h
+
+-- accepted records with no setup are none
+pub none-set_up : (rs : List Record) → AreAccepted rs → is_some (setup_of rs) ≡ false → rs ≡ []
+none-set_up [] a h = refl
+none-set_up (r ∷ rs) a h = elim (cases_Bool (is_some (setup_of rs))) [
+  | inl t ↦ absurd (false≢true (sym h ∙ up-more r rs t))
+  | inr f ↦ absurd (let s = first-is r (sym (refused-empty rs r f) ∙ a.0) in false≢true (sym h ∙ ap (λ x. is_some (setup_of (x ∷ rs))) s.1))
+]
+
+-- a setup in effect stays
+pub setup-more : (r : Record) (rs : List Record) → is_some (setup_of rs) ≡ true → refused rs r ≡ None → setup_of (r ∷ rs) ≡ setup_of rs
+setup-more (SetUp s) rs up h = absurd (some-not-none _ no.SecondSetup refl (sym (refused-up rs (SetUp s) up) ∙ h))
+setup-more (PutStart id name) rs up h = refl
+setup-more (PutDone id size) rs up h = refl
+setup-more (Drop name) rs up h = refl
+setup-more (AuditStart number) rs up h = refl
+setup-more (AuditDone number undecided counts) rs up h = refl
+setup-more (RepairDone number) rs up h = refl
+setup-more (PutDoneIn id size profile) rs up h = refl
+setup-more Version rs up h = refl
+setup-more (Resume next audit) rs up h = refl
+setup-more (InEffect id size profile kept) rs up h = refl
+setup-more (RepairDue number counts) rs up h = refl
+
+pub sound-accepted : (rs : List Record) → AreAccepted rs → AreSound rs
+sound-accepted rs a =
+    let S = are_sound rs a in
+    record {
+      file = λ q f h. ((S.file q f h).below, (S.file q f h).done);
+      one_name = S.one_name;
+      started = λ id name h. (S.started id name h).1;
+    }
+
+-- ---- setups, names, sizes and numbers of records in the grammar
+
 pub setup-spelled : (rs : List Record) (s : Setup) → AreSpelled rs → setup_of rs ≡ Some s → IsTrue (is_in_grammar (SetUp s))
-setup-spelled [] s g h = absurd (some-none _ s h refl)
+setup-spelled [] s g h = absurd (some-not-none _ s h refl)
 setup-spelled (SetUp t ∷ rs) s g h = (let e : t ≡ s = cc in subst (λ x. IsTrue (is_in_grammar (SetUp x))) e (spelled-first (SetUp t) rs g))
 setup-spelled (PutStart id name ∷ rs) s g h = setup-spelled rs s (spelled-rest (PutStart id name) rs g) h
 setup-spelled (PutDone id size ∷ rs) s g h = setup-spelled rs s (spelled-rest (PutDone id size) rs g) h
@@ -135,23 +181,43 @@ setup-spelled (Drop name ∷ rs) s g h = setup-spelled rs s (spelled-rest (Drop 
 setup-spelled (AuditStart number ∷ rs) s g h = setup-spelled rs s (spelled-rest (AuditStart number) rs g) h
 setup-spelled (AuditDone number undecided counts ∷ rs) s g h = setup-spelled rs s (spelled-rest (AuditDone number undecided counts) rs g) h
 setup-spelled (RepairDone number ∷ rs) s g h = setup-spelled rs s (spelled-rest (RepairDone number) rs g) h
+setup-spelled (PutDoneIn id size profile ∷ rs) s g h =
+    setup-spelled rs s (spelled-rest (PutDoneIn id size profile) rs g) h
+setup-spelled (Version ∷ rs) s g h = setup-spelled rs s (spelled-rest Version rs g) h
+setup-spelled (Resume next audit ∷ rs) s g h = setup-spelled rs s (spelled-rest (Resume next audit) rs g) h
+setup-spelled (InEffect id size profile kept ∷ rs) s g h =
+    setup-spelled rs s (spelled-rest (InEffect id size profile kept) rs g) h
+setup-spelled (RepairDue number counts ∷ rs) s g h =
+    setup-spelled rs s (spelled-rest (RepairDue number counts) rs g) h
 
 -- a name that a put was started under is a name
 pub started-spelled : (rs : List Record) (id : ℕ) (name : List ℕ) → AreSpelled rs → started_as rs id ≡ Some name → is_name name ≡ true
-started-spelled [] id name g h = absurd (some-none _ name h refl)
+started-spelled [] id name g h = absurd (some-not-none _ name h refl)
 started-spelled (SetUp s ∷ rs) id name g h = started-spelled rs id name (spelled-rest (SetUp s) rs g) h
 started-spelled (PutStart k n ∷ rs) id name g h = elim (cases_Bool (k == id)) [
   | inl t ↦ (let e : n ≡ name = same_value _ n name (cond_true (k == id) (Some n) (started_as rs id) t) h in subst (λ x. is_name x ≡ true) e (grind (arith, spelled-first (PutStart k n) rs g)))
   | inr f ↦ started-spelled rs id name (spelled-rest (PutStart k n) rs g) (sym (cond_false (k == id) (Some n) (started_as rs id) f) ∙ h)
 ]
 started-spelled (PutDone k size ∷ rs) id name g h = elim (cases_Bool (k == id)) [
-  | inl t ↦ absurd (some-none _ name h (cond_true (k == id) None (started_as rs id) t))
+  | inl t ↦ absurd (some-not-none _ name h (cond_true (k == id) None (started_as rs id) t))
   | inr f ↦ started-spelled rs id name (spelled-rest (PutDone k size) rs g) (sym (cond_false (k == id) None (started_as rs id) f) ∙ h)
 ]
 started-spelled (Drop n ∷ rs) id name g h = started-spelled rs id name (spelled-rest (Drop n) rs g) h
 started-spelled (AuditStart number ∷ rs) id name g h = started-spelled rs id name (spelled-rest (AuditStart number) rs g) h
 started-spelled (AuditDone number undecided counts ∷ rs) id name g h = started-spelled rs id name (spelled-rest (AuditDone number undecided counts) rs g) h
 started-spelled (RepairDone number ∷ rs) id name g h = started-spelled rs id name (spelled-rest (RepairDone number) rs g) h
+started-spelled (PutDoneIn k size profile ∷ rs) id name g h = elim (cases_Bool (k == id)) [
+  | inl t ↦ absurd (some-not-none _ name h (cond_true (k == id) None (started_as rs id) t))
+  | inr f ↦ started-spelled rs id name (spelled-rest (PutDoneIn k size profile) rs g)
+      (sym (cond_false (k == id) None (started_as rs id) f) ∙ h)
+]
+started-spelled (Version ∷ rs) id name g h = started-spelled rs id name (spelled-rest Version rs g) h
+started-spelled (Resume next audit ∷ rs) id name g h =
+    started-spelled rs id name (spelled-rest (Resume next audit) rs g) h
+started-spelled (InEffect k size profile kept ∷ rs) id name g h =
+    started-spelled rs id name (spelled-rest (InEffect k size profile kept) rs g) h
+started-spelled (RepairDue number counts ∷ rs) id name g h =
+    started-spelled rs id name (spelled-rest (RepairDue number counts) rs g) h
 
 -- the start that a put's end is of
 pub start-named : (q : List ℕ) (o : Option (List ℕ)) → is_start_of q o ≡ true → o ≡ Some q
@@ -159,31 +225,39 @@ start-named q None h = absurd (false≢true h)
 start-named q (Some name) h = ap Some (same-eq name q h)
 
 -- what is told of a file in effect: it was so before, or the record that came is the end of a put of that name, with its number and size
-pub file-came : (r : Record) (rs : List Record) (name : List ℕ) (file : File) → file_of (r ∷ rs) name ≡ Some file →
+pub file-came : (r : Record) (rs : List Record) (name : List ℕ) (file : File) → IsTrue (is_in_grammar r) →
+    file_of (r ∷ rs) name ≡ Some file →
     (file_of rs name ≡ Some file) ⊎ ((r ≡ PutDone file.id file.size) × (started_as rs file.id ≡ Some name) × (file.name ≡ name))
-file-came (SetUp s) rs name file h = inl h
-file-came (PutStart k n) rs name file h = inl h
-file-came (PutDone k size) rs name file h = elim (cases_Bool (is_start_of name (started_as rs k))) [
-  | inl t ↦ (let same : record { name = name; id = k; size = size } ≡ file = same_value _ (record { name = name; id = k; size = size }) file
-      (cond_true (is_start_of name (started_as rs k)) (Some (record { name = name; id = k; size = size })) (file_of rs name) t) h in
-      inr ((ap (λ (f : File). PutDone f.id f.size) same), (ap (λ (f : File). started_as rs f.id) (sym same) ∙ start-named name (started_as rs k) t), ap (λ (f : File). f.name) (sym same)))
-  | inr f ↦ inl (sym (cond_false (is_start_of name (started_as rs k)) (Some (record { name = name; id = k; size = size })) (file_of rs name) f) ∙ h)
-]
-file-came (Drop n) rs name file h = elim (cases_Bool (is_same_name n name)) [
-  | inl t ↦ absurd (some-none _ file h (cond_true (is_same_name n name) None (file_of rs name) t))
+file-came (SetUp s) rs name file g h = inl h
+file-came (PutStart k n) rs name file g h = inl h
+file-came (PutDone k size) rs name file g h =
+    let new : File = file_as name k size (profile_in (setup_of rs)) in
+    elim (cases_Bool (is_start_of name (started_as rs k))) [
+      | inl t ↦ (let same : new ≡ file = same_value _ new file
+          (cond_true (is_start_of name (started_as rs k)) (Some new) (file_of rs name) t) h in
+          inr (
+            ap (λ (f : File). PutDone f.id f.size) same,
+            ap (λ (f : File). started_as rs f.id) (sym same) ∙ start-named name (started_as rs k) t,
+            ap (λ (f : File). f.name) (sym same),
+          ))
+      | inr f ↦ inl (sym (cond_false (is_start_of name (started_as rs k)) (Some new) (file_of rs name) f) ∙ h)
+    ]
+file-came (Drop n) rs name file g h = elim (cases_Bool (is_same_name n name)) [
+  | inl t ↦ absurd (some-not-none _ file h (cond_true (is_same_name n name) None (file_of rs name) t))
   | inr f ↦ inl (sym (cond_false (is_same_name n name) None (file_of rs name) f) ∙ h)
 ]
-file-came (AuditStart number) rs name file h = inl h
-file-came (AuditDone number undecided counts) rs name file h = inl h
-file-came (RepairDone number) rs name file h = inl h
-
-pub file-named : (rs : List Record) (name : List ℕ) (file : File) → file_of rs name ≡ Some file → file.name ≡ name
-file-named [] name file h = absurd (some-none _ file h refl)
-file-named (r ∷ rs) name file h = elim (file-came r rs name file h) [ inl was ↦ file-named rs name file was | inr new ↦ new.2 ]
+file-came (AuditStart number) rs name file g h = inl h
+file-came (AuditDone number undecided counts) rs name file g h = inl h
+file-came (RepairDone number) rs name file g h = inl h
+file-came (PutDoneIn id size profile) rs name file g h = absurd (false≢true g)
+file-came Version rs name file g h = inl h
+file-came (Resume next audit) rs name file g h = inl h
+file-came (InEffect id size profile kept) rs name file g h = absurd (false≢true g)
+file-came (RepairDue number counts) rs name file g h = inl h
 
 pub file-spelled : (rs : List Record) (name : List ℕ) (file : File) → AreSpelled rs → file_of rs name ≡ Some file → (is_name name ≡ true) × (file.size ≤ largest_file)
-file-spelled [] name file g h = absurd (some-none _ file h refl)
-file-spelled (r ∷ rs) name file g h = elim (file-came r rs name file h) [
+file-spelled [] name file g h = absurd (some-not-none _ file h refl)
+file-spelled (r ∷ rs) name file g h = elim (file-came r rs name file (spelled-first r rs g) h) [
   | inl was ↦ file-spelled rs name file (spelled-rest r rs g) was
   | inr new ↦ (started-spelled rs file.id name (spelled-rest r rs g) new.1, size (subst (λ x. IsTrue (is_in_grammar x)) new.0 (spelled-first r rs g)))
 ]
@@ -193,7 +267,7 @@ file-spelled (r ∷ rs) name file g h = elim (file-came r rs name file h) [
 
 -- the number of a due audit fits
 pub due-spelled : (rs : List Record) (due : Due) → AreSpelled rs → due_of rs ≡ Some due → due.number < 2 ^ 64
-due-spelled [] due g h = absurd (some-none _ due h refl)
+due-spelled [] due g h = absurd (some-not-none _ due h refl)
 due-spelled (SetUp s ∷ rs) due g h = due-spelled rs due (spelled-rest (SetUp s) rs g) h
 due-spelled (PutStart id name ∷ rs) due g h = due-spelled rs due (spelled-rest (PutStart id name) rs g) h
 due-spelled (PutDone id size ∷ rs) due g h = due-spelled rs due (spelled-rest (PutDone id size) rs g) h
@@ -207,12 +281,21 @@ due-spelled (AuditDone number undecided counts ∷ rs) due g h = elim (cases_Boo
   where
     fits : IsTrue (is_in_grammar (AuditDone number undecided counts)) → number < 2 ^ 64
     fits h = grind (arith, nat_tests, h)
-due-spelled (RepairDone number ∷ rs) due g h = absurd (some-none _ due h refl)
+due-spelled (RepairDone number ∷ rs) due g h = absurd (some-not-none _ due h refl)
+due-spelled (PutDoneIn id size profile ∷ rs) due g h =
+    due-spelled rs due (spelled-rest (PutDoneIn id size profile) rs g) h
+due-spelled (Version ∷ rs) due g h = due-spelled rs due (spelled-rest Version rs g) h
+due-spelled (Resume next audit ∷ rs) due g h = due-spelled rs due (spelled-rest (Resume next audit) rs g) h
+due-spelled (InEffect id size profile kept ∷ rs) due g h =
+    due-spelled rs due (spelled-rest (InEffect id size profile kept) rs g) h
+due-spelled (RepairDue number counts ∷ rs) due g h =
+    absurd (false≢true (spelled-first (RepairDue number counts) rs g))
 
 -- ---- files and their bytes
 
-pub held-more : (bytes : ℕ → List ℕ) (r : Record) (rs : List Record) → BringsHeld bytes r → AreHeld bytes rs → AreHeld bytes (r ∷ rs)
-held-more bytes r rs brings held name file h = elim (file-came r rs name file h) [
+pub held-more : (bytes : ℕ → List ℕ) (r : Record) (rs : List Record) → IsTrue (is_in_grammar r) → BringsHeld bytes r →
+    AreHeld bytes rs → AreHeld bytes (r ∷ rs)
+held-more bytes r rs g brings held name file h = elim (file-came r rs name file g h) [
   | inl was ↦ held name file was
   | inr new ↦ subst (BringsHeld bytes) new.0 brings
 ]

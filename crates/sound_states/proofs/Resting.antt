@@ -2,6 +2,7 @@
 use Rattle.std.proofs.Common.{◌≡◌, ℕ, ◌≤◌, Bool, true, false, List, [], ◌∷◌, length, Option, Some, None, refl, ap, sym, subst, ◌∙◌, inl, inr, arith, sum_by}
 use Rattle.std.specs.Prelude.{is_some, IsTrue}
 use Rattle.std.proofs.lemmas.Bool.{false≢true, and_from}
+use Rattle.plain_facts.proofs.Options.{some-not-none}
 use Rattle.hail_records.specs.Records.{Setup, Record, SetUp, is_setup, is_master, is_in_grammar, largest_journal}
 use Rattle.hail_records.specs.Journal.{text_size}
 use Rattle.hail_records.specs.Table.{setup_of, files_of}
@@ -18,7 +19,7 @@ use Rattle.sound_states.specs.Orders.{AreNumbered}
 use Rattle.sound_states.specs.Follows.{AreHeld, MayFollow}
 use Rattle.sound_states.specs.Sound.{IsDoubtOf, IsIdle, IsSound, IsAtRest}
 use Rattle.sound_states.proofs.NamesTaken.{taken_by, length-names_in}
-use Rattle.sound_states.proofs.Records.{some-none, AreSpelled, none-set_up, spelled-more, held-more}
+use Rattle.sound_states.proofs.Records.{AreSpelled, none-set_up, spelled-more, held-more}
 
 -- records that a journal may hold and the fold accepts, whose files have their bytes
 pub record AreGood (rs : List Record) (bytes : ℕ → List ℕ) : Type 0 where
@@ -32,7 +33,7 @@ good-more rs bytes entry m g = record {
   accepted = (m.accepted, g.accepted);
   in_grammar = spelled-more entry rs m.in_grammar g.in_grammar;
   room = (let a = m.room in omega (arith, a));
-  files = held-more bytes entry rs m.held g.files;
+  files = held-more bytes entry rs m.in_grammar m.held g.files;
 }
 
 -- a setup may follow where there is none
@@ -61,22 +62,22 @@ module _ (limit : ℕ) where
     jobs = λ k j h. absurd (found_none w.jobs k j idle.0 h);
     one_check = λ k l i j hi hj ci cj. absurd (found_none w.jobs k i idle.0 hi);
     apart = λ k l i j hi hj ui uj same. absurd (found_none w.jobs k i idle.0 hi);
-    append = λ a h. absurd (some-none w.append a h idle.1);
+    append = λ a h. absurd (some-not-none w.append a h idle.1);
     barred = λ b. idle.1;
     undoubted = λ o u. subst (λ f. IsDoubtOf f w.doubt) (sym idle.1) (undoubted o);
     doubt = doubt;
   }
 
   pub rest-sound : (w : State) → IsAtRest w → IsSound limit w
-  rest-sound w r = idle-sound w r.idle (record { accepted = r.accepted; in_grammar = r.in_grammar; room = r.room; files = r.files }) r.set_up r.handed (λ o. r.undoubted) (λ d h. absurd (some-none w.doubt d h r.undoubted))
+  rest-sound w r = idle-sound w r.idle (record { accepted = r.accepted; in_grammar = r.in_grammar; room = r.room; files = r.files }) r.set_up r.handed (λ o. r.undoubted) (λ d h. absurd (some-not-none w.doubt d h r.undoubted))
 
   first-good : (rs : List Record) (bytes : ℕ → List ℕ) → AreFirst rs → AreGood rs bytes
-  first-good rs bytes (inl e) = subst (λ l. AreGood l bytes) (sym e) (record { accepted = tt; in_grammar = refl; room = omega arith; files = λ name file h. absurd (some-none _ file h refl) })
-  first-good rs bytes (inr (s, valid, e)) = subst (λ l. AreGood l bytes) (sym e) (record { accepted = (refl, tt); in_grammar = spelled-more (SetUp s) [] valid refl; room = omega arith; files = λ name file h. absurd (some-none _ file h refl) })
+  first-good rs bytes (inl e) = subst (λ l. AreGood l bytes) (sym e) (record { accepted = tt; in_grammar = refl; room = omega arith; files = λ name file h. absurd (some-not-none _ file h refl) })
+  first-good rs bytes (inr (s, valid, e)) = subst (λ l. AreGood l bytes) (sym e) (record { accepted = (refl, tt); in_grammar = spelled-more (SetUp s) [] valid refl; room = omega arith; files = λ name file h. absurd (some-not-none _ file h refl) })
 
   pub start-sound : (w : State) → IsStart w → IsSound limit w
   start-sound w r = idle-sound w (r.jobs, r.append, r.unbarred) (first-good w.records w.bytes r.records)
-      (λ o. absurd (false≢true (sym r.closed ∙ o))) (λ o. absurd (false≢true (sym r.closed ∙ o))) (λ o. r.doubt) (λ d h. absurd (some-none w.doubt d h r.doubt))
+      (λ o. absurd (false≢true (sym r.closed ∙ o))) (λ o. absurd (false≢true (sym r.closed ∙ o))) (λ o. r.doubt) (λ d h. absurd (some-not-none w.doubt d h r.doubt))
 
   -- ---- after stops, reopenings, inits and later calls
 
@@ -113,7 +114,7 @@ module _ (limit : ℕ) where
     })
 
     no-doubt : (w : State) → w.doubt ≡ None → (d : Doubt) → w.doubt ≡ Some d → MayFollow w.records w.bytes d.entry
-    no-doubt w none d h = absurd (some-none w.doubt d h none)
+    no-doubt w none d h = absurd (some-not-none w.doubt d h none)
 
     -- a state that is not open, in which nothing is under way
     shut : (w : State) → IsIdle w → AreGood w.records w.bytes → w.is_open ≡ false → ((d : Doubt) → w.doubt ≡ Some d → MayFollow w.records w.bytes d.entry) → IsSound limit w

@@ -1,21 +1,22 @@
 -- The sums of an audit: a count for each provider, and no more than the rounds that were judged.
-use Rattle.std.proofs.Common.{◌≡◌, ℕ, zero, suc, ◌+◌, ◌*◌, ◌≤◌, ◌^◌, ◌==◌, Bool, true, false, cond, List, [], ◌∷◌, length, replicate, Option, refl, ap, sym, subst, ◌∙◌, inl, inr, arith, All}
+use Rattle.std.proofs.Common.{◌≡◌, ℕ, zero, suc, ◌+◌, ◌*◌, ◌≤◌, ◌^◌, ◌==◌, List, [], ◌∷◌, length, replicate, ap, sym, subst, ◌∙◌, inl, inr, arith, All}
 use Rattle.std.proofs.Math.Nat.{mul-le-mul_right}
 use Rattle.std.proofs.lemmas.List.{length-replicate}
 use Rattle.std.proofs.lemmas.List.FromFn.{length-range_with_len}
 use Rattle.std.proofs.lemmas.Bool.{cases_Bool}
+use Rattle.plain_facts.specs.Lists.{Each}
+use Rattle.plain_facts.proofs.Each.{each_at_most, each_zero}
 use Rattle.hail_codes.specs.Points.{upto}
-use Rattle.hail_codes.specs.Polynomials.{value, is_seen}
 use Rattle.hail_columns.specs.Objects.{points}
-use Rattle.hail_columns.specs.Verdicts.{Sums, counts_after}
+use Rattle.hail_columns.specs.Verdicts.{Sums}
 use Rattle.hail_columns.specs.Challenges.{bare_answers}
+use Rattle.hail_columns.proofs.CountLaws.{length-counts_after, counts_after-within}
 use Rattle.hail_records.specs.Records.{Setup, most_files}
 use Rattle.hail_machine.specs.Jobs.{Pinned, Job}
 use Rattle.hail_machine.specs.Setups.{object_of, stripes_of}
 use Rattle.hail_machine.specs.Actions.{rounds_of}
 use Rattle.hail_machine.specs.Audits.{challenge_in, JudgesRound, JudgesRounds, JudgesFiles, HasSums}
 use Rattle.hail_machine.specs.Given.{answers_given}
-use Rattle.hail_machine.proofs.ActionLists.{Each}
 use Rattle.hail_machine.proofs.JobLists.{cond_true, cond_false}
 
 -- counts and undecided rounds of so many judged ones
@@ -24,41 +25,21 @@ record Within (n : ℕ) (rounds : ℕ) (sums : Sums) : Type 0 where
   counts : Each (λ count. count ≤ rounds) sums.counts
   undecided : sums.undecided ≤ rounds
 
-each-higher : (low high : ℕ) (counts : List ℕ) → low ≤ high → Each (λ count. count ≤ low) counts → Each (λ count. count ≤ high) counts
-each-higher low high [] l h = tt
-each-higher low high (c ∷ cs) l h = ((let a = h.0 in omega (arith, a, l)), each-higher low high cs l h.1)
-
-counted-size : (p points : List ℕ) (heard : List (Option ℕ)) (counts : List ℕ) → length (counts_after p points heard counts) ≡ length counts
-counted-size p [] heard counts = refl
-counted-size p (x ∷ xs) [] counts = refl
-counted-size p (x ∷ xs) (answer ∷ more) [] = refl
-counted-size p (x ∷ xs) (answer ∷ more) (n ∷ ns) = ap suc (counted-size p xs more ns)
-
-counted-within : (k : ℕ) (p points : List ℕ) (heard : List (Option ℕ)) (counts : List ℕ) → Each (λ count. count ≤ k) counts → Each (λ count. count ≤ k + 1) (counts_after p points heard counts)
-counted-within k p [] heard counts h = each-higher k (k + 1) counts (omega arith) h
-counted-within k p (x ∷ xs) [] counts h = each-higher k (k + 1) counts (omega arith) h
-counted-within k p (x ∷ xs) (answer ∷ more) [] h = tt
-counted-within k p (x ∷ xs) (answer ∷ more) (n ∷ ns) h = (one (is_seen (value p x) answer) h.0, counted-within k p xs more ns h.1)
-  where
-    one : (b : Bool) → n ≤ k → cond b n (n + 1) ≤ k + 1
-    one true l = omega (arith, l)
-    one false l = omega (arith, l)
-
 module _ (s : Setup) (job : Job) where
   judged : (n k : ℕ) (f : Pinned) (round : ℕ) (old new : Sums) → Within n k old → JudgesRound s job f round old new → Within n (k + 1) new
   judged n k f round old new w (inl (p, decides, is)) = subst (Within n (k + 1)) (sym is) (record {
-    size = counted-size p (points (object_of s f.id)) (bare_answers (object_of s f.id) (challenge_in s job f.id (length f.bytes) round) 0 (answers_given job.given s.n f.id round)) old.counts ∙ w.size;
-    counts = counted-within k p (points (object_of s f.id)) (bare_answers (object_of s f.id) (challenge_in s job f.id (length f.bytes) round) 0 (answers_given job.given s.n f.id round)) old.counts w.counts;
+    size = length-counts_after p (points (object_of s f.id)) (bare_answers (object_of s f.id) (challenge_in s job f.id (length f.bytes) round) 0 (answers_given job.given s.n f.id round)) old.counts ∙ w.size;
+    counts = counts_after-within k p (points (object_of s f.id)) (bare_answers (object_of s f.id) (challenge_in s job f.id (length f.bytes) round) 0 (answers_given job.given s.n f.id round)) old.counts w.counts;
     undecided = (let u = w.undecided in omega (arith, u));
   })
   judged n k f round old new w (inr (none, is)) = subst (Within n (k + 1)) (sym is) (record {
     size = w.size;
-    counts = each-higher k (k + 1) old.counts (omega arith) w.counts;
+    counts = each_at_most k (k + 1) old.counts (omega arith) w.counts;
     undecided = (let u = w.undecided in omega (arith, u));
   })
 
   within-higher : (n low high : ℕ) (sums : Sums) → low ≤ high → Within n low sums → Within n high sums
-  within-higher n low high sums l w = record { size = w.size; counts = each-higher low high sums.counts l w.counts; undecided = (let u = w.undecided in omega (arith, u, l)) }
+  within-higher n low high sums l w = record { size = w.size; counts = each_at_most low high sums.counts l w.counts; undecided = (let u = w.undecided in omega (arith, u, l)) }
 
   judged-rounds : (n k : ℕ) (f : Pinned) (rounds : List ℕ) (old new : Sums) → Within n k old → JudgesRounds s job f rounds old new → Within n (k + length rounds) new
   judged-rounds n k f [] old new w is = subst (Within n (k + 0)) (sym is) (within-higher n k (k + 0) old (omega arith) w)
@@ -80,10 +61,6 @@ module _ (s : Setup) (job : Job) where
       within-higher n (k + s.rounds + length fs * s.rounds) (k + length (f ∷ fs) * s.rounds) new (omega (arith, e))
       (judged-files n (k + s.rounds) fs mid new (within-higher n (k + length (rounds_of s (length f.bytes))) (k + s.rounds) mid (omega (arith, r)) m) js))
 
-zeros : (n : ℕ) → Each (λ count. count ≤ 0) (replicate n 0)
-zeros zero = tt
-zeros (suc n) = (omega arith, zeros n)
-
 -- what the sums of an audit over so few files are
 pub record AreSmall (n : ℕ) (sums : Sums) : Type 0 where
   pub size : length sums.counts ≡ n
@@ -92,11 +69,11 @@ pub record AreSmall (n : ℕ) (sums : Sums) : Type 0 where
 
 pub sums-small : (s : Setup) (job : Job) (sums : Sums) → length job.pinned ≤ most_files → s.rounds ≤ 64 → HasSums s job sums → AreSmall s.n sums
 sums-small s job sums few rounds h =
-    (let start : Within s.n 0 (record { counts = replicate s.n 0; undecided = 0 }) = record { size = length-replicate s.n 0; counts = zeros s.n; undecided = omega arith } in
+    (let start : Within s.n 0 (record { counts = replicate s.n 0; undecided = 0 }) = record { size = length-replicate s.n 0; counts = each_zero s.n; undecided = omega arith } in
     let w = judged-files s job s.n 0 job.pinned (record { counts = replicate s.n 0; undecided = 0 }) sums start h in
     let a : length job.pinned * s.rounds ≤ 1024 * s.rounds = mul-le-mul_right s.rounds few in
     let l : 0 + length job.pinned * s.rounds ≤ 2 ^ 16 = omega (arith, a, rounds) in
-    record { size = w.size; counts = each-higher (0 + length job.pinned * s.rounds) (2 ^ 16) sums.counts l w.counts; undecided = (let u = w.undecided in omega (arith, u, l)) })
+    record { size = w.size; counts = each_at_most (0 + length job.pinned * s.rounds) (2 ^ 16) sums.counts l w.counts; undecided = (let u = w.undecided in omega (arith, u, l)) })
 
 pub each-all : (P : ℕ → Type 0) (xs : List ℕ) → Each P xs → All P xs
 each-all P [] h k d l = absurd (omega (arith, l))

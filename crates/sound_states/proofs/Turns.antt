@@ -2,9 +2,11 @@
 use Rattle.std.proofs.Common.{◌≡◌, ℕ, ◌<◌, ◌≤◌, ◌==◌, Bool, true, false, cond, ◌||◌, ◌&&◌, List, [], ◌∷◌, length, Option, Some, None, refl, ap, sym, subst, ◌∙◌, inl, inr, arith}
 use Rattle.std.specs.Prelude.{is_some, IsTrue}
 use Rattle.std.proofs.lemmas.Bool.{cases_Bool, cases_lt, cases_eq, false≢true}
+use Rattle.plain_facts.proofs.Options.{some-not-none}
+use Rattle.std.proofs.lemmas.Bool.Decides.{nat_tests}
 use Rattle.hail_columns.specs.Verdicts.{Sums}
-use Rattle.hail_records.specs.Records.{Record, SetUp, PutStart, PutDone, Drop, AuditStart, AuditDone, RepairDone}
-use Rattle.hail_records.specs.Table.{setup_of, next_id, next_audit, file_of, started_as}
+use Rattle.hail_records.specs.Records.{Record, SetUp, PutStart, PutDone, Drop, AuditStart, AuditDone, RepairDone, PutDoneIn, Version, Resume, InEffect, RepairDue, is_in_grammar}
+use Rattle.hail_records.specs.Table.{next_id, next_audit, file_of, started_as}
 use Rattle.hail_records.specs.Acceptance as no
 use Rattle.hail_records.specs.Acceptance.{refused, put_done_refused, AreAccepted}
 use Rattle.hail_machine.specs.Jobs.{Kind, PutJob, GetJob, DropJob, AuditJob, RepairJob, Given, Job, job_of, with_job}
@@ -24,7 +26,7 @@ use Rattle.sound_states.specs.Sound.{IsDoubtOf, IsSoundAppend, IsPutUnderWay, Is
 use Rattle.sound_states.proofs.Orders.{gates}
 use Rattle.sound_states.proofs.JobLists.{sum-with, length-with, numbered-with, still-with, mine, other}
 use Rattle.sound_states.proofs.NamesTaken.{are_put, puts_name, taken-fewer}
-use Rattle.sound_states.proofs.Records.{some-none, sound-accepted, held-on, held-same}
+use Rattle.sound_states.proofs.Records.{sound-accepted, held-on, held-same}
 use Rattle.sound_states.proofs.Rooms.{room-same}
 use Rattle.sound_states.proofs.Going.{onward, order-onward, count-onward, not-three, kept, went}
 
@@ -32,26 +34,35 @@ use Rattle.sound_states.proofs.Going.{onward, order-onward, count-onward, not-th
 
 -- a put's end that is accepted has a number that was drawn
 done-drawn : (rs : List Record) (id size : ℕ) → AreAccepted rs → refused rs (PutDone id size) ≡ None → id < next_id rs
-done-drawn rs id size a h = elim (cases_Bool (is_some (setup_of rs))) [
-  | inr f ↦ absurd (some-none _ no.NoSetup (cond_false (is_some (setup_of rs)) (put_done_refused rs (started_as rs id)) (Some no.NoSetup) f) h)
-  | inl t ↦ by_start (started_as rs id) refl (sym (cond_true (is_some (setup_of rs)) (put_done_refused rs (started_as rs id)) (Some no.NoSetup) t) ∙ h)
-]
+done-drawn rs id size a h = by_start (started_as rs id) refl (grind (arith, nat_tests, h))
   where
-    by_start : (o : Option (List ℕ)) → started_as rs id ≡ o → put_done_refused rs o ≡ None → id < next_id rs
-    by_start None e g = absurd (some-none _ no.NotStarted refl g)
+    by_start : (o : Option (List ℕ)) → started_as rs id ≡ o → put_done_refused rs (started_as rs id) ≡ None →
+        id < next_id rs
+    by_start None e g = absurd (some-not-none _ no.NotStarted refl (sym (ap (put_done_refused rs) e) ∙ g))
     by_start (Some name) e g = (sound-accepted rs a).started id name e
 
 pub follows-on : (rs : List Record) (bytes now : ℕ → List ℕ) (entry : Record) → AreAccepted rs → ((id : ℕ) → id < next_id rs → now id ≡ bytes id) → MayFollow rs bytes entry → MayFollow rs now entry
-follows-on rs bytes now entry a stay m = record { in_grammar = m.in_grammar; accepted = m.accepted; room = m.room; held = held entry m.accepted m.held }
+follows-on rs bytes now entry a stay m = record {
+  in_grammar = m.in_grammar;
+  accepted = m.accepted;
+  room = m.room;
+  held = held entry m.in_grammar m.accepted m.held;
+}
   where
-    held : (entry : Record) → refused rs entry ≡ None → BringsHeld bytes entry → BringsHeld now entry
-    held (SetUp s) h b = tt
-    held (PutStart id name) h b = tt
-    held (PutDone id size) h b = held-same bytes now id size (stay id (done-drawn rs id size a h)) b
-    held (Drop name) h b = tt
-    held (AuditStart number) h b = tt
-    held (AuditDone number undecided counts) h b = tt
-    held (RepairDone number) h b = tt
+    held : (entry : Record) → IsTrue (is_in_grammar entry) → refused rs entry ≡ None → BringsHeld bytes entry →
+        BringsHeld now entry
+    held (SetUp s) g h b = tt
+    held (PutStart id name) g h b = tt
+    held (PutDone id size) g h b = held-same bytes now id size (stay id (done-drawn rs id size a h)) b
+    held (Drop name) g h b = tt
+    held (AuditStart number) g h b = tt
+    held (AuditDone number undecided counts) g h b = tt
+    held (RepairDone number) g h b = tt
+    held (PutDoneIn id size profile) g h b = absurd (false≢true g)
+    held Version g h b = tt
+    held (Resume next audit) g h b = tt
+    held (InEffect id size profile kept) g h b = absurd (false≢true g)
+    held (RepairDue number counts) g h b = tt
 
 -- ---- lists of jobs in which one goes on
 
@@ -182,7 +193,7 @@ module _ (limit : ℕ) (old : State) (S : IsSound limit old) (job : Job) (runs :
       found = subst (λ n. job_of old.jobs n ≡ Some job) (sym number) runs
 
       found_some : old.jobs ≡ [] → ⊥
-      found_some e = some-none (job_of old.jobs job.number) job runs (ap (λ l. job_of l job.number) e)
+      found_some e = some-not-none (job_of old.jobs job.number) job runs (ap (λ l. job_of l job.number) e)
 
       at : (k : ℕ) → k ≡ next.number → job_of old.jobs k ≡ Some job
       at k e = subst (λ n. job_of old.jobs n ≡ Some job) (sym e) found

@@ -4,12 +4,13 @@ use Rattle.std.specs.Prelude.{is_some, IsTrue, nat_lt, slice_get}
 use Rattle.std.specs.List.{list_all}
 use Rattle.std.proofs.lemmas.Bool.{cases_Bool, cases_lt, false≢true, and_from, eq-eqb, lt-ltb}
 use Rattle.std.proofs.lemmas.Bool.Decides.{nat_tests}
+use Rattle.plain_facts.specs.Lists.{Each}
 use Rattle.hail_columns.specs.Verdicts.{Sums}
 use Rattle.hail_records.specs.Records.{Setup, Record, SetUp, PutStart, PutDone, Drop, AuditStart, AuditDone, RepairDone, is_name, is_in_grammar, record_size, largest_file, largest_journal, most_files}
 use Rattle.hail_records.specs.Journal.{text_size}
-use Rattle.hail_records.specs.Table.{setup_of, next_id, next_audit, started_as, file_of, files_of, is_same_name, running_audit, due_of}
+use Rattle.hail_records.specs.Table.{setup_of, version_of, next_id, next_audit, started_as, file_of, files_of, is_same_name, running_audit, due_of}
 use Rattle.hail_records.specs.Acceptance as no
-use Rattle.hail_records.specs.Acceptance.{refused, refused_after, is_running, is_count_each, put_done_refused, is_crowded}
+use Rattle.hail_records.specs.Acceptance.{refused, put_done_refused, is_crowded}
 use Rattle.hail_records.proofs.FilesLaws.{same-eq, same-refl}
 use Rattle.hail_machine.specs.Jobs.{Kind, PutJob, GetJob, DropJob, AuditJob, RepairJob, Job, job_of}
 use Rattle.hail_machine.specs.Setups.{setup_or_none}
@@ -17,13 +18,12 @@ use Rattle.hail_machine.specs.Actions.{WriteBody, End, append_actions, actions_o
 use Rattle.hail_machine.specs.Audits.{HasSums}
 use Rattle.hail_machine.specs.States.{State, setup_in}
 use Rattle.hail_machine.specs.Space.{reserved}
-use Rattle.hail_machine.specs.Begins.{is_listed, names_in, names_taken}
+use Rattle.hail_machine.specs.Begins.{is_name_among, names_in, names_taken}
 use Rattle.hail_machine.specs.Events.{AreBytes, IsSpelledKind}
 use Rattle.hail_machine.proofs.Pins.{any_job}
 use Rattle.hail_machine.proofs.Numbers.{next_by, next_is_by}
 use Rattle.hail_machine.specs.Appends.{Writes}
 use Rattle.hail_machine.specs.Steps.{next_action, is_idle_drop}
-use Rattle.hail_machine.proofs.ActionLists.{Each}
 use Rattle.hail_machine.proofs.JobLists.{cond_true, cond_false, found_none}
 use Rattle.sound_states.specs.Orders.{moves_made, IsInOrder}
 use Rattle.sound_states.specs.Follows.{BringsHeld, MayFollow}
@@ -32,7 +32,7 @@ use Rattle.sound_states.specs.Sound.{IsSound}
 use Rattle.sound_states.proofs.Orders.{in_order-step, next-left, appends-cons, appends_in, appends-order, drop_rest, drop-body}
 use Rattle.sound_states.proofs.JobLists.{sum-member}
 use Rattle.sound_states.proofs.NamesTaken.{fewer, once-files, listed-files_of, listed-taken, length-names_in, are_put, puts_name, taken_by}
-use Rattle.sound_states.proofs.Records.{next_id-le, next_audit-le, setup-spelled}
+use Rattle.sound_states.proofs.Records.{next_id-le, next_audit-le, version-first, setup-spelled}
 use Rattle.sound_states.proofs.SumsLaws.{AreSmall, sums-small}
 use Rattle.sound_states.proofs.Rooms.{room_of, room-step, put-writes_first, put-writes_later, audit-writes_first, audit-writes_later}
 
@@ -41,8 +41,11 @@ use Rattle.sound_states.proofs.Rooms.{room_of, room-step, put-writes_first, put-
 accept-start : (rs : List Record) (name : List ℕ) → is_some (setup_of rs) ≡ true → next_id rs ≤ largest_journal → refused rs (PutStart (next_id rs) name) ≡ None
 accept-start rs name up l = grind (arith, nat_tests, up, l)
 
-accept-done : (rs : List Record) (id size : ℕ) (name : List ℕ) → is_some (setup_of rs) ≡ true → started_as rs id ≡ Some name → is_crowded rs name ≡ false → refused rs (PutDone id size) ≡ None
-accept-done rs id size name up started room = cond_true (is_some (setup_of rs)) _ _ up ∙ (ap (put_done_refused rs) started ∙ cond_false (is_crowded rs name) _ _ room)
+accept-done : (rs : List Record) (id size : ℕ) (name : List ℕ) → is_some (setup_of rs) ≡ true → version_of rs ≡ 1 →
+    started_as rs id ≡ Some name → is_crowded rs name ≡ false → refused rs (PutDone id size) ≡ None
+accept-done rs id size name up first started room = cond_true (is_some (setup_of rs)) _ _ up
+    ∙ (cond_false (version_of rs == 2) _ _ (ap (λ v. v == 2) first)
+    ∙ (ap (put_done_refused rs) started ∙ cond_false (is_crowded rs name) _ _ room))
 
 accept-drop : (rs : List Record) (name : List ℕ) → is_some (setup_of rs) ≡ true → is_some (file_of rs name) ≡ true → refused rs (Drop name) ≡ None
 accept-drop rs name up there = cond_true (is_some (setup_of rs)) _ _ up ∙ cond_true (is_some (file_of rs name)) _ _ there
@@ -117,10 +120,10 @@ module _ (limit : ℕ) (w : State) (S : IsSound limit w) where
       high s g = grind (arith, nat_tests, g)
 
   pub ids-small : next_id w.records ≤ largest_journal
-  ids-small = (let a = next_id-le w.records in let b = S.room in omega (arith, a, b))
+  ids-small = (let a = next_id-le w.records S.in_grammar in let b = S.room in omega (arith, a, b))
 
   pub audits-small : next_audit w.records ≤ largest_journal
-  audits-small = (let a = next_audit-le w.records in let b = S.room in omega (arith, a, b))
+  audits-small = (let a = next_audit-le w.records S.in_grammar in let b = S.room in omega (arith, a, b))
 
   pub small-sums : (number : ℕ) (job : Job) (sums : Sums) → job_of w.jobs number ≡ Some job → HasSums (setup_in w) job sums → AreSmall (setup_in w).n sums
   small-sums number job sums runs has = sums-small (setup_in w) job sums (S.jobs number job runs).few (setup-rounds (runs-open number job runs)) has
@@ -174,7 +177,7 @@ module _ (limit : ℕ) (w : State) (S : IsSound limit w) where
               false≢true (sym g ∙ (ap (puts_name name) kind ∙ same-refl name)))
         ]
 
-        all-taken : (n : List ℕ) → is_listed (name ∷ names_in (files_of w.records)) n ≡ true → is_listed (taken_by w.records w.jobs) n ≡ true
+        all-taken : (n : List ℕ) → is_name_among (name ∷ names_in (files_of w.records)) n ≡ true → is_name_among (taken_by w.records w.jobs) n ≡ true
         all-taken n i = listed-taken w.records w.jobs n ∙ elim (cases_Bool (is_same_name n name)) [
           | inl t ↦ (let e : n ≡ name = same-eq n name t in let p : are_put n w.jobs ≡ true = ap (λ x. are_put x w.jobs) e ∙ put in grind (arith, p))
           | inr f ↦ (let l = listed-files_of w.records n in grind (arith, i, f, l))
@@ -213,7 +216,8 @@ module _ (limit : ℕ) (w : State) (S : IsSound limit w) where
       | inr l ↦ (let d : HasDrawn (setup_in w) w.records w.bytes job name bytes = subst (IsReady (setup_in w) w.records w.bytes job) kind J.ready l in
           subst Good (sym (put-writes_later w job name bytes entry l h)) (
             spelled-done job.subject (length bytes) J.subject (subst IsWish kind J.wish).1,
-            accept-done w.records job.subject (length bytes) name (S.set_up opened) (d.started left) (put-place name bytes kind),
+            accept-done w.records job.subject (length bytes) name (S.set_up opened) (version-first w.records S.in_grammar)
+                (d.started left) (put-place name bytes kind),
             (subst AreBytes (sym d.bytes_are) (subst IsSpelledKind kind J.spelled).1, ap length d.bytes_are),
           ))
     ]

@@ -1,9 +1,13 @@
--- The order of a job's actions, where an append in flight stands in it, and the order of the numbers of jobs and of pinned files.
+-- The order of a job's actions, where an append in flight stands in it, and the order of the numbers of
+-- jobs and of pinned files.
 --
---   moves_made append number    == how many moves the append in flight of this job has made; 0 where none in flight is its own
---   moves_before, moves_after   == how many moves of an append are made right before an action, and right after it
---   IsInOrder moves actions     == with so many moves of an append made, these actions end it move by move, make every further append
---                                  so, with no other action between its moves, and come to an End, which is the last of them
+--   moves_made append number    == how many moves the append in flight of this job has made; 0 where none
+--                                  in flight is its own
+--   moves_before, moves_after   == how many moves of an append are made right before an action, and right
+--                                  after it
+--   IsInOrder moves actions     == with so many moves of an append made, these actions end it move by move,
+--                                  make every further append so, with no other action between its moves,
+--                                  and come to an End, which is the last of them
 --   AreNumbered low jobs next   == the numbers of jobs ascend, from `low` on, and are below `next`
 --   AreAscending low pinned     == so do the object numbers of pinned files
 use Rattle.std.specs.Prelude.{◌≡◌, ℕ, ◌+◌, ◌≤◌, ◌==◌, List, [], ◌∷◌, Option, None, Some, if◌then◌else◌}

@@ -1,13 +1,15 @@
 -- Sound states: what holds of every state that a run reaches, of the state alone.
 --
---   IsDoubtOf append doubt   == while jobs go on the record of the append in flight is in doubt after its third move, and nothing else is
---   IsSoundAppend w a        == all that holds of the append in flight: its job runs and has written its record, which may come into
---                               effect next, and has drawn its number and kept what belongs to it
+--   IsDoubtOf append doubt   == while jobs go on the record of the append in flight is in doubt after its
+--                               third move, and nothing else is
+--   IsSoundAppend w a        == all that holds of the append in flight: its job runs and has written its
+--                               record, which may come into effect next, and has drawn its number and kept
+--                               what belongs to it
 --   IsPutUnderWay job kind   == a job is a put whose first append is done, so that it has a number
 --   IsIdle w                 == no job runs, no append is in flight, and no job is kept from going on
 --   IsSound limit w          == a sound state, with this limit of running jobs
---   IsAtRest w               == a state with no job, no append and nothing in doubt, over records that a journal may hold and that the
---                               fold accepts, whose files have their bytes
+--   IsAtRest w               == a state with no job, no append and nothing in doubt, over records that a
+--                               journal may hold and that the fold accepts, whose files have their bytes
 use Rattle.std.specs.Prelude.{◌≡◌, ℕ, ◌+◌, ◌≤◌, ◌==◌, Bool, true, false, IsTrue, [], length, sum_by, Option, None, Some}
 use Rattle.std.specs.List.{list_all}
 use Rattle.hail_records.specs.Records.{is_in_grammar, largest_journal, most_files}

@@ -4,10 +4,13 @@
 --   HasPins kind pinned                == which files a job works on: a get one, a put and a drop none
 --   IsPin rs bytes file                == a file that a job works on is one that was stored
 --   IsOlder rs older                   == a job takes at most one object away, and one that was stored
---   HasDrawn s rs bytes job name data  == a put whose first append is done has a number of its own, which stands for its bytes, and
---                                         is started under its name until its second append is done
---   IsReady s rs bytes job kind        == what stands in the records for a job, so that they accept its next record
---   IsSoundJob s rs bytes moves job    == all that holds of a running job, of whose append in flight so many moves are made
+--   HasDrawn s rs bytes job name data  == a put whose first append is done has a number of its own, which
+--                                         stands for its bytes, and is started under its name until its
+--                                         second append is done
+--   IsReady s rs bytes job kind        == what stands in the records for a job, so that they accept its
+--                                         next record
+--   IsSoundJob s rs bytes moves job    == all that holds of a running job, of whose append in flight so
+--                                         many moves are made
 use Rattle.std.specs.Prelude.{◌≡◌, ◌⊎◌, ℕ, ◌^◌, ◌<◌, ◌≤◌, true, IsTrue, List, [], ◌∷◌, length, None, Some}
 use Rattle.std.specs.List.{Contains}
 use Rattle.hail_records.specs.Records.{Setup, Record, is_name, largest_file, most_files}
@@ -44,7 +47,8 @@ abbrev pub IsOlder : List Record → List ℕ → Type 0
 IsOlder rs older = (older ≡ []) ⊎ ((id : ℕ) × (older ≡ id ∷ []) × (id < next_id rs))
 
 -- a put whose first append is done has a number of its own, which stands for its bytes
-pub record HasDrawn (s : Setup) (rs : List Record) (bytes : ℕ → List ℕ) (job : Job) (name content : List ℕ) : Type 0 where
+pub record HasDrawn (s : Setup) (rs : List Record) (bytes : ℕ → List ℕ) (job : Job)
+    (name content : List ℕ) : Type 0 where
   pub drawn : job.subject < next_id rs
   pub bytes_are : bytes job.subject ≡ content
   pub started : 0 < appends_left s job → started_as rs job.subject ≡ Some name
@@ -53,12 +57,14 @@ pub record HasDrawn (s : Setup) (rs : List Record) (bytes : ℕ → List ℕ) (j
 abbrev pub IsReady : Setup → List Record → (ℕ → List ℕ) → Job → Kind → Type 0
 IsReady s rs bytes job (PutJob name content) = 4 ≤ job.place → HasDrawn s rs bytes job name content
 IsReady s rs bytes job AuditJob =
-    (job.place < 4 → due_of rs ≡ None) × (4 ≤ job.place → 0 < appends_left s job → running_audit rs ≡ Some job.subject)
+    (job.place < 4 → due_of rs ≡ None)
+    × (4 ≤ job.place → 0 < appends_left s job → running_audit rs ≡ Some job.subject)
 IsReady s rs bytes job RepairJob = 0 < appends_left s job → is_due job.subject (due_of rs) ≡ true
 IsReady s rs bytes job kind = Unit {0}
 
 -- all that holds of a running job
-pub record IsSoundJob (s : Setup) (rs : List Record) (bytes : ℕ → List ℕ) (moves : ℕ) (job : Job) : Type 0 where
+pub record IsSoundJob (s : Setup) (rs : List Record) (bytes : ℕ → List ℕ) (moves : ℕ)
+    (job : Job) : Type 0 where
   pub spelled : IsSpelledKind job.kind
   pub wish : IsWish job.kind
   pub pins : HasPins job.kind job.pinned

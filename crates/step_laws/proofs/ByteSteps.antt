@@ -18,7 +18,7 @@ use Rattle.hail_machine.specs.Answers.{Got}
 use Rattle.hail_machine.specs.Events.{Begin, Step, Begun, More, Ended}
 use Rattle.hail_machine.specs.States.{State, setup_in, going_on, ended, with_provider}
 use Rattle.hail_machine.specs.Machine.{Happens}
-use Rattle.hail_machine.specs.Examples.{four}
+use Rattle.hail_records.specs.Examples.{four}
 use Rattle.hail_machine.proofs.JobLists.{cond_true}
 use Rattle.hail_machine.proofs.RunParts.{begun, job_at}
 use Rattle.hail_machine.proofs.PutSteps.{state_15}
@@ -26,11 +26,11 @@ use Rattle.step_laws.specs.Own.{own_blocks}
 use Rattle.step_laws.proofs.GivesRight.{own_give}
 
 -- the block that a provider holds of the byte
-abbrev block : ℕ → List ℕ
+abbrev pub block : ℕ → List ℕ
 block j = columns (object_of four 1) (111 ∷ []) j 0
 
 -- it has the size
-block_sized : (j : ℕ) → Some (block j) ≡ sized 6 (Some (block j))
+pub block_sized : (j : ℕ) → Some (block j) ≡ sized 6 (Some (block j))
 block_sized j = sym (cond_true (length (block j) == 6) (Some (block j)) None (eq-eqb (length (block j)) 6 (length-column_of_symbols (object_of four 1) (symbols_in (object_of four 1) (111 ∷ []) 0) j 0)))
 
 -- a block has been fetched

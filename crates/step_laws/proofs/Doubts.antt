@@ -1,14 +1,15 @@
 -- What stands of the job that wrote a record in doubt; and that setups stay.
 use Rattle.std.proofs.Common.{◌≡◌, ℕ, ◌<◌, ◌≤◌, List, [], ◌∷◌, ◌++◌, length, Some, None, refl, ap, sym, subst, ◌∙◌, arith}
 use Rattle.std.specs.Prelude.{slice_get}
-use Rattle.hail_records.specs.Records.{Setup, Record, SetUp, PutStart, PutDone, Drop, AuditStart, AuditDone, RepairDone}
+use Rattle.plain_facts.specs.Lists.{In}
+use Rattle.hail_records.specs.Records.{Setup, Record, SetUp, PutStart, PutDone, Drop, AuditStart, AuditDone, RepairDone, PutDoneIn, Version, Resume, InEffect, RepairDue}
 use Rattle.hail_records.specs.Table.{setup_of}
 use Rattle.hail_machine.specs.Jobs.{Kind, PutJob, Given, Job, job_of, advanced}
 use Rattle.hail_machine.specs.Actions.{Action, actions_of}
 use Rattle.hail_machine.specs.States.{State, Append, Doubt, IsStart, setup_in}
 use Rattle.hail_machine.specs.Runs.{Moment, now, IsRun}
-use Rattle.hail_machine.proofs.RecordFacts.{In}
 use Rattle.hail_machine.proofs.Changes.{Records_is, Changes}
+use Rattle.hail_machine.proofs.Written.{IsWritten}
 use Rattle.hail_machine.proofs.Events.{changes}
 use Rattle.hail_machine.proofs.Numbers.{objects, Draws}
 use Rattle.hail_machine.proofs.PinFacts.{setup_same, wrote_setup}
@@ -42,12 +43,16 @@ pub record Facts (start : State) (ms : List Moment) : Type 0 where
 advanced_later : (x : Job) → Later x (advanced x)
 advanced_later x = record { number = refl; kind = refl; begun = refl; pinned = refl; flagged = refl; subject = λ l. refl; place = omega arith; more = []; given = refl }
 
-done_on : (limit : ℕ) (start : State) (m : Moment) (ms : List Moment) (x : Job) (entry : Record) → Changes limit (length ms) (now start ms) m.event m.outcome m.state → setup_in m.state ≡ setup_in (now start ms) → Done start ms x entry → Done start (m ∷ ms) x entry
-done_on limit start m ms x entry X setup d = record {
+done_on : (limit : ℕ) (start : State) (m : Moment) (ms : List Moment) (x : Job) (entry : Record) →
+    IsWritten (now start ms) → Changes limit (length ms) (now start ms) m.event m.outcome m.state →
+    setup_in m.state ≡ setup_in (now start ms) → Done start ms x entry → Done start (m ∷ ms) x entry
+done_on limit start m ms x entry N X setup d = record {
   final = subst (λ t. Final t x entry x.kind) (sym setup) d.final;
   made = λ p action l at. (let f = d.made p action l (subst (λ t. slice_get (actions_of t x) p ≡ Some action) setup at) in (made_on start m ms (advanced x) (advanced x) action (later_same (advanced x)) f.0, f.1));
   came = λ gift i. came_on start m ms (advanced x) (advanced x) gift setup (later_same (advanced x)) (d.came gift i);
-  own = λ name bytes kind late. stands_by limit (length ms) (now start ms) m.event m.outcome m.state x.subject bytes X (d.own name bytes kind late);
+  own = λ name bytes kind late.
+      stands_by limit (length ms) (now start ms) m.event m.outcome m.state x.subject bytes N X
+      (d.own name bytes kind late);
 }
 
 module _ (limit : ℕ) (start : State) (m : Moment) (ms : List Moment) (A : All start ms) (I : eff.Facts (now start ms)) (F : Facts start ms) (X : Changes limit (length ms) (now start ms) m.event m.outcome m.state) (W : Walked (length ms) (now start ms) m.event m.outcome m.state) where
@@ -58,7 +63,9 @@ module _ (limit : ℕ) (start : State) (m : Moment) (ms : List Moment) (A : All 
         final = subst (λ t. Final t x a.entry x.kind) (sym setup) (F.flights a x flight (subst (λ n. job_of (now start ms).jobs n ≡ Some x) (sym mine) runs));
         made = λ p action l at. (let f = F.made.made x.number x p action runs l (subst (λ t. slice_get (actions_of t x) p ≡ Some action) setup at) in (made_on start m ms x (advanced x) action (advanced_later x) f.0, f.1));
         came = λ gift i. came_on start m ms x (advanced x) gift setup (advanced_later x) (F.made.came x.number x gift runs i);
-        own = λ name bytes kind late. stands_by limit (length ms) (now start ms) m.event m.outcome m.state x.subject bytes X
+        own = λ name bytes kind late.
+            stands_by limit (length ms) (now start ms) m.event m.outcome m.state x.subject bytes
+            A.numbers.written X
             (record { below = A.numbers.below x.number x runs (subst (Draws objects) (sym kind) tt, late); bytes_are = I.kept x.number x name bytes runs kind late });
       })
 
@@ -72,7 +79,8 @@ module _ (limit : ℕ) (start : State) (m : Moment) (ms : List Moment) (A : All 
     where
       on : Standing start ms d → setup_in m.state ≡ setup_in (now start ms) → m.state.records ≡ (now start ms).records → Standing start (m ∷ ms) d
       on (Standing.bare s entry maker none_) setup rec = Standing.bare s entry maker (ap setup_of rec ∙ none_)
-      on (Standing.by_job x maker done) setup rec = Standing.by_job x maker (done_on limit start m ms x d.entry X setup done)
+      on (Standing.by_job x maker done) setup rec =
+          Standing.by_job x maker (done_on limit start m ms x d.entry A.numbers.written X setup done)
 
   step_facts : Facts start (m ∷ ms)
   step_facts = record { made = made.step_facts limit start m ms A F.made X W; flights = flight_step limit start m ms A F.made F.flights X W; doubt = doubt_step }
@@ -95,6 +103,11 @@ final_setup t x (Drop name) kind rs h = refl
 final_setup t x (AuditStart id) kind rs h = refl
 final_setup t x (AuditDone id undecided counts) kind rs h = refl
 final_setup t x (RepairDone id) kind rs h = refl
+final_setup t x (PutDoneIn id size profile) kind rs h = refl
+final_setup t x Version kind rs h = refl
+final_setup t x (Resume next audit) kind rs h = refl
+final_setup t x (InEffect id size profile kept) kind rs h = refl
+final_setup t x (RepairDue number counts) kind rs h = refl
 
 setup_step : (limit : ℕ) (start : State) (m : Moment) (ms : List Moment) (s : Setup) → All start ms → Facts start ms → Changes limit (length ms) (now start ms) m.event m.outcome m.state → setup_of (now start ms).records ≡ Some s → setup_of m.state.records ≡ Some s
 setup_step limit start m ms s A F X h = elim X.records [
@@ -109,10 +122,6 @@ setup_step limit start m ms s A F X h = elim X.records [
     on_top : (d : Doubt) → Standing start ms d → setup_of (d.entry ∷ (now start ms).records) ≡ setup_of (now start ms).records
     on_top d (Standing.bare t entry maker none_) = absurd (let e : None ≡ Some s = sym none_ ∙ h in cc)
     on_top d (Standing.by_job x maker done) = final_setup (setup_in (now start ms)) x d.entry x.kind (now start ms).records done.final
-
-pub run_before : (limit : ℕ) (start : State) (later ms : List Moment) → IsRun limit start (later ++ ms) → IsRun limit start ms
-run_before limit start [] ms run = run
-run_before limit start (m ∷ later) ms run = run_before limit start later ms run.2
 
 pub setups_stay : (limit : ℕ) (start : State) (later ms : List Moment) (s : Setup) → IsStart start → IsRun limit start (later ++ ms) → setup_of (now start ms).records ≡ Some s → setup_of (now start (later ++ ms)).records ≡ Some s
 setups_stay limit start [] ms s clean run h = h

@@ -7,6 +7,9 @@ use Rattle.std.proofs.lemmas.List.{length-append, length-map, map-append, drop-m
 use Rattle.std.proofs.lemmas.List.FromFn.{length-map-range_with_len}
 use Rattle.std.proofs.lemmas.List.Sums.{sum_by-cons}
 use Rattle.std.proofs.Math.Seq.{drop-append-add}
+use Rattle.plain_facts.specs.Lists.{Each}
+use Rattle.plain_facts.proofs.Each.{each_get}
+use Rattle.plain_facts.proofs.Lists.{get_behind}
 use Rattle.hail_codes.specs.Points.{upto}
 use Rattle.hail_records.specs.Records.{Setup}
 use Rattle.hail_records.specs.Table.{File}
@@ -20,17 +23,17 @@ use Rattle.hail_machine.specs.Appends.{is_pinned, removable, is_first_append, su
 use Rattle.hail_machine.specs.Steps.{next_action}
 use Rattle.hail_machine.specs.Runs.{Moment, now, IsRun}
 use Rattle.hail_machine.proofs.JobLists.{cond_true, cond_false, same_value, found_none}
-use Rattle.hail_machine.proofs.ActionLists.{Each, each_get, split_get}
+use Rattle.hail_machine.proofs.ActionLists.{split_get}
 use Rattle.hail_machine.proofs.Changes.{Changes}
 use Rattle.hail_machine.proofs.Events.{changes}
 use Rattle.hail_machine.proofs.Numbers.{first_above, first_below}
 use Rattle.hail_machine.proofs.Held.{All, all, actions_are}
-use Rattle.hail_machine.proofs.Fair.{PutAt, put_at}
+use Rattle.hail_machine.proofs.Fair.{PutAt, put_at, gate_is_last}
+use Rattle.hail_machine.proofs.NextActions.{actions_by-advanced}
 use Rattle.step_laws.specs.Skips.{SkipsRemovals}
 use Rattle.step_laws.proofs.Walk.{IsGift, IsSilent, Passed, Went, Walked, walked}
-use Rattle.step_laws.proofs.Lists.{get_behind}
 use Rattle.step_laws.proofs.Places.{by_kind, tail_all}
-use Rattle.step_laws.proofs.Passing.{passed_place, passed_not_end, list_before, list_now, same_kind, same_given, list_is}
+use Rattle.step_laws.proofs.Passing.{passed_place, passed_not_end, list_before, list_now, same_given, list_is}
 use Rattle.step_laws.proofs.MadeFacts as made
 use Rattle.step_laws.proofs.MadeFacts.{setup_kept}
 
@@ -168,18 +171,11 @@ removable_few w (Some f) = elim (cases_Bool (is_pinned w f.id)) [
 
 -- ---- the fourth move of an append
 
-gate_last : (q : ℕ) → slice_get append_actions q ≡ Some SyncGate → q ≡ 3
-gate_last zero h = absurd (let e : Some WriteBody ≡ Some SyncGate = h in cc)
-gate_last (suc zero) h = absurd (let e : Some SyncBody ≡ Some SyncGate = h in cc)
-gate_last (suc (suc zero)) h = absurd (let e : Some WriteGate ≡ Some SyncGate = h in cc)
-gate_last (suc (suc (suc zero))) h = refl
-gate_last (suc (suc (suc (suc q)))) h = absurd (let e : None ≡ Some SyncGate = h in cc)
-
 put_gate : (w : State) (x : Job) (name bytes : List ℕ) (p : ℕ) → slice_get (actions_by (setup_in w) x (PutJob name bytes)) p ≡ Some SyncGate → (p ≡ 3) ⊎ (p ≡ 7 + length (store_actions (setup_in w) x bytes))
 put_gate w x name bytes p h = elim (put_at w x name bytes p SyncGate h) [
-  | PutAt.first l e ↦ inl (gate_last p e)
+  | PutAt.first l e ↦ inl (gate_is_last p e)
   | PutAt.store l m is ↦ absurd is
-  | PutAt.second q is l e ↦ inr (let z = gate_last q e in omega (arith, is, z))
+  | PutAt.second q is l e ↦ inr (let z = gate_is_last q e in omega (arith, is, z))
   | PutAt.after l is ↦ absurd is
 ]
 
@@ -252,7 +248,7 @@ module _ (w : State) (x : Job) (next_at : slice_get (actions_of (setup_in w) x) 
 
   drop_gate_at : (name : List ℕ) → slice_get (actions_by t x (DropJob name)) x.place ≡ Some SyncGate → x.place ≡ 3
   drop_gate_at name h = elim (split_get append_actions (remove_actions t x ++ End ∷ []) x.place SyncGate h) [
-    | inl a ↦ gate_last x.place a.1
+    | inl a ↦ gate_is_last x.place a.1
     | inr b ↦ absurd (let e = each_get (λ a. ends_append a ≡ false) (remove_actions t x ++ End ∷ []) (x.place - 4) SyncGate (tail_all t x (λ a. ends_append a ≡ false) (λ i o. refl) refl) b.1 in false≢true (sym e))
   ]
 
@@ -350,7 +346,7 @@ one_step old x action new j next_is settled passed = go passed
         (inl f.0, λ h. sym older ∙ settled (f.1 ∙ h)))
 
     go : Passed old x action new j → Falls (setup_in old) x j
-    go (Passed.silent quiet is rec) = plain (advanced x) is refl refl refl (ap shape (same_kind (setup_in old) x x.kind)) (silent_plain action quiet)
+    go (Passed.silent quiet is rec) = plain (advanced x) is refl refl refl (ap shape (actions_by-advanced (setup_in old) x x.kind)) (silent_plain action quiet)
     go (Passed.gave gift is_gift is rec) = plain (advanced_with x gift) is refl refl refl (ap shape (same_given (setup_in old) x gift x.kind)) (gift_plain old x new action gift is_gift)
     go (Passed.drew act is rec) = plain (with_subject x (subject_drawn old x x.kind)) is refl refl refl (subject_shape (setup_in old) x (subject_drawn old x x.kind) x.kind) (ap ends_append act)
     go (Passed.finished a act flight mine is rec) = subst (Falls (setup_in old) x) (sym is) (finish old x (at ∙ ap Some act) settled x.kind (taken_out old x x.kind) refl refl)

@@ -6,7 +6,7 @@ use Rattle.hail_codes.specs.Points.{upto}
 use Rattle.std.proofs.lemmas.Bool.{cases_lt}
 use Rattle.hail_columns.specs.Challenges.{challenge_of}
 use Rattle.hail_columns.specs.Verdicts.{Sums, Judges}
-use Rattle.hail_records.specs.Records.{Setup, Record, SetUp, PutStart, PutDone, Drop, AuditStart, AuditDone, RepairDone}
+use Rattle.hail_records.specs.Records.{Setup, Record, SetUp, PutStart, PutDone, Drop, AuditStart, AuditDone, RepairDone, PutDoneIn, Version, Resume, InEffect, RepairDue}
 use Rattle.hail_records.specs.Table.{next_id}
 use Rattle.hail_machine.specs.Jobs.{Kind, PutJob, GetJob, DropJob, AuditJob, RepairJob, Pinned, Given, Job, job_of, advanced, advanced_with}
 use Rattle.hail_machine.specs.Setups.{object_of}
@@ -21,8 +21,9 @@ use Rattle.hail_machine.proofs.JobLists.{cond_true, cond_false, same_value, foun
 use Rattle.hail_machine.proofs.Changes.{Append_is, Changes}
 use Rattle.hail_machine.proofs.Numbers.{first_above, first_below, drawn_later}
 use Rattle.hail_machine.proofs.Held.{All}
+use Rattle.hail_machine.proofs.NextActions.{next_stands}
 use Rattle.step_laws.proofs.Walk.{IsGift, Passed, Went, Walked}
-use Rattle.step_laws.proofs.Places.{next_stands, put_late, move_behind, audit_late, audit_mute, IsMute}
+use Rattle.step_laws.proofs.Places.{put_late, move_behind, audit_late, audit_mute, IsMute}
 use Rattle.step_laws.proofs.Passing.{list_now}
 use Rattle.step_laws.proofs.MadeFacts as made
 use Rattle.step_laws.proofs.MadeFacts.{setup_kept}
@@ -67,6 +68,10 @@ Final t x (SetUp s) kind = ⊥
 Final t x (PutDone id size) kind = FinalPut t x id size kind
 Final t x (AuditDone id undecided counts) kind = FinalAudit t x id undecided counts kind
 Final t x (RepairDone id) kind = FinalRepair t x id kind
+Final t x (PutDoneIn id size profile) kind = FinalPut t x id size kind
+Final t x (Resume next audit) kind = ⊥
+Final t x (InEffect id size profile kept) kind = ⊥
+Final t x (RepairDue number counts) kind = ⊥
 Final t x entry kind = Unit {0}
 
 -- a job that is the same in all that its last record hangs on
@@ -133,6 +138,11 @@ final_alike t x y (Drop name) kind is a h = tt
 final_alike t x y (AuditStart id) kind is a h = tt
 final_alike t x y (AuditDone id undecided counts) kind is a h = final_audit t x y id undecided counts kind is a h
 final_alike t x y (RepairDone id) kind is a h = final_repair t x y id kind a h
+final_alike t x y (PutDoneIn id size profile) kind is a h = final_put t x y id size kind a h
+final_alike t x y Version kind is a h = tt
+final_alike t x y (Resume next audit) kind is a h = h
+final_alike t x y (InEffect id size profile kept) kind is a h = h
+final_alike t x y (RepairDue number counts) kind is a h = h
 
 final_is : (t : Setup) (x y j : Job) (entry : Record) → j ≡ y → y.kind ≡ x.kind → Alike t x y → Final t x entry x.kind → Final t j entry j.kind
 final_is t x y j entry is kind a h = subst (λ (z : Job). Final t z entry z.kind) (sym is) (subst (λ k. Final t y entry k) (sym kind) (final_alike t x y entry x.kind refl a h))

@@ -1,5 +1,6 @@
 -- What a get was given that a step ended.
 use Rattle.std.proofs.Common.{◌≡◌, ℕ, ◌<◌, Bool, true, false, List, [], ◌∷◌, length, Option, Some, None, refl, ap, sym, subst, ◌∙◌, inl, arith}
+use Rattle.plain_facts.specs.Lists.{In}
 use Rattle.hail_columns.specs.Objects.{stripes}
 use Rattle.hail_records.specs.Records.{Setup}
 use Rattle.hail_records.specs.Table.{File}
@@ -8,7 +9,7 @@ use Rattle.hail_machine.specs.Setups.{stripes_of}
 use Rattle.hail_machine.specs.Actions.{Action, WriteBody, SyncBody, WriteGate, SyncGate, Store, Fetch, Ask, Work, Remove, End}
 use Rattle.hail_machine.specs.Answers.{Got, Lost}
 use Rattle.hail_machine.specs.Events.{Event, Step, Outcome, Ended}
-use Rattle.hail_machine.specs.States.{State, Append, IsStart, setup_in, object_in, file_in}
+use Rattle.hail_machine.specs.States.{State, Append, IsStart, setup_in, object_in, file_object, file_in}
 use Rattle.hail_machine.specs.Begins.{pinned_file}
 use Rattle.hail_machine.specs.Given.{block_given}
 use Rattle.hail_machine.specs.Appends.{Moves}
@@ -16,11 +17,11 @@ use Rattle.hail_machine.specs.Steps.{next_action, holder_of, Acts, ActsOrWaits, 
 use Rattle.hail_machine.specs.Machine.{Happens}
 use Rattle.hail_machine.specs.Runs.{Moment, now, first_moments, IsRun}
 use Rattle.hail_machine.proofs.JobLists.{same_value}
-use Rattle.hail_machine.proofs.RecordFacts.{In}
 use Rattle.hail_machine.proofs.PinFacts.{setup_same}
+use Rattle.hail_machine.proofs.NextActions.{next_stands}
 use Rattle.calm_laws.proofs.GetEnds.{begin_of, have_files, Get_ends, get_ends}
 use Rattle.step_laws.specs.Gave.{WasFetched}
-use Rattle.step_laws.proofs.Places.{next_stands, fetched_before_end}
+use Rattle.step_laws.proofs.Places.{fetched_before_end}
 use Rattle.step_laws.proofs.MadeFacts.{facts, fetched_at, given_block}
 
 -- ---- a step that ends with bytes makes the end of a job
@@ -83,7 +84,7 @@ ends_at limit start m ms job bytes run event outcome runs =
 
 pub got_fetched : (limit : ℕ) (start : State) (m : Moment) (ms : List Moment) (job : Job) (name bytes : List ℕ) (file : File) (j stripe : ℕ) → IsStart start → IsRun limit start (m ∷ ms) → m.event ≡ Step job.number →
     m.outcome ≡ Ended (Got bytes) → job_of (now start ms).jobs job.number ≡ Some job → job.kind ≡ GetJob name → file_in (now start (first_moments job.begun ms)) name ≡ Some file → j < (setup_in (now start ms)).n →
-    stripe < stripes (object_in (now start (first_moments job.begun ms)) file.id) (length ((now start (first_moments job.begun ms)).bytes file.id)) → WasFetched start ms job j file.id stripe (block_given job.given file.id stripe j)
+    stripe < stripes (file_object (now start (first_moments job.begun ms)) file) (length ((now start (first_moments job.begun ms)).bytes file.id)) → WasFetched start ms job j file.id stripe (block_given job.given file.id stripe j)
 got_fetched limit start m ms job name bytes file j stripe clean run event outcome runs kind in_effect k l =
     (let H = have_files limit start clean ms run.2 job.number job name runs kind in
     let b : State = begin_of start ms job in

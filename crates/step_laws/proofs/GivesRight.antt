@@ -1,62 +1,27 @@
 -- The own blocks of all providers give a stripe's symbols.
-use Rattle.std.specs.Prelude.{◌≡◌, ℕ, zero, suc, ◌+◌, ◌*◌, ◌<◌, ◌≤◌, ◌==◌, ◌||◌, Bool, false, not, List, [], ◌∷◌, length, map, drop, nat_lt, Option, Some, option_and_then}
+use Rattle.std.specs.Prelude.{◌≡◌, ℕ, zero, suc, ◌+◌, ◌*◌, ◌<◌, ◌≤◌, Bool, false, List, [], map, Option, Some, option_and_then}
 use Rattle.std.specs.List.{range_with_len}
-use Rattle.std.proofs.Common.{arith, ap, sym, refl, ◌∙◌, get_or-take, get_or-drop}
+use Rattle.std.proofs.Common.{arith, ap, sym, refl, ◌∙◌}
 use Rattle.std.proofs.Math.Nat.{mul-le-mul_right}
-use Rattle.std.proofs.lemmas.Bool.{eq-eqb}
-use Rattle.std.proofs.lemmas.List.FromFn.{get_or-map-range_with_len, fill_by_all}
 use Rattle.hail_field.specs.Shape.{IsShape}
-use Rattle.hail_codes.specs.Polynomials.{value, interpolate}
 use Rattle.hail_codes.specs.Points.{upto}
 use Rattle.hail_codes.specs.Profiles.{profile_of}
-use Rattle.hail_codes.specs.ServerCode.{differences}
-use Rattle.hail_columns.specs.Objects.{Object, stripe_symbols, symbol_of, symbols_in, kept_by}
+use Rattle.hail_columns.specs.Objects.{Object, stripe_symbols, symbol_of, symbols_in}
 use Rattle.hail_columns.specs.Columns.{row_polynomial, columns, is_wrong_block}
 use Rattle.hail_columns.specs.Opened.{SeenBlock, bare, AllOpen, GivesSymbols, block_at}
 use Rattle.hail_columns.specs.Forgeries.{count_of}
-use Rattle.hail_columns.proofs.ColumnLaws.{value-row_polynomial, value-interpolate_upto, length-column_of_symbols}
-use Rattle.hail_columns.proofs.SecondaryLaws.{length-kept_by}
 use Rattle.column_laws.proofs.UniqueLaws.{profile-room}
 use Rattle.column_laws.proofs.RightBlocks.{length-symbols_in, opens-right}
-use Rattle.column_laws.proofs.RightRows.{row-right}
+use Rattle.column_laws.proofs.RightRows.{row-right, row-symbol}
+use Rattle.column_laws.proofs.Worked.{column-right}
 use Rattle.step_laws.specs.Own.{own_blocks}
 use Rattle.step_laws.proofs.Lists.{get_map_upto}
-
-no_differences : (xs : List ℕ) → differences xs xs ≡ 0
-no_differences [] = refl
-no_differences (x ∷ xs) = rw (eq-eqb x x refl) (no_differences xs)
-
-pub own_not_wrong : (o : Object) (bytes : List ℕ) (j stripe : ℕ) → is_wrong_block o bytes j stripe (Some (columns o bytes j stripe)) ≡ false
-own_not_wrong o bytes j stripe = not_wrong (length (columns o bytes j stripe)) o.profile.size o.profile.fix (differences (columns o bytes j stripe) (columns o bytes j stripe)) (length-column_of_symbols o (symbols_in o bytes stripe) j stripe) (no_differences (columns o bytes j stripe))
-  where
-    not_wrong : (n size fix d : ℕ) → n ≡ size → d ≡ 0 → not (n == size) || nat_lt fix d ≡ false
-    not_wrong n size fix d a b = grind (arith, a, b)
 
 -- the blocks open to the columns without masks
 all_open : (o : Object) (bytes : List ℕ) (stripe n a : ℕ) → a + n ≤ 256 →
     AllOpen o stripe a (map (λ j. Some (columns o bytes j stripe)) (range_with_len a n)) (map (λ j. Some (bare o j stripe (columns o bytes j stripe))) (range_with_len a n))
 all_open o bytes stripe zero a l = tt
-all_open o bytes stripe (suc n) a l = (opens-right o bytes a stripe (Some (columns o bytes a stripe)) (omega (arith, l)) (own_not_wrong o bytes a stripe), all_open o bytes stripe n (a + 1) (omega (arith, l)))
-
--- the polynomial of a row takes the file's symbols at the primary points
-row_symbol : (o : Object) (bytes : List ℕ) (stripe place j : ℕ) → place < o.profile.keep → place < o.profile.size → j < o.shape.l →
-    value (row_polynomial o (symbols_in o bytes stripe) place) j ≡ symbol_of bytes (stripe * stripe_symbols o + (j * o.profile.keep + place))
-row_symbol o bytes stripe place j kept within below =
-    let symbols = symbols_in o bytes stripe in
-    let of = λ (i : ℕ). symbol_of bytes (stripe * stripe_symbols o + i) in
-    let own = λ (k : ℕ). of (j * o.profile.keep + k) in
-    let mine = kept_by o symbols j in
-    let more : suc j * o.profile.keep ≤ o.shape.l * o.profile.keep = mul-le-mul_right o.profile.keep below in
-    let split : suc j * o.profile.keep ≡ j * o.profile.keep + o.profile.keep = grind arith in
-    let same : mine ≡ map own (upto o.profile.keep) =
-    fill_by_all own mine o.profile.keep 0 (length-kept_by o symbols j (length-symbols_in o bytes stripe) below)
-    (λ k less. get_or-take o.profile.keep (drop (j * o.profile.keep) symbols) k 0 less
-    ∙ get_or-drop (j * o.profile.keep) symbols k 0
-    ∙ get_or-map-range_with_len of 0 (stripe_symbols o) (j * o.profile.keep + k) (j * o.profile.keep + k) 0 (omega (arith, less, more, split)) (omega arith)) in
-    value-row_polynomial o symbols place j below
-    ∙ get_or-map-range_with_len (value (interpolate (upto o.profile.keep) mine)) 0 o.profile.size place place 0 within (omega arith)
-    ∙ ap (λ ks. value (interpolate (upto o.profile.keep) ks) place) same
-    ∙ value-interpolate_upto own o.profile.keep place kept
+all_open o bytes stripe (suc n) a l = (opens-right o bytes a stripe (Some (columns o bytes a stripe)) (omega (arith, l)) (column-right o bytes a stripe), all_open o bytes stripe n (a + 1) (omega (arith, l)))
 
 -- numbers of a range none of which pass a test
 none_pass : (p : ℕ → Bool) (a n : ℕ) → ((j : ℕ) → j < a + n → p j ≡ false) → count_of p (range_with_len a n) ≡ 0
@@ -81,7 +46,7 @@ few_give o bytes number stripe seen opened is shape few opens = record {
             (let more : suc j * o.profile.keep ≤ o.shape.l * o.profile.keep = mul-le-mul_right o.profile.keep l in
             let split : suc j * o.profile.keep ≡ j * o.profile.keep + o.profile.keep = grind arith in
             get_map_upto (λ i. symbol_of bytes (stripe * stripe_symbols o + i)) (stripe_symbols o) (j * o.profile.keep + place) (omega (arith, kept, more, split))
-            ∙ ap Some (sym (row_symbol o bytes stripe place j kept within l)));
+            ∙ ap Some (sym (row-symbol o bytes stripe place j kept within l)));
       });
 }
 
@@ -93,4 +58,4 @@ own_give o bytes number stripe is shape = few_give o bytes number stripe (own_bl
 
     few : count_of (λ j. is_wrong_block o bytes j stripe (block_at (own_blocks o bytes stripe) j)) (upto o.shape.n) ≤ o.shape.b
     few = (let e = none_pass (λ j. is_wrong_block o bytes j stripe (block_at (own_blocks o bytes stripe) j)) 0 o.shape.n
-        (λ j l. ap (is_wrong_block o bytes j stripe) (block_at_own o bytes stripe j (omega (arith, l))) ∙ own_not_wrong o bytes j stripe) in omega (arith, e))
+        (λ j l. ap (is_wrong_block o bytes j stripe) (block_at_own o bytes stripe j (omega (arith, l))) ∙ column-right o bytes j stripe) in omega (arith, e))

@@ -1,17 +1,15 @@
 -- Where elements stand in lists that are put together of others.
 use Rattle.std.proofs.Common.{◌≡◌, ℕ, zero, suc, ◌+◌, ◌-◌, ◌<◌, ◌≤◌, List, [], ◌∷◌, ◌++◌, length, map, Some, None, refl, ap, sym, subst, ◌∙◌, inl, inr, arith}
 use Rattle.std.specs.Prelude.{slice_get}
-use Rattle.std.specs.List.{Contains, flat_map, range_with_len}
+use Rattle.std.specs.List.{flat_map, range_with_len}
 use Rattle.std.proofs.lemmas.Option.{slice_get_within}
 use Rattle.std.proofs.lemmas.Bool.{cases_eq}
+use Rattle.plain_facts.specs.Lists.{Each, In}
+use Rattle.plain_facts.proofs.Each.{each_get}
+use Rattle.plain_facts.proofs.Lists.{get_behind, get-map_range}
 use Rattle.hail_codes.specs.Points.{upto}
-use Rattle.hail_machine.proofs.RecordFacts.{In}
-use Rattle.hail_machine.proofs.ActionLists.{Each, each_get, each_append, split_get}
+use Rattle.hail_machine.proofs.ActionLists.{split_get}
 use Rattle.hail_machine.proofs.Stripes.{get_left}
-
-pub get_behind : {X : Type 0} (xs ys : List X) (k : ℕ) (x : X) → slice_get ys k ≡ Some x → slice_get (xs ++ ys) (length xs + k) ≡ Some x
-get_behind [] ys k x h = subst (λ n. slice_get ys n ≡ Some x) (let e : k ≡ 0 + k = omega arith in e) h
-get_behind (z ∷ xs) ys k x h = subst (λ n. slice_get (z ∷ xs ++ ys) n ≡ Some x) (let e : suc (length xs + k) ≡ suc (length xs) + k = omega arith in e) (get_behind xs ys k x h)
 
 -- the only element of a list
 pub only : {X : Type 0} (w x : X) (k : ℕ) → slice_get (w ∷ []) k ≡ Some x → w ≡ x
@@ -53,10 +51,6 @@ in_upto n t l = in_range n 0 t (omega arith) (omega arith)
 pub upto_in : (n t : ℕ) → In t (upto n) → t < n
 upto_in n t i = (let l = range_in n 0 t i in omega arith)
 
-pub each_flat_in : {A X : Type 0} (P : X → Type 0) (f : A → List X) (as_ : List A) → ((a : A) → In a as_ → Each P (f a)) → Each P (flat_map f as_)
-each_flat_in P f [] h = tt
-each_flat_in P f (a ∷ as_) h = each_append P (f a) (flat_map f as_) (h a (inl refl)) (each_flat_in P f as_ (λ x i. h x (inr i)))
-
 -- before each place of the second stands the first
 abbrev pub Behind : {X : Type 0} → X → X → List X → Type 0
 Behind a b xs = (p : ℕ) → slice_get xs p ≡ Some b → (q : ℕ) × (q < p) × (slice_get xs q ≡ Some a)
@@ -81,17 +75,6 @@ stands_before xs ys a b p s none e = elim (split_get xs ys p b e) [
   | inr u ↦ (s.0, (let l = slice_get_within xs s.0 a s.1 in let k = u.0 in omega arith), get_left xs ys s.0 a s.1)
 ]
 
-get_map_range : {X : Type 0} (f : ℕ → X) (n a i : ℕ) → i < n → slice_get (map f (range_with_len a n)) i ≡ Some (f (a + i))
-get_map_range f zero a i l = absurd (omega (arith, l))
-get_map_range f (suc n) a zero l = ap (λ k. Some (f k)) (let e : a ≡ a + 0 = omega arith in e)
-get_map_range f (suc n) a (suc i) l = get_map_range f n (a + 1) i (omega (arith, l)) ∙ ap (λ k. Some (f k)) (let e : a + 1 + i ≡ a + suc i = omega arith in e)
-
 -- what stands at a place of a list that a function makes of 0 to n - 1
 pub get_map_upto : {X : Type 0} (f : ℕ → X) (n i : ℕ) → i < n → slice_get (map f (upto n)) i ≡ Some (f i)
-get_map_upto f n i l = get_map_range f n 0 i l ∙ ap (λ k. Some (f k)) (let e : 0 + i ≡ i = omega arith in e)
-
--- an element among others, as contracts say it
-pub in_contains : {X : Type 0} (xs : List X) (x : X) → In x xs → Contains xs x
-in_contains [] x i = absurd i
-in_contains (y ∷ ys) x (inl e) = (0, omega arith, sym e)
-in_contains (y ∷ ys) x (inr i) = (let r = in_contains ys x i in let l = r.1 in (suc r.0, omega (arith, l), r.2))
+get_map_upto f n i l = get-map_range f n 0 i l ∙ ap (λ k. Some (f k)) (let e : 0 + i ≡ i = omega arith in e)

@@ -1,10 +1,12 @@
 -- What running jobs have made, and what it gave them.
 use Rattle.std.proofs.Common.{◌≡◌, ◌⊎◌, ℕ, suc, ◌<◌, ◌≤◌, ◌==◌, true, false, ◌&&◌, List, [], ◌∷◌, ◌++◌, length, Option, Some, refl, ap, sym, subst, ◌∙◌, inl, inr, arith}
-use Rattle.std.specs.Prelude.{slice_get, option_and_then}
+use Rattle.std.specs.Prelude.{slice_get}
 use Rattle.std.proofs.lemmas.Bool.{cases_Bool, cases_lt, and_parts, and_from, eqb-true, eq-eqb, false≢true}
 use Rattle.std.proofs.lemmas.List.{append_assoc}
+use Rattle.plain_facts.specs.Lists.{In}
+use Rattle.plain_facts.proofs.Each.{each_get, each_append}
 use Rattle.hail_columns.specs.Challenges.{honest_answer, challenge_of}
-use Rattle.hail_columns.specs.Opened.{SeenBlock, GivesSymbols, block_at}
+use Rattle.hail_columns.specs.Opened.{GivesSymbols, block_at}
 use Rattle.hail_devices.specs.Providers.{Held}
 use Rattle.hail_devices.specs.ProviderCalls.{AskGives}
 use Rattle.hail_records.specs.Records.{Setup}
@@ -19,17 +21,17 @@ use Rattle.hail_machine.specs.Steps.{next_action}
 use Rattle.hail_machine.specs.Runs.{Moment, now, IsRun}
 use Rattle.hail_machine.specs.Deeds.{Makes}
 use Rattle.hail_machine.proofs.JobLists.{cond_true, cond_false, same_value, found_none}
-use Rattle.hail_machine.proofs.ActionLists.{each_get, each_append, split_get}
-use Rattle.hail_machine.proofs.RecordFacts.{In}
+use Rattle.hail_machine.proofs.ActionLists.{split_get}
 use Rattle.hail_machine.proofs.Changes.{Grown, Job_is, Changes}
 use Rattle.hail_machine.proofs.Events.{changes}
 use Rattle.hail_machine.proofs.PinFacts.{setup_same, setup_one, wrote_setup}
 use Rattle.hail_machine.proofs.Held.{All, all}
+use Rattle.hail_machine.proofs.Given.{block_at-given}
+use Rattle.hail_machine.proofs.NextActions.{next_stands}
 use Rattle.step_laws.specs.Made.{IsEarlier, WasMade}
 use Rattle.step_laws.specs.Gave.{WasFetched, WasAsked, WasOpened, IsAnsweredThen}
 use Rattle.step_laws.specs.Behind.{HasMade}
-use Rattle.step_laws.proofs.Lists.{get_map_upto}
-use Rattle.step_laws.proofs.Places.{fetch_before_work, next_stands, by_kind, moves_all, stores_all, tail_all, reads_all, repairs_all}
+use Rattle.step_laws.proofs.Places.{fetch_before_work, by_kind, moves_all, stores_all, tail_all, reads_all, repairs_all}
 use Rattle.step_laws.proofs.Walk.{IsGift, IsSilent, Passed, Goes, Went, Walked, walked}
 use Rattle.step_laws.proofs.Passing.{Later, later_same, passed_later, passed_place, list_before, list_now}
 
@@ -287,9 +289,6 @@ pub fetched_at : (start : State) (ms : List Moment) → Facts start ms → (k : 
     slice_get (actions_of (setup_in (now start ms)) j) p ≡ Some (Work o s) → i < (setup_in (now start ms)).n → WasFetched start ms j i o s (block_given j.given o s i)
 fetched_at start ms F k j p i o s h l at n = F.came k j (Fetched i o s (block_given j.given o s i)) h (given_at start ms F k j p i o s h l at n)
 
-block_at_given : (given : List Given) (n o s i : ℕ) → i < n → block_at (blocks_given given n o s) i ≡ block_given given o s i
-block_at_given given n o s i l = ap (λ (b : Option SeenBlock). option_and_then (λ (c : SeenBlock). c) b) (get_map_upto (block_given given o s) n i l)
-
 module _ (limit : ℕ) (start : State) (m : Moment) (ms : List Moment) (A : All start ms) (F : Facts start ms) (X : Changes limit (length ms) (now start ms) m.event m.outcome m.state) (W : Walked (length ms) (now start ms) m.event m.outcome m.state) where
   -- the setup stays while a job runs on
   pub setup_kept : (k : ℕ) (j : Job) → job_of m.state.jobs k ≡ Some j → setup_in m.state ≡ setup_in (now start ms)
@@ -390,7 +389,7 @@ module _ (limit : ℕ) (start : State) (m : Moment) (ms : List Moment) (A : All 
         fetched = λ i n.
             (let n_old : i < (setup_in (now start ms)).n = subst (λ (t : Setup). i < t.n) setup n in
             let c = fetched_at start ms F k x x.place i o s g.runs (omega arith) at n_old in
-            subst (WasFetched start (m ∷ ms) j i o s) (sym (block_at_given x.given (setup_in (now start ms)).n o s i n_old)) (fetched_on start m ms x j i o s (block_given x.given o s i) l c));
+            subst (WasFetched start (m ∷ ms) j i o s) (sym (block_at-given x.given (setup_in (now start ms)).n o s i n_old)) (fetched_on start m ms x j i o s (block_given x.given o s i) l c));
       })
   came_now k x j (Store i o s) gift g h is_gift = absurd is_gift
   came_now k x j (Remove i o) gift g h is_gift = absurd is_gift

@@ -2,6 +2,7 @@
 use Rattle.std.proofs.Common.{◌≡◌, ℕ, zero, suc, ◌+◌, ◌-◌, ◌<◌, ◌≤◌, ◌⊎◌, List, [], ◌∷◌, ◌++◌, length, Some, refl, ap, sym, subst, ◌∙◌, inl, inr, arith}
 use Rattle.std.specs.Prelude.{slice_get}
 use Rattle.std.proofs.lemmas.Bool.{cases_lt}
+use Rattle.plain_facts.proofs.Each.{each_get}
 use Rattle.hail_records.specs.Records.{Setup}
 use Rattle.hail_machine.specs.Jobs.{Kind, PutJob, GetJob, DropJob, AuditJob, RepairJob, Given, Job, advanced, advanced_with}
 use Rattle.hail_machine.specs.Actions.{Action, WriteBody, SyncGate, End, append_actions, store_actions, remove_actions, actions_by, actions_of}
@@ -9,11 +10,12 @@ use Rattle.hail_machine.specs.States.{State, setup_in}
 use Rattle.hail_machine.specs.Appends.{subject_drawn, taken_out}
 use Rattle.hail_machine.specs.Steps.{next_action}
 use Rattle.hail_machine.proofs.Numbers.{first_above, drawn_later}
-use Rattle.hail_machine.proofs.ActionLists.{each_get, split_get}
+use Rattle.hail_machine.proofs.ActionLists.{split_get}
 use Rattle.hail_machine.proofs.Held.{actions_are}
 use Rattle.hail_machine.proofs.Fair.{PutAt, put_next}
+use Rattle.hail_machine.proofs.NextActions.{next_stands, actions_by-advanced}
 use Rattle.step_laws.proofs.Walk.{IsGift, IsSilent, Passed}
-use Rattle.step_laws.proofs.Places.{next_stands, by_kind, tail_all}
+use Rattle.step_laws.proofs.Places.{by_kind, tail_all}
 
 -- one job, earlier and now
 pub record Later (x j : Job) : Type 0 where
@@ -84,13 +86,6 @@ eight_same ss ys zs p l = same_front append_actions (ss ++ (append_actions ++ ys
 
 -- ---- the list of a job that went on
 
-pub same_kind : (s : Setup) (x : Job) (kind : Kind) → actions_by s (advanced x) kind ≡ actions_by s x kind
-same_kind s x (PutJob name bytes) = refl
-same_kind s x (GetJob name) = refl
-same_kind s x (DropJob name) = refl
-same_kind s x AuditJob = refl
-same_kind s x RepairJob = refl
-
 pub same_given : (s : Setup) (x : Job) (gift : Given) (kind : Kind) → actions_by s (advanced_with x gift) kind ≡ actions_by s x kind
 same_given s x gift (PutJob name bytes) = refl
 same_given s x gift (GetJob name) = refl
@@ -114,7 +109,7 @@ subject_first s x n p AuditJob l = refl
 subject_first s x n p RepairJob l = refl
 
 subject_same : (s : Setup) (x : Job) (n p : ℕ) (kind : Kind) → n ≡ x.subject → slice_get (actions_by s (with_subject x n) kind) p ≡ slice_get (actions_by s x kind) p
-subject_same s x n p kind e = subst (λ m. slice_get (actions_by s (with_subject x m) kind) p ≡ slice_get (actions_by s x kind) p) (sym e) (ap (λ l. slice_get l p) (same_kind s x kind))
+subject_same s x n p kind e = subst (λ m. slice_get (actions_by s (with_subject x m) kind) p ≡ slice_get (actions_by s x kind) p) (sym e) (ap (λ l. slice_get l p) (actions_by-advanced s x kind))
 
 older_first : (s : Setup) (x : Job) (l : List ℕ) (p : ℕ) (kind : Kind) → p < 4 → slice_get (actions_by s (with_older x l) kind) p ≡ slice_get (actions_by s x kind) p
 older_first s x l p (PutJob name bytes) k = four_same _ _ p k
@@ -168,7 +163,7 @@ by_lists s x y p is h = ap (λ l. slice_get l p) (actions_are s y x.kind is) ∙
 pub list_before : (old : State) (x : Job) (action : Action) (new : State) (j : Job) (p : ℕ) → next_action old x ≡ Some action → Passed old x action new j → p ≤ x.place →
     slice_get (actions_of (setup_in old) j) p ≡ slice_get (actions_of (setup_in old) x) p
 list_before old x action new j p next_is (Passed.silent quiet is rec) l =
-    list_of (setup_in old) x (advanced x) j p is (by_lists (setup_in old) x (advanced x) p refl (ap (λ l. slice_get l p) (same_kind (setup_in old) x x.kind)))
+    list_of (setup_in old) x (advanced x) j p is (by_lists (setup_in old) x (advanced x) p refl (ap (λ l. slice_get l p) (actions_by-advanced (setup_in old) x x.kind)))
 list_before old x action new j p next_is (Passed.gave gift is_gift is rec) l =
     list_of (setup_in old) x (advanced_with x gift) j p is (by_lists (setup_in old) x (advanced_with x gift) p refl (ap (λ l. slice_get l p) (same_given (setup_in old) x gift x.kind)))
 list_before old x action new j p next_is (Passed.drew act is rec) l =

@@ -2,31 +2,26 @@
 use Rattle.std.proofs.Common.{◌≡◌, ℕ, ◌+◌, ◌-◌, ◌<◌, ◌≤◌, Bool, true, false, cond, List, [], ◌∷◌, ◌++◌, length, Some, refl, ap, sym, subst, ◌∙◌, inl, inr, arith}
 use Rattle.std.specs.Prelude.{slice_get}
 use Rattle.std.specs.List.{flat_map}
-use Rattle.std.proofs.lemmas.Bool.{cases_Bool}
 use Rattle.std.proofs.lemmas.Option.{slice_get_within}
+use Rattle.plain_facts.specs.Lists.{Each, In}
+use Rattle.plain_facts.proofs.Each.{each_get, each_append, each_map, each_flat, each_flat_in}
+use Rattle.plain_facts.proofs.Lists.{get_behind}
 use Rattle.hail_codes.specs.Points.{upto}
 use Rattle.hail_records.specs.Records.{Setup}
 use Rattle.hail_machine.specs.Jobs.{Kind, PutJob, GetJob, DropJob, AuditJob, RepairJob, Pinned, Job}
-use Rattle.hail_machine.specs.Setups.{stripes_of}
+use Rattle.hail_machine.specs.Setups.{stripes_of, pinned_stripes}
 use Rattle.hail_machine.specs.Actions.{Action, WriteBody, SyncBody, WriteGate, SyncGate, Store, Fetch, Ask, Work, Remove, End, append_actions, on_each_provider, on_each_stripe, store_actions, open_actions, read_actions, rewrite_actions, repair_actions, rounds_of, ask_actions, remove_actions, actions_by, actions_of}
 use Rattle.hail_machine.specs.States.{State, setup_in}
 use Rattle.hail_machine.specs.Steps.{next_action, is_idle_drop}
 use Rattle.hail_machine.specs.Deeds.{HasMadeStore}
 use Rattle.hail_machine.proofs.JobLists.{cond_true, cond_false}
-use Rattle.hail_machine.proofs.RecordFacts.{In}
-use Rattle.hail_machine.proofs.ActionLists.{Each, each_get, each_append, each_map, each_flat, split_get}
+use Rattle.hail_machine.proofs.ActionLists.{split_get}
 use Rattle.hail_machine.proofs.Stripes.{get_left}
 use Rattle.hail_machine.proofs.Held.{actions_are}
 use Rattle.hail_machine.proofs.Fair.{stores_count, PutAt, put_at}
+use Rattle.hail_machine.proofs.NextActions.{next_stands}
 use Rattle.step_laws.specs.Behind.{HasMade}
-use Rattle.step_laws.proofs.Lists.{get_behind, only, Stands, stands_left, stands_right, stands_map, stands_flat, in_upto, upto_in, each_flat_in, Behind, behind_none, behind_append, behind_flat, stands_before}
-
--- the next action of a job is the one at its place, unless it is the end
-pub next_stands : (w : State) (job : Job) (action : Action) → next_action w job ≡ Some action → (action ≡ End → ⊥) → slice_get (actions_of (setup_in w) job) job.place ≡ Some action
-next_stands w job action h other = elim (cases_Bool (is_idle_drop w job job.kind)) [
-  | inl t ↦ absurd (let e : Some End ≡ Some action = sym (cond_true (is_idle_drop w job job.kind) (Some End) (slice_get (actions_of (setup_in w) job) job.place) t) ∙ h in other (sym (let f : End ≡ action = cc in f)))
-  | inr f ↦ sym (cond_false (is_idle_drop w job job.kind) (Some End) (slice_get (actions_of (setup_in w) job) job.place) f) ∙ h
-]
+use Rattle.step_laws.proofs.Lists.{only, Stands, stands_left, stands_right, stands_map, stands_flat, in_upto, upto_in, Behind, behind_none, behind_append, behind_flat, stands_before}
 
 pub by_kind : (s : Setup) (job : Job) (kind : Kind) (p : ℕ) (action : Action) → job.kind ≡ kind → slice_get (actions_of s job) p ≡ Some action → slice_get (actions_by s job kind) p ≡ Some action
 by_kind s job kind p action is h = ap (λ l. slice_get l p) (sym (actions_are s job kind is)) ∙ h
@@ -139,7 +134,7 @@ work_behind t job (PutJob name bytes) i o s l = behind_none (Fetch i o s) (Work 
     (moves_all NoWork (remove_actions t job ++ End ∷ []) no_work_moves (tail_all t job NoWork (λ j st. tt) tt)))))
 work_behind t job (GetJob name) i o s l = behind_append (Fetch i o s) (Work o s) (read_actions t job.pinned) (End ∷ [])
     (behind_flat (Fetch i o s) (Work o s) (λ (f : Pinned). on_each_stripe t (length f.bytes) (open_actions t f.id)) job.pinned
-    (λ f in_f. behind_flat (Fetch i o s) (Work o s) (open_actions t f.id) (upto (stripes_of t (length f.bytes))) (λ st in_st. open_behind t f.id st i o s l)))
+    (λ f in_f. behind_flat (Fetch i o s) (Work o s) (open_actions t f.id) (upto (pinned_stripes t f)) (λ st in_st. open_behind t f.id st i o s l)))
     (behind_none (Fetch i o s) (Work o s) (End ∷ []) (each_not NoWork (Work o s) (End ∷ []) (λ z. z) (tt, tt)))
 work_behind t job (DropJob name) i o s l = behind_none (Fetch i o s) (Work o s) (actions_by t job (DropJob name)) (each_not NoWork (Work o s) (actions_by t job (DropJob name)) (λ z. z)
     (moves_all NoWork (remove_actions t job ++ End ∷ []) no_work_moves (tail_all t job NoWork (λ j st. tt) tt)))
@@ -148,7 +143,7 @@ work_behind t job AuditJob i o s l = behind_none (Fetch i o s) (Work o s) (actio
     (each_append NoWork (ask_actions t job) (append_actions ++ End ∷ []) (asks_all t job NoWork (λ j st r. tt)) (moves_all NoWork (End ∷ []) no_work_moves (tt, tt)))))
 work_behind t job RepairJob i o s l = behind_append (Fetch i o s) (Work o s) (repair_actions t job) (append_actions ++ End ∷ [])
     (behind_flat (Fetch i o s) (Work o s) (λ (f : Pinned). on_each_stripe t (length f.bytes) (λ stripe. open_actions t f.id stripe ++ rewrite_actions t job f.id stripe)) job.pinned
-    (λ f in_f. behind_flat (Fetch i o s) (Work o s) (λ stripe. open_actions t f.id stripe ++ rewrite_actions t job f.id stripe) (upto (stripes_of t (length f.bytes))) (λ st in_st. piece_opens t job f.id st i o s l)))
+    (λ f in_f. behind_flat (Fetch i o s) (Work o s) (λ stripe. open_actions t f.id stripe ++ rewrite_actions t job f.id stripe) (upto (pinned_stripes t f)) (λ st in_st. piece_opens t job f.id st i o s l)))
     (behind_none (Fetch i o s) (Work o s) (append_actions ++ End ∷ []) (each_not NoWork (Work o s) (append_actions ++ End ∷ []) (λ z. z) (tt, (tt, (tt, (tt, (tt, tt)))))))
 
 -- before each place of the work on a stripe stands each fetch of it
@@ -162,21 +157,21 @@ fetched_before_work w job o s i h l = (let r = fetch_before_work (setup_in w) jo
 
 pub reads_all : (t : Setup) (pinned : List Pinned) (P : Action → Type 0) → ((j o st : ℕ) → P (Fetch j o st)) → ((o st : ℕ) → P (Work o st)) → Each P (read_actions t pinned)
 reads_all t pinned P f g = each_flat P (λ (f : Pinned). on_each_stripe t (length f.bytes) (open_actions t f.id)) pinned
-    (λ h. each_flat P (open_actions t h.id) (upto (stripes_of t (length h.bytes))) (λ st. opens_nothing t P h.id st (λ j. f j h.id st) (g h.id st)))
+    (λ h. each_flat P (open_actions t h.id) (upto (pinned_stripes t h)) (λ st. opens_nothing t P h.id st (λ j. f j h.id st) (g h.id st)))
 
 reads_call : (t : Setup) (pinned : List Pinned) → Each IsCall (read_actions t pinned)
 reads_call t pinned = reads_all t pinned IsCall (λ j o st. tt) (λ o st. tt)
 
-pub fetch_stands : (t : Setup) (job : Job) (name : List ℕ) (f : Pinned) (s i : ℕ) → In f job.pinned → s < stripes_of t (length f.bytes) → i < t.n → Stands (Fetch i f.id s) (read_actions t job.pinned)
+pub fetch_stands : (t : Setup) (job : Job) (name : List ℕ) (f : Pinned) (s i : ℕ) → In f job.pinned → s < pinned_stripes t f → i < t.n → Stands (Fetch i f.id s) (read_actions t job.pinned)
 fetch_stands t job name f s i in_f l k = stands_flat (λ (g : Pinned). on_each_stripe t (length g.bytes) (open_actions t g.id)) job.pinned f (Fetch i f.id s) in_f
-    (stands_flat (open_actions t f.id) (upto (stripes_of t (length f.bytes))) s (Fetch i f.id s) (in_upto (stripes_of t (length f.bytes)) s l)
+    (stands_flat (open_actions t f.id) (upto (pinned_stripes t f)) s (Fetch i f.id s) (in_upto (pinned_stripes t f) s l)
     (stands_left (on_each_provider t (λ j. Fetch j f.id s)) (Work f.id s ∷ []) (Fetch i f.id s) (fetches_stand t f.id s i k)))
 
 -- the next action of a get is the one at its place
 pub get_stands : (w : State) (job : Job) (name : List ℕ) (action : Action) → job.kind ≡ GetJob name → next_action w job ≡ Some action → slice_get (actions_of (setup_in w) job) job.place ≡ Some action
 get_stands w job name action kind h = sym (cond_false (is_idle_drop w job job.kind) (Some End) (slice_get (actions_of (setup_in w) job) job.place) (ap (is_idle_drop w job) kind)) ∙ h
 
-pub fetched_before_end : (w : State) (job : Job) (name : List ℕ) (f : Pinned) (s i : ℕ) → job.kind ≡ GetJob name → next_action w job ≡ Some End → In f job.pinned → s < stripes_of (setup_in w) (length f.bytes) → i < (setup_in w).n →
+pub fetched_before_end : (w : State) (job : Job) (name : List ℕ) (f : Pinned) (s i : ℕ) → job.kind ≡ GetJob name → next_action w job ≡ Some End → In f job.pinned → s < pinned_stripes (setup_in w) f → i < (setup_in w).n →
     HasMade (setup_in w) job (Fetch i f.id s)
 fetched_before_end w job name f s i kind h in_f l k =
     (let r = stands_before (read_actions (setup_in w) job.pinned) (End ∷ []) (Fetch i f.id s) End job.place (fetch_stands (setup_in w) job name f s i in_f l k)
@@ -187,13 +182,13 @@ fetched_before_end w job name f s i kind h in_f l k =
 
 -- a store of a file of the job
 abbrev IsPinnedStore : Setup → Job → Action → Type 0
-IsPinnedStore t job (Store j o s) = (f : Pinned) × In f job.pinned × (f.id ≡ o) × (s < stripes_of t (length f.bytes))
+IsPinnedStore t job (Store j o s) = (f : Pinned) × In f job.pinned × (f.id ≡ o) × (s < pinned_stripes t f)
 IsPinnedStore t job action = Unit {0}
 
-pub repairs_all : (t : Setup) (job : Job) (P : Action → Type 0) → ((f : Pinned) (st : ℕ) → In f job.pinned → st < stripes_of t (length f.bytes) → ((j : ℕ) → P (Fetch j f.id st)) × P (Work f.id st) × ((j : ℕ) → P (Store j f.id st))) → Each P (repair_actions t job)
+pub repairs_all : (t : Setup) (job : Job) (P : Action → Type 0) → ((f : Pinned) (st : ℕ) → In f job.pinned → st < pinned_stripes t f → ((j : ℕ) → P (Fetch j f.id st)) × P (Work f.id st) × ((j : ℕ) → P (Store j f.id st))) → Each P (repair_actions t job)
 repairs_all t job P h = each_flat_in P (λ (f : Pinned). on_each_stripe t (length f.bytes) (λ stripe. open_actions t f.id stripe ++ rewrite_actions t job f.id stripe)) job.pinned
-    (λ f in_f. each_flat_in P (λ stripe. open_actions t f.id stripe ++ rewrite_actions t job f.id stripe) (upto (stripes_of t (length f.bytes)))
-    (λ st in_st. (let g = h f st in_f (upto_in (stripes_of t (length f.bytes)) st in_st) in
+    (λ f in_f. each_flat_in P (λ stripe. open_actions t f.id stripe ++ rewrite_actions t job f.id stripe) (upto (pinned_stripes t f))
+    (λ st in_st. (let g = h f st in_f (upto_in (pinned_stripes t f) st in_st) in
     each_append P (open_actions t f.id st) (rewrite_actions t job f.id st) (opens_nothing t P f.id st g.0 g.1) (rewrites_fair t job P f.id st g.2))))
 
 store_pinned : (t : Setup) (job : Job) → Each (IsPinnedStore t job) (actions_by t job RepairJob)
@@ -204,7 +199,7 @@ store_pinned t job = each_append (IsPinnedStore t job) (repair_actions t job) (a
 stores_behind : (t : Setup) (job : Job) (i o s : ℕ) → Behind (Work o s) (Store i o s) (actions_by t job RepairJob)
 stores_behind t job i o s = behind_append (Work o s) (Store i o s) (repair_actions t job) (append_actions ++ End ∷ [])
     (behind_flat (Work o s) (Store i o s) (λ (f : Pinned). on_each_stripe t (length f.bytes) (λ stripe. open_actions t f.id stripe ++ rewrite_actions t job f.id stripe)) job.pinned
-    (λ f in_f. behind_flat (Work o s) (Store i o s) (λ stripe. open_actions t f.id stripe ++ rewrite_actions t job f.id stripe) (upto (stripes_of t (length f.bytes))) (λ st in_st. piece_stores t job f.id st i o s)))
+    (λ f in_f. behind_flat (Work o s) (Store i o s) (λ stripe. open_actions t f.id stripe ++ rewrite_actions t job f.id stripe) (upto (pinned_stripes t f)) (λ st in_st. piece_stores t job f.id st i o s)))
     (behind_none (Work o s) (Store i o s) (append_actions ++ End ∷ []) (each_not NoStore (Store i o s) (append_actions ++ End ∷ []) (λ z. z) (tt, (tt, (tt, (tt, (tt, tt)))))))
 
 -- before each place of a store of a repair stands the work on its stripe
@@ -212,7 +207,7 @@ pub work_before_store : (t : Setup) (job : Job) (p i o s : ℕ) → job.kind ≡
 work_before_store t job p i o s kind h = (let r = stores_behind t job i o s p (by_kind t job RepairJob p (Store i o s) kind h) in (r.0, r.1, of_kind t job RepairJob r.0 (Work o s) kind r.2))
 
 pub worked_before_store : (w : State) (job : Job) (i o s : ℕ) → job.kind ≡ RepairJob → next_action w job ≡ Some (Store i o s) →
-    HasMade (setup_in w) job (Work o s) × ((f : Pinned) × In f job.pinned × (f.id ≡ o) × (s < stripes_of (setup_in w) (length f.bytes)))
+    HasMade (setup_in w) job (Work o s) × ((f : Pinned) × In f job.pinned × (f.id ≡ o) × (s < pinned_stripes (setup_in w) f))
 worked_before_store w job i o s kind h =
     (let at = next_stands w job (Store i o s) h (λ e. cc) in
     let r = work_before_store (setup_in w) job job.place i o s kind at in
@@ -221,14 +216,14 @@ worked_before_store w job i o s kind h =
 repair_calls : (t : Setup) (job : Job) → Each IsCall (repair_actions t job)
 repair_calls t job = repairs_all t job IsCall (λ f st in_f l. (λ j. tt, tt, λ j. tt))
 
-pub store_in_repair : (t : Setup) (job : Job) (f : Pinned) (i s : ℕ) → In f job.pinned → job.flagged i ≡ true → i < t.n → s < stripes_of t (length f.bytes) → Stands (Store i f.id s) (repair_actions t job)
+pub store_in_repair : (t : Setup) (job : Job) (f : Pinned) (i s : ℕ) → In f job.pinned → job.flagged i ≡ true → i < t.n → s < pinned_stripes t f → Stands (Store i f.id s) (repair_actions t job)
 store_in_repair t job f i s in_f flag k l = stands_flat (λ (g : Pinned). on_each_stripe t (length g.bytes) (λ stripe. open_actions t g.id stripe ++ rewrite_actions t job g.id stripe)) job.pinned f (Store i f.id s) in_f
-    (stands_flat (λ stripe. open_actions t f.id stripe ++ rewrite_actions t job f.id stripe) (upto (stripes_of t (length f.bytes))) s (Store i f.id s) (in_upto (stripes_of t (length f.bytes)) s l)
+    (stands_flat (λ stripe. open_actions t f.id stripe ++ rewrite_actions t job f.id stripe) (upto (pinned_stripes t f)) s (Store i f.id s) (in_upto (pinned_stripes t f) s l)
     (stands_right (open_actions t f.id s) (rewrite_actions t job f.id s) (Store i f.id s)
     (stands_flat (λ j. cond (job.flagged j) (Store j f.id s ∷ []) []) (upto t.n) i (Store i f.id s) (in_upto t.n i k)
     (0, ap (λ l. slice_get l 0) (cond_true (job.flagged i) (Store i f.id s ∷ []) [] flag)))))
 
-pub store_stands : (t : Setup) (job : Job) (f : Pinned) (i s : ℕ) → job.kind ≡ RepairJob → In f job.pinned → job.flagged i ≡ true → i < t.n → s < stripes_of t (length f.bytes) →
+pub store_stands : (t : Setup) (job : Job) (f : Pinned) (i s : ℕ) → job.kind ≡ RepairJob → In f job.pinned → job.flagged i ≡ true → i < t.n → s < pinned_stripes t f →
     (p : ℕ) × (slice_get (actions_of t job) p ≡ Some (Store i f.id s))
 store_stands t job f i s kind in_f flag k l = (let r = stands_left (repair_actions t job) (append_actions ++ End ∷ []) (Store i f.id s) (store_in_repair t job f i s in_f flag k l) in (r.0, of_kind t job RepairJob r.0 (Store i f.id s) kind r.1))
 

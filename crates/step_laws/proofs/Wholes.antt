@@ -3,6 +3,7 @@ use Rattle.std.proofs.Common.{◌≡◌, ℕ, suc, ◌+◌, ◌<◌, ◌≤◌, 
 use Rattle.std.specs.Prelude.{slice_get}
 use Rattle.std.proofs.lemmas.Bool.{eq-eqb, ne_eqb}
 use Rattle.std.proofs.lemmas.Option.{slice_get_within}
+use Rattle.plain_facts.specs.Lists.{In}
 use Rattle.hail_records.specs.Records.{Setup, Record, SetUp, PutDone, AuditDone, RepairDone}
 use Rattle.hail_machine.specs.Jobs.{Kind, PutJob, GetJob, DropJob, AuditJob, RepairJob, Given, Answered, Job, job_of, advanced}
 use Rattle.hail_machine.specs.Actions.{Action, Store, Ask, Work, End, append_actions, store_actions, repair_actions, rounds_of, ask_actions, actions_of}
@@ -11,25 +12,26 @@ use Rattle.hail_machine.specs.Given.{answer_given}
 use Rattle.hail_machine.specs.Audits.{HasSums}
 use Rattle.hail_machine.specs.Runs.{Moment, now, IsRun, newest, came}
 use Rattle.hail_machine.proofs.JobLists.{cond_true, cond_false}
-use Rattle.hail_machine.proofs.RecordFacts.{In}
 use Rattle.hail_machine.proofs.Stripes.{get_left}
 use Rattle.hail_machine.proofs.Changes.{Records_is}
 use Rattle.hail_machine.proofs.Events.{changes}
 use Rattle.hail_machine.proofs.Numbers.{objects, Draws}
 use Rattle.hail_machine.proofs.Held.{contains_in, actions_are, all}
+use Rattle.hail_machine.proofs.Given.{run_part}
+use Rattle.hail_machine.proofs.NextActions.{actions_by-advanced}
 use Rattle.run_laws.proofs.InEffect as eff
 use Rattle.run_laws.proofs.PutBytes.{Stands, stands_on, stands_later}
 use Rattle.step_laws.specs.Made.{WasMade}
 use Rattle.step_laws.specs.Whole.{PutIsWhole, RepairIsWhole, AuditIsWhole}
 use Rattle.step_laws.proofs.Places.{of_kind, store_in_repair, worked_before_store, put_store_at, put_stores, ask_at}
-use Rattle.step_laws.proofs.Passing.{same_kind, list_is}
+use Rattle.step_laws.proofs.Passing.{list_is}
 use Rattle.step_laws.proofs.MadeFacts as made
 use Rattle.step_laws.proofs.MadeFacts.{HasGift, CameBy, given_answer}
 use Rattle.step_laws.proofs.Finals.{sums_same, Final, FinalPut, FinalAudit, FinalRepair}
-use Rattle.step_laws.proofs.Doubts.{Standing, Done, Facts, facts, run_before}
+use Rattle.step_laws.proofs.Doubts.{Standing, Done, Facts, facts}
 
 advanced_list : (t : Setup) (x : Job) → actions_of t (advanced x) ≡ actions_of t x
-advanced_list t x = actions_are t (advanced x) x.kind refl ∙ (same_kind t x x.kind ∙ sym (list_is t x))
+advanced_list t x = actions_are t (advanced x) x.kind refl ∙ (actions_by-advanced t x x.kind ∙ sym (list_is t x))
 
 -- ---- what a job had made before its last record, and what that gave it
 
@@ -89,7 +91,7 @@ put_moved t x id size RepairJob h = h
 module _ (limit : ℕ) (start : State) (clean : IsStart start) (ms : List Moment) (run : IsRun limit start ms) where
   work_made : (job : Job) (o j s : ℕ) → job.kind ≡ RepairJob → (c : WasMade start ms job (Store j o s)) → WasMade start c.before c.maker (Work o s)
   work_made job o j s kind c =
-      (let run_c : IsRun limit start (c.moment ∷ c.before) = run_before limit start c.later (c.moment ∷ c.before) (subst (IsRun limit start) c.split run) in
+      (let run_c : IsRun limit start (c.moment ∷ c.before) = run_part limit start c.later (c.moment ∷ c.before) (subst (IsRun limit start) c.split run) in
       let F = made.facts limit start clean c.before run_c.2 in
       let w = (worked_before_store (now start c.before) c.maker j o s (c.same.kind ∙ kind) c.makes.next).0 in
       (F.made c.maker.number c.maker w.place (Work o s) c.makes.runs w.made w.action).0)

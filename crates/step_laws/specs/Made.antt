@@ -1,7 +1,9 @@
 -- What a job has made by the time that it comes to a place in its list of actions.
 --
---   IsEarlier maker job         == one job, at an earlier moment: what a job keeps from its begin on is the same
---   WasMade start ms job action == at a moment of the run since the job's begin it made the action, and went on
+--   IsEarlier maker job         == one job, at an earlier moment: what a job keeps from its begin on is the
+--                                  same
+--   WasMade start ms job action == at a moment of the run since the job's begin it made the action, and
+--                                  went on
 use Rattle.std.specs.Prelude.{◌≡◌, ◌<◌, ◌≤◌, List, ◌∷◌, ◌++◌, length, Some}
 use Rattle.hail_machine.specs.Jobs.{Given, Job, job_of}
 use Rattle.hail_machine.specs.Actions.{Action}
@@ -20,7 +22,8 @@ pub record IsEarlier (maker job : Job) : Type 0 where
   pub subject : 4 ≤ maker.place → maker.subject ≡ job.subject  -- a number is drawn in the first four actions
   pub place : maker.place < job.place
 
--- A job made an action at a moment of the run since its begin, and went on. What it was given up to then it has been given now.
+-- A job made an action at a moment of the run since its begin, and went on. What it was given up to then it
+-- has been given now.
 pub record WasMade (start : State) (ms : List Moment) (job : Job) (action : Action) : Type 0 where
   pub later : List Moment
   pub moment : Moment

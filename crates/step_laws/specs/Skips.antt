@@ -1,6 +1,7 @@
 -- Removals that a job counted and does not make.
 --
---   SkipsRemovals s before job  == a job has decided, by the action between the two, that it takes no object away
+--   SkipsRemovals s before job  == a job has decided, by the action between the two, that it takes no
+--                                  object away
 use Rattle.std.specs.Prelude.{◌≡◌, true, false, []}
 use Rattle.hail_records.specs.Records.{Setup}
 use Rattle.hail_machine.specs.Jobs.{Job}

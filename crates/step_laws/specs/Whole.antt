@@ -1,16 +1,18 @@
 -- What a put, a repair or an audit has done by the time of its last record.
 --
---   PutIsWhole start ms job id size   == a put of that number and length made its store of each stripe on each provider, and its number
---                                        stands for its bytes
---   Rewrote start ms job object j stripe  == a repair made its store of a stripe on a provider, after its work on the stripe
---   RepairIsWhole start ms job number == a repair of that number rewrote each stripe of each of its files on each flagged provider
---   AuditIsWhole start ms job number undecided counts  == an audit of that number made each of its asks, and these are its sums over what
---                                        it was given
+--   PutIsWhole start ms job id size   == a put of that number and length made its store of each stripe on
+--                                        each provider, and its number stands for its bytes
+--   Rewrote start ms job object j stripe  == a repair made its store of a stripe on a provider, after its
+--                                          work on the stripe
+--   RepairIsWhole start ms job number == a repair of that number rewrote each stripe of each of its files
+--                                        on each flagged provider
+--   AuditIsWhole start ms job number undecided counts  == an audit of that number made each of its asks,
+--                                        and these are its sums over what it was given
 use Rattle.std.specs.Prelude.{◌≡◌, ℕ, ◌<◌, true, List, length}
 use Rattle.std.specs.List.{Contains}
 use Rattle.hail_records.specs.Table.{next_id}
 use Rattle.hail_machine.specs.Jobs.{PutJob, AuditJob, RepairJob, Pinned, Job}
-use Rattle.hail_machine.specs.Setups.{stripes_of}
+use Rattle.hail_machine.specs.Setups.{stripes_of, pinned_stripes}
 use Rattle.hail_machine.specs.Actions.{Store, Work, rounds_of}
 use Rattle.hail_machine.specs.States.{State, setup_in}
 use Rattle.hail_machine.specs.Given.{answer_given}
@@ -29,9 +31,11 @@ pub record PutIsWhole (start : State) (ms : List Moment) (job : Job) (id size : 
   pub length_is : length bytes ≡ size
   pub drawn : id < next_id (now start ms).records
   pub bytes_are : (now start ms).bytes id ≡ bytes
-  pub stored : (j stripe : ℕ) → j < (setup_in (now start ms)).n → stripe < stripes_of (setup_in (now start ms)) size →
+  pub stored : (j stripe : ℕ) → j < (setup_in (now start ms)).n
+      → stripe < stripes_of (setup_in (now start ms)) size →
       WasMade start ms job (Store j id stripe)
-  pub placed : (j stripe : ℕ) → j < (setup_in (now start ms)).n → stripe < stripes_of (setup_in (now start ms)) size →
+  pub placed : (j stripe : ℕ) → j < (setup_in (now start ms)).n
+      → stripe < stripes_of (setup_in (now start ms)) size →
       HasMadeStore (setup_in (now start ms)) job j id stripe
 
 -- a repair made its store of a stripe on a provider, after its work on the stripe
@@ -44,11 +48,13 @@ pub record Rewrote (start : State) (ms : List Moment) (job : Job) (object j stri
 pub record RepairIsWhole (start : State) (ms : List Moment) (job : Job) (number : ℕ) : Type 0 where
   pub kind : job.kind ≡ RepairJob
   pub subject : job.subject ≡ number
-  pub rewrote : (file : Pinned) (j stripe : ℕ) → Contains job.pinned file → j < (setup_in (now start ms)).n → job.flagged j ≡ true →
-      stripe < stripes_of (setup_in (now start ms)) (length file.bytes) → Rewrote start ms job file.id j stripe
+  pub rewrote : (file : Pinned) (j stripe : ℕ) → Contains job.pinned file → j < (setup_in (now start ms)).n
+      → job.flagged j ≡ true →
+      stripe < pinned_stripes (setup_in (now start ms)) file → Rewrote start ms job file.id j stripe
 
 -- an audit made each of its asks, and these are its sums over what it was given
-pub record AuditIsWhole (start : State) (ms : List Moment) (job : Job) (number undecided : ℕ) (counts : List ℕ) : Type 0 where
+pub record AuditIsWhole (start : State) (ms : List Moment) (job : Job) (number undecided : ℕ)
+    (counts : List ℕ) : Type 0 where
   pub kind : job.kind ≡ AuditJob
   pub subject : job.subject ≡ number
   pub asked : (file : Pinned) (j round : ℕ) → Contains job.pinned file → j < (setup_in (now start ms)).n →

@@ -10,9 +10,11 @@ ghost use Rattle.hail_machine.specs.Examples.{set_up};
 /// the newest command first.
 pub fn stored_byte_is_got()
     ensures { (ms : List Moment) × IsRun 1 set_up ms
-        × CarriesOut (RunJob 2 ∷ Once (Begin (GetJob (codes "a"))) ∷ RunJob 1 ∷ Once (Begin (PutJob (codes "a") (111 ∷ [])))
+        × CarriesOut (RunJob 2 ∷ Once (Begin (GetJob (codes "a"))) ∷ RunJob 1
+        ∷ Once (Begin (PutJob (codes "a") (111 ∷ [])))
         ∷ Once Reopen ∷ []) ms
-        (((((codes "opened" ++ 10 ∷ []) ++ (codes "job 1" ++ 10 ∷ [])) ++ (codes "put" ++ 10 ∷ [])) ++ (codes "job 2" ++ 10 ∷ []))
+        (((((codes "opened" ++ 10 ∷ []) ++ (codes "job 1" ++ 10 ∷ [])) ++ (codes "put" ++ 10 ∷ []))
+        ++ (codes "job 2" ++ 10 ∷ []))
         ++ (codes "got 6f" ++ 10 ∷ []))
         × (length ms ≡ 22) × ((j : ℕ) → j < 4 → ((now set_up ms).providers j).fetches ≡ 1) }
 {}

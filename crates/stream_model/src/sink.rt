@@ -17,7 +17,8 @@ pub trait Sink {
     fn write(&mut self, bytes: &[u8]) -> Result<usize, WriteFault>
         ensures at_most { IfOk result (λ n. n ≤ length bytes.now) }
         ensures some { IfOk result (λ n. 0 < length bytes.now → 0 < n) }
-        ensures taken { IfOk result (λ n. written self.new ≡ told_then (written self.old) (take n bytes.now)) }
+        ensures taken { IfOk result (λ n. written self.new ≡ told_then (written self.old)
+            (take n bytes.now)) }
         ensures err { OnErr result (written self.new ≡ written self.old) }
         ensures cause { HasCause (faults self.old) (faults self.new) (IsErrOf result write_fault.Failed) };
 }

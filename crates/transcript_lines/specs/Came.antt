@@ -1,20 +1,20 @@
 -- What came of an event, as an outcome of the machine.
 --
---   outcome_of came  == the outcome of what the call for an event answered
+--   came_outcome came  == the outcome of what the call for an event answered
 use Rattle.std.specs.Prelude.{option_copied}
 use Rattle.hail_machine.specs.Events.{Outcome}
 use Rattle.hail_machine.specs.Events as events
 use Rattle.vault.specs.Outcomes.{init_outcome}
-use Rattle.hail_client.specs.Outcomes.{begin_outcome, step_outcome, reopen_outcome, replace_outcome, names_outcome}
+use Rattle.hail_client.specs.Outcomes.{client_begin_outcome, step_outcome, reopen_outcome, replace_outcome, names_outcome}
 use Rattle.transcript_lines.specs.declared.came.Came.{Came}
 use Rattle.transcript_lines.specs.declared.came.Came.TheVariants as came
 
 -- the outcome of what the call for an event answered
-abbrev pub outcome_of : Came → Outcome
-outcome_of (came.Inited answer) = init_outcome answer
-outcome_of (came.Reopened answer) = reopen_outcome answer
-outcome_of (came.Begun answer) = begin_outcome answer
-outcome_of (came.Stepped answer) = step_outcome answer
-outcome_of (came.Replaced answer) = replace_outcome answer
-outcome_of came.Stopped = events.Stopped
-outcome_of (came.Named table) = names_outcome (option_copied table)
+abbrev pub came_outcome : Came → Outcome
+came_outcome (came.Inited answer) = init_outcome answer
+came_outcome (came.Reopened answer) = reopen_outcome answer
+came_outcome (came.Begun answer) = client_begin_outcome answer
+came_outcome (came.Stepped answer) = step_outcome answer
+came_outcome (came.Replaced answer) = replace_outcome answer
+came_outcome came.Stopped = events.Stopped
+came_outcome (came.Named table) = names_outcome (option_copied table)

@@ -2,7 +2,7 @@
 ghost use Rattle.std.specs.Prelude.{◌≡◌, IfOk};
 ghost use Rattle.hail_machine.specs.Lines.{lines_of, refusal_text};
 ghost use Rattle.vault_core.specs.Carried.{refusal_of};
-ghost use Rattle.hail_client.specs.Outcomes.{begin_outcome};
+ghost use Rattle.hail_client.specs.Outcomes.{client_begin_outcome};
 
 use crate::refused::refused_line;
 use crate::text::of_text;
@@ -31,7 +31,7 @@ fn name_of(fault: BeginFault) -> &'static str
 /// The line of a begin: the number of its job, or why it was refused, or that no vault is open. Want of memory is its one
 /// refusal.
 pub fn begin_line(alloc: Global, answer: Option<Result<u32, BeginFault>>) -> Result<Bytes, Memory>
-    ensures { IfOk result (λ text. text ≡ lines_of (begin_outcome answer)) }
+    ensures { IfOk result (λ text. text ≡ lines_of (client_begin_outcome answer)) }
 {
     match answer {
         None => Bytes::from_slice(alloc, b"closed\n"),

@@ -1,6 +1,6 @@
 ghost use Rattle.std.specs.Prelude.{◌≡◌, IfOk};
 ghost use Rattle.hail_machine.specs.Lines.{lines_of};
-ghost use Rattle.transcript_lines.specs.Came.{outcome_of};
+ghost use Rattle.transcript_lines.specs.Came.{came_outcome};
 
 use crate::begun::begin_line;
 use crate::listed::names_lines;
@@ -29,7 +29,7 @@ pub enum Came<'a> {
 
 /// The line or lines that an event writes, each with its newline. Want of memory is its one refusal.
 pub fn came_lines(alloc: Global, came: &Came<'_>) -> Result<Bytes, Memory>
-    ensures { IfOk result (λ text. text ≡ lines_of (outcome_of came.now)) }
+    ensures { IfOk result (λ text. text ≡ lines_of (came_outcome came.now)) }
 {
     match came {
         Came::Inited(answer) => init_line(alloc, *answer),

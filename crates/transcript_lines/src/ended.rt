@@ -5,7 +5,7 @@ ghost use Rattle.std.specs.String.{string_bytes};
 ghost use Rattle.hail_machine.specs.Answers.{Got, Audited};
 ghost use Rattle.hail_machine.specs.Lines.{line, then_number, hex, hex_or_dash, answer_text};
 ghost use Rattle.record_codec.specs.Entries.{counted};
-ghost use Rattle.vault.specs.Outcomes.{answer_of};
+ghost use Rattle.vault.specs.Outcomes.{machine_answer};
 
 use crate::text::of_text;
 use record_codec::Counts;
@@ -67,7 +67,8 @@ fn audited_line(
     undecided: u32,
     counts: &Counts,
 ) -> Result<Bytes, Memory>
-    ensures { IfOk result (λ text. text ≡ line (answer_text (Audited number undecided (counted counts.now)))) }
+    ensures { IfOk result (λ text. text ≡ line (answer_text
+        (Audited number undecided (counted counts.now)))) }
 {
     let front = format!(in alloc; "audited {number} undecided {undecided} counts")?;
     let mut text = front.into_bytes();
@@ -78,7 +79,7 @@ fn audited_line(
 
 /// The line of a job that ended so.
 pub(crate) fn answer_line(alloc: Global, answer: &Answer) -> Result<Bytes, Memory>
-    ensures { IfOk result (λ text. text ≡ line (answer_text (answer_of answer.now))) }
+    ensures { IfOk result (λ text. text ≡ line (answer_text (machine_answer answer.now))) }
 {
     match answer {
         Answer::Put => Bytes::from_slice(alloc, b"put\n"),

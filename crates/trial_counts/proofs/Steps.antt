@@ -3,7 +3,7 @@ use Rattle.std.proofs.Common.{◌≡◌, ℕ, ◌+◌, Bool, false, List, [], �
 use Rattle.std.proofs.lemmas.List.{append-nil}
 use Rattle.hail_machine.specs.Events.{Outcome, More}
 use Rattle.hail_machine.specs.Runs.{Moment}
-use Rattle.hail_machine.specs.Transcripts.{Command, GoOn}
+use Rattle.hail_machine.specs.Transcripts.{Instruction, GoOn}
 use Rattle.trial_counts.specs.Counts.{TrialCounts, one_if, how_many, is_got, is_expected, is_audited, is_repaired, is_stopped, flagged_by, flagged_in, counts_of, counts_on}
 use Rattle.trial_counts.specs.Seen.{SeesOne}
 
@@ -35,7 +35,7 @@ made-same : (a b c d f g h i j k m n : ℕ) (e l : List ℕ) → a ≡ h → b �
 made-same a b c d f g h i j k m n e l o p q r s t u = cc
 
 -- one command more
-on-one : (expected : List ℕ) (commands : List Command) (command : Command) (ms steps : List Moment) (m : Moment) (job : ℕ) → GoOn job steps
+on-one : (expected : List ℕ) (commands : List Instruction) (command : Instruction) (ms steps : List Moment) (m : Moment) (job : ℕ) → GoOn job steps
     → counts_on expected m.outcome (counts_of expected commands ms) ≡ counts_of expected (command ∷ commands) (m ∷ (steps ++ ms))
 unfolding made
 on-one expected commands command ms steps m job on =

@@ -1,14 +1,17 @@
--- What a trial counts over its run, and the six lines that tell it. Commands and moments have the newest first.
+-- What a trial counts over its run, and the six lines that tell it. Commands and moments have the newest
+-- first.
 --
---   TrialCounts                     == how many events were done; how many gets ended with bytes, and with the right ones; how many audits
---                                      ended, and whom they flagged, in order; how many repairs ended, and how many stops there were
+--   TrialCounts                     == how many events were done; how many gets ended with bytes, and with
+--                                      the right ones; how many audits ended, and whom they flagged, in
+--                                      order; how many repairs ended, and how many stops there were
 --   is_got outcome, is_right expected outcome, is_audited outcome, is_repaired outcome, is_stopped outcome
 --                                   == what an outcome is to the counts
 --   flag_of j count                 == provider j, where its count is above the trial's tolerance
 --   flagged_from j counts           == of the providers from j on those whose count is
 --   flagged_by outcome              == whom an audit flagged that ended so; nobody at another outcome
 --   how_many is_one ms, flagged_in ms == the same over moments; the oldest flags first
---   counts_of expected commands ms  == the counts, where moments carry out commands and gets are to give the expected bytes
+--   counts_of expected commands ms  == the counts, where moments carry out commands and gets are to give
+--                                      the expected bytes
 --   counts_on expected outcome old  == the counts after one more event that came to this outcome
 --   trial_lines number counts       == the six lines of a trial
 use Rattle.std.specs.Prelude.{ℕ, ◌+◌, Bool, true, false, List, [], ◌∷◌, ◌++◌, length, codes, nat_lt, if◌then◌else◌}
@@ -17,7 +20,7 @@ use Rattle.std.specs.Str.{bytes_eq}
 use Rattle.hail_machine.specs.Answers.{Got, Audited, Repaired}
 use Rattle.hail_machine.specs.Events.{Outcome, Ended, Stopped}
 use Rattle.hail_machine.specs.Runs.{Moment}
-use Rattle.hail_machine.specs.Transcripts.{Command}
+use Rattle.hail_machine.specs.Transcripts.{Instruction}
 use Rattle.hail_machine.specs.Lines.{line, then_number}
 use Rattle.trial_maker.specs.Trials.{trial_tolerance}
 
@@ -86,7 +89,7 @@ flagged_in [] = []
 flagged_in (m ∷ ms) = flagged_in ms ++ flagged_by m.outcome
 
 -- the counts of a run
-abbrev pub counts_of : List ℕ → List Command → List Moment → TrialCounts
+abbrev pub counts_of : List ℕ → List Instruction → List Moment → TrialCounts
 counts_of expected commands ms = record {
   events = length commands;
   gets = how_many is_got ms;

@@ -1,14 +1,15 @@
 -- How a tally sees one event, and how it is kept.
 --
 --   IsSeen expected outcome seen       == what was seen of an event is what its outcome is to the counts
---   SeesOne expected outcome old new   == counts over any run become those over this run with one more command, whose last moment has this
---                                         outcome; the moments before it are steps that went on
+--   SeesOne expected outcome old new   == counts over any run become those over this run with one more
+--                                         command, whose last moment has this outcome; the moments before
+--                                         it are steps that went on
 --   counts_in t                        == the counts that a tally keeps
 --   IsTally t                          == none of them is above the count of events
 use Rattle.std.specs.Prelude.{◌≡◌, ◌≤◌, ℕ, List, ◌∷◌, ◌++◌}
 use Rattle.hail_machine.specs.Events.{Outcome}
 use Rattle.hail_machine.specs.Runs.{Moment}
-use Rattle.hail_machine.specs.Transcripts.{Command, GoOn}
+use Rattle.hail_machine.specs.Transcripts.{Instruction, GoOn}
 use Rattle.trial_counts.specs.declared.seen.Seen.{Seen}
 use Rattle.trial_counts.specs.declared.tally.Tally.TheInside.{Inside}
 use Rattle.trial_counts.specs.Counts.{TrialCounts, is_got, is_expected, is_audited, is_repaired, is_stopped, flagged_by, counts_of}
@@ -25,8 +26,9 @@ pub record IsSeen (expected : List ℕ) (outcome : Outcome) (seen : Seen) : Type
 -- counts over any run become those over this run with one more command
 abbrev pub SeesOne : List ℕ → Outcome → TrialCounts → TrialCounts → Type 0
 SeesOne expected outcome old new =
-    (commands : List Command) (command : Command) (ms steps : List Moment) (m : Moment) (job : ℕ)
-    → m.outcome ≡ outcome → GoOn job steps → old ≡ counts_of expected commands ms → new ≡ counts_of expected (command ∷ commands) (m ∷ (steps ++ ms))
+    (commands : List Instruction) (command : Instruction) (ms steps : List Moment) (m : Moment) (job : ℕ)
+    → m.outcome ≡ outcome → GoOn job steps → old ≡ counts_of expected commands ms
+    → new ≡ counts_of expected (command ∷ commands) (m ∷ (steps ++ ms))
 
 -- the counts that a tally keeps
 abbrev pub counts_in : Inside → TrialCounts

@@ -1,6 +1,7 @@
 -- What a trial tells of its run.
 --
---   TellsTrial number ms text  == these moments carry out the events of the trial of a number, and the text is the six lines of their counts
+--   TellsTrial number ms text  == these moments carry out the events of the trial of a number, and the text
+--                                 is the six lines of their counts
 use Rattle.std.specs.Prelude.{◌≡◌, ℕ, List, reverse}
 use Rattle.hail_machine.specs.Runs.{Moment}
 use Rattle.hail_machine.specs.Transcripts.{CarriesOut}
@@ -11,4 +12,5 @@ use Rattle.trial_counts.specs.Counts.{counts_of, trial_lines}
 pub record TellsTrial (number : ℕ) (ms : List Moment) (text : List ℕ) : Type 0 where
   pub left_out : List ℕ
   pub carried_out : CarriesOut (reverse (trial_commands number)) ms left_out
-  pub text_is : text ≡ trial_lines number (counts_of (trial_bytes number) (reverse (trial_commands number)) ms)
+  pub text_is : text ≡ trial_lines number
+      (counts_of (trial_bytes number) (reverse (trial_commands number)) ms)

@@ -12,28 +12,32 @@ use transcript_lines::push_numbers;
 
 /// How many events were done in the trial of a number.
 fn event_lines(alloc: Global, number: u64, events: u64) -> Result<String, AllocError>
-    ensures { IfOk result (λ text. string_bytes text ≡ line (codes "trial" ++ then_number number) ++ line (codes "events" ++ then_number events)) }
+    ensures { IfOk result (λ text. string_bytes text ≡ line (codes "trial" ++ then_number number) ++ line
+        (codes "events" ++ then_number events)) }
 {
     Ok(format!(in alloc; "trial {number}\nevents {events}\n")?)
 }
 
 /// How many gets ended with bytes, and how many of them with the right ones.
 fn get_line(alloc: Global, gets: u64, right: u64) -> Result<String, AllocError>
-    ensures { IfOk result (λ text. string_bytes text ≡ line (codes "gets" ++ then_number gets ++ codes " right" ++ then_number right)) }
+    ensures { IfOk result (λ text. string_bytes text ≡ line
+        (codes "gets" ++ then_number gets ++ codes " right" ++ then_number right)) }
 {
     Ok(format!(in alloc; "gets {gets} right {right}\n")?)
 }
 
 /// How many audits ended, without whom they flagged.
 fn audit_front(alloc: Global, audits: u64) -> Result<String, AllocError>
-    ensures { IfOk result (λ text. string_bytes text ≡ codes "audits" ++ then_number audits ++ codes " flagged") }
+    ensures { IfOk result (λ text. string_bytes text ≡ codes "audits" ++ then_number audits ++ codes
+        " flagged") }
 {
     Ok(format!(in alloc; "audits {audits} flagged")?)
 }
 
 /// How many repairs ended, and how many stops there were.
 fn end_lines(alloc: Global, repairs: u64, stops: u64) -> Result<String, AllocError>
-    ensures { IfOk result (λ text. string_bytes text ≡ line (codes "repairs" ++ then_number repairs) ++ line (codes "stops" ++ then_number stops)) }
+    ensures { IfOk result (λ text. string_bytes text ≡ line (codes "repairs" ++ then_number repairs) ++ line
+        (codes "stops" ++ then_number stops)) }
 {
     Ok(format!(in alloc; "repairs {repairs}\nstops {stops}\n")?)
 }
@@ -45,7 +49,8 @@ fn push_audits(
     audits: u64,
     flagged: &[u32],
 ) -> Result<(), AllocError>
-    ensures { OnOk result (text.new.items ≡ text.old.items ++ line (codes "audits" ++ then_number audits ++ codes " flagged" ++ flat_map then_number flagged.now)) }
+    ensures { OnOk result (text.new.items ≡ text.old.items ++ line
+        (codes "audits" ++ then_number audits ++ codes " flagged" ++ flat_map then_number flagged.now)) }
 {
     let front = audit_front(alloc, audits)?;
     text.extend_from_slice(front.as_bytes())?;

@@ -1,8 +1,8 @@
 // What one event is to the counts of a trial.
 ghost use Rattle.std.specs.Prelude.{◌≡◌, ◌≤◌, false, [], length, IfOk};
 ghost use Rattle.hail_machine.specs.Events.{Ended};
-ghost use Rattle.vault.specs.Outcomes.{answer_of};
-ghost use Rattle.transcript_lines.specs.Came.{outcome_of};
+ghost use Rattle.vault.specs.Outcomes.{machine_answer};
+ghost use Rattle.transcript_lines.specs.Came.{came_outcome};
 ghost use Rattle.trial_counts.specs.Counts.{flagged_from};
 ghost use Rattle.trial_counts.specs.Seen.{IsSeen};
 
@@ -25,7 +25,8 @@ pub(crate) struct Seen {
 impl Seen {
     /// An event that nothing else is counted of.
     fn nothing(alloc: Global) -> Seen
-        ensures flags { (result.got ≡ false) × (result.right ≡ false) × (result.audited ≡ false) × (result.repaired ≡ false) × (result.stopped ≡ false) }
+        ensures flags { (result.got ≡ false) × (result.right ≡ false) × (result.audited ≡ false)
+            × (result.repaired ≡ false) × (result.stopped ≡ false) }
         ensures flagged { result.flagged.items ≡ [] }
     {
         Seen {
@@ -55,7 +56,7 @@ fn flagged_of(alloc: Global, counts: &[u32]) -> Result<Vec<u32>, AllocError>
 
 /// What the end of a job is to the counts.
 pub(crate) fn seen_end(alloc: Global, expected: &[u8], answer: &Answer) -> Result<Seen, AllocError>
-    ensures { IfOk result (IsSeen expected.now (Ended (answer_of answer.now))) }
+    ensures { IfOk result (IsSeen expected.now (Ended (machine_answer answer.now))) }
 {
     let nothing = Seen::nothing(alloc);
     match answer {
@@ -85,7 +86,7 @@ pub(crate) fn seen_end(alloc: Global, expected: &[u8], answer: &Answer) -> Resul
 
 /// What an event is to the counts that came to this.
 pub(crate) fn seen_of(alloc: Global, expected: &[u8], came: &Came<'_>) -> Result<Seen, AllocError>
-    ensures { IfOk result (IsSeen expected.now (outcome_of came.now)) }
+    ensures { IfOk result (IsSeen expected.now (came_outcome came.now)) }
 {
     let nothing = Seen::nothing(alloc);
     match came {

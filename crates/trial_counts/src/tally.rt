@@ -1,5 +1,5 @@
 ghost use Rattle.std.specs.Prelude.{◌≡◌, ◌-◌, ◌<◌, ◌^◌, ℕ, List, [], OnOk, OnErr};
-ghost use Rattle.transcript_lines.specs.Came.{outcome_of};
+ghost use Rattle.transcript_lines.specs.Came.{came_outcome};
 ghost use Rattle.trial_counts.specs.Counts.{counts_of, counts_on};
 ghost use Rattle.trial_counts.specs.Seen.{SeesOne};
 
@@ -61,9 +61,9 @@ impl Tally {
     /// fewer than 2^64 - 1 events were counted (`events` tells).
     pub fn see(&mut self, alloc: Global, expected: &[u8], came: &Came<'_>) -> Result<(), Memory>
         requires { self.old.events < 2 ^ 64 - 1 }
-        ensures ok { OnOk result (self.new ≡ counts_on expected.now (outcome_of came.now) self.old) }
+        ensures ok { OnOk result (self.new ≡ counts_on expected.now (came_outcome came.now) self.old) }
         ensures err { OnErr result (self.new ≡ self.old) }
-        ensures run { OnOk result (SeesOne expected.now (outcome_of came.now) self.old self.new) }
+        ensures run { OnOk result (SeesOne expected.now (came_outcome came.now) self.old self.new) }
     {
         let seen = seen_of(alloc, expected, came)?;
         self.flagged.extend_from_slice(&seen.flagged)?;

@@ -1,8 +1,11 @@
--- The trial of a seed: a file is put; in each of three epochs one provider loses its blocks, the file is got, an audit and a repair
--- follow, and it is got again. In the first two epochs a repair is first cut off by a stop.
+-- The trial of a seed: a file is put; in each of three epochs one provider loses its blocks, the file is
+-- got, an audit and a repair follow, and it is got again. In the first two epochs a repair is first cut off
+-- by a stop.
 --
---   trial_key seed, trial_bytes seed == the master key, of the 32 draws behind the first, and the file, of the 65,536 behind these
---   provider_of seed epoch           == the provider that loses its blocks: the first draw chooses it in epoch 0, then the next
+--   trial_key seed, trial_bytes seed == the master key, of the 32 draws behind the first, and the file, of
+--                                       the 65,536 behind these
+--   losing_provider seed epoch           == the provider that loses its blocks: the first draw chooses it
+--                                          in epoch 0, then the next
 --   trial_tolerance                  == how many wrong rounds the store tolerates of a provider
 --   trial_setup seed                 == the setup
 --   opening seed                     == init, reopening, and the put, which is job 1 and makes object 1
@@ -16,7 +19,7 @@ use Rattle.hail_codes.specs.Points.{upto}
 use Rattle.hail_records.specs.Records.{Setup}
 use Rattle.hail_machine.specs.Jobs.{Kind, PutJob, GetJob, AuditJob, RepairJob}
 use Rattle.hail_machine.specs.Events.{Init, Begin, Step, Lose, Stop, Reopen}
-use Rattle.hail_machine.specs.Transcripts.{Command, Once, RunJob}
+use Rattle.hail_machine.specs.Transcripts.{Instruction, Once, RunJob}
 use Rattle.trial_maker.specs.Draws.{draw, bytes_behind}
 
 -- the master key
@@ -28,8 +31,8 @@ abbrev pub trial_bytes : ℕ → List ℕ
 trial_bytes seed = bytes_behind seed 33 65536
 
 -- the provider that loses its blocks in an epoch
-abbrev pub provider_of : ℕ → ℕ → ℕ
-provider_of seed epoch = (draw seed 1 / 2 ^ 33 % 6 + epoch) % 6
+abbrev pub losing_provider : ℕ → ℕ → ℕ
+losing_provider seed epoch = (draw seed 1 / 2 ^ 33 % 6 + epoch) % 6
 
 -- how many wrong rounds the store tolerates of a provider
 abbrev pub trial_tolerance : ℕ
@@ -37,39 +40,53 @@ trial_tolerance = 0
 
 -- the setup
 abbrev pub trial_setup : ℕ → Setup
-trial_setup seed = record { n = 6; l = 3; b = 1; profile = 2; rounds = 4; picks = 8; tolerance = trial_tolerance; master = trial_key seed }
+trial_setup seed =
+    record {
+      n = 6;
+      l = 3;
+      b = 1;
+      profile = 2;
+      rounds = 4;
+      picks = 8;
+      tolerance = trial_tolerance;
+      master = trial_key seed;
+    }
 
 -- the name of the file
 abbrev pub trial_name : List ℕ
 trial_name = codes "trial"
 
 -- a begin, and its job up to its end
-abbrev pub whole : Kind → ℕ → List Command
+abbrev pub whole : Kind → ℕ → List Instruction
 whole kind job = Once (Begin kind) ∷ RunJob job ∷ []
 
 -- init, reopening and the put
-unfoldable pub opening : ℕ → List Command
+unfoldable pub opening : ℕ → List Instruction
 opening seed = Once (Init (trial_setup seed)) ∷ Once Reopen ∷ whole (PutJob trial_name (trial_bytes seed)) 1
 
 -- a provider loses the blocks of the first n stripes of the object
-unfoldable pub losses : ℕ → ℕ → List Command
+unfoldable pub losses : ℕ → ℕ → List Instruction
 losses provider n = map (λ stripe. Once (Lose provider 1 stripe)) (upto n)
 
 -- a repair that is cut off by a stop
-unfoldable pub cut : ℕ → List Command
+unfoldable pub cut : ℕ → List Instruction
 cut job = Once (Begin RepairJob) ∷ (replicate 10 (Once (Step job)) ++ Once (Stop []) ∷ Once Reopen ∷ [])
 
 -- an epoch whose first job has this number
-unfoldable pub epoch : ℕ → ℕ → List Command
+unfoldable pub epoch : ℕ → ℕ → List Instruction
 epoch provider job =
-    losses provider 57 ++ whole (GetJob trial_name) job ++ whole AuditJob (job + 1) ++ cut (job + 2) ++ whole RepairJob (job + 3)
+    losses provider 57 ++ whole (GetJob trial_name) job ++ whole AuditJob (job + 1) ++ cut (job + 2)
+    ++ whole RepairJob (job + 3)
     ++ whole (GetJob trial_name) (job + 4)
 
 -- the last epoch: no repair is cut off
-unfoldable pub last_epoch : ℕ → ℕ → List Command
+unfoldable pub last_epoch : ℕ → ℕ → List Instruction
 last_epoch provider job =
-    losses provider 57 ++ whole (GetJob trial_name) job ++ whole AuditJob (job + 1) ++ whole RepairJob (job + 2) ++ whole (GetJob trial_name) (job + 3)
+    losses provider 57 ++ whole (GetJob trial_name) job ++ whole AuditJob (job + 1)
+    ++ whole RepairJob (job + 2) ++ whole (GetJob trial_name) (job + 3)
 
 -- the events of the trial
-unfoldable pub trial_commands : ℕ → List Command
-trial_commands seed = opening seed ++ epoch (provider_of seed 0) 2 ++ epoch (provider_of seed 1) 7 ++ last_epoch (provider_of seed 2) 12
+unfoldable pub trial_commands : ℕ → List Instruction
+trial_commands seed =
+    opening seed ++ epoch (losing_provider seed 0) 2 ++ epoch (losing_provider seed 1) 7
+    ++ last_epoch (losing_provider seed 2) 12

@@ -3,7 +3,7 @@ ghost use Rattle.std.specs.Prelude.{◌≡◌, ◌++◌, ◌∷◌, ◌+◌, ◌
 ghost use Rattle.hail_machine.specs.Events.{Step};
 ghost use Rattle.hail_machine.specs.Transcripts.{Once, RunJob};
 ghost use Rattle.hail_machine.specs.Jobs.{GetJob, AuditJob, RepairJob};
-ghost use Rattle.schedule_text.specs.Events.{command_of, commands_of};
+ghost use Rattle.schedule_text.specs.Events.{event_command, commands_of};
 ghost use Rattle.trial_maker.specs.Trials.{losses, cut, whole, trial_name, epoch, last_epoch};
 
 use schedule_text::Event;
@@ -21,14 +21,16 @@ const STEPS: u32 = 10;
 
 /// One event.
 pub(crate) fn push(events: &mut Vec<Event>, event: Event) -> Result<(), Memory>
-    ensures { OnOk result (commands_of events.new.items ≡ commands_of events.old.items ++ command_of event ∷ []) }
+    ensures { OnOk result (commands_of events.new.items ≡ commands_of events.old.items ++ event_command
+        event ∷ []) }
 {
     Ok(events.push(event)?)
 }
 
 /// A begin, and its job up to its end.
 pub(crate) fn push_whole(events: &mut Vec<Event>, begin: Event, job: u32) -> Result<(), Memory>
-    ensures { OnOk result (commands_of events.new.items ≡ commands_of events.old.items ++ command_of begin ∷ RunJob job ∷ []) }
+    ensures { OnOk result (commands_of events.new.items ≡ commands_of events.old.items ++ event_command
+        begin ∷ RunJob job ∷ []) }
 {
     push(events, begin)?;
     push(events, Event::Run { job })
@@ -36,7 +38,8 @@ pub(crate) fn push_whole(events: &mut Vec<Event>, begin: Event, job: u32) -> Res
 
 /// A provider loses the blocks of the file.
 fn push_losses(events: &mut Vec<Event>, provider: u32) -> Result<(), Memory>
-    ensures { OnOk result (commands_of events.new.items ≡ commands_of events.old.items ++ losses provider 57) }
+    ensures { OnOk result (commands_of events.new.items ≡ commands_of events.old.items ++ losses provider
+        57) }
 {
     for stripe in 0..STRIPES {
         push(
@@ -53,7 +56,8 @@ fn push_losses(events: &mut Vec<Event>, provider: u32) -> Result<(), Memory>
 
 /// Some steps of a job.
 fn push_steps(events: &mut Vec<Event>, job: u32) -> Result<(), Memory>
-    ensures { OnOk result (commands_of events.new.items ≡ commands_of events.old.items ++ replicate 10 (Once (Step job))) }
+    ensures { OnOk result (commands_of events.new.items ≡ commands_of events.old.items ++ replicate 10
+        (Once (Step job))) }
 {
     for _ in 0..STEPS {
         push(events, Event::Step { job })?;
@@ -75,7 +79,8 @@ fn push_cut(alloc: Global, events: &mut Vec<Event>, job: u32) -> Result<(), Memo
 
 /// A get of the file.
 fn push_get(alloc: Global, events: &mut Vec<Event>, job: u32) -> Result<(), Memory>
-    ensures { OnOk result (commands_of events.new.items ≡ commands_of events.old.items ++ whole (GetJob trial_name) job) }
+    ensures { OnOk result (commands_of events.new.items ≡ commands_of events.old.items ++ whole
+        (GetJob trial_name) job) }
 {
     let name = Bytes::from_slice(alloc, b"trial")?;
     push_whole(events, Event::BeginGet { name }, job)
@@ -90,7 +95,8 @@ pub(crate) fn push_epoch(
     job: u32,
 ) -> Result<(), Memory>
     requires { job + 4 < 2 ^ 32 }
-    ensures { OnOk result (commands_of events.new.items ≡ commands_of events.old.items ++ epoch provider job) }
+    ensures { OnOk result (commands_of events.new.items ≡ commands_of events.old.items ++ epoch provider
+        job) }
 {
     push_losses(events, provider)?;
     push_get(alloc, events, job)?;
@@ -109,7 +115,8 @@ pub(crate) fn push_last_epoch(
     job: u32,
 ) -> Result<(), Memory>
     requires { job + 3 < 2 ^ 32 }
-    ensures { OnOk result (commands_of events.new.items ≡ commands_of events.old.items ++ last_epoch provider job) }
+    ensures { OnOk result (commands_of events.new.items ≡ commands_of events.old.items ++ last_epoch
+        provider job) }
 {
     push_losses(events, provider)?;
     push_get(alloc, events, job)?;

@@ -1,17 +1,20 @@
 -- What a core and a vault tell of an ask, and the ask as a step of the machine.
-use Rattle.std.proofs.Common.{◌≡◌, ℕ, zero, suc, ◌+◌, ◌-◌, ◌*◌, ◌/◌, ◌<◌, ◌≤◌, ◌^◌, ◌==◌, ◌&&◌, Bool, true, false, cond, List, [], ◌∷◌, ◌++◌, length, take, drop, map, Option, Some, None, refl, sym, ap, subst, ◌∙◌, inl, inr, arith, replicate}
+use Rattle.std.proofs.Common.{◌≡◌, ℕ, zero, suc, ◌+◌, ◌-◌, ◌*◌, ◌/◌, ◌<◌, ◌≤◌, ◌^◌, ◌==◌, ◌&&◌, Bool, true, false, cond, List, [], ◌∷◌, ◌++◌, length, take, drop, map, Option, Some, None, refl, sym, ap, subst, ◌∙◌, inl, inr, arith}
 use Rattle.std.specs.Prelude.{slice_get, slice_set, IsTrue, nat_lt}
 use Rattle.std.specs.List.{list_all, Contains, position_from, AllZip, flat_map}
 use Rattle.std.specs.Option.{option_map}
 use Rattle.std.proofs.Math.Nat.{mul-le-mul_right}
-use Rattle.std.proofs.lemmas.Bool.{cases_Bool, cases_eq, eq-eqb, ne_eqb, eqb-true, and_parts, false≢true}
+use Rattle.std.proofs.lemmas.Bool.{cases_Bool, cases_eq, eq-eqb, ne_eqb, eqb-true, and_parts, false≢true, lt-ltb}
 use Rattle.std.proofs.lemmas.Bool.Decides.{nat_tests}
 use Rattle.std.proofs.lemmas.List.{append-nil}
 use Rattle.std.proofs.lemmas.List.Sums.{sum_by-cons}
 use Rattle.std.proofs.lemmas.Iterator.Adapters.{position_from-zero}
 use Rattle.std.proofs.Common.{zero-add}
+use Rattle.plain_facts.specs.Lists.{Each}
+use Rattle.plain_facts.proofs.Each.{each_middle, each_flat, each_map}
 use Rattle.code_points.specs.Profile.{plain_profile}
 use Rattle.hail_codes.specs.Profiles.{Profile as PlainProfile, profile_of}
+use Rattle.hail_codes.specs.Points.{upto}
 use Rattle.hail_columns.specs.Challenges.{challenge_of, honest_answer}
 use Rattle.hail_columns.specs.Objects.{stripes}
 use Rattle.hail_devices.specs.Cells.{Cells}
@@ -25,9 +28,7 @@ use Rattle.hail_machine.specs.Given.{pinned_size}
 use Rattle.hail_machine.specs.Jobs.{Kind, AuditJob, Pinned, Answered, Job, job_of, with_job, advanced_with}
 use Rattle.hail_machine.specs.Setups.{object_of, stripes_of}
 use Rattle.hail_machine.specs.States.{State, setup_in, going_on, with_provider}
-use Rattle.hail_machine.proofs.ActionLists.{Each, each_flat, each_map}
 use Rattle.hail_machine.proofs.JobLists.{cond_true, cond_false, number_of, same_value, found_itself}
-use Rattle.hail_codes.specs.Points.{upto}
 use Rattle.file_layout.specs.Files as layout
 use Rattle.record_codec.specs.Entries.{counted}
 use Rattle.hail_field.specs.declared.shape.Shape.{Shape as ShapeValue}
@@ -49,16 +50,16 @@ use Rattle.vault.specs.declared.tasks.Task.{Task}
 use Rattle.vault.specs.declared.tasks.Task.TheVariants as task
 use Rattle.vault.specs.declared.turn.Turn.TheVariants as turn
 use Rattle.vault.specs.declared.vault.Vault.{Vault}
-use Rattle.vault.specs.Asking.{length_among, length_at, length_in, length_found, IsAuditNumber, IsQuestion, challenge_put, sums_on, TakesAsk, HasJudged, CanAsk, Asked, MayAsk, TellsAsk, MayTell, MayPut, object_put}
+use Rattle.vault.specs.Asking.{length_among, length_at, length_in, length_found, IsAuditNumber, IsQuestion, challenge_put, sums_on, TakesAsk, HasJudged, CanAsk, Asked, MayAsk, TellsAsk, MayTell, MayPut, vault_object}
 use Rattle.hail_openings.specs.Opened.{AreHanded}
 use Rattle.vault.specs.Devices.{devices}
 use Rattle.vault.specs.Orders.{is_ask}
-use Rattle.vault.specs.Rounds.{Round, rounds_in, asked_after, AsksOn, JudgesAll}
+use Rattle.vault.specs.Rounds.{Round, rounds_in, asked_after, AsksOn, JudgesEach}
 use Rattle.vault.specs.Running.{place_in, KeepsAll, IsFed}
 use Rattle.vault.specs.Stands.{Stands, Comes, MakesStep}
-use Rattle.vault.specs.Tasks.{IsTask, IsRunning, AreRunning, IsAudit, no_sums}
+use Rattle.vault.specs.Tasks.{IsTask, IsRunning, AreRunning, IsAudit, empty_sums}
 use Rattle.vault.proofs.Allowed.{IsAllowed, next_allowed}
-use Rattle.vault.proofs.Asks.{Rising, IsRound, rounds_rise, each_round, each_middle, each_both, sizes_found, contains_each, few_rounds, enough_answers, sums_within, as_files, behind_last, IsAnAsk}
+use Rattle.vault.proofs.Asks.{Rising, IsRound, rounds_rise, each_round, each_both, sizes_found, contains_each, few_rounds, enough_answers, sums_within, as_files, behind_last, IsAnAsk}
 use Rattle.vault.proofs.AskStep.{IsNext, IsPut, next_round, audit_kept, audit_judged, zero_all}
 use Rattle.vault.proofs.Fetched.{after}
 use Rattle.vault.proofs.JobPlaces.{place_is, put_back, one_further, from_zero}
@@ -133,9 +134,6 @@ some_picks s g = grind (arith, nat_tests, g)
 few_picks : (s : Setup) → IsTrue (is_in_grammar (SetUp s)) → s.picks ≤ 64
 few_picks s g = grind (arith, nat_tests, g)
 
-below_true : (a b : ℕ) → a < b → nat_lt a b ≡ true
-below_true a b l = grind (arith, nat_tests, l)
-
 all_small : (limit m : ℕ) → m < limit → (n : ℕ) (xs : List ℕ) → Each (λ count. count ≤ m) (take n xs) → list_all (λ count. count == 0) (drop n xs) ≡ true
     → list_all (λ count. nat_lt count limit) xs ≡ true
 all_small limit m l zero [] each zeros = refl
@@ -144,10 +142,10 @@ all_small limit m l zero (x ∷ xs) each zeros =
     let p = and_parts (x == 0) (list_all (λ count. count == 0) xs) zeros in
     let none = eqb-true x 0 p.0 in
     let small : x < limit = omega (arith, none, l) in
-    λ i. below_true x limit small i && all_small limit m l zero xs each p.1 i
+    λ i. lt-ltb x limit small i && all_small limit m l zero xs each p.1 i
 all_small limit m l (suc n) (x ∷ xs) each zeros =
     let small : x < limit = omega (arith, each.0, l) in
-    λ i. below_true x limit small i && all_small limit m l n xs each.1 zeros i
+    λ i. lt-ltb x limit small i && all_small limit m l n xs each.1 zeros i
 
 -- ---- the job of a core
 
@@ -290,12 +288,12 @@ module _ (v : Vault) (w : State) (holds : Option Cells) (faults moment number k 
       number = in_core.0.subject;
       number_is = subst (λ (j : Option CoreJob). IsAuditNumber j in_core.0.subject) (sym in_core.1) refl;
       rows =
-          (let rows : stripes (object_put v o) (length nx.x.file.bytes) ≡ stripes_of (setup_in w) (length nx.x.file.bytes) =
+          (let rows : stripes (vault_object v o) (length nx.x.file.bytes) ≡ stripes_of (setup_in w) (length nx.x.file.bytes) =
           (λ i. (length nx.x.file.bytes + (16 * (l_is i * (profile_is i).keep) - 1)) / (16 * (l_is i * (profile_is i).keep))) in
           let some = (of_file (Contains coming.job.pinned) (contains_each coming.job.pinned)).rows in
           let size = ap (λ (p : PlainProfile). p.size) profile_is in
           let least = profile_some (setup_in w).profile in
-          times_some (stripes (object_put v o) (length nx.x.file.bytes)) v.profile.size (subst (λ (m : ℕ). 1 ≤ m) (sym rows) some) (subst (λ (m : ℕ). 1 ≤ m) (sym size) least));
+          times_some (stripes (vault_object v o) (length nx.x.file.bytes)) v.profile.size (subst (λ (m : ℕ). 1 ≤ m) (sym rows) some) (subst (λ (m : ℕ). 1 ≤ m) (sym size) least));
       some_picks = subst (λ (m : ℕ). 1 ≤ m) (sym picks_are) (some_picks (setup_in w) valid);
       few_picks = subst (λ (m : ℕ). m ≤ 64) (sym picks_are) (few_picks (setup_in w) valid);
     }
@@ -333,7 +331,7 @@ module _ (v : Vault) (w : State) (holds : Option Cells) (faults moment number k 
       q_n : q.file.shape.n ≡ (setup_in w).n
       q_n = ap (λ (x : ShapeValue). x.n) put.shape_is ∙ n_is
 
-      q_object : layout.object_of (setup_in w).master q.file ≡ object_of (setup_in w) nx.x.file.id
+      q_object : layout.shaped_object (setup_in w).master q.file ≡ object_of (setup_in w) nx.x.file.id
       q_object = λ i. record {
         shape = record {
           n = q_n i;
@@ -390,8 +388,8 @@ module _ (v : Vault) (w : State) (holds : Option Cells) (faults moment number k 
       ap (λ (m : ℕ). drop m (actions_of s job)) one ∙ last_tail s job k o r st.0 is.kind (left_is ∙ ap (λ (l : List Action). Ask k o r ∷ l) st.1) in
       let none : is.left ≡ [] = none_left s.n is.left is.asked (subst (AsksOn s.n is.left is.asked) tail is.order) in
       let all : rounds_in s job.pinned ≡ is.over = is.rounds ∙ ap (λ (l : List Round). is.over ++ l) none ∙ append-nil is.over in
-      as_files s (advanced_with job (Answered k o r symbol)) job.pinned (no_sums s) (sums_on u)
-      (subst (λ (l : List Round). JudgesAll s (advanced_with job (Answered k o r symbol)) l (no_sums s) (sums_on u)) (sym all) is.sums)
+      as_files s (advanced_with job (Answered k o r symbol)) job.pinned (empty_sums s) (sums_on u)
+      (subst (λ (l : List Round). JudgesEach s (advanced_with job (Answered k o r symbol)) l (empty_sums s) (sums_on u)) (sym all) is.sums)
 
   -- ---- what the ask comes to
 

@@ -1,18 +1,14 @@
 -- The order of the asks of an audit, and how many there are.
-use Rattle.std.proofs.Common.{◌≡◌, inl, inr, ℕ, zero, suc, ◌+◌, ◌*◌, ◌≤◌, ◌==◌, true, false, cond, List, [], ◌∷◌, ◌++◌, length, map, refl, sym, ap, ◌∙◌, subst, arith, append_assoc}
-use Rattle.std.specs.Prelude.{nat_lt}
+use Rattle.std.proofs.Common.{◌≡◌, inl, inr, ℕ, zero, suc, ◌+◌, ◌*◌, ◌≤◌, ◌==◌, true, false, cond, List, [], ◌∷◌, ◌++◌, length, map, refl, sym, ◌∙◌, subst, arith, append_assoc}
 use Rattle.std.specs.List.{flat_map, range_with_len}
 use Rattle.std.proofs.lemmas.Bool.{cases_Bool, eq-eqb, ne_eqb}
 use Rattle.std.proofs.lemmas.List.FromFn.{length-range_with_len}
 use Rattle.std.proofs.lemmas.List.Sums.{sum_by-append}
 use Rattle.hail_codes.specs.Points.{upto}
 use Rattle.hail_records.specs.Records.{Setup}
-use Rattle.hail_records.specs.Table.{File}
 use Rattle.hail_machine.specs.Actions.{Action, Ask, End, append_actions, on_each_provider, rounds_of, ask_actions, actions_of}
-use Rattle.hail_machine.specs.Begins.{pin, pin_all, pinned_file}
 use Rattle.hail_machine.specs.Jobs.{Pinned, Job, AuditJob}
 use Rattle.hail_machine.specs.Setups.{stripes_of}
-use Rattle.hail_machine.specs.States.{State}
 use Rattle.vault.specs.Orders.{is_ask, asks_left}
 use Rattle.vault.specs.Rounds.{Round, rounds_in, AsksOn}
 
@@ -111,14 +107,3 @@ module _ (s : Setup) where
       rw is (omega (arith, l, b))
 
 -- ---- the pinned files
-
-length-pin : (p : Pinned) (qs : List Pinned) → length (pin p qs) ≡ suc (length qs)
-length-pin p [] = refl
-length-pin p (q ∷ qs) = elim (cases_Bool (nat_lt p.id q.id)) [
-  | inl t ↦ rw t refl
-  | inr f ↦ rw f (ap suc (length-pin p qs))
-]
-
-pub length-pin_all : (w : State) (fs : List File) → length (pin_all w fs) ≡ length fs
-length-pin_all w [] = refl
-length-pin_all w (f ∷ fs) = length-pin (pinned_file w f) (pin_all w fs) ∙ ap suc (length-pin_all w fs)

@@ -22,8 +22,8 @@ use Rattle.vault.specs.declared.question.Question.{Question}
 use Rattle.vault.specs.declared.tasks.AuditTask.{AuditTask}
 use Rattle.vault.specs.Asking.{challenge_put, last_answers, sums_on, ask_put, HasHeard, HasJudged}
 use Rattle.vault.specs.Heard.{answered_entries}
-use Rattle.vault.specs.Rounds.{Round, rounds_in, rounds_after, asked_after, AsksOn, JudgesAll}
-use Rattle.vault.specs.Tasks.{HasAnswered, IsAsked, IsAudit, no_sums}
+use Rattle.vault.specs.Rounds.{Round, rounds_in, rounds_after, asked_after, AsksOn, JudgesEach}
+use Rattle.vault.specs.Tasks.{HasAnswered, IsAsked, IsAudit, empty_sums}
 use Rattle.hail_devices.specs.Cells.{Cells}
 use Rattle.hail_devices.specs.Providers.{Provider}
 use Rattle.vault_core.specs.Carried.{ComesNext}
@@ -46,7 +46,7 @@ zero_all (suc n) = zero_all n
 
 -- the ask is that of a round of a job
 pub record IsPut (s : Setup) (job : Job) (x : Round) (q : Question) : Type 0 where
-  pub object : layout.object_of s.master q.file ≡ object_of s x.file.id
+  pub object : layout.shaped_object s.master q.file ≡ object_of s x.file.id
   pub challenge : challenge_put s.master q ≡ challenge_in s job x.file.id (length x.file.bytes) x.number
   pub id_is : q.file.id ≡ x.file.id
   pub round_is : q.round ≡ x.number
@@ -60,7 +60,7 @@ module _ (s : Setup) (job : Job) (rising : Rattle.vault.proofs.Asks.Rising 0 0 (
   -- what an audit works with after an ask, from what it worked with before
   module _ (k : ℕ) (x : Round) (xs over : List Round) (tail : List Action) (symbol : Option ℕ) (t u m : AuditTask) (q : Question)
       (is : IsAudit s t job (Ask k x.file.id x.number ∷ tail)) (rounds : rounds_in s job.pinned ≡ over ++ (x ∷ xs)) (answered : HasAnswered x k t.heard.symbols.items job.given)
-      (sums : JudgesAll s job over (no_sums s) (sums_on t)) (put : IsPut s job x q) (hears : HasHeard q k t m symbol) where
+      (sums : JudgesEach s job over (empty_sums s) (sums_on t)) (put : IsPut s job x q) (hears : HasHeard q k t m symbol) where
     abbrev gift : Given
     gift = Answered k x.file.id x.number symbol
 
@@ -74,9 +74,9 @@ module _ (s : Setup) (job : Job) (rising : Rattle.vault.proofs.Asks.Rising 0 0 (
     same_sums : sums_on m ≡ sums_on t
     same_sums = (λ i. sums_of (hears.counts i) (hears.undecided i))
 
-    still : JudgesAll s (advanced_with job (Answered k x.file.id x.number symbol)) over (no_sums s) (sums_on m)
-    still = subst (JudgesAll s (advanced_with job (Answered k x.file.id x.number symbol)) over (no_sums s)) (sym same_sums)
-        (judges_still s job k x.file.id x.number symbol over (no_sums s) (sums_on t) (apart 0 0 over x xs (subst (Rattle.vault.proofs.Asks.Rising 0 0) rounds rising)) sums)
+    still : JudgesEach s (advanced_with job (Answered k x.file.id x.number symbol)) over (empty_sums s) (sums_on m)
+    still = subst (JudgesEach s (advanced_with job (Answered k x.file.id x.number symbol)) over (empty_sums s)) (sym same_sums)
+        (judges_still s job k x.file.id x.number symbol over (empty_sums s) (sums_on t) (apart 0 0 over x xs (subst (Rattle.vault.proofs.Asks.Rising 0 0) rounds rising)) sums)
 
     -- all but the round in work
     entries : answered_entries m.heard.job m.heard.asks.items m.heard.symbols.items ≡ Rattle.hail_machine.specs.Heard.entries_of job.number (Answered k x.file.id x.number symbol ∷ job.given)
@@ -114,8 +114,8 @@ module _ (s : Setup) (job : Job) (rising : Rattle.vault.proofs.Asks.Rising 0 0 (
     judged_now : k + 1 ≡ s.n → HasJudged s.master q m u → JudgesRound s (advanced_with job (Answered k x.file.id x.number symbol)) x.file x.number (sums_on m) (sums_on u)
     judged_now last judged =
         subst (λ (o : Object). Judges o (challenge_in s job x.file.id (length x.file.bytes) x.number) (answers_given (Answered k x.file.id x.number symbol ∷ job.given) s.n x.file.id x.number) (sums_on m) (sums_on u)) put.object
-        (subst (λ (c : Challenge). Judges (layout.object_of s.master q.file) c (answers_given (Answered k x.file.id x.number symbol ∷ job.given) s.n x.file.id x.number) (sums_on m) (sums_on u)) put.challenge
-        (subst (λ (l : List (Option ℕ)). Judges (layout.object_of s.master q.file) (challenge_put s.master q) l (sums_on m) (sums_on u))
+        (subst (λ (c : Challenge). Judges (layout.shaped_object s.master q.file) c (answers_given (Answered k x.file.id x.number symbol ∷ job.given) s.n x.file.id x.number) (sums_on m) (sums_on u)) put.challenge
+        (subst (λ (l : List (Option ℕ)). Judges (layout.shaped_object s.master q.file) (challenge_put s.master q) l (sums_on m) (sums_on u))
         (ap (λ (n : ℕ). last_answers n m.heard.symbols.items) put.n_is
         ∙ last_given x s.n m.heard.symbols.items (Answered k x.file.id x.number symbol ∷ job.given) (subst (λ (n : ℕ). HasAnswered x n m.heard.symbols.items (Answered k x.file.id x.number symbol ∷ job.given)) last heard_now))
         judged.judges))
@@ -137,7 +137,7 @@ module _ (s : Setup) (job : Job) (rising : Rattle.vault.proofs.Asks.Rising 0 0 (
           order = order;
           in_work = nothing_yet xs u.heard.symbols.items (Answered k x.file.id x.number symbol ∷ job.given);
           counts = (judged.n_is ∙ ap (λ c. c.n) hears.counts ∙ is.counts.0, judged.padded (subst IsPadded (sym hears.counts) is.counts.1));
-          sums = judges_more s (advanced_with job (Answered k x.file.id x.number symbol)) over x (no_sums s) (sums_on m) (sums_on u) still (judged_now last judged);
+          sums = judges_more s (advanced_with job (Answered k x.file.id x.number symbol)) over x (empty_sums s) (sums_on m) (sums_on u) still (judged_now last judged);
           room_asks = omega (arith, is.room_asks, count-ask k x.file.id x.number tail, hears.heard.room_asks, asks_count, t.heard.asks.ok.0, m.heard.asks.ok.0, ap (λ a. vec_len a.asks) h, ap (λ a. vec_capacity a.asks) h);
           room_symbols = omega (arith, is.room_symbols, count-ask k x.file.id x.number tail, hears.heard.room_symbols, symbols_count, t.heard.symbols.ok.0, m.heard.symbols.ok.0, ap (λ a. vec_len a.symbols) h, ap (λ a. vec_capacity a.symbols) h);
         }
@@ -152,7 +152,7 @@ pub record IsNext (s : Setup) (t : AuditTask) (job : Job) (k o r : ℕ) (tail : 
   pub number_is : r ≡ x.number
   pub answered : HasAnswered x k t.heard.symbols.items job.given
   pub order : AsksOn s.n (rounds_after s.n x xs k) (asked_after s.n k) tail
-  pub sums : JudgesAll s job over (no_sums s) (sums_on t)
+  pub sums : JudgesEach s job over (empty_sums s) (sums_on t)
 
 pub next_round : (s : Setup) (t : AuditTask) (job : Job) (k o r : ℕ) (tail : List Action) → IsAudit s t job (Ask k o r ∷ tail) → IsNext s t job k o r tail
 next_round s t job k o r tail is = by_left is.left is.asked is.rounds is.order is.in_work

@@ -1,14 +1,16 @@
 -- The rounds of an audit: what their answers are, in which order they come, and what they make of the sums.
-use Rattle.std.proofs.Common.{◌≡◌, ℕ, zero, suc, ◌+◌, ◌-◌, ◌*◌, ◌<◌, ◌≤◌, ◌==◌, ◌&&◌, Bool, true, false, cond, List, [], ◌∷◌, ◌++◌, length, drop, map, replicate, Option, refl, sym, ap, subst, ◌∙◌, inl, inr, arith, length-append, length-drop, append_assoc}
+use Rattle.std.proofs.Common.{◌≡◌, ℕ, zero, suc, ◌+◌, ◌-◌, ◌*◌, ◌<◌, ◌≤◌, ◌==◌, ◌&&◌, Bool, true, false, List, [], ◌∷◌, ◌++◌, length, drop, map, Option, refl, sym, ap, subst, ◌∙◌, inl, inr, arith, length-append, length-drop, append_assoc}
 use Rattle.std.specs.List.{range_with_len, Contains}
 use Rattle.std.proofs.Math.Seq.{drop-append_seam}
 use Rattle.std.proofs.lemmas.Bool.{cases_Bool, eq-eqb, ne_eqb, eqb-true, eqb-false}
 use Rattle.std.proofs.lemmas.List.FromFn.{length-range_with_len}
+use Rattle.plain_facts.specs.Lists.{Each}
+use Rattle.plain_facts.proofs.Each.{each_append, each_at_most, each_zero}
 use Rattle.hail_codes.specs.Points.{upto}
-use Rattle.hail_codes.specs.Polynomials.{value, is_seen}
 use Rattle.hail_columns.specs.Objects.{points}
 use Rattle.hail_columns.specs.Challenges.{bare_answers}
-use Rattle.hail_columns.specs.Verdicts.{Sums, Judges, counts_after}
+use Rattle.hail_columns.specs.Verdicts.{Sums, Judges}
+use Rattle.hail_columns.proofs.CountLaws.{counts_after-within}
 use Rattle.hail_records.specs.Records.{Setup}
 use Rattle.hail_machine.specs.Actions.{Action, WriteBody, Ask, End, append_actions, rounds_of}
 use Rattle.hail_machine.specs.Audits.{challenge_in, JudgesRound, JudgesRounds, JudgesFiles}
@@ -16,14 +18,13 @@ use Rattle.hail_machine.specs.Given.{answer_given, answers_given, pinned_size}
 use Rattle.hail_machine.specs.Heard.{Entry}
 use Rattle.hail_machine.specs.Jobs.{Pinned, Given, Answered, Job, advanced_with}
 use Rattle.hail_machine.specs.Setups.{object_of, stripes_of}
-use Rattle.hail_machine.proofs.ActionLists.{Each, each_append}
 use Rattle.hail_machine.proofs.JobLists.{cond_true, cond_false}
 use Rattle.sound_states.specs.Orders.{AreAscending}
 use Rattle.vault.specs.declared.heard.Ask.{Ask as AskValue}
 use Rattle.vault.specs.Asking.{last_answers}
 use Rattle.vault.specs.Heard.{answered_entries}
-use Rattle.vault.specs.Rounds.{Round, rounds_in, JudgesAll}
-use Rattle.vault.specs.Tasks.{answered_gifts, HasAnswered, no_sums}
+use Rattle.vault.specs.Rounds.{Round, rounds_in, JudgesEach}
+use Rattle.vault.specs.Tasks.{answered_gifts, HasAnswered, empty_sums}
 
 -- ---- the answers of a round
 
@@ -193,10 +194,6 @@ module _ (s : Setup) where
       let e : (1 + length fs) * s.rounds ≡ s.rounds + length fs * s.rounds = grind arith in
       omega (arith, a, b, c, d, e)
 
-pub each_middle : {X : Type 0} (P : X → Type 0) (ys : List X) (x : X) (xs : List X) → Each P (ys ++ x ∷ xs) → P x
-each_middle P [] x xs h = h.0
-each_middle P (y ∷ ys) x xs h = each_middle P ys x xs h.1
-
 above : (b low : ℕ) (fs : List Pinned) → b ≤ low → AreAscending low fs → Each (λ (f : Pinned). b ≤ f.id) fs
 above b low [] le h = tt
 above b low (f ∷ fs) le h = (omega (arith, le, h.0), above b (f.id + 1) fs (omega (arith, le, h.0)) h.1)
@@ -249,8 +246,8 @@ given_other k o r symbol given p t other (j ∷ js) = (λ i. one i ∷ given_oth
 
 module _ (s : Setup) (job : Job) where
   -- the sums of other rounds are as before an answer
-  pub judges_still : (k o r : ℕ) (symbol : Option ℕ) (xs : List Round) (old new : Sums) → ApartFrom o r xs → JudgesAll s job xs old new
-      → JudgesAll s (advanced_with job (Answered k o r symbol)) xs old new
+  pub judges_still : (k o r : ℕ) (symbol : Option ℕ) (xs : List Round) (old new : Sums) → ApartFrom o r xs → JudgesEach s job xs old new
+      → JudgesEach s (advanced_with job (Answered k o r symbol)) xs old new
   judges_still k o r symbol [] old new far h = h
   judges_still k o r symbol (x ∷ xs) old new far h = (
     h.0,
@@ -260,20 +257,20 @@ module _ (s : Setup) (job : Job) where
   )
 
   -- one round more
-  pub judges_more : (xs : List Round) (x : Round) (old mid new : Sums) → JudgesAll s job xs old mid → JudgesRound s job x.file x.number mid new → JudgesAll s job (xs ++ x ∷ []) old new
+  pub judges_more : (xs : List Round) (x : Round) (old mid new : Sums) → JudgesEach s job xs old mid → JudgesRound s job x.file x.number mid new → JudgesEach s job (xs ++ x ∷ []) old new
   judges_more [] x old mid new is j = (new, subst (λ (m : Sums). JudgesRound s job x.file x.number m new) is j, refl)
   judges_more (y ∷ ys) x old mid new h j = (h.0, h.1, judges_more ys x h.0 mid new h.2 j)
 
-  split : (xs ys : List Round) (old new : Sums) → JudgesAll s job (xs ++ ys) old new → (mid : Sums) × JudgesAll s job xs old mid × JudgesAll s job ys mid new
+  split : (xs ys : List Round) (old new : Sums) → JudgesEach s job (xs ++ ys) old new → (mid : Sums) × JudgesEach s job xs old mid × JudgesEach s job ys mid new
   split [] ys old new h = (old, refl, h)
   split (x ∷ xs) ys old new h = (let r = split xs ys h.0 new h.2 in (r.0, (h.0, h.1, r.1), r.2))
 
-  as_rounds : (f : Pinned) (rs : List ℕ) (old new : Sums) → JudgesAll s job (map (round_of f) rs) old new → JudgesRounds s job f rs old new
+  as_rounds : (f : Pinned) (rs : List ℕ) (old new : Sums) → JudgesEach s job (map (round_of f) rs) old new → JudgesRounds s job f rs old new
   as_rounds f [] old new h = h
   as_rounds f (r ∷ rs) old new h = (h.0, h.1, as_rounds f rs h.0 new h.2)
 
   -- the rounds of all files are those of each
-  pub as_files : (fs : List Pinned) (old new : Sums) → JudgesAll s job (rounds_in s fs) old new → JudgesFiles s job fs old new
+  pub as_files : (fs : List Pinned) (old new : Sums) → JudgesEach s job (rounds_in s fs) old new → JudgesFiles s job fs old new
   as_files [] old new h = h
   as_files (f ∷ fs) old new h =
       let r = split (map (round_of f) (rounds_of s (length f.bytes))) (rounds_in s fs) old new h in
@@ -284,43 +281,25 @@ pub record Within (rounds : ℕ) (sums : Sums) : Type 0 where
   pub counts : Each (λ count. count ≤ rounds) sums.counts
   pub undecided : sums.undecided ≤ rounds
 
-each_higher : (low high : ℕ) (counts : List ℕ) → low ≤ high → Each (λ count. count ≤ low) counts → Each (λ count. count ≤ high) counts
-each_higher low high [] l h = tt
-each_higher low high (c ∷ cs) l h = (omega (arith, h.0, l), each_higher low high cs l h.1)
-
-counted_within : (k : ℕ) (p xs : List ℕ) (heard : List (Option ℕ)) (counts : List ℕ) → Each (λ count. count ≤ k) counts → Each (λ count. count ≤ k + 1) (counts_after p xs heard counts)
-counted_within k p [] heard counts h = each_higher k (k + 1) counts (omega arith) h
-counted_within k p (x ∷ xs) [] counts h = each_higher k (k + 1) counts (omega arith) h
-counted_within k p (x ∷ xs) (answer ∷ more) [] h = tt
-counted_within k p (x ∷ xs) (answer ∷ more) (n ∷ ns) h = (one (is_seen (value p x) answer) h.0, counted_within k p xs more ns h.1)
-  where
-    one : (b : Bool) → n ≤ k → cond b n (n + 1) ≤ k + 1
-    one true l = omega (arith, l)
-    one false l = omega (arith, l)
-
-zeros : (n : ℕ) → Each (λ count. count ≤ 0) (replicate n 0)
-zeros zero = tt
-zeros (suc n) = (omega arith, zeros n)
-
 module _ (s : Setup) (job : Job) where
   judged_within : (k : ℕ) (f : Pinned) (round : ℕ) (old new : Sums) → Within k old → JudgesRound s job f round old new → Within (k + 1) new
   judged_within k f round old new w (inl (p, decides, is)) = subst (Within (k + 1)) (sym is) (record {
-    counts = counted_within k p (points (object_of s f.id)) (bare_answers (object_of s f.id) (challenge_in s job f.id (length f.bytes) round) 0 (answers_given job.given s.n f.id round)) old.counts w.counts;
+    counts = counts_after-within k p (points (object_of s f.id)) (bare_answers (object_of s f.id) (challenge_in s job f.id (length f.bytes) round) 0 (answers_given job.given s.n f.id round)) old.counts w.counts;
     undecided = omega (arith, w.undecided);
   })
   judged_within k f round old new w (inr (none, is)) = subst (Within (k + 1)) (sym is) (record {
-    counts = each_higher k (k + 1) old.counts (omega arith) w.counts;
+    counts = each_at_most k (k + 1) old.counts (omega arith) w.counts;
     undecided = omega (arith, w.undecided);
   })
 
-  all_within : (k : ℕ) (xs : List Round) (old new : Sums) → Within k old → JudgesAll s job xs old new → Within (k + length xs) new
-  all_within k [] old new w is = subst (Within (k + 0)) (sym is) (record { counts = each_higher k (k + 0) old.counts (omega arith) w.counts; undecided = omega (arith, w.undecided) })
+  all_within : (k : ℕ) (xs : List Round) (old new : Sums) → Within k old → JudgesEach s job xs old new → Within (k + length xs) new
+  all_within k [] old new w is = subst (Within (k + 0)) (sym is) (record { counts = each_at_most k (k + 0) old.counts (omega arith) w.counts; undecided = omega (arith, w.undecided) })
   all_within k (x ∷ xs) old new w h =
       (let r = all_within (k + 1) xs h.0 new (judged_within k x.file x.number old h.0 w h.1) h.2 in
-      record { counts = each_higher (k + 1 + length xs) (k + length (x ∷ xs)) new.counts (omega arith) r.counts; undecided = omega (arith, r.undecided) })
+      record { counts = each_at_most (k + 1 + length xs) (k + length (x ∷ xs)) new.counts (omega arith) r.counts; undecided = omega (arith, r.undecided) })
 
-  pub sums_within : (xs : List Round) (sums : Sums) → JudgesAll s job xs (no_sums s) sums → Within (length xs) sums
-  sums_within xs sums h = subst (λ (m : ℕ). Within m sums) (let e : 0 + length xs ≡ length xs = omega arith in e) (all_within 0 xs (no_sums s) sums (record { counts = zeros s.n; undecided = omega arith }) h)
+  pub sums_within : (xs : List Round) (sums : Sums) → JudgesEach s job xs (empty_sums s) sums → Within (length xs) sums
+  sums_within xs sums h = subst (λ (m : ℕ). Within m sums) (let e : 0 + length xs ≡ length xs = omega arith in e) (all_within 0 xs (empty_sums s) sums (record { counts = each_zero s.n; undecided = omega arith }) h)
 
 -- ---- the last ask
 

@@ -11,6 +11,7 @@ use Rattle.hail_machine.specs.Jobs.{AuditJob}
 use Rattle.hail_machine.specs.States.{State, setup_in}
 use Rattle.sound_states.proofs.Written.{setup-providers}
 use Rattle.record_codec.specs.Entries.{counted}
+use Rattle.sound_states.proofs.Pinning.{length-pin_all}
 use Rattle.file_layout.specs.declared.file.FileShape.{FileShape}
 use Rattle.vault.specs.declared.heard.Ask.{Ask}
 use Rattle.vault.specs.declared.tasks.AuditTask.{AuditTask}
@@ -23,7 +24,7 @@ use Rattle.vault.specs.Seen.{table_of}
 use Rattle.vault.specs.Stands.{Stands}
 use Rattle.vault.specs.Tasks.{IsAudit, IsAsked, IsFileOf}
 use Rattle.vault.specs.Benches.{IsNewAudit}
-use Rattle.vault.proofs.AskOrders.{audit-order, audit-count, length-pin_all}
+use Rattle.vault.proofs.AskOrders.{audit-order, audit-count}
 
 -- no ask is made in the first round yet
 started : (xs : List Round) (symbols : List (Option ℕ)) → symbols ≡ [] → IsAsked xs 0 symbols []

@@ -1,5 +1,5 @@
 -- A disk that counts as empty, and what is written to its front.
-use Rattle.std.proofs.Common.{◌≡◌, inl, inr, ℕ, suc, ◌+◌, ◌≤◌, min, true, List, [], ◌∷◌, ◌++◌, length, take, drop, Option, Some, None, refl, sym, ap, ◌∙◌, subst, arith, length-append, length-take, length-drop}
+use Rattle.std.proofs.Common.{◌≡◌, ℕ, suc, ◌+◌, ◌≤◌, min, true, List, [], ◌∷◌, ◌++◌, length, take, drop, Option, Some, None, refl, sym, ap, ◌∙◌, subst, arith, length-append, length-take, length-drop}
 use Rattle.std.specs.Prelude.{IfSome}
 use Rattle.std.proofs.lemmas.List.{length-map, drop_all}
 use Rattle.stream_model.specs.declared.fault.WriteFault.{WriteFault}
@@ -10,9 +10,7 @@ use Rattle.hail_devices.specs.Images.{IsImage, EachImage}
 use Rattle.hail_devices.specs.Told.{Goes}
 use Rattle.hail_records.specs.Journal.{text}
 use Rattle.journal_core.proofs.CellLemmas.{written-behind, settled-loose}
-use Rattle.hail_openings.specs.Journals.{IsResynced}
 use Rattle.vault.specs.Preparing.{IsBlank, AreShort, emptied}
-use Rattle.hail_devices.proofs.PickLaws.{IsImage-reads}
 
 -- ---- images
 
@@ -21,20 +19,6 @@ length-image [] [] is = refl
 length-image [] (b ∷ image) is = absurd is
 length-image (c ∷ cells) [] is = absurd is
 length-image (c ∷ cells) (b ∷ image) is = ap suc (length-image cells image is.1)
-
--- where no byte is loose there is one image
-pub image-firm : (bytes image : List ℕ) → IsImage (firm bytes) image → image ≡ bytes
-image-firm [] [] is = refl
-image-firm [] (b ∷ image) is = absurd is
-image-firm (b ∷ bytes) [] is = absurd is
-image-firm (b ∷ bytes) (i ∷ image) is = (λ k. is.0 refl k ∷ image-firm bytes image is.1 k)
-
--- an image after a sync is one from before it
-pub resynced-image : (old new : Cells) → IsResynced old new → (image : List ℕ) → IsImage new image → IsImage old image
-resynced-image old new (inl same) image is = subst (λ (c : Cells). IsImage c image) same is
-resynced-image old new (inr synced_is) image is =
-    let same = image-firm (reads old) image (subst (λ (c : Cells). IsImage c image) synced_is is) in
-    subst (λ (l : List ℕ). IsImage old l) (sym same) (IsImage-reads old)
 
 -- ---- writes to the front
 

@@ -23,7 +23,7 @@ use Rattle.hail_machine.proofs.JobLists.{number_of, cond_true, cond_false, same_
 use Rattle.record_codec.specs.declared.counts.Counts.{Counts}
 use Rattle.record_codec.specs.Entries.{counted}
 use Rattle.vault_core.specs.Carried.{ComesNext, IsJobOf, IsKindOf, has_asked, opens}
-use Rattle.vault_core.specs.Coming.{is_ask}
+use Rattle.vault_core.specs.Coming.{asks_next}
 use Rattle.vault_core.specs.View.{CoreJob, job_in}
 use Rattle.vault_core.specs.Replies.{Tells}
 use Rattle.vault_core.specs.declared.reply.Reply.TheVariants as reply
@@ -37,7 +37,7 @@ use Rattle.vault.specs.declared.vault.Vault.{Vault}
 use Rattle.vault.specs.Devices.{Devices}
 use Rattle.vault.specs.Ending.{answer_at_end}
 use Rattle.vault.specs.Orders.{OpensFrom}
-use Rattle.vault.specs.Outcomes.{answer_of}
+use Rattle.vault.specs.Outcomes.{machine_answer}
 use Rattle.vault.specs.Running.{place_in, HasStopped}
 use Rattle.vault.specs.Stands.{Stands, Comes, MakesStep}
 use Rattle.vault.specs.Tasks.{IsTask}
@@ -97,7 +97,7 @@ past_first s j (suc (suc (suc zero))) is = (let e : Some SyncGate ≡ Some End =
 past_first s j (suc (suc (suc (suc place)))) is = le-ltb (suc (suc (suc (suc place)))) 4 (omega arith)
 
 -- an audit of the core that is past its first append and has no ask next has asked all that it asks
-asked : (c : CoreJob) → c.wish ≡ wish.Audit → c.opening ≡ false → is_ask (slice_get c.rest 0) ≡ false → IsTrue (has_asked c)
+asked : (c : CoreJob) → c.wish ≡ wish.Audit → c.opening ≡ false → asks_next (slice_get c.rest 0) ≡ false → IsTrue (has_asked c)
 asked c audits opening next =
     subst (λ (x : CoreJob). IsTrue (has_asked x)) (λ i. record c { wish = sym audits i; opening = sym opening i })
     (subst (λ (b : Bool). IsTrue (not b)) (sym next) refl)
@@ -124,11 +124,11 @@ module _ (w : State) (job : Job) (next : next_action w job ≡ Some End) where
   sums_are c of is =
       let audits : c.wish ≡ wish.Audit = wish_of c.wish (subst (λ (k : Kind). IsKindOf c.wish k) is of.kind) in
       of.sums (asked c audits (of.opening ∙ (λ i. opens (audits i) && past is i))
-      (ap is_ask (ap (λ (l : List Action). slice_get l 0) of.rest ∙ first_left (actions_of (setup_in w) job) job.place End (listed AuditJob is refl))))
+      (ap asks_next (ap (λ (l : List Action). slice_get l 0) of.rest ∙ first_left (actions_of (setup_in w) job) job.place End (listed AuditJob is refl))))
 
   -- what a job answers at its end is what the machine says
   ends : (c : CoreJob) → IsJobOf (setup_in w) c job → (subject undecided : ℕ) (counts : Counts) → c.subject ≡ subject → c.sums ≡ record { counts = counted counts; undecided = undecided }
-      → (t : Task) → IsTask (setup_in w) job (actions_left (setup_in w) job) t → Ends w job job.kind (answer_of (answer_at_end t subject undecided counts))
+      → (t : Task) → IsTask (setup_in w) job (actions_left (setup_in w) job) t → Ends w job job.kind (machine_answer (answer_at_end t subject undecided counts))
   ends c of subject undecided counts drawn sums (task.Put t) is = subst (λ (k : Kind). Ends w job k answers.Put) (sym is.kind) tt
   ends c of subject undecided counts drawn sums (task.Get t) is =
       let whole : is.opened ≡ stripes_of (setup_in w) (length is.file.bytes) =
@@ -145,7 +145,7 @@ module _ (w : State) (job : Job) (next : next_action w job ≡ Some End) where
       subst (λ (k : Kind). Ends w job k (answers.Repaired subject)) (sym is.kind) (sym drawn ∙ of.subject)
 
 -- such an answer is that of a job that came to its end
-well : (number subject undecided : ℕ) (counts : Counts) (new : State) (t : Task) → Tells number reply.Done (Ended (answer_of (answer_at_end t subject undecided counts))) new
+well : (number subject undecided : ℕ) (counts : Counts) (new : State) (t : Task) → Tells number reply.Done (Ended (machine_answer (answer_at_end t subject undecided counts))) new
 well number subject undecided counts new (task.Put t) = tt
 well number subject undecided counts new (task.Get t) = tt
 well number subject undecided counts new task.Drop = tt
@@ -153,7 +153,7 @@ well number subject undecided counts new (task.Audit t) = tt
 well number subject undecided counts new (task.Repair t) = tt
 
 -- nor is it a fault of the disk
-no_fault : (t : Task) (subject undecided : ℕ) (counts : Counts) → answer_of (answer_at_end t subject undecided counts) ≡ answers.DiskFault → ⊥
+no_fault : (t : Task) (subject undecided : ℕ) (counts : Counts) → machine_answer (answer_at_end t subject undecided counts) ≡ answers.DiskFault → ⊥
 no_fault (task.Put t) subject undecided counts e = cc
 no_fault (task.Get t) subject undecided counts e = cc
 no_fault task.Drop subject undecided counts e = cc

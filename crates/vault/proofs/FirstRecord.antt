@@ -9,7 +9,9 @@ use Rattle.stream_model.specs.declared.fault.WriteFault.TheVariants as write_fau
 use Rattle.hail_devices.specs.Cells.{Cells, reads, firm, loose}
 use Rattle.hail_devices.specs.Disks.{written, synced, Torn}
 use Rattle.hail_devices.specs.Told.{Goes}
-use Rattle.hail_records.specs.Records.{Setup, Record, SetUp, PutStart, PutDone, Drop, AuditStart, AuditDone, RepairDone, is_in_grammar}
+use Rattle.hail_devices.proofs.Lasting.{reads-firm}
+use Rattle.hail_devices.proofs.WriteLaws.{reads-loose}
+use Rattle.hail_records.specs.Records.{Setup, Record, SetUp, PutStart, PutDone, Drop, AuditStart, AuditDone, RepairDone, is_in_grammar, PutDoneIn, Version, Resume, InEffect, RepairDue}
 use Rattle.hail_records.specs.Spellings.{spelling}
 use Rattle.hail_records.specs.Journal.{magic, before_gate, text, StandsFor}
 use Rattle.record_codec.specs.declared.records.Record.{Record as RecordValue}
@@ -17,12 +19,12 @@ use Rattle.record_codec.specs.declared.records.Record.TheVariants as kind
 use Rattle.record_codec.specs.Entries.{entry_of, with_master}
 use Rattle.journal_core.specs.Lists.{newest_first}
 use Rattle.journal_core.specs.Moves.{IsClosed, IsAfterMoves, MayStandFor}
-use Rattle.journal_core.proofs.CellLemmas.{written-behind, reads-firm, reads-loose}
+use Rattle.journal_core.proofs.CellLemmas.{written-behind}
 use Rattle.journal_core.proofs.Meanings.{read_is_closed}
 use Rattle.journal_core.proofs.MoveLemmas.{IfSome-mapped, IfSome-same, body_written, gate_written, body_failed, gate_failed, synced as moves_synced}
 use Rattle.journal_core.proofs.ImageLemmas.{between_after, between_given_up}
 use Rattle.hail_openings.specs.Journals.{BeginsWithSetup, BeginsOtherwise, IsSetUpOn}
-use Rattle.vault.specs.Preparing.{IsBlank, IsReadied, with_setup, first_answer, IsTextFault}
+use Rattle.vault.specs.Preparing.{IsBlank, IsReadied, with_first_record, first_answer, IsTextFault}
 
 -- ---- the first record of a journal
 
@@ -34,6 +36,11 @@ begins-more (Drop name) [] x h = h
 begins-more (AuditStart number) [] x h = h
 begins-more (AuditDone number undecided counts) [] x h = h
 begins-more (RepairDone number) [] x h = h
+begins-more (PutDoneIn id size profile) [] x h = h
+begins-more Version [] x h = h
+begins-more (Resume next audit) [] x h = h
+begins-more (InEffect id size profile kept) [] x h = h
+begins-more (RepairDue number counts) [] x h = h
 begins-more (SetUp s) (q ∷ rs) x h = h
 begins-more (PutStart id name) (q ∷ rs) x h = h
 begins-more (PutDone id size) (q ∷ rs) x h = h
@@ -41,6 +48,11 @@ begins-more (Drop name) (q ∷ rs) x h = h
 begins-more (AuditStart number) (q ∷ rs) x h = h
 begins-more (AuditDone number undecided counts) (q ∷ rs) x h = h
 begins-more (RepairDone number) (q ∷ rs) x h = h
+begins-more (PutDoneIn id size profile) (q ∷ rs) x h = h
+begins-more Version (q ∷ rs) x h = h
+begins-more (Resume next audit) (q ∷ rs) x h = h
+begins-more (InEffect id size profile kept) (q ∷ rs) x h = h
+begins-more (RepairDue number counts) (q ∷ rs) x h = h
 
 pub begins-last : (rs : List Record) (s : Setup) → BeginsWithSetup (rs ++ SetUp s ∷ [])
 begins-last [] s = tt
@@ -54,6 +66,11 @@ others-more (Drop name) [] x h = h
 others-more (AuditStart number) [] x h = h
 others-more (AuditDone number undecided counts) [] x h = h
 others-more (RepairDone number) [] x h = h
+others-more (PutDoneIn id size profile) [] x h = h
+others-more Version [] x h = h
+others-more (Resume next audit) [] x h = h
+others-more (InEffect id size profile kept) [] x h = h
+others-more (RepairDue number counts) [] x h = h
 others-more (SetUp s) (q ∷ rs) x h = h
 others-more (PutStart id name) (q ∷ rs) x h = h
 others-more (PutDone id size) (q ∷ rs) x h = h
@@ -61,6 +78,11 @@ others-more (Drop name) (q ∷ rs) x h = h
 others-more (AuditStart number) (q ∷ rs) x h = h
 others-more (AuditDone number undecided counts) (q ∷ rs) x h = h
 others-more (RepairDone number) (q ∷ rs) x h = h
+others-more (PutDoneIn id size profile) (q ∷ rs) x h = h
+others-more Version (q ∷ rs) x h = h
+others-more (Resume next audit) (q ∷ rs) x h = h
+others-more (InEffect id size profile kept) (q ∷ rs) x h = h
+others-more (RepairDue number counts) (q ∷ rs) x h = h
 
 others-last : (rs : List Record) (x : Record) → BeginsOtherwise (x ∷ []) → BeginsOtherwise (rs ++ x ∷ [])
 others-last [] x h = h
@@ -81,6 +103,11 @@ first_text bytes (kind.Drop name) rest is = inr (_, is, subst BeginsOtherwise (s
 first_text bytes (kind.AuditStart number) rest is = inr (_, is, subst BeginsOtherwise (sym (oldest (kind.AuditStart number) rest)) (others-last (reverse (map entry_of rest)) _ tt), refl)
 first_text bytes (kind.AuditDone number undecided counts) rest is = inr (_, is, subst BeginsOtherwise (sym (oldest (kind.AuditDone number undecided counts) rest)) (others-last (reverse (map entry_of rest)) _ tt), refl)
 first_text bytes (kind.RepairDone number) rest is = inr (_, is, subst BeginsOtherwise (sym (oldest (kind.RepairDone number) rest)) (others-last (reverse (map entry_of rest)) _ tt), refl)
+first_text bytes (kind.PutDoneIn id size profile) rest is = inr (_, is, subst BeginsOtherwise (sym (oldest (kind.PutDoneIn id size profile) rest)) (others-last (reverse (map entry_of rest)) _ tt), refl)
+first_text bytes kind.Version rest is = inr (_, is, subst BeginsOtherwise (sym (oldest kind.Version rest)) (others-last (reverse (map entry_of rest)) _ tt), refl)
+first_text bytes (kind.Resume id audit) rest is = inr (_, is, subst BeginsOtherwise (sym (oldest (kind.Resume id audit) rest)) (others-last (reverse (map entry_of rest)) _ tt), refl)
+first_text bytes (kind.File id size profile name) rest is = inr (_, is, subst BeginsOtherwise (sym (oldest (kind.File id size profile name) rest)) (others-last (reverse (map entry_of rest)) _ tt), refl)
+first_text bytes (kind.Due number counts) rest is = inr (_, is, subst BeginsOtherwise (sym (oldest (kind.Due number counts) rest)) (others-last (reverse (map entry_of rest)) _ tt), refl)
 
 -- ---- what the disk reads after the four moves
 
@@ -106,7 +133,7 @@ module _ (s : Setup) where
         ap reads (written-behind (firm magic) (firm (gate ∷ more)) 8 refl (1 ∷ []))
         ∙ ap (λ (l : List ℕ). magic ++ 1 ∷ l) (reads-firm more)
 
-    after-moves : with_setup s (firm (magic ++ gate ∷ rest)) ≡ firm (magic ++ 1 ∷ (body ++ drop (length body) rest))
+    after-moves : with_first_record s (firm (magic ++ gate ∷ rest)) ≡ firm (magic ++ 1 ∷ (body ++ drop (length body) rest))
     after-moves =
         ap (λ (l : List ℕ). synced (written 8 (1 ∷ []) (firm l))) reads-body
         ∙ ap firm (reads-gate (body ++ drop (length body) rest))
@@ -117,11 +144,11 @@ module _ (s : Setup) where
         ap (λ (k : ℕ). text (SetUp s ∷ []) ++ drop k (magic ++ gate ∷ rest)) size
         ∙ ap (λ (l : List ℕ). text (SetUp s ∷ []) ++ l) (drop-append-add (magic ++ gate ∷ []) rest (length body))
 
-  pub set-up : (cells : Cells) → IsBlank cells → with_setup s cells ≡ firm (text (SetUp s ∷ []) ++ drop (length (text (SetUp s ∷ []))) (reads cells))
+  pub set-up : (cells : Cells) → IsBlank cells → with_first_record s cells ≡ firm (text (SetUp s ∷ []) ++ drop (length (text (SetUp s ∷ []))) (reads cells))
   set-up cells is =
       let bytes_are = is.stands.bytes_are in
       let whole : cells ≡ firm (magic ++ is.stands.gate ∷ is.stands.rest) = is.firm_is ∙ ap firm bytes_are in
-      ap (with_setup s) whole ∙ after-moves is.stands.gate is.stands.rest ∙ ap firm (sym (text-behind is.stands.gate is.stands.rest))
+      ap (with_first_record s) whole ∙ after-moves is.stands.gate is.stands.rest ∙ ap firm (sym (text-behind is.stands.gate is.stands.rest))
       ∙ ap (λ (l : List ℕ). firm (text (SetUp s ∷ []) ++ drop (length (text (SetUp s ∷ []))) l)) (sym (ap reads whole ∙ reads-firm (magic ++ is.stands.gate ∷ is.stands.rest)))
 
   -- ---- what a fault on the way leaves
@@ -164,7 +191,7 @@ same-behind n old new long same =
     let n_is : n ≡ 9 + (n - 9) = omega (arith, long) in
     ap (λ (k : ℕ). drop k new) n_is ∙ sym (drop-drop (n - 9) 9 new) ∙ ap (drop (n - 9)) same ∙ sym (ap (λ (k : ℕ). drop k old) n_is ∙ sym (drop-drop (n - 9) 9 old))
 
-pub set-up-on : (s : Setup) (told mid new : Option Cells) → Goes IsReadied told mid → new ≡ option_map (with_setup s) mid → Goes (IsSetUpOn s) told new
+pub set-up-on : (s : Setup) (told mid new : Option Cells) → Goes IsReadied told mid → new ≡ option_map (with_first_record s) mid → Goes (IsSetUpOn s) told new
 set-up-on s None None new ready made = subst (λ (o : Option Cells). Goes (IsSetUpOn s) None o) (sym made) tt
 set-up-on s None (Some mid) new ready made = absurd ready
 set-up-on s (Some old) None new ready made = absurd ready

@@ -87,4 +87,9 @@ module _ (bytes : List ℕ) (rs : List Record) (t : Kept) (gate : ℕ) (some : g
       refusal fault.NoName is = refuses (λ e. (let x = sym is ∙ e in cc))
       refusal fault.BadAudit is = refuses (λ e. (let x = sym is ∙ e in cc))
       refusal fault.NoRepair is = refuses (λ e. (let x = sym is ∙ e in cc))
+      refusal fault.OldKind is = refuses (λ e. (let x = sym is ∙ e in cc))
+      refusal fault.OldVersion is = refuses (λ e. (let x = sym is ∙ e in cc))
+      refusal fault.NewVersion is = refuses (λ e. (let x = sym is ∙ e in cc))
+      refusal fault.BadResume is = refuses (λ e. (let x = sym is ∙ e in cc))
+      refusal fault.NameTwice is = refuses (λ e. (let x = sym is ∙ e in cc))
       refusal fault.Memory is = tt

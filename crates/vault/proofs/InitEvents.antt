@@ -11,7 +11,7 @@ use Rattle.hail_devices.specs.Faults.{Rose, HasCause, last_count}
 use Rattle.hail_devices.specs.Images.{IsImage, EachImage}
 use Rattle.hail_devices.specs.Told.{Goes}
 use Rattle.hail_devices.specs.Providers.{Provider}
-use Rattle.hail_records.specs.Records.{Setup, Record, SetUp, PutStart, PutDone, Drop, AuditStart, AuditDone, RepairDone, is_setup, is_in_grammar, largest_journal}
+use Rattle.hail_records.specs.Records.{Setup, Record, SetUp, PutStart, PutDone, Drop, AuditStart, AuditDone, RepairDone, PutDoneIn, Version, Resume, InEffect, RepairDue, is_setup, is_in_grammar, largest_journal}
 use Rattle.hail_records.specs.Journal.{before_gate, text, text_size, StandsFor, StandsOrIsEmpty}
 use Rattle.hail_records.specs.Table.{setup_of}
 use Rattle.hail_records.specs.Acceptance.{NoSetup, AreAccepted}
@@ -33,19 +33,16 @@ use Rattle.vault.specs.Causes.{IsInitFault, IsNoWrite}
 use Rattle.vault.specs.Inits.{MayInit, MakesInit}
 use Rattle.vault.specs.Faults.{init_answer}
 use Rattle.vault.specs.Preparing.{IsBlank, IsReadied, IsHalfReady}
-use Rattle.vault.proofs.Emptied.{image-firm}
-use Rattle.vault.proofs.Texts.{stands-front, stands-take, short-none}
+use Rattle.vault.proofs.Texts.{short-none}
 use Rattle.hail_devices.proofs.PickLaws.{IsImage-reads}
+use Rattle.hail_devices.proofs.Lasting.{image-firm, each_image-mono}
+use Rattle.hail_records.proofs.Standing.{stands-front, stands-take}
 
 -- ---- what bytes stand for
 
 pub err-is : {T E : Type 0} (r : Result T E) (x : E) → IsErrAnd r (λ e. e ≡ x) → r ≡ Err x
 err-is (Ok t) x is = absurd is
 err-is (Err e) x is = ap (λ y. Err y) is
-
-each-still : (told : Option Cells) (P Q : List ℕ → Type 0) → ((image : List ℕ) → P image → Q image) → EachImage told P → EachImage told Q
-each-still None P Q step all = tt
-each-still (Some cells) P Q step all = λ image of. step image (all image of)
 
 begins-up : (rs : List Record) → BeginsWithSetup rs → is_some (setup_of rs) ≡ true
 begins-up [] h = absurd h
@@ -56,12 +53,22 @@ begins-up (Drop name ∷ []) h = absurd h
 begins-up (AuditStart number ∷ []) h = absurd h
 begins-up (AuditDone number undecided counts ∷ []) h = absurd h
 begins-up (RepairDone number ∷ []) h = absurd h
+begins-up (PutDoneIn id size profile ∷ []) h = absurd h
+begins-up (Version ∷ []) h = absurd h
+begins-up (Resume next audit ∷ []) h = absurd h
+begins-up (InEffect id size profile kept ∷ []) h = absurd h
+begins-up (RepairDue number counts ∷ []) h = absurd h
 begins-up (PutStart id name ∷ q ∷ rs) h = begins-up (q ∷ rs) h
 begins-up (PutDone id size ∷ q ∷ rs) h = begins-up (q ∷ rs) h
 begins-up (Drop name ∷ q ∷ rs) h = begins-up (q ∷ rs) h
 begins-up (AuditStart number ∷ q ∷ rs) h = begins-up (q ∷ rs) h
 begins-up (AuditDone number undecided counts ∷ q ∷ rs) h = begins-up (q ∷ rs) h
 begins-up (RepairDone number ∷ q ∷ rs) h = begins-up (q ∷ rs) h
+begins-up (PutDoneIn id size profile ∷ q ∷ rs) h = begins-up (q ∷ rs) h
+begins-up (Version ∷ q ∷ rs) h = begins-up (q ∷ rs) h
+begins-up (Resume next audit ∷ q ∷ rs) h = begins-up (q ∷ rs) h
+begins-up (InEffect id size profile kept ∷ q ∷ rs) h = begins-up (q ∷ rs) h
+begins-up (RepairDue number counts ∷ q ∷ rs) h = begins-up (q ∷ rs) h
 
 none-some : {X : Type 0} (x : X) → Some x ≡ None → ⊥
 none-some x is = absurd cc
@@ -76,6 +83,11 @@ others-refused (Drop name ∷ []) a h = none-some NoSetup a.0
 others-refused (AuditStart number ∷ []) a h = none-some NoSetup a.0
 others-refused (AuditDone number undecided counts ∷ []) a h = none-some NoSetup a.0
 others-refused (RepairDone number ∷ []) a h = none-some NoSetup a.0
+others-refused (PutDoneIn id size profile ∷ []) a h = none-some NoSetup a.0
+others-refused (Version ∷ []) a h = none-some NoSetup a.0
+others-refused (Resume next audit ∷ []) a h = none-some NoSetup a.0
+others-refused (InEffect id size profile kept ∷ []) a h = none-some NoSetup a.0
+others-refused (RepairDue number counts ∷ []) a h = none-some NoSetup a.0
 others-refused (SetUp s ∷ q ∷ rs) a h = others-refused (q ∷ rs) a.1 h
 others-refused (PutStart id name ∷ q ∷ rs) a h = others-refused (q ∷ rs) a.1 h
 others-refused (PutDone id size ∷ q ∷ rs) a h = others-refused (q ∷ rs) a.1 h
@@ -83,6 +95,11 @@ others-refused (Drop name ∷ q ∷ rs) a h = others-refused (q ∷ rs) a.1 h
 others-refused (AuditStart number ∷ q ∷ rs) a h = others-refused (q ∷ rs) a.1 h
 others-refused (AuditDone number undecided counts ∷ q ∷ rs) a h = others-refused (q ∷ rs) a.1 h
 others-refused (RepairDone number ∷ q ∷ rs) a h = others-refused (q ∷ rs) a.1 h
+others-refused (PutDoneIn id size profile ∷ q ∷ rs) a h = others-refused (q ∷ rs) a.1 h
+others-refused (Version ∷ q ∷ rs) a h = others-refused (q ∷ rs) a.1 h
+others-refused (Resume next audit ∷ q ∷ rs) a h = others-refused (q ∷ rs) a.1 h
+others-refused (InEffect id size profile kept ∷ q ∷ rs) a h = others-refused (q ∷ rs) a.1 h
+others-refused (RepairDue number counts ∷ q ∷ rs) a h = others-refused (q ∷ rs) a.1 h
 
 -- ---- counts of faults
 
@@ -169,7 +186,7 @@ module _ (s : Setup) (w : State) (moment : ℕ) (providers : List Provider) wher
 
       -- each image is one that the disk had
       still : EachImage new (IsImage old) → StandsForState new (left_at w.doubt f1)
-      still = each-still new (IsImage old) _ (λ image is. same image (are.images image is))
+      still = each_image-mono new (IsImage old) _ (λ image is. same image (are.images image is))
         where
           same : (image : List ℕ) → StandsOrIsEmpty image w.records ⊎ StandsWithDoubt w image → StandsOrIsEmpty image w.records ⊎ StandsWithDoubt (left_at w.doubt f1) image
           same image (inl stands) = inl stands
@@ -182,10 +199,10 @@ module _ (s : Setup) (w : State) (moment : ℕ) (providers : List Provider) wher
       own-leaves none = inr (ap (λ (rs : List Record). is_some (setup_of rs)) none, refl)
 
       short-images : w.records ≡ [] → EachImage new (λ image. length image ≤ 9) → StandsForState new (left_at own f1)
-      short-images none = each-still new (λ image. length image ≤ 9) _ (λ image short. inl (inr (none, short)))
+      short-images none = each_image-mono new (λ image. length image ≤ 9) _ (λ image short. inl (inr (none, short)))
 
       first-images : w.records ≡ [] → MayStandFor [] (SetUp s) new → StandsForState new (left_at own f1)
-      first-images none = each-still new (λ image. StandsFor image [] ⊎ StandsFor image (SetUp s ∷ [])) _ by
+      first-images none = each_image-mono new (λ image. StandsFor image [] ⊎ StandsFor image (SetUp s ∷ [])) _ by
         where
           by : (image : List ℕ) → StandsFor image [] ⊎ StandsFor image (SetUp s ∷ []) → StandsOrIsEmpty image w.records ⊎ StandsWithDoubt (left_at own f1) image
           by image (inl stands) = inl (inl (subst (λ (rs : List Record). StandsFor image rs) (sym none) stands))

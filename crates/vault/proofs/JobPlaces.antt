@@ -1,9 +1,9 @@
 -- Running jobs by their numbers, beside the jobs of the machine.
-use Rattle.std.proofs.Common.{◌≡◌, ℕ, suc, ◌+◌, ◌<◌, ◌==◌, get_or, true, false, cond, List, [], ◌∷◌, Option, Some, None, refl, sym, ap, subst, ◌∙◌, inl, inr, arith, zero-add, add-zero}
+use Rattle.std.proofs.Common.{◌≡◌, ℕ, suc, ◌+◌, ◌==◌, get_or, true, false, cond, List, [], ◌∷◌, Option, Some, None, refl, sym, ap, subst, ◌∙◌, inl, inr, arith, zero-add, add-zero}
 use Rattle.std.specs.Prelude.{slice_get, slice_set}
 use Rattle.std.specs.List.{remove, position_from}
 use Rattle.std.specs.Option.{option_map}
-use Rattle.std.proofs.lemmas.Bool.{cases_Bool, eqb-true, eq-eqb, ne_eqb}
+use Rattle.std.proofs.lemmas.Bool.{cases_Bool, eqb-true, eq-eqb}
 use Rattle.std.proofs.lemmas.Option.{slice_get-get_or}
 use Rattle.std.proofs.lemmas.List.Quantifiers.{position-Some}
 use Rattle.std.proofs.lemmas.Iterator.Adapters.{position_from-zero}
@@ -11,6 +11,7 @@ use Rattle.hail_records.specs.Records.{Setup}
 use Rattle.hail_machine.specs.Jobs.{Job, job_of, with_job, without_job}
 use Rattle.hail_machine.proofs.JobLists.{cond_true, cond_false, same_value}
 use Rattle.sound_states.specs.Orders.{AreNumbered}
+use Rattle.sound_states.proofs.JobLists.{without_job-none}
 use Rattle.vault.specs.declared.tasks.Running.{Running}
 use Rattle.vault.specs.Tasks.{IsRunning, AreRunning}
 use Rattle.vault.specs.Running.{place_in}
@@ -106,12 +107,6 @@ module _ (s : Setup) (k : ℕ) (new : Running) (job : Job) (is : IsRunning s new
 
 -- ---- after its end
 
-none_of : (js : List Job) (low next k : ℕ) → AreNumbered low js next → k < low → without_job js k ≡ js
-none_of [] low next k are less = refl
-none_of (x ∷ js) low next k are less =
-    cond_false (x.number == k) (without_job js k) (x ∷ without_job js k) (ne_eqb x.number k (λ e. absurd (omega (arith, are.0, less, e))))
-    ∙ ap (λ (l : List Job). x ∷ l) (none_of js (x.number + 1) next k are.1 (omega (arith, are.0, less)))
-
 pub taken_out : (s : Setup) (rs : List Running) (js : List Job) (low next k p : ℕ) → AreNumbered low js next → AreRunning s rs js → at_number rs k ≡ Some p → AreRunning s (remove rs p) (without_job js k)
 taken_out s [] [] low next k p numbered are at = none_at_none p at
 taken_out s [] (x ∷ js) low next k p numbered are at = absurd are
@@ -121,7 +116,7 @@ taken_out s (r ∷ rs) (x ∷ js) low next k p numbered are at = elim (cases_Boo
       let here : 0 ≡ p = same_value _ 0 p (cond_true (r.number == k) (Some 0) (option_map suc (at_number rs k)) t) at in
       let number : x.number ≡ k = sym are.0.number ∙ eqb-true r.number k t in
       subst (λ (q : ℕ). AreRunning s (remove (r ∷ rs) q) (without_job (x ∷ js) k)) here
-      (subst (λ (l : List Job). AreRunning s rs l) (sym (cond_true (x.number == k) (without_job js k) (x ∷ without_job js k) (eq-eqb x.number k number) ∙ none_of js (x.number + 1) next k numbered.1 (omega (arith, number)))) are.1))
+      (subst (λ (l : List Job). AreRunning s rs l) (sym (cond_true (x.number == k) (without_job js k) (x ∷ without_job js k) (eq-eqb x.number k number) ∙ without_job-none js (x.number + 1) next k numbered.1 (omega (arith, number)))) are.1))
   | inr f ↦ (
       let behind = before (at_number rs k) p (sym (cond_false (r.number == k) (Some 0) (option_map suc (at_number rs k)) f) ∙ at) in
       let other : (x.number == k) ≡ false = ap (λ (n : ℕ). n == k) (sym are.0.number) ∙ f in

@@ -20,7 +20,6 @@ pub mod BenchLemmas
 pub mod Puts
 pub mod Stops
 pub mod StoreStep
-pub mod SymbolBytes
 pub mod Worked
 pub mod WorkStep
 pub mod StripeOrders

@@ -1,7 +1,7 @@
 -- A move of an append is a step of the machine.
 use Rattle.std.proofs.Common.{◌≡◌, ℕ, zero, suc, ◌+◌, ◌≤◌, true, false, List, [], ◌∷◌, ◌++◌, length, Option, Some, None, refl, sym, ap, subst, ◌∙◌, inl, inr, arith, length-append}
 use Rattle.std.specs.Prelude.{◌≢◌, IfSome, slice_get, slice_set, nat_lt}
-use Rattle.std.proofs.lemmas.Bool.{cases_Bool, ltb-false}
+use Rattle.std.proofs.lemmas.Bool.{cases_Bool}
 use Rattle.hail_devices.specs.Cells.{Cells}
 use Rattle.hail_devices.specs.Faults.{HasCause, Rose}
 use Rattle.hail_devices.specs.Providers.{Provider}
@@ -9,8 +9,8 @@ use Rattle.hail_devices.specs.Told.{Goes}
 use Rattle.hail_records.specs.Records.{Record, Setup}
 use Rattle.hail_records.specs.Spellings.{spelling}
 use Rattle.hail_records.specs.Journal.{before_gate, text_size}
-use Rattle.hail_records.specs.Table.{setup_of}
-use Rattle.hail_records.proofs.Sizes.{length-spelling}
+use Rattle.hail_records.proofs.Sizes.{length-spelling, length-before_gate}
+use Rattle.hail_records.proofs.Standing.{text_size-least}
 use Rattle.hail_machine.specs.Actions.{Action, WriteBody}
 use Rattle.hail_machine.specs.Answers as answers
 use Rattle.hail_machine.specs.Appends.{Writes, subject_drawn, barred, begun_append}
@@ -18,7 +18,7 @@ use Rattle.hail_machine.specs.Events.{More, Ended}
 use Rattle.hail_machine.specs.Jobs.{Kind, PutJob, GetJob, DropJob, AuditJob, RepairJob, Job, with_job, without_job}
 use Rattle.hail_machine.specs.Stands.{StandsForState}
 use Rattle.hail_machine.specs.States.{State, Append, Doubt, setup_in, ended}
-use Rattle.hail_machine.specs.Steps.{Acts, holder_of}
+use Rattle.hail_machine.specs.Steps.{Acts}
 use Rattle.hail_machine.proofs.JobLists.{number_of, cond_false}
 use Rattle.record_codec.specs.Entries.{with_master, entry_of, IsInGrammar}
 use Rattle.record_codec.specs.declared.records.Record.{Record as RecordValue}
@@ -42,9 +42,10 @@ use Rattle.vault.specs.declared.turn.Turn.{Turn}
 use Rattle.vault.specs.declared.turn.Turn.TheVariants as turn
 use Rattle.vault.specs.declared.vault.Vault.{Vault}
 use Rattle.hail_openings.specs.Opened.{AreHanded}
+use Rattle.vault_core.proofs.Steps.{none_flies}
 use Rattle.vault.specs.Devices.{devices, IsSameBeyond, records_in_flight}
 use Rattle.vault.specs.Flights.{HasFailed, MakesMove, GoesOn, GivesUp}
-use Rattle.vault.specs.Outcomes.{answer_of}
+use Rattle.vault.specs.Outcomes.{machine_answer}
 use Rattle.vault.specs.Running.{place_in, KeepsAll, IsFed, IsStopped}
 use Rattle.vault.specs.Stands.{Stands, Comes, IsFlight, IsSamePast, MakesStep, MakesTurn}
 use Rattle.vault.specs.Tasks.{AreRunning}
@@ -52,7 +53,6 @@ use Rattle.vault.proofs.JobPlaces.{place_is, put_back}
 use Rattle.vault.proofs.Moving.{IsMove, moved_on, move_runs}
 use Rattle.vault.proofs.Stops.{IsAside, is_left, not_gone}
 use Rattle.vault.proofs.Ways.{happens_by, shaped_on, setup_same, images_on, handed_same, working}
-use Rattle.vault.proofs.Texts.{size-before, least_size}
 
 -- ---- the state after
 
@@ -109,11 +109,11 @@ moves_on v v' w new holds holds' faults faults' moment number ps action subject 
 
 -- a job ends by a move
 pub moves_end : (v v1 v2 : Vault) (w new : State) (holds holds' : Option Cells) (faults faults' moment number : ℕ) (ps : List Provider) (action : Action) (reply : Reply) (answer : Answer) (result : Option Turn)
-    → Stands v (devices holds faults ps) w → (next : ComesNext w number action None) → Acts w next.job action (Ended (answer_of answer)) new → new.jobs ≡ without_job w.jobs number
-    → v1.core ≡ v.core → v1.jobs.items ≡ v.jobs.items → KeepsAll v v1 → IsStopped v1 number reply answer result v2 → Tells number reply (Ended (answer_of answer)) new
+    → Stands v (devices holds faults ps) w → (next : ComesNext w number action None) → Acts w next.job action (Ended (machine_answer answer)) new → new.jobs ≡ without_job w.jobs number
+    → v1.core ≡ v.core → v1.jobs.items ≡ v.jobs.items → KeepsAll v v1 → IsStopped v1 number reply answer result v2 → Tells number reply (Ended (machine_answer answer)) new
     → IsLeft v1 w new holds' faults' ps → new.append ≡ None
-    → (Ended (answer_of answer) ≢ Ended answers.DiskFault → IsSameBeyond new (devices holds faults ps) (devices holds' faults' ps))
-    → (Ended (answer_of answer) ≡ Ended answers.DiskFault → IsSamePast w number (devices holds faults ps) (devices holds' faults' ps))
+    → (Ended (machine_answer answer) ≢ Ended answers.DiskFault → IsSameBeyond new (devices holds faults ps) (devices holds' faults' ps))
+    → (Ended (machine_answer answer) ≡ Ended answers.DiskFault → IsSamePast w number (devices holds faults ps) (devices holds' faults' ps))
     → MakesTurn w moment number result v2 (devices holds faults ps) (devices holds' faults' ps)
 moves_end v v1 v2 w new holds holds' faults faults' moment number ps action reply answer None stands next acts jobs same_core same_jobs keeps stopped tells left none beyond torn =
     let f = working v (devices holds faults ps) w number action stands next in
@@ -125,8 +125,8 @@ moves_end v v1 v2 w new holds holds' faults faults' moment number ps action repl
     let at : place_in v.jobs.items number ≡ Some f.place = place_is v.jobs.items number ∙ f.at in
     let aside : IsAside v v1 f.place f.running f.running = record { core = same_core; jobs = same_jobs ∙ sym (set_same v.jobs.items f.place f.running f.there); number = refl; heard = refl; keeps = keeps } in
     let gone = is_left v v1 (devices holds faults ps) w number f.place action f.running f.running stands next at f.there aside v2 reply answer t stopped in
-    let happens = happens_by w new moment number action (Ended (answer_of answer)) stands.core.is_open next acts in
-    let core = gone.fed w new (Ended (answer_of answer)) moment stands.core happens (record { tells = tells; entry = λ a is mine. (let e : None ≡ Some a = sym none ∙ is in absurd (none_some a e)) }) in
+    let happens = happens_by w new moment number action (Ended (machine_answer answer)) stands.core.is_open next acts in
+    let core = gone.fed w new (Ended (machine_answer answer)) moment stands.core happens (record { tells = tells; entry = λ a is mine. (let e : None ≡ Some a = sym none ∙ is in absurd (none_some a e)) }) in
     let are : AreRunning (setup_in w) v2.jobs.items new.jobs = subst (λ (js : List Job). AreRunning (setup_in w) v2.jobs.items js) (sym jobs) gone.jobs in
     let keeps2 : KeepsAll v v2 = record {
       setup = stopped.keeps.setup ∙ keeps.setup;
@@ -152,7 +152,7 @@ moves_end v v1 v2 w new holds holds' faults faults' moment number ps action repl
 -- the text with the record, by what an append writes
 past : (rs : List Record) (r : Record) (a : AppendValue) (holds : Option Cells) → Appends rs r a holds → gate_of a + 1 + length (body_of a) ≡ text_size (r ∷ rs)
 past rs r a holds appends =
-    let size = size-before rs appends.records in
+    let size = length-before_gate rs appends.records in
     let body : length (body_of a) ≡ length (spelling r ++ 0 ∷ []) = ap length appends.body in
     let gate = appends.gate in
     let long = length-append (spelling r) (0 ∷ []) in
@@ -198,14 +198,6 @@ subject_kept w job RepairJob many = refl
 
 -- ---- the append in flight
 
--- no append is in flight where one begins
-none_held : (flight : Option Append) → holder_of flight WriteBody ≡ None → flight ≡ None
-none_held None free = refl
-none_held (Some a) free = (let e : Some a.job ≡ None = free in absurd (some_none a.job e))
-  where
-    some_none : (n : ℕ) → Some n ≡ None → ⊥
-    some_none n e = cc
-
 -- the disk has a closed gate where none is in flight
 closed_of : (f : Option Flight) (rs : List Record) (told : Option Cells) → IsFlight f None rs told → IfSome told (IsClosed (before_gate rs))
 closed_of None rs told is = is
@@ -224,7 +216,7 @@ module _ (v : Vault) (w : State) (holds holds' : Option Cells) (faults faults' m
   next = comes.machine w stands.core
 
   alone : w.append ≡ None
-  alone = none_held w.append next.holder
+  alone = none_flies w.append next.holder
 
   closed : IfSome holds (IsClosed (before_gate w.records))
   closed = closed_of v.flight w.records holds (subst (λ (o : Option Append). IsFlight v.flight o w.records holds) alone (stands.flight next.unbarred))
@@ -233,7 +225,7 @@ module _ (v : Vault) (w : State) (holds holds' : Option Cells) (faults faults' m
   begun = record {
     records = stands.core.sound.in_grammar;
     entry = good.spelled;
-    gate = (let size = size-before w.records stands.core.sound.in_grammar in let end = stands.core.end in let g = gate_is in let a = at in omega (arith, size, end, g, a));
+    gate = (let size = length-before_gate w.records stands.core.sound.in_grammar in let end = stands.core.end in let g = gate_is in let a = at in omega (arith, size, end, g, a));
     body = body_is;
     disk = subst (λ (n : ℕ). IfSome holds (IsAfterMoves n (before_gate w.records) (body_of f.append))) (sym moves_is) closed;
   }
@@ -313,4 +305,4 @@ module _ (v : Vault) (w : State) (holds holds' : Option Cells) (faults faults' m
 
 -- a core ends behind the closed gate
 pub has_end : (c : CoreView) (w : State) → CoreIs c w → 9 ≤ c.end
-has_end c w core = (let a = least_size w.records in let b = core.end in omega (arith, a, b))
+has_end c w core = (let a = text_size-least w.records in let b = core.end in omega (arith, a, b))

@@ -7,6 +7,7 @@ use Rattle.hail_devices.specs.Providers.{Provider}
 use Rattle.hail_devices.specs.Told.{Goes}
 use Rattle.hail_records.specs.Records.{Record}
 use Rattle.hail_records.specs.Spellings.{spelling}
+use Rattle.hail_records.proofs.Sizes.{length-before_gate}
 use Rattle.hail_machine.specs.Actions.{Action}
 use Rattle.hail_machine.specs.States.{State}
 use Rattle.hail_machine.proofs.JobLists.{number_of}
@@ -22,10 +23,9 @@ use Rattle.vault.specs.declared.vault.Vault.{Vault}
 use Rattle.vault.specs.Calls.{EndsCells, MovesCells}
 use Rattle.vault.specs.Devices.{devices}
 use Rattle.vault.specs.Running.{IsStopped}
-use Rattle.vault.specs.Seen.{entry_of, closed_gate_of}
+use Rattle.vault.specs.Seen.{vault_entry, closed_gate_of}
 use Rattle.vault.specs.Stands.{Stands, Comes}
 use Rattle.vault.proofs.LaterMoves.{next, held, mine, made_so_far, entry_is}
-use Rattle.vault.proofs.Texts.{size-before}
 
 -- an append at the closed gate with this record, so many moves of which are made
 pub record IsAppendOf (v : Vault) (n : ℕ) (entry : Record) (a : Append) : Type 0 where
@@ -52,14 +52,14 @@ cells_stopped v1 v2 job n gate body reply answer (Some t) old new stopped ends =
 
 -- the append in flight of a later move
 pub append_of : (v : Vault) (w : State) (holds : Option Cells) (faults number : ℕ) (ps : List Provider) (stands : Stands v (devices holds faults ps) w) (action : Action) (comes : Comes v.core number action) (later : 0 < moves_before action)
-    → (f : Flight) → v.flight ≡ Some f → (entry : Record) → entry_of v number ≡ Some entry → IsAppendOf v (moves_before action) entry f.append
+    → (f : Flight) → v.flight ≡ Some f → (entry : Record) → vault_entry v number ≡ Some entry → IsAppendOf v (moves_before action) entry f.append
 append_of v w holds faults number ps stands action comes later f is entry given =
     let next = next v w holds faults number ps stands action comes later in
     let a = held v w holds faults number ps stands action comes later in
     let m = mine v w holds faults number ps stands action comes later f is in
     let own : a.0.job ≡ number = a.2.0 ∙ number_of w.jobs number next.job next.runs in
     let same : a.0.entry ≡ entry = (let e : Some a.0.entry ≡ Some entry = sym (entry_is v w holds faults number ps stands action comes later own) ∙ given in cc) in
-    let size = size-before w.records stands.core.sound.in_grammar in
+    let size = length-before_gate w.records stands.core.sound.in_grammar in
     let end = stands.core.end in
     let gate = m.1.gate in
     record {

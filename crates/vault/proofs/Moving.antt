@@ -19,7 +19,7 @@ use Rattle.vault.specs.declared.tasks.Running.{Running}
 use Rattle.vault.specs.declared.tasks.Task.{Task}
 use Rattle.vault.specs.declared.tasks.Task.TheVariants as task
 use Rattle.vault.specs.Orders.{Phase, Between, Fetching, Opened, GoesOn, asks_left, is_ask}
-use Rattle.vault.specs.Rounds.{Round, JudgesAll, AsksOn}
+use Rattle.vault.specs.Rounds.{Round, JudgesEach, AsksOn}
 use Rattle.vault.specs.Tasks.{IsAudit, IsRepair, IsTask, IsRunning}
 use Rattle.vault.proofs.Allowed.{IsAllowed, next_allowed}
 
@@ -112,8 +112,8 @@ no_get n name End move h = move
 -- ---- the sums of an audit
 
 -- rounds are judged by what the job was given and by its number alone
-pub judges_same : (s : Setup) (job : Job) (place subject : ℕ) (older : List ℕ) (xs : List Round) (a b : Sums) → subject ≡ job.subject → JudgesAll s job xs a b
-    → JudgesAll s (record job { place = place; subject = subject; older = older }) xs a b
+pub judges_same : (s : Setup) (job : Job) (place subject : ℕ) (older : List ℕ) (xs : List Round) (a b : Sums) → subject ≡ job.subject → JudgesEach s job xs a b
+    → JudgesEach s (record job { place = place; subject = subject; older = older }) xs a b
 judges_same s job place subject older [] a b same judges = judges
 judges_same s job place subject older (x ∷ xs) a b same judges = (
   judges.0,
@@ -170,11 +170,11 @@ move_runs w job a subject older r move next kept running = record { number = run
           room_symbols = omega (arith, is.room_symbols, count);
         }
       where
-        sums : (x y : Sums) → (over : List Round) → (job.place < 4 → over ≡ []) → JudgesAll (setup_in w) job over x y → JudgesAll (setup_in w) (moved_on job subject older) over x y
+        sums : (x y : Sums) → (over : List Round) → (job.place < 4 → over ≡ []) → JudgesEach (setup_in w) job over x y → JudgesEach (setup_in w) (moved_on job subject older) over x y
         sums x y over opening judges = elim (few_or_not job.place) [
           | inl few ↦ (
               let none = opening few in
-              subst (λ (l : List Round). JudgesAll (setup_in w) (moved_on job subject older) l x y) (sym none) (subst (λ (l : List Round). JudgesAll (setup_in w) job l x y) none judges))
+              subst (λ (l : List Round). JudgesEach (setup_in w) (moved_on job subject older) l x y) (sym none) (subst (λ (l : List Round). JudgesEach (setup_in w) job l x y) none judges))
           | inr many ↦ judges_same (setup_in w) job (job.place + 1) subject older over x y (kept many) judges
         ]
 

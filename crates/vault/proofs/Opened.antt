@@ -1,7 +1,8 @@
 -- A vault that was just opened, and why none was.
-use Rattle.std.proofs.Common.{◌≡◌, ◌≢◌, inl, inr, ℕ, ◌<◌, ◌≤◌, ◌&&◌, List, [], ◌∷◌, ◌++◌, length, Option, Some, None, refl, sym, ap, ◌∙◌, subst, arith, length-take}
+use Rattle.std.proofs.Common.{◌≡◌, ◌≢◌, inl, inr, ℕ, ◌<◌, ◌≤◌, ◌&&◌, List, [], length, Option, Some, None, refl, sym, ap, ◌∙◌, subst, arith, length-take}
 use Rattle.std.specs.Prelude.{IfSome, IsTrue}
 use Rattle.std.specs.Option.{option_map}
+use Rattle.plain_facts.proofs.Options.{some-not-none}
 use Rattle.hail_devices.specs.Cells.{Cells, reads}
 use Rattle.hail_devices.specs.Disks.{synced}
 use Rattle.hail_devices.specs.Images.{EachImage}
@@ -9,13 +10,14 @@ use Rattle.hail_devices.specs.Providers.{Provider}
 use Rattle.hail_records.specs.Records.{Record, Setup, RepairDone, is_setup, is_master, largest_journal}
 use Rattle.hail_records.specs.Journal.{before_gate, text_size, StandsFor}
 use Rattle.hail_records.specs.Table.{setup_of}
+use Rattle.hail_records.proofs.Standing.{stands-front}
 use Rattle.hail_machine.specs.Setups.{setup_or_none}
 use Rattle.hail_machine.specs.States.{State, setup_in}
 use Rattle.hail_machine.specs.Stands.{StandsForState}
 use Rattle.journal_core.specs.Moves.{IsClosed}
 use Rattle.journal_core.proofs.Meanings.{read_is_closed}
 use Rattle.journal_core.proofs.ImageLemmas.{closed_images}
-use Rattle.sound_states.proofs.Records.{some-none, none-set_up, setup-spelled}
+use Rattle.sound_states.proofs.Records.{none-set_up, setup-spelled}
 use Rattle.sound_states.proofs.Resting.{rest-sound}
 use Rattle.vault_table.specs.Values.{Kept, IsFoldOf}
 use Rattle.vault_core.specs.View.{CoreView}
@@ -30,7 +32,6 @@ use Rattle.vault.specs.Stands.{Stands, Carries}
 use Rattle.hail_openings.specs.Opened.{IsJustOpened}
 use Rattle.vault.specs.Folding.{IsFolded, IsFoldFault}
 use Rattle.vault.specs.Fresh.{IsFreshVault, IsFreshFault}
-use Rattle.vault.proofs.Texts.{stands-front}
 
 -- these bytes were looked at, of a disk that tells what it holds
 abbrev pub IsLookedAt : Option Cells → List ℕ → Type 0
@@ -76,7 +77,7 @@ module _ (bytes : List ℕ) (rs : List Record) (t : Kept) (end : ℕ) (is : IsFo
     -- ---- what was read
 
     some : rs ≢ []
-    some none = some-none t.setup _ fresh.setup (is.folds.setup ∙ ap setup_of none)
+    some none = some-not-none t.setup _ fresh.setup (is.folds.setup ∙ ap setup_of none)
 
     whole : (told : Option Cells) → IsLookedAt told bytes → IfSome told (λ cells. (9 < length (reads cells)) × StandsFor (journal_read cells) rs)
     whole None looked = tt

@@ -9,16 +9,17 @@ use Rattle.hail_devices.specs.Images.{IsImage, EachImage}
 use Rattle.hail_devices.specs.Told.{Goes}
 use Rattle.hail_records.specs.Records.{Setup, SetUp, largest_journal}
 use Rattle.hail_records.specs.Journal.{StandsFor}
+use Rattle.hail_records.proofs.Standing.{stands-front}
 use Rattle.journal_core.specs.Moves.{MayStandFor}
 use Rattle.vault.specs.declared.fault.InitFault.{InitFault}
 use Rattle.vault.specs.declared.fault.InitFault.TheVariants as init_fault
 use Rattle.hail_openings.specs.Journals.{journal_read, IsResynced, MayBeLeft}
+use Rattle.hail_openings.proofs.Resyncs.{image-resynced}
 use Rattle.vault.specs.Causes.{IsInitFault}
 use Rattle.vault.specs.Preparing.{IsBlank, IsReadied, IsHalfReady, emptied, IsTextFault}
 use Rattle.vault.proofs.Readings.{reads-synced}
 use Rattle.vault.proofs.Opened.{IsLookedAt}
-use Rattle.vault.proofs.Emptied.{emptied-is, resynced-image, text-blank}
-use Rattle.vault.proofs.Texts.{stands-front}
+use Rattle.vault.proofs.Emptied.{emptied-is, text-blank}
 
 abbrev IsShort : Cells → Type 0
 IsShort cells = length (reads cells) ≤ 9
@@ -27,7 +28,7 @@ IsShort cells = length (reads cells) ≤ 9
 
 half-image : (cells : Cells) (new : Option Cells) → Goes IsResynced (Some cells) new → EachImage new (IsImage cells)
 half-image cells None goes = absurd goes
-half-image cells (Some new) goes = resynced-image cells new goes
+half-image cells (Some new) goes = image-resynced cells new goes
 
 pub half-resynced : (told new : Option Cells) → Goes IsResynced told new → IfSome told (λ cells. IsHalfReady cells new)
 half-resynced None new goes = tt

@@ -3,7 +3,7 @@ use Rattle.std.proofs.Common.{◌≡◌, ℕ, ◌<◌, true, List, [], ◌∷◌
 use Rattle.std.specs.Prelude.{IsTrue, not, nat_lt}
 use Rattle.std.proofs.lemmas.Bool.{lt-ltb}
 use Rattle.hail_records.specs.Records.{is_name, largest_file}
-use Rattle.hail_machine.specs.Begins.{is_crowded}
+use Rattle.hail_machine.specs.Begins.{is_crowded_state}
 use Rattle.hail_machine.specs.Jobs.{PutJob}
 use Rattle.hail_machine.specs.Refusals as refusal
 use Rattle.hail_machine.specs.Refusals.{Cause, first_refusal}
@@ -13,7 +13,7 @@ use Rattle.hail_machine.specs.States.{State}
 -- the causes of a put behind that of its name
 abbrev pub causes_of_put : State → List ℕ → List ℕ → List Cause
 causes_of_put w name bytes =
-    record { applies = nat_lt largest_file (length bytes); refusal = refusal.TooLong } ∷ record { applies = is_crowded w name; refusal = refusal.TooManyFiles }
+    record { applies = nat_lt largest_file (length bytes); refusal = refusal.TooLong } ∷ record { applies = is_crowded_state w name; refusal = refusal.TooManyFiles }
     ∷ record { applies = is_full w (PutJob name bytes); refusal = refusal.JournalFull } ∷ []
 
 -- the cause of its name

@@ -5,8 +5,8 @@ use Rattle.std.specs.Option.{option_map}
 use Rattle.std.proofs.lemmas.List.{take_min, length-map}
 use Rattle.hail_devices.specs.Cells.{Cells, reads}
 use Rattle.hail_devices.specs.Disks.{synced}
+use Rattle.hail_devices.proofs.Lasting.{reads-firm}
 use Rattle.hail_records.specs.Records.{largest_journal}
-use Rattle.journal_core.proofs.CellLemmas.{reads-firm}
 use Rattle.hail_openings.specs.Journals.{journal_read}
 
 -- a sync leaves what is read

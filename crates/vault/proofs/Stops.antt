@@ -26,7 +26,7 @@ use Rattle.vault.specs.declared.turn.Turn.TheVariants as turn
 use Rattle.vault.specs.declared.vault.Vault.{Vault}
 use Rattle.hail_openings.specs.Opened.{AreHanded}
 use Rattle.vault.specs.Devices.{Devices, devices}
-use Rattle.vault.specs.Outcomes.{answer_of}
+use Rattle.vault.specs.Outcomes.{machine_answer}
 use Rattle.vault.specs.Running.{place_in, heard_of, KeepsAll, IsFed, HasStopped, IsStopped}
 use Rattle.vault.specs.Stands.{Stands, MakesStep, MakesTurn}
 use Rattle.vault.specs.Tasks.{IsTask, IsRunning, AreRunning}
@@ -116,16 +116,16 @@ same_answer a b e = cc
 
 -- a job ends, and another state is left of it alone, and of the providers
 pub ends_by : (v v1 v2 : Vault) (w new : State) (holds : Option Cells) (faults moment number place : ℕ) (ps ps' : List Provider) (action : Action) (r r' : Running) (reply : Reply) (answer : Answer) (result : Option Turn)
-    → Stands v (devices holds faults ps) w → (next : ComesNext w number action None) → Acts w next.job action (Ended (answer_of answer)) new → IsQuiet w new → new.jobs ≡ without_job w.jobs number
+    → Stands v (devices holds faults ps) w → (next : ComesNext w number action None) → Acts w next.job action (Ended (machine_answer answer)) new → IsQuiet w new → new.jobs ≡ without_job w.jobs number
     → place_in v.jobs.items number ≡ Some place → slice_get v.jobs.items place ≡ Some r → IsAside v v1 place r r' → v1.flight ≡ v.flight
-    → IsStopped v1 number reply answer result v2 → Tells number reply (Ended (answer_of answer)) new → AreHanded ps' new → (answer_of answer ≡ answers.DiskFault → ⊥)
+    → IsStopped v1 number reply answer result v2 → Tells number reply (Ended (machine_answer answer)) new → AreHanded ps' new → (machine_answer answer ≡ answers.DiskFault → ⊥)
     → MakesTurn w moment number result v2 (devices holds faults ps) (devices holds faults ps')
 ends_by v v1 v2 w new holds faults moment number place ps ps' action r r' reply answer None stands next acts quiet jobs at there aside flight stopped tells handed whole =
     absurd (not_gone v v1 (devices holds faults ps) w number place action r r' stands next at there aside v2 reply answer stopped)
 ends_by v v1 v2 w new holds faults moment number place ps ps' action r r' reply answer (Some t) stands next acts quiet jobs at there aside flight stopped tells handed whole =
     let left = is_left v v1 (devices holds faults ps) w number place action r r' stands next at there aside v2 reply answer t stopped in
-    let happens = happens_by w new moment number action (Ended (answer_of answer)) stands.core.is_open next acts in
-    let core = left.fed w new (Ended (answer_of answer)) moment stands.core happens (record { tells = tells; entry = λ a is mine. entry_kept v.core w w.append number stands.core.append a (sym quiet.append ∙ is) mine }) in
+    let happens = happens_by w new moment number action (Ended (machine_answer answer)) stands.core.is_open next acts in
+    let core = left.fed w new (Ended (machine_answer answer)) moment stands.core happens (record { tells = tells; entry = λ a is mine. entry_kept v.core w w.append number stands.core.append a (sym quiet.append ∙ is) mine }) in
     let are : AreRunning (setup_in w) v2.jobs.items new.jobs = subst (λ (js : List Job). AreRunning (setup_in w) v2.jobs.items js) (sym jobs) left.jobs in
     let keeps : KeepsAll v v2 = record {
       setup = stopped.keeps.setup ∙ aside.keeps.setup;
@@ -140,5 +140,5 @@ ends_by v v1 v2 w new holds faults moment number place ps ps' action r r' reply 
       stands = stands_on v v2 w new holds faults ps ps' stands quiet handed core keeps (stopped.flight ∙ flight) are;
       heard = left.heard_is;
       beyond = λ ended. same_beyond new holds faults ps ps';
-      torn = λ e. absurd (whole (same_answer (answer_of answer) answers.DiskFault e));
+      torn = λ e. absurd (whole (same_answer (machine_answer answer) answers.DiskFault e));
     })

@@ -35,7 +35,8 @@ use Rattle.vault.specs.Devices.{devices}
 use Rattle.vault.specs.Orders.{Phase, Between, Fetching, Opened, GoesOn}
 use Rattle.vault.specs.Running.{place_in, heard_of, KeepsAll, IsFed, IsStopped}
 use Rattle.vault.specs.Stands.{Stands, Comes, MakesStep, MakesTurn}
-use Rattle.vault.specs.Storing.{StoresAs, turned, stored_block, KeepsTask, IsStorer}
+use Rattle.vault.specs.Storing.{turned, stored_block, KeepsTask, IsStorer}
+use Rattle.provider_model.specs.Seen.{StoresAs}
 use Rattle.vault.specs.Tasks.{bench_object, fetched_in, IsBench, IsInWork, IsRepair, IsTask, IsRunning}
 use Rattle.vault.proofs.Allowed.{IsAllowed, next_allowed}
 use Rattle.vault.proofs.Stops.{IsAside, ends_by}

@@ -3,6 +3,7 @@ use Rattle.std.proofs.Common.{◌≡◌, ℕ, zero, suc, ◌<◌, ◌≤◌, ◌
 use Rattle.std.specs.Prelude.{slice_get, slice_set}
 use Rattle.std.proofs.Common.{length-set}
 use Rattle.std.proofs.lemmas.Bool.{cases_eq, eq-eqb, ne_eqb}
+use Rattle.plain_facts.proofs.Lists.{get-set_same}
 use Rattle.hail_devices.specs.Cells.{Cells}
 use Rattle.hail_devices.specs.Providers.{Provider}
 use Rattle.hail_records.specs.Records.{Setup, Record}
@@ -17,7 +18,7 @@ use Rattle.hail_machine.specs.Stands.{StandsForState}
 use Rattle.hail_machine.specs.States.{State, Append, setup_in, with_provider}
 use Rattle.hail_machine.specs.Steps.{Acts, ActsOrWaits, StepsOn, StepsJob, StepsOpen, Steps}
 use Rattle.hail_machine.proofs.JobLists.{cond_true, cond_false, number_of}
-use Rattle.vault_core.specs.Carried.{CoreIs, ComesNext, IsFlight as IsCoreFlight}
+use Rattle.vault_core.specs.Carried.{CoreIs, ComesNext, IsCoreFlight}
 use Rattle.vault_core.specs.Coming.{entry_in}
 use Rattle.vault_core.specs.View.{CoreView}
 use Rattle.hail_openings.specs.Opened.{AreHanded}
@@ -77,11 +78,6 @@ images_on (Some cells) w new records doubt stands = λ image is. elim (stands im
 
 -- ---- providers
 
-get_there : {X : Type 0} (xs : List X) (k : ℕ) (x : X) → k < length xs → slice_get (slice_set xs k x) k ≡ Some x
-get_there [] k x less = absurd (omega arith)
-get_there (y ∷ ys) zero x less = refl
-get_there (y ∷ ys) (suc k) x less = get_there ys k x (omega arith)
-
 get_elsewhere : {X : Type 0} (xs : List X) (k j : ℕ) (x : X) → (j ≡ k → ⊥) → slice_get (slice_set xs k x) j ≡ slice_get xs j
 get_elsewhere [] k j x other = refl
 get_elsewhere (y ∷ ys) zero zero x other = absurd (other refl)
@@ -95,7 +91,7 @@ pub handed_on : (ps : List Provider) (w new : State) (k : ℕ) (p : Provider) �
 handed_on ps w new k p are less handed providers = record {
   count = handed ∙ are.count ∙ sym (length-set ps k p);
   each = λ j below. elim (cases_eq j k) [
-    | inl same ↦ ap (slice_get (slice_set ps k p)) same ∙ get_there ps k p less ∙ ap Some (sym (providers j ∙ cond_true (j == k) p (w.providers j) (eq-eqb j k same)))
+    | inl same ↦ ap (slice_get (slice_set ps k p)) same ∙ get-set_same ps k p less ∙ ap Some (sym (providers j ∙ cond_true (j == k) p (w.providers j) (eq-eqb j k same)))
     | inr other ↦ get_elsewhere ps k j p other ∙ are.each j (subst (λ (n : ℕ). j < n) (length-set ps k p) below) ∙ ap Some (sym (providers j ∙ cond_false (j == k) p (w.providers j) (ne_eqb j k other)))
   ];
 }

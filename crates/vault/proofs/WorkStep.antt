@@ -6,8 +6,10 @@ use Rattle.std.proofs.lemmas.Grind.{flat_map-append}
 use Rattle.std.proofs.lemmas.List.{append-nil}
 use Rattle.std.proofs.lemmas.List.Sums.{sum_by-cons}
 use Rattle.hail_codes.specs.Points.{upto}
+use Rattle.hail_codes.proofs.Points.{upto-more}
 use Rattle.hail_columns.specs.Objects.{Object, bytes_of_symbols, stripe_symbols}
 use Rattle.hail_columns.specs.Opened.{SeenBlock, GivesSymbols, LosesRow}
+use Rattle.hail_columns.proofs.SymbolBytes.{length-bytes_of_symbols}
 use Rattle.hail_machine.specs.Actions.{Action, Work, actions_of, actions_left}
 use Rattle.hail_machine.specs.Given.{blocks_given, symbols_given}
 use Rattle.hail_machine.specs.Jobs.{Kind, PutJob, DropJob, AuditJob, Given, Worked, Job, advanced_with, without_job}
@@ -15,7 +17,6 @@ use Rattle.hail_machine.specs.States.{State, setup_in, object_in, going_on, ende
 use Rattle.hail_machine.specs.Steps.{next_action}
 use Rattle.hail_machine.proofs.JobLists.{number_of}
 use Rattle.column_codec.specs.declared.opening.RowLost.{RowLost}
-use Rattle.server_code.proofs.MakeSteps.{upto_more}
 use Rattle.sound_states.proofs.Orders.{next-left}
 use Rattle.vault_core.specs.Carried.{ComesNext}
 use Rattle.vault_core.specs.declared.reply.Reply.TheVariants as reply
@@ -31,7 +32,7 @@ use Rattle.vault.specs.declared.turn.Turn.TheVariants as turn
 use Rattle.vault.specs.declared.vault.Vault.{Vault}
 use Rattle.vault.specs.Devices.{Devices}
 use Rattle.vault.specs.Heard.{fetched_entries, blocks_in}
-use Rattle.vault.specs.Opening.{work_blocks, OpensRows, LosesWork, TakesWork, KeepsHeard, WorksAs, HasLast, CanWork}
+use Rattle.vault.specs.Opening.{work_blocks, OpensRows, LosesWork, TakesWork, KeepsHeard, WorksAs, CanWork}
 use Rattle.vault.specs.Orders.{Opened, fetches_left, works_left, is_fetch, is_work}
 use Rattle.vault.specs.Running.{place_in, heard_of, KeepsAll, IsFed, IsStopped}
 use Rattle.vault.specs.Stands.{Stands, Comes, MakesStep, MakesTurn}
@@ -39,7 +40,6 @@ use Rattle.vault.specs.Tasks.{bench_object, IsGet, IsRepair, IsTask, IsRunning, 
 use Rattle.vault.proofs.Allowed.{IsAllowed, next_allowed}
 use Rattle.vault.proofs.StoreStep.{turned_is, bench_after, bench_count}
 use Rattle.vault.proofs.Stops.{ends_by}
-use Rattle.vault.proofs.SymbolBytes.{length-bytes}
 use Rattle.vault.proofs.Ways.{actions_same, at_place, handed_same, goes_on}
 use Rattle.vault.proofs.Worked.{all_fetched, order_opened, enough_present, enough_symbols, last_is, worked_is, worked_other}
 
@@ -60,7 +60,7 @@ bytes_after id k rows bytes given is =
     (λ i. is i ++ bytes_of_symbols (worked_is id k rows given i))
     ∙ (λ i. (sym (kept id k 0 k rows given (omega arith))) i ++ (sym (append-nil (f k))) i)
     ∙ sym (flat_map-append f (upto k) (k ∷ []))
-    ∙ ap (flat_map f) (sym (upto_more k))
+    ∙ ap (flat_map f) (sym (upto-more k))
 
 -- ---- the job
 
@@ -182,7 +182,7 @@ module _ (w : State) (job : Job) (o s : ℕ) (next : next_action w job ≡ Some 
         let moved = takes.0 in
         let turned_to = takes.2 ∙ turned_is st t.bench o is.bench in
         let long : length u.bytes.items ≡ length t.bytes.items + 16 * length rows =
-        ap length takes.3 ∙ length-append t.bytes.items (bytes_of_symbols u.bench.rows.items) ∙ ap (λ (m : ℕ). length t.bytes.items + m) (length-bytes u.bench.rows.items ∙ ap (λ (l : List ℕ). 16 * length l) rows_is) in
+        ap length takes.3 ∙ length-append t.bytes.items (bytes_of_symbols u.bench.rows.items) ∙ ap (λ (m : ℕ). length t.bytes.items + m) (length-bytes_of_symbols u.bench.rows.items ∙ ap (λ (l : List ℕ). 16 * length l) rows_is) in
         let per : stripe_symbols (bench_object t.bench) ≡ stripe_symbols (object_in w o) = ap stripe_symbols is.bench in
         let per' : stripe_symbols (bench_object u.bench) ≡ stripe_symbols (object_in w o) = ap stripe_symbols turned_to in
         let works = ap (λ (m : ℕ). m * (16 * stripe_symbols (bench_object t.bench))) works_are in

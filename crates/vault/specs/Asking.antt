@@ -1,6 +1,7 @@
 -- What an ask does to what an audit works with.
 --
---   length_among pinned object  == the length of the file of an object number among those that a job works on; None where there is none
+--   length_among pinned object  == the length of the file of an object number among those that a job works
+--                                  on; None where there is none
 --   length_in c job object      == the same of those of a running job
 --   IsQuestion v job object round q == the file, the audit's number, the round and the picks of an ask
 --   challenge_put master q      == the challenge of it
@@ -8,10 +9,12 @@
 --   last_answers n symbols      == the last n answers
 --   HasJudged master q old new  == the round of the last answers turned the sums of the audit into those
 --   TakesAsk master q k old new symbol == provider k was asked, and the round was judged where it is the last
---   HasRoomForAsk a, CanJudge q t, CanAsk q k t == there is room for an answer; the round can be judged; both, where there has to be
+--   HasRoomForAsk a, CanJudge q t, CanAsk q k t == there is room for an answer; the round can be judged;
+--                                          both, where there has to be
 --   Asked, MayAsk               == the same of what a job works with
 --   sums_on t                   == the sums of an audit so far
---   TellsAsk is_last n t reply  == the reply to an ask: a verdict to the last, with the sums of what the audit works with
+--   TellsAsk is_last n t reply  == the reply to an ask: a verdict to the last, with the sums of what the
+--                                  audit works with
 --   MayTell n t                 == its counts are padded, and those of so many providers
 --   MayPut v job object         == there is such a file, which has rows
 use Rattle.std.specs.Prelude.{◌≡◌, ℕ, ◌+◌, ◌-◌, ◌*◌, ◌≤◌, ◌<◌, ◌^◌, ◌==◌, Bool, true, false, List, [], ◌∷◌, ◌++◌, length, drop, Option, None, Some, vec_len, vec_capacity, nat_lt, position, slice_get}
@@ -21,7 +24,7 @@ use Rattle.hail_columns.specs.Challenges.{Challenge, challenge_of}
 use Rattle.code_points.specs.Profile.{plain_profile}
 use Rattle.hail_columns.specs.Objects.{Object, stripes}
 use Rattle.hail_columns.specs.Verdicts.{Sums, Judges}
-use Rattle.file_layout.specs.Files.{object_of}
+use Rattle.file_layout.specs.Files.{shaped_object}
 use Rattle.record_codec.specs.Entries.{IsPadded}
 use Rattle.audit_verdict.specs.Rounds.{sums_of}
 use Rattle.vault_core.specs.View.{CoreJob, CoreView, job_in}
@@ -71,7 +74,7 @@ pub record IsQuestion (v : Vault) (job object round : ℕ) (q : Question) : Type
 
 -- the challenge of an ask
 abbrev pub challenge_put : List ℕ → Question → Challenge
-challenge_put master q = challenge_of (object_of master q.file) q.file.length q.picks q.number q.round
+challenge_put master q = challenge_of (shaped_object master q.file) q.file.length q.picks q.number q.round
 
 -- one answer more was heard
 pub record GrowsAnswers (old new : Answers) (ask : Ask) (symbol : Option ℕ) : Type 0 where
@@ -91,7 +94,8 @@ sums_on t = sums_of t.counts t.undecided
 
 -- the round of the last answers was judged
 pub record HasJudged (master : List ℕ) (q : Question) (old new : AuditTask) : Type 0 where
-  pub judges : Judges (object_of master q.file) (challenge_put master q) (last_answers q.file.shape.n old.heard.symbols.items) (sums_on old) (sums_on new)
+  pub judges : Judges (shaped_object master q.file) (challenge_put master q)
+      (last_answers q.file.shape.n old.heard.symbols.items) (sums_on old) (sums_on new)
   pub n_is : new.counts.n ≡ old.counts.n
   pub padded : IsPadded old.counts → IsPadded new.counts
   pub heard : new.heard ≡ old.heard
@@ -109,7 +113,8 @@ pub record HasHeard (q : Question) (k : ℕ) (old new : AuditTask) (symbol : Opt
   pub undecided : new.undecided ≡ old.undecided
 
 -- provider k was asked, and the round was judged where it is the last
-pub record TakesAsk (master : List ℕ) (q : Question) (k : ℕ) (old new : AuditTask) (symbol : Option ℕ) : Type 0 where
+pub record TakesAsk (master : List ℕ) (q : Question) (k : ℕ) (old new : AuditTask)
+    (symbol : Option ℕ) : Type 0 where
   pub mid : AuditTask
   pub hears : HasHeard q k old mid symbol
   pub judged : k + 1 ≡ q.file.shape.n → HasJudged master q mid new
@@ -149,7 +154,8 @@ MayAsk n k t = ⊥
 
 -- the reply to an ask: a verdict to the last, with the sums of what the audit works with
 abbrev pub TellsAsk : Bool → ℕ → Task → Reply → Type 0
-TellsAsk true n (task.Audit t) (reply.Verdict undecided counts) = (undecided ≡ t.undecided) × (counts ≡ t.counts) × (counts.n ≡ n) × IsPadded counts
+TellsAsk true n (task.Audit t) (reply.Verdict undecided counts) =
+    (undecided ≡ t.undecided) × (counts ≡ t.counts) × (counts.n ≡ n) × IsPadded counts
 TellsAsk false n t reply.Done = Unit {0}
 TellsAsk is_last n t r = ⊥
 
@@ -159,8 +165,14 @@ MayTell n (task.Audit t) = (t.counts.n ≡ n) × IsPadded t.counts
 MayTell n t = ⊥
 
 -- an object of the shape and the profile of a vault
-abbrev pub object_put : Vault → ℕ → Object
-object_put v object = record { shape = record { n = v.shape.n; l = v.shape.l; b = v.shape.b }; profile = plain_profile v.profile; master = []; id = object }
+abbrev pub vault_object : Vault → ℕ → Object
+vault_object v object =
+    record {
+      shape = record { n = v.shape.n; l = v.shape.l; b = v.shape.b };
+      profile = plain_profile v.profile;
+      master = [];
+      id = object;
+    }
 
 -- an ask can be put: there is such a file, which has rows
 pub record MayPut (v : Vault) (job object : ℕ) : Type 0 where
@@ -169,6 +181,6 @@ pub record MayPut (v : Vault) (job object : ℕ) : Type 0 where
   pub few : size ≤ 2 ^ 22
   pub number : ℕ
   pub number_is : IsAuditNumber (job_in v.core.jobs job) number
-  pub rows : 1 ≤ stripes (object_put v object) size * v.profile.size
+  pub rows : 1 ≤ stripes (vault_object v object) size * v.profile.size
   pub some_picks : 1 ≤ v.setup.picks
   pub few_picks : v.setup.picks ≤ 64

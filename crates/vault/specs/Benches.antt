@@ -29,10 +29,15 @@ pub record IsNewGet (job : ℕ) (bench : Bench) (t : GetTask) : Type 0 where
   pub present : t.fetched.blocks.present.items ≡ []
   pub symbols : t.fetched.blocks.symbols.items ≡ []
   pub bytes : t.bytes.items ≡ []
-  pub room_fetches : vec_len t.fetched.fetches + stripes_on bench * bench.keys.file.shape.n ≤ vec_capacity t.fetched.fetches
-  pub room_present : vec_len t.fetched.blocks.present + stripes_on bench * bench.keys.file.shape.n ≤ vec_capacity t.fetched.blocks.present
-  pub room_symbols : vec_len t.fetched.blocks.symbols + (stripes_on bench * bench.keys.file.shape.n) * t.fetched.blocks.size ≤ vec_capacity t.fetched.blocks.symbols
-  pub room_bytes : vec_len t.bytes + stripes_on bench * (16 * stripe_symbols (bench_object bench)) ≤ vec_capacity t.bytes
+  pub room_fetches : vec_len t.fetched.fetches
+      + stripes_on bench * bench.keys.file.shape.n ≤ vec_capacity t.fetched.fetches
+  pub room_present : vec_len t.fetched.blocks.present
+      + stripes_on bench * bench.keys.file.shape.n ≤ vec_capacity t.fetched.blocks.present
+  pub room_symbols : vec_len t.fetched.blocks.symbols
+      + (stripes_on bench * bench.keys.file.shape.n) * t.fetched.blocks.size ≤ vec_capacity
+      t.fetched.blocks.symbols
+  pub room_bytes : vec_len t.bytes + stripes_on bench * (16 * stripe_symbols (bench_object bench))
+      ≤ vec_capacity t.bytes
 
 -- an audit of so many providers that has asked nothing yet, with room for so many asks
 pub record IsNewAudit (job n asks : ℕ) (t : AuditTask) : Type 0 where

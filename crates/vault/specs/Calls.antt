@@ -1,12 +1,17 @@
 -- Which device the next step of a job calls, and what a step does to the cells of the disk.
 --
 --   calls_disk coming        == what comes next is a move of an append, the only action that calls the disk
---   called_provider coming   == the provider that the next action calls: of a store, a fetch, an ask, a removal
+--   called_provider coming   == the provider that the next action calls: of a store, a fetch, an ask, a
+--                               removal
+--   CalledOnce calls j old new == of a list of devices the one at place j was called once, by their counts
+--                                 of calls
 --   moves_before_next coming        == how many moves of its append are made before the next action
---   MovesCells n gate body turn old new == the cells after a step that makes the move after n, by what came of it
-use Rattle.std.specs.Prelude.{◌≡◌, ℕ, Bool, false, List, Option, None, Some}
+--   MovesCells n gate body turn old new == the cells after a step that makes the move after n, by what came
+--                                          of it
+use Rattle.std.specs.Prelude.{◌≡◌, ℕ, Bool, false, List, Option, None, Some, slice_get}
 use Rattle.std.specs.Option.{option_map}
 use Rattle.hail_devices.specs.Cells.{Cells}
+use Rattle.hail_devices.specs.Faults.{one_more}
 use Rattle.hail_devices.specs.Told.{Goes}
 use Rattle.hail_machine.specs.Actions.{Action, Store, Fetch, Ask, Remove}
 use Rattle.sound_states.specs.Orders.{moves_before}
@@ -34,6 +39,11 @@ provider_of action = None
 abbrev pub called_provider : Coming → Option ℕ
 called_provider (Acts action) = provider_of action
 called_provider coming = None
+
+-- the device at a place was called once
+abbrev pub CalledOnce : {X : Type 0} → (X → ℕ) → ℕ → List X → List X → Type 0
+CalledOnce calls j old new =
+    option_map calls (slice_get new j) ≡ option_map (λ p. one_more (calls p)) (slice_get old j)
 
 -- how many moves of its append are made before the next action
 abbrev pub moves_before_next : Coming → ℕ

@@ -6,7 +6,7 @@
 --   IsNoWrite fault           == an answer of init for which nothing is written
 use Rattle.std.specs.Prelude.{◌≡◌, ℕ, ◌<◌, false, List, length}
 use Rattle.hail_records.specs.Records.{Setup, is_setup}
-use Rattle.hail_records.specs.Reading.{IsNotSetUp}
+use Rattle.hail_records.specs.Reading.{HasNoSetup}
 use Rattle.hail_openings.specs.Journals.{IsBadStart, IsBadInit, IsSetUpAlready}
 use Rattle.vault.specs.declared.fault.InitFault.{InitFault}
 use Rattle.vault.specs.declared.fault.InitFault.TheVariants as init_fault
@@ -15,7 +15,7 @@ use Rattle.vault.specs.declared.fault.StartFault.TheVariants as start_fault
 
 -- why no vault is opened over these bytes
 abbrev pub IsStartFault : List ℕ → StartFault → Type 0
-IsStartFault bytes start_fault.NotSetUp = IsNotSetUp bytes
+IsStartFault bytes start_fault.NotSetUp = HasNoSetup bytes
 IsStartFault bytes (start_fault.BadJournal at) = (9 < length bytes) × IsBadStart bytes at
 IsStartFault bytes start_fault.DiskFault = Unit {0}
 IsStartFault bytes start_fault.Memory = Unit {0}

@@ -1,7 +1,8 @@
 -- The end of a job.
 --
---   answer_at_end task number undecided counts == what a job answers that made all its actions, by what it works with, its number and its
---                             sums: a get the bytes of its file, an audit and a repair their number
+--   answer_at_end task number undecided counts == what a job answers that made all its actions, by what it
+--                             works with, its number and its sums: a get the bytes of its file, an audit
+--                             and a repair their number
 use Rattle.std.specs.Prelude.{ℕ, take}
 use Rattle.record_codec.specs.declared.counts.Counts.{Counts}
 use Rattle.vault.specs.declared.tasks.Task.{Task}

@@ -1,6 +1,7 @@
 -- What a fetch does to what a job works with.
 --
---   GrowsFetches old new fetch found block == one fetch more was made, which gave the block where it was found
+--   GrowsFetches old new fetch found block == one fetch more was made, which gave the block where it was
+--                                          found
 --   TakesFetch old new fetch found block   == the same of what a job works with
 --   HasRoomForFetch f, HasRoomFor task                        == a job can make one more fetch without memory
 use Rattle.std.specs.Prelude.{◌≡◌, ℕ, ◌+◌, ◌≤◌, Bool, List, [], ◌∷◌, ◌++◌, vec_len, vec_capacity}
@@ -19,8 +20,10 @@ pub record GrowsFetches (old new : Fetches) (fetch : Fetch) (found : Bool) (bloc
 
 -- a job made one fetch more
 abbrev pub TakesFetch : Task → Task → Fetch → Bool → List ℕ → Type 0
-TakesFetch (task.Get t) (task.Get u) fetch found block = (u ≡ record t { fetched = u.fetched }) × GrowsFetches t.fetched u.fetched fetch found block
-TakesFetch (task.Repair t) (task.Repair u) fetch found block = (u ≡ record t { blocks = u.blocks }) × Grows t.blocks u.blocks found block
+TakesFetch (task.Get t) (task.Get u) fetch found block =
+    (u ≡ record t { fetched = u.fetched }) × GrowsFetches t.fetched u.fetched fetch found block
+TakesFetch (task.Repair t) (task.Repair u) fetch found block =
+    (u ≡ record t { blocks = u.blocks }) × Grows t.blocks u.blocks found block
 TakesFetch old new fetch found block = ⊥
 
 -- there is room for one more fetch

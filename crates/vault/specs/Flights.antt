@@ -1,7 +1,8 @@
 -- What a move of an append does.
 --
 --   HasFailed moved               == the disk failed
---   GoesOn, EndsAppend, GivesUp         == the disk after a move behind which others are left, after the last one, after one that failed
+--   GoesOn, EndsAppend, GivesUp         == the disk after a move behind which others are left, after the
+--                                          last one, after one that failed
 --   MakesMove a old moved new     == by what came of it
 --   ChangesCells a old moved new  == the cells after a move, by what came of it
 use Rattle.std.specs.Prelude.{◌≡◌, ◌+◌, ◌<◌, List, ◌∷◌, Option, IfSome}
@@ -42,7 +43,8 @@ abbrev pub MakesMove : Append → Option Cells → Moved → Option Cells → Ty
 MakesMove a old (moved.On f) new =
     (moves_of f.append ≡ moves_of a + 1) × (gate_of f.append ≡ gate_of a) × (body_of f.append ≡ body_of a)
     × ((rs : List Record) (r : Record) → Appends rs r a old → GoesOn a f.append rs r new)
-MakesMove a old moved.Done new = (moves_of a ≡ 3) × ((rs : List Record) (r : Record) → Appends rs r a old → EndsAppend rs r new)
+MakesMove a old moved.Done new =
+    (moves_of a ≡ 3) × ((rs : List Record) (r : Record) → Appends rs r a old → EndsAppend rs r new)
 MakesMove a old moved.Failed new = (rs : List Record) (r : Record) → Appends rs r a old → GivesUp a rs r new
 MakesMove a old moved.Memory new = IsWrite (moves_of a) × (new ≡ old)
 

@@ -1,8 +1,11 @@
 -- A journal's text taken into a table, record by record. Lists of records have the newest first.
 --
---   IsReadUpTo bytes rs t at   == the bytes up to a gate are the text of these records, which fold to the table
---   Takes bytes rs t gate next == at a gate the text ends, or one more record is taken and the next gate is here
---   IsFolded bytes rs t end    == the bytes stand for records that fold to the table, with a text of so many bytes
+--   IsReadUpTo bytes rs t at   == the bytes up to a gate are the text of these records, which fold to the
+--                                 table
+--   TakesRecord bytes rs t gate next == at a gate the text ends, or one more record is taken and the next
+--                                       gate is here
+--   IsFolded bytes rs t end    == the bytes stand for records that fold to the table, with a text of so
+--                                 many bytes
 --   IsFoldFault bytes fault    == why the bytes were not taken
 use Rattle.std.specs.Prelude.{◌≡◌, ℕ, ◌+◌, ◌<◌, ◌≤◌, IsTrue, List, ◌∷◌, length, take, Option, None, Some}
 use Rattle.std.specs.List.{list_all}
@@ -31,9 +34,9 @@ pub record IsFolded (bytes : List ℕ) (rs : List Record) (t : Kept) (end : ℕ)
   pub room : text_size rs ≤ largest_journal
 
 -- the text ends at a gate, or one more record is taken
-abbrev pub Takes : List ℕ → List Record → Kept → ℕ → Option ℕ → Type 0
-Takes bytes rs t gate None = IsFolded bytes rs t (gate + 1)
-Takes bytes rs t gate (Some next) = (gate < next) × ((r : Record) × IsReadUpTo bytes (r ∷ rs) t next)
+abbrev pub TakesRecord : List ℕ → List Record → Kept → ℕ → Option ℕ → Type 0
+TakesRecord bytes rs t gate None = IsFolded bytes rs t (gate + 1)
+TakesRecord bytes rs t gate (Some next) = (gate < next) × ((r : Record) × IsReadUpTo bytes (r ∷ rs) t next)
 
 -- why bytes were not taken
 abbrev pub IsFoldFault : List ℕ → StartFault → Type 0

@@ -6,13 +6,13 @@ use Rattle.vault_table.specs.Values.{Kept}
 use Rattle.vault.specs.declared.fault.StartFault.{StartFault}
 use Rattle.vault.specs.declared.fault.StartFault.TheVariants as start_fault
 use Rattle.vault.specs.declared.vault.Vault.{Vault}
-use Rattle.vault.specs.Seen.{setup_of, master_of}
+use Rattle.vault.specs.Seen.{vault_setup, master_of}
 use Rattle.vault.specs.Stands.{IsShaped}
 
 -- a vault with no job, over the table of a text of so many bytes
 pub record IsFreshVault (v : Vault) (t : Kept) (end first : ℕ) : Type 0 where
   pub core : v.core ≡ record { table = t; setup = setup_or_none t.setup; end = end; jobs = []; next_job = first; append = None; barred = false }
-  pub setup : t.setup ≡ Some (with_master (setup_of v) (master_of v))
+  pub setup : t.setup ≡ Some (with_master (vault_setup v) (master_of v))
   pub shaped : IsShaped v
   pub flight : v.flight ≡ None
   pub jobs : v.jobs.items ≡ []

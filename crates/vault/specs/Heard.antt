@@ -30,7 +30,8 @@ fetched_entries job fs blocks = []
 -- an entry for each ask, with what it gave
 abbrev pub answered_entries : ℕ → List Ask → List (Option ℕ) → List Entry
 answered_entries job (a ∷ asks) (symbol ∷ symbols) =
-    record { job = job; given = Answered a.provider a.object a.round symbol } ∷ answered_entries job asks symbols
+    record { job = job; given = Answered a.provider a.object a.round symbol }
+    ∷ answered_entries job asks symbols
 answered_entries job asks symbols = []
 
 -- all that a job heard, in order
@@ -43,4 +44,5 @@ entries_in (part.Answered a) = answered_entries a.job a.asks.items a.symbols.ite
 abbrev pub entry_heard : Heard → Entry
 entry_heard (heard.Fetched job provider object stripe block) =
     record { job = job; given = Fetched provider object stripe (option_map (λ b. b.now) block) }
-entry_heard (heard.Answered job provider object round symbol) = record { job = job; given = Answered provider object round symbol }
+entry_heard (heard.Answered job provider object round symbol) =
+    record { job = job; given = Answered provider object round symbol }

@@ -17,7 +17,8 @@ pub record MayInit (w : State) (told : Option Cells) : Type 0 where
   pub told_is : IsSome told
 
 -- an init is one of the machine
-pub record MakesInit (w : State) (moment : ℕ) (s : Setup) (result : Result Unit InitFault) (d : Devices) : Type 0 where
+pub record MakesInit (w : State) (moment : ℕ) (s : Setup) (result : Result Unit InitFault)
+    (d : Devices) : Type 0 where
   pub state : State
   pub happens : Happens 8 moment w (Init s) (init_outcome result) state
   pub devices : AreDevices d state

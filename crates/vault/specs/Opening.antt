@@ -5,8 +5,10 @@
 --   HasLast bench b         == there are a block for each provider of an object, of its size
 --   HasEmptied b b'         == the blocks are gone, and their room is left
 --   work_blocks task        == the blocks that a job opens
---   OpensRows, LosesWork          == they open to the rows that are at hand then; a row of them is not accepted
---   TakesWork old new object == a job has opened a stripe: a get has its bytes, and a repair has room for the next blocks
+--   OpensRows, LosesWork          == they open to the rows that are at hand then; a row of them is not
+--                                    accepted
+--   TakesWork old new object == a job has opened a stripe: a get has its bytes, and a repair has room for
+--                               the next blocks
 --   WorksAs old new object stripe result == what the work on a stripe came to
 --   CanWork task            == a job has the blocks of a stripe, and room for its bytes
 use Rattle.std.specs.Prelude.{◌≡◌, ℕ, ◌+◌, ◌-◌, ◌*◌, ◌≤◌, List, [], ◌++◌, length, drop, Result, Ok, Err, vec_len, vec_capacity}
@@ -29,7 +31,8 @@ OpensAs o stripe seen (Err lost) rows = LosesRow o stripe seen lost.row
 -- the last blocks
 abbrev pub last_blocks : ℕ → Blocks → List SeenBlock
 last_blocks n b =
-    present_blocks b.size (drop (length b.present.items - n) b.present.items) (drop (length b.symbols.items - n * b.size) b.symbols.items)
+    present_blocks b.size (drop (length b.present.items - n) b.present.items)
+    (drop (length b.symbols.items - n * b.size) b.symbols.items)
 
 -- there is a block for each provider of an object, of its size
 pub record HasLast (bench : Bench) (b : Blocks) : Type 0 where
@@ -53,22 +56,28 @@ work_blocks t = []
 
 -- the blocks at hand open to the rows that are at hand then
 abbrev pub OpensRows : Task → Task → ℕ → ℕ → Type 0
-OpensRows (task.Get t) (task.Get u) object stripe = GivesSymbols (turned t.bench object) stripe (work_blocks (task.Get t)) u.bench.rows.items
-OpensRows (task.Repair t) (task.Repair u) object stripe = GivesSymbols (turned t.bench object) stripe (work_blocks (task.Repair t)) u.bench.rows.items
+OpensRows (task.Get t) (task.Get u) object stripe =
+    GivesSymbols (turned t.bench object) stripe (work_blocks (task.Get t)) u.bench.rows.items
+OpensRows (task.Repair t) (task.Repair u) object stripe =
+    GivesSymbols (turned t.bench object) stripe (work_blocks (task.Repair t)) u.bench.rows.items
 OpensRows t u object stripe = ⊥
 
 -- a row of the blocks at hand is not accepted
 abbrev pub LosesWork : Task → ℕ → ℕ → ℕ → Type 0
-LosesWork (task.Get t) object stripe row = LosesRow (turned t.bench object) stripe (work_blocks (task.Get t)) row
-LosesWork (task.Repair t) object stripe row = LosesRow (turned t.bench object) stripe (work_blocks (task.Repair t)) row
+LosesWork (task.Get t) object stripe row =
+    LosesRow (turned t.bench object) stripe (work_blocks (task.Get t)) row
+LosesWork (task.Repair t) object stripe row =
+    LosesRow (turned t.bench object) stripe (work_blocks (task.Repair t)) row
 LosesWork t object stripe row = ⊥
 
 -- a job has opened a stripe
 abbrev pub TakesWork : Task → Task → ℕ → Type 0
 TakesWork (task.Get t) (task.Get u) object =
     (u.fetched ≡ t.fetched) × (u.length ≡ t.length) × (bench_object u.bench ≡ turned t.bench object)
-    × (u.bytes.items ≡ t.bytes.items ++ bytes_of_symbols u.bench.rows.items) × (vec_capacity t.bytes ≤ vec_capacity u.bytes)
-TakesWork (task.Repair t) (task.Repair u) object = HasEmptied t.blocks u.blocks × (bench_object u.bench ≡ turned t.bench object)
+    × (u.bytes.items ≡ t.bytes.items ++ bytes_of_symbols u.bench.rows.items)
+    × (vec_capacity t.bytes ≤ vec_capacity u.bytes)
+TakesWork (task.Repair t) (task.Repair u) object =
+    HasEmptied t.blocks u.blocks × (bench_object u.bench ≡ turned t.bench object)
 TakesWork t u object = ⊥
 
 -- what a job heard is as before
@@ -85,6 +94,7 @@ WorksAs old new object stripe (Err lost) = LosesWork old object stripe lost.row 
 -- a job has the blocks of a stripe, and room for its bytes
 abbrev pub CanWork : Task → Type 0
 CanWork (task.Get t) =
-    HasLast t.bench t.fetched.blocks × (vec_len t.bytes + 16 * stripe_symbols (bench_object t.bench) ≤ vec_capacity t.bytes)
+    HasLast t.bench t.fetched.blocks
+    × (vec_len t.bytes + 16 * stripe_symbols (bench_object t.bench) ≤ vec_capacity t.bytes)
 CanWork (task.Repair t) = HasLast t.bench t.blocks
 CanWork t = ⊥

@@ -1,8 +1,10 @@
 -- In which order the actions on stripes come, read along the list of actions that a job has not yet made.
 --
 --   Phase               == no stripe is in work; or so many blocks of it are fetched; or it is opened
---   GoesOn n phase rest == from this phase on, each stripe has a fetch from each of the n providers in order, its work, and then stores of it
---   OpensFrom id total k rest == the stripes of an object that are still worked on are those from k on, in order, up to the total
+--   GoesOn n phase rest == from this phase on, each stripe has a fetch from each of the n providers in
+--                          order, its work, and then stores of it
+--   OpensFrom id total k rest == the stripes of an object that are still worked on are those from k on, in
+--                                order, up to the total
 --   fetches_left rest, works_left rest, asks_left rest == how many such actions are left
 use Rattle.std.specs.Prelude.{◌≡◌, ℕ, ◌+◌, ◌<◌, Bool, true, false, List, [], ◌∷◌, count_by}
 use Rattle.hail_machine.specs.Actions.{Action, Store, Fetch, Ask, Work, End}
@@ -16,7 +18,8 @@ pub data Phase : Type 0 where
 -- each stripe has a fetch from each provider in order, its work, and then stores of it
 abbrev pub GoesOn : ℕ → Phase → List Action → Type 0
 GoesOn n (Fetching o s c) [] = ⊥
-GoesOn n (Fetching o s c) (Fetch j p t ∷ rest) = (c < n) × (j ≡ c) × (p ≡ o) × (t ≡ s) × GoesOn n (Fetching o s (c + 1)) rest
+GoesOn n (Fetching o s c) (Fetch j p t ∷ rest) =
+    (c < n) × (j ≡ c) × (p ≡ o) × (t ≡ s) × GoesOn n (Fetching o s (c + 1)) rest
 GoesOn n (Fetching o s c) (Work p t ∷ rest) = (c ≡ n) × (p ≡ o) × (t ≡ s) × GoesOn n (Opened o s) rest
 GoesOn n (Fetching o s c) (a ∷ rest) = ⊥
 GoesOn n phase [] = Unit {0}

@@ -1,7 +1,7 @@
 -- What the answers of the calls are as outcomes of the machine.
 --
 --   begin_outcome result  == of a begin
---   answer_of answer      == how a job ended
+--   machine_answer answer      == how a job ended
 --   outcome_of turn       == of a step
 --   init_outcome result   == of an init
 --   IfEnded turn P        == P holds of the job's end, where the step was its last
@@ -30,22 +30,22 @@ begin_outcome (Ok job) = events.Begun job
 begin_outcome (Err fault) = events.Refused (refusal_of fault)
 
 -- how a job ended
-abbrev pub answer_of : Answer → answers.Answer
-answer_of answer.Put = answers.Put
-answer_of (answer.Got bytes) = answers.Got bytes
-answer_of answer.Dropped = answers.Dropped
-answer_of (answer.Audited number undecided counts) = answers.Audited number undecided (counted counts)
-answer_of (answer.Repaired number) = answers.Repaired number
-answer_of (answer.Lost stripe row) = answers.Lost stripe row
-answer_of (answer.ProviderFault provider) = answers.ProviderFault provider
-answer_of answer.DiskFault = answers.DiskFault
-answer_of answer.Memory = answers.Memory
+abbrev pub machine_answer : Answer → answers.Answer
+machine_answer answer.Put = answers.Put
+machine_answer (answer.Got bytes) = answers.Got bytes
+machine_answer answer.Dropped = answers.Dropped
+machine_answer (answer.Audited number undecided counts) = answers.Audited number undecided (counted counts)
+machine_answer (answer.Repaired number) = answers.Repaired number
+machine_answer (answer.Lost stripe row) = answers.Lost stripe row
+machine_answer (answer.ProviderFault provider) = answers.ProviderFault provider
+machine_answer answer.DiskFault = answers.DiskFault
+machine_answer answer.Memory = answers.Memory
 
 -- the outcome of a step
 abbrev pub outcome_of : Turn → Outcome
 outcome_of turn.More = events.More
 outcome_of (turn.Waiting holder) = events.Waiting holder
-outcome_of (turn.Done ended) = events.Ended (answer_of ended.answer)
+outcome_of (turn.Done ended) = events.Ended (machine_answer ended.answer)
 outcome_of turn.NoSuchJob = events.Refused refusal.NoSuchJob
 outcome_of turn.MustReopen = events.Refused refusal.MustReopen
 

@@ -4,7 +4,7 @@
 --   emptied cells           == the disk after the text of no record was written to its front, and a sync
 --   IsReadied old new       == a disk that has no record was made blank, and reads past nine bytes as before
 --   IsHalfReady old new     == what a fault on the way leaves
---   with_setup s cells      == the disk after the four moves that bring its first record, a setup
+--   with_first_record s cells      == the disk after the four moves that bring its first record, a setup
 --   first_answer r          == the answer to a journal whose first record is this
 --   IsTextFault bytes fault == why bytes are no journal with no record
 use Rattle.std.specs.Prelude.{◌≡◌, ◌⊎◌, ℕ, ◌≤◌, List, [], ◌∷◌, ◌++◌, length, drop, Option}
@@ -42,11 +42,13 @@ pub record IsReadied (old new : Cells) : Type 0 where
 
 -- what a fault on the way leaves: images that the disk had, or such as count as empty where it did
 abbrev pub IsHalfReady : Cells → Option Cells → Type 0
-IsHalfReady old new = EachImage new (IsImage old) ⊎ ((length (reads old) ≤ 9) × EachImage new (λ image. length image ≤ 9))
+IsHalfReady old new =
+    EachImage new (IsImage old) ⊎ ((length (reads old) ≤ 9) × EachImage new (λ image. length image ≤ 9))
 
 -- the four moves that bring the first record, a setup
-abbrev pub with_setup : Setup → Cells → Cells
-with_setup s cells = synced (written 8 (1 ∷ []) (synced (written 9 (spelling (SetUp s) ++ 0 ∷ []) cells)))
+abbrev pub with_first_record : Setup → Cells → Cells
+with_first_record s cells =
+    synced (written 8 (1 ∷ []) (synced (written 9 (spelling (SetUp s) ++ 0 ∷ []) cells)))
 
 -- the answer to a journal whose first record is this
 abbrev pub first_answer : RecordValue → InitFault

@@ -2,8 +2,9 @@
 --
 --   Round                     == a round of a file
 --   rounds_in s fs            == the rounds of these files, in order
---   JudgesAll s job rounds old new == these rounds turn these sums into those
---   AsksOn n rounds c rest    == the asks that are left are those of these rounds, from provider c on in the first of them
+--   JudgesEach s job rounds old new == these rounds turn these sums into those
+--   AsksOn n rounds c rest    == the asks that are left are those of these rounds, from provider c on in
+--                                the first of them
 use Rattle.std.specs.Prelude.{◌≡◌, ℕ, ◌+◌, ◌==◌, List, [], ◌∷◌, length, map, if◌then◌else◌}
 use Rattle.std.specs.List.{flat_map}
 use Rattle.hail_columns.specs.Verdicts.{Sums}
@@ -19,12 +20,14 @@ pub record Round : Type 0 where
 
 -- the rounds of files, in order
 abbrev pub rounds_in : Setup → List Pinned → List Round
-rounds_in s fs = flat_map (λ (f : Pinned). map (λ r. record { file = f; number = r }) (rounds_of s (length f.bytes))) fs
+rounds_in s fs =
+    flat_map (λ (f : Pinned). map (λ r. record { file = f; number = r }) (rounds_of s (length f.bytes))) fs
 
 -- rounds are judged one after the other
-abbrev pub JudgesAll : Setup → Job → List Round → Sums → Sums → Type 0
-JudgesAll s job [] old new = new ≡ old
-JudgesAll s job (x ∷ xs) old new = (mid : Sums) × JudgesRound s job x.file x.number old mid × JudgesAll s job xs mid new
+abbrev pub JudgesEach : Setup → Job → List Round → Sums → Sums → Type 0
+JudgesEach s job [] old new = new ≡ old
+JudgesEach s job (x ∷ xs) old new =
+    (mid : Sums) × JudgesRound s job x.file x.number old mid × JudgesEach s job xs mid new
 
 -- the rounds behind an ask of provider c in the first of these
 abbrev pub rounds_after : ℕ → Round → List Round → ℕ → List Round

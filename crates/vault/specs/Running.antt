@@ -3,7 +3,8 @@
 --   place_in jobs number    == the place of the job of a number; None where there is none
 --   heard_of task           == what a job heard, by what it works with
 --   IsFed old job reply new == the core was given a reply
---   KeepsAll old new        == nothing but the core, the running jobs and the append in flight may have changed
+--   KeepsAll old new        == nothing but the core, the running jobs and the append in flight may have
+--                              changed
 --   HasStopped, IsStopped   == a job was ended with an answer
 use Rattle.std.specs.Prelude.{◌≡◌, ℕ, ◌==◌, List, [], Option, Some, None, slice_get, position}
 use Rattle.std.specs.List.{remove}
@@ -37,7 +38,8 @@ heard_of t = []
 -- the core was given a reply
 abbrev pub IsFed : CoreView → ℕ → Reply → CoreView → Type 0
 IsFed old job reply new =
-    (w n : State) (outcome : Outcome) (moment : ℕ) → CoreIs old w → Happens 8 moment w (Step job) outcome n → IsReplyTo old job reply outcome n → CoreIs new n
+    (w n : State) (outcome : Outcome) (moment : ℕ) → CoreIs old w → Happens 8 moment w (Step job) outcome n
+    → IsReplyTo old job reply outcome n → CoreIs new n
 
 -- nothing but the core, the running jobs and the append in flight may have changed
 pub record KeepsAll (old new : Vault) : Type 0 where
@@ -47,7 +49,8 @@ pub record KeepsAll (old new : Vault) : Type 0 where
   pub profile : new.profile ≡ old.profile
 
 -- a job was ended with an answer
-pub record HasStopped (old : Vault) (job : ℕ) (reply : Reply) (answer : Answer) (t : Turn) (new : Vault) : Type 0 where
+pub record HasStopped (old : Vault) (job : ℕ) (reply : Reply) (answer : Answer) (t : Turn)
+    (new : Vault) : Type 0 where
   pub place : ℕ
   pub running : Running
   pub found : place_in old.jobs.items job ≡ Some place

@@ -1,11 +1,13 @@
 -- What a vault tells of itself.
 --
---   setup_of, master_of, table_of, next_job_of, provider_count v == its setup, its master key, the fold of the records in effect, the
---                          number of the next job, how many providers it uses
---   coming_of, entry_of v job == what comes next for a job, and the record that its append writes, by the core
+--   vault_setup, master_of, table_of, next_job_of, provider_count v == its setup, its master key, the fold
+--                          of the records in effect, the number of the next job, how many providers it uses
+--   coming_of, vault_entry v job == what comes next for a job, and the record that its append writes, by
+--                                   the core
 --   closed_gate_of v    == the offset of the closed gate behind the records in effect
 --   left_of v job       == how many steps of a job may remain at most; 0 where it does not run
---   IsUnchanged old new == the same jobs with what they work with, the same core, the same append; spare room does not count
+--   IsUnchanged old new == the same jobs with what they work with, the same core, the same append; spare
+--                          room does not count
 use Rattle.std.specs.Prelude.{◌≡◌, ℕ, ◌-◌, List, Option, unwrap_or}
 use Rattle.hail_records.specs.Records.{Record}
 use Rattle.vault_core.specs.Coming.{Coming, next_in, entry_in, left_in}
@@ -14,8 +16,8 @@ use Rattle.vault_table.specs.Values.{Kept}
 use Rattle.vault.specs.declared.vault.Vault.{Vault}
 
 -- the numbers of the setup
-abbrev pub setup_of : Vault → Setup
-setup_of v = v.setup
+abbrev pub vault_setup : Vault → Setup
+vault_setup v = v.setup
 
 -- the master key
 abbrev pub master_of : Vault → List ℕ
@@ -38,8 +40,8 @@ abbrev pub coming_of : Vault → ℕ → Coming
 coming_of v job = next_in v.core job
 
 -- the record that the append of a job writes
-abbrev pub entry_of : Vault → ℕ → Option Record
-entry_of v job = entry_in v.core job
+abbrev pub vault_entry : Vault → ℕ → Option Record
+vault_entry v job = entry_in v.core job
 
 -- the offset of the closed gate behind the records in effect
 abbrev pub closed_gate_of : Vault → ℕ

@@ -2,8 +2,10 @@
 --
 --   StoresAs object stripe block result old new == a call of a provider's store that came to this
 --   turned bench object     == the object of a bench that was turned to another number
---   stored_block task object j stripe == the block that a job stores: of a put's bytes, or of the symbols at hand of a repair
---   KeepsTask old new object == what the job works with is as before, but for its keys and what it makes with them
+--   stored_block task object j stripe == the block that a job stores: of a put's bytes, or of the symbols
+--                                        at hand of a repair
+--   KeepsTask old new object == what the job works with is as before, but for its keys and what it makes
+--                               with them
 --   IsStorer task j         == a job that stores, and provider j is one of those of its object
 use Rattle.std.specs.Prelude.{◌≡◌, ℕ, ◌<◌, List, [], Result, Ok, Err}
 use Rattle.hail_columns.specs.Columns.{column_of_symbols}
@@ -17,25 +19,22 @@ use Rattle.vault.specs.declared.tasks.Task.{Task}
 use Rattle.vault.specs.declared.tasks.Task.TheVariants as task
 use Rattle.vault.specs.Tasks.{bench_object}
 
--- a call of store, by what came of it
-abbrev pub StoresAs : ℕ → ℕ → List ℕ → Result Unit StoreFault → Provider → Provider → Type 0
-StoresAs object stripe block (Ok done) old new = Stores object stripe block old new
-StoresAs object stripe block (Err store_fault.Failed) old new = FailsToStore old new
-StoresAs object stripe block (Err store_fault.Memory) old new = FindsNoMemory old new
-
 -- the object of a bench that was turned to another number
 abbrev pub turned : Bench → ℕ → Object
 turned bench object = record (bench_object bench) { id = object }
 
 -- the block that a job stores
 abbrev pub stored_block : Task → ℕ → ℕ → ℕ → List ℕ
-stored_block (task.Put t) object j stripe = column_of_symbols (turned t.bench object) (symbols_in (turned t.bench object) t.bytes stripe) j stripe
-stored_block (task.Repair t) object j stripe = column_of_symbols (turned t.bench object) t.bench.rows.items j stripe
+stored_block (task.Put t) object j stripe =
+    column_of_symbols (turned t.bench object) (symbols_in (turned t.bench object) t.bytes stripe) j stripe
+stored_block (task.Repair t) object j stripe =
+    column_of_symbols (turned t.bench object) t.bench.rows.items j stripe
 stored_block t object j stripe = []
 
 -- what a job works with is as before, but for its keys and what it makes with them
 abbrev pub KeepsTask : Task → Task → ℕ → Type 0
-KeepsTask (task.Put t) (task.Put u) object = (u.bytes ≡ t.bytes) × (bench_object u.bench ≡ turned t.bench object)
+KeepsTask (task.Put t) (task.Put u) object =
+    (u.bytes ≡ t.bytes) × (bench_object u.bench ≡ turned t.bench object)
 KeepsTask (task.Repair t) (task.Repair u) object =
     (u.blocks ≡ t.blocks) × (u.bench.rows ≡ t.bench.rows) × (bench_object u.bench ≡ turned t.bench object)
 KeepsTask t u object = ⊥

@@ -1,11 +1,13 @@
 -- What a running job works with, and how it matches the job of the machine.
 --
 --   IsBench s bench                 == the bench is that of an object of the setup
---   fetched_gifts o s c blocks older == what was given, after what is older, once fetches from provider c on gave these blocks of a stripe
+--   fetched_gifts o s c blocks older == what was given, after what is older, once fetches from provider c
+--                                       on gave these blocks of a stripe
 --   answered_gifts o r c answers older == the same of asks in a round
 --   HasFetched o s c blocks given   == the last c blocks are what the fetches of the stripe in work gave
---   IsInWork phase blocks rows given == the same where a stripe is fetched; where it is opened the rows are its symbols
---   IsPut, IsGet, IsDrop, IsAudit, IsRepair s task job rest == what a job of this kind works with
+--   IsInWork phase blocks rows given == the same where a stripe is fetched; where it is opened the rows are
+--                                       its symbols
+--   IsPutTask, IsGet, IsDrop, IsAudit, IsRepair s task job rest == what a job of this kind works with
 --   IsTask s job rest task          == one of these
 --   AreRunning s running jobs       == the running jobs, in order, with what they work with
 use Rattle.std.specs.Prelude.{◌≡◌, ℕ, ◌+◌, ◌*◌, ◌<◌, ◌≤◌, Bool, List, [], ◌∷◌, ◌++◌, length, replicate, Option, IfSome, vec_len, vec_capacity}
@@ -34,11 +36,11 @@ use Rattle.vault.specs.declared.tasks.Task.TheVariants as task
 use Rattle.vault.specs.declared.tasks.Running.{Running}
 use Rattle.vault.specs.Heard.{blocks_in, fetched_entries, answered_entries}
 use Rattle.vault.specs.Orders.{Phase, Between, Fetching, Opened, GoesOn, OpensFrom, fetches_left, works_left, asks_left}
-use Rattle.vault.specs.Rounds.{Round, rounds_in, JudgesAll, AsksOn}
+use Rattle.vault.specs.Rounds.{Round, rounds_in, JudgesEach, AsksOn}
 
 -- the object of a bench
 abbrev pub bench_object : Bench → Object
-bench_object bench = layout.object_of bench.keys.master.0 bench.keys.file
+bench_object bench = layout.shaped_object bench.keys.master.0 bench.keys.file
 
 -- a bench is that of an object of the setup
 abbrev pub IsBench : Setup → Bench → Type 0
@@ -52,7 +54,8 @@ fetched_gifts o s c (block ∷ blocks) older = fetched_gifts o s (c + 1) blocks 
 -- what was given, once asks of the providers from c on gave these answers in a round
 abbrev pub answered_gifts : ℕ → ℕ → ℕ → List (Option ℕ) → List Given → List Given
 answered_gifts o r c [] older = older
-answered_gifts o r c (symbol ∷ symbols) older = answered_gifts o r (c + 1) symbols (Answered c o r symbol ∷ older)
+answered_gifts o r c (symbol ∷ symbols) older =
+    answered_gifts o r (c + 1) symbols (Answered c o r symbol ∷ older)
 
 -- the last blocks are what the fetches of the stripe in work gave
 pub record HasFetched (o s c : ℕ) (b : Blocks) (given : List Given) : Type 0 where
@@ -79,7 +82,7 @@ fetched_in (Fetching o s c) = c
 fetched_in phase = 0
 
 -- a put has its bytes
-pub record IsPut (s : Setup) (t : PutTask) (job : Job) : Type 0 where
+pub record IsPutTask (s : Setup) (t : PutTask) (job : Job) : Type 0 where
   pub name : List ℕ
   pub kind : job.kind ≡ PutJob name t.bytes
   pub bench : IsBench s t.bench
@@ -94,19 +97,25 @@ pub record IsGet (s : Setup) (t : GetTask) (job : Job) (rest : List Action) : Ty
   pub bench : IsBench s t.bench
   pub size : t.fetched.blocks.size ≡ t.bench.keys.file.profile.size
   pub job_is : t.fetched.job ≡ job.number
-  pub heard : fetched_entries t.fetched.job t.fetched.fetches.items (blocks_in t.fetched.blocks) ≡ entries_of job.number job.given
+  pub heard : fetched_entries t.fetched.job t.fetched.fetches.items (blocks_in t.fetched.blocks)
+      ≡ entries_of job.number job.given
   pub fetches : length t.fetched.fetches.items ≡ length t.fetched.blocks.present.items
-  pub symbols : length t.fetched.blocks.symbols.items ≡ length t.fetched.blocks.present.items * t.fetched.blocks.size
+  pub symbols : length t.fetched.blocks.symbols.items
+      ≡ length t.fetched.blocks.present.items * t.fetched.blocks.size
   pub phase : Phase
   pub order : GoesOn s.n phase rest
   pub in_work : IsInWork phase t.fetched.blocks t.bench.rows.items job.given
   pub opened : ℕ
   pub opens : OpensFrom file.id (stripes_of s (length file.bytes)) opened rest
-  pub bytes : t.bytes.items ≡ flat_map (λ stripe. bytes_of_symbols (symbols_given job.given file.id stripe)) (upto opened)
+  pub bytes : t.bytes.items ≡ flat_map (λ stripe. bytes_of_symbols (symbols_given job.given file.id stripe))
+      (upto opened)
   pub room_fetches : vec_len t.fetched.fetches + fetches_left rest ≤ vec_capacity t.fetched.fetches
-  pub room_present : vec_len t.fetched.blocks.present + fetches_left rest ≤ vec_capacity t.fetched.blocks.present
-  pub room_symbols : vec_len t.fetched.blocks.symbols + fetches_left rest * t.fetched.blocks.size ≤ vec_capacity t.fetched.blocks.symbols
-  pub room_bytes : vec_len t.bytes + works_left rest * (16 * stripe_symbols (bench_object t.bench)) ≤ vec_capacity t.bytes
+  pub room_present : vec_len t.fetched.blocks.present
+      + fetches_left rest ≤ vec_capacity t.fetched.blocks.present
+  pub room_symbols : vec_len t.fetched.blocks.symbols
+      + fetches_left rest * t.fetched.blocks.size ≤ vec_capacity t.fetched.blocks.symbols
+  pub room_bytes : vec_len t.bytes + works_left rest * (16 * stripe_symbols (bench_object t.bench))
+      ≤ vec_capacity t.bytes
 
 -- a drop works with nothing
 pub record IsDrop (job : Job) : Type 0 where
@@ -114,8 +123,8 @@ pub record IsDrop (job : Job) : Type 0 where
   pub kind : job.kind ≡ DropJob name
 
 -- the sums before the first round
-abbrev pub no_sums : Setup → Sums
-no_sums s = record { counts = replicate s.n 0; undecided = 0 }
+abbrev pub empty_sums : Setup → Sums
+empty_sums s = record { counts = replicate s.n 0; undecided = 0 }
 
 -- the last answers are what the asks of the round in work gave
 pub record HasAnswered (x : Round) (c : ℕ) (symbols : List (Option ℕ)) (given : List Given) : Type 0 where
@@ -133,13 +142,15 @@ IsAsked (x ∷ xs) c symbols given = HasAnswered x c symbols given
 
 -- the file that an audit asked for last has its length
 abbrev pub IsFileOf : Setup → List Pinned → FileShape → Type 0
-IsFileOf s pinned file = (layout.object_of s.master file ≡ object_of s file.id) × (file.length ≡ pinned_size pinned file.id)
+IsFileOf s pinned file =
+    (layout.shaped_object s.master file ≡ object_of s file.id) × (file.length ≡ pinned_size pinned file.id)
 
 -- an audit has what it heard, the sums of the rounds that are over, and room for the rest
 pub record IsAudit (s : Setup) (t : AuditTask) (job : Job) (rest : List Action) : Type 0 where
   pub kind : job.kind ≡ AuditJob
   pub job_is : t.heard.job ≡ job.number
-  pub heard : answered_entries t.heard.job t.heard.asks.items t.heard.symbols.items ≡ entries_of job.number job.given
+  pub heard : answered_entries t.heard.job t.heard.asks.items t.heard.symbols.items
+      ≡ entries_of job.number job.given
   pub asks : length t.heard.asks.items ≡ length t.heard.symbols.items
   pub file : IfSome t.file (IsFileOf s job.pinned)
   pub over : List Round
@@ -150,7 +161,8 @@ pub record IsAudit (s : Setup) (t : AuditTask) (job : Job) (rest : List Action) 
   pub order : AsksOn s.n left asked rest
   pub in_work : IsAsked left asked t.heard.symbols.items job.given
   pub counts : (t.counts.n ≡ s.n) × IsPadded t.counts
-  pub sums : JudgesAll s job over (no_sums s) (record { counts = counted t.counts; undecided = t.undecided })
+  pub sums : JudgesEach s job over (empty_sums s)
+      (record { counts = counted t.counts; undecided = t.undecided })
   pub room_asks : vec_len t.heard.asks + asks_left rest ≤ vec_capacity t.heard.asks
   pub room_symbols : vec_len t.heard.symbols + asks_left rest ≤ vec_capacity t.heard.symbols
 
@@ -169,7 +181,7 @@ pub record IsRepair (s : Setup) (t : RepairTask) (job : Job) (rest : List Action
 
 -- what a job works with
 abbrev pub IsTask : Setup → Job → List Action → Task → Type 0
-IsTask s job rest (task.Put t) = IsPut s t job
+IsTask s job rest (task.Put t) = IsPutTask s t job
 IsTask s job rest (task.Get t) = IsGet s t job rest
 IsTask s job rest task.Drop = IsDrop job
 IsTask s job rest (task.Audit t) = IsAudit s t job rest

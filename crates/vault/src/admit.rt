@@ -26,10 +26,15 @@ impl Vault {
         ensures is_name { OnOk result (IsTrue (is_name name.now)) }
         ensures bytes { AreBytes name.now }
         ensures free { (w : State) (more : List Cause) → CoreIs self.now.core w → OnOk result (first_refusal (
-            record { applies = w.is_barred; refusal = refusal.MustReopen } ∷ record { applies = nat_le 8 (length w.jobs); refusal = refusal.Busy } ∷ more) ≡ first_refusal more) }
-        ensures refused { (w : State) (more : List Cause) → CoreIs self.now.core w → IfErr result (λ why. first_refusal (
-            record { applies = w.is_barred; refusal = refusal.MustReopen } ∷ record { applies = nat_le 8 (length w.jobs); refusal = refusal.Busy }
-            ∷ record { applies = not (is_name name.now); refusal = refusal.BadName } ∷ more) ≡ Some (refusal_of why)) }
+            record { applies = w.is_barred; refusal = refusal.MustReopen }
+            ∷ record { applies = nat_le 8 (length w.jobs); refusal = refusal.Busy } ∷ more)
+            ≡ first_refusal more) }
+        ensures refused { (w : State) (more : List Cause) → CoreIs self.now.core w
+            → IfErr result (λ why. first_refusal (
+            record { applies = w.is_barred; refusal = refusal.MustReopen }
+            ∷ record { applies = nat_le 8 (length w.jobs); refusal = refusal.Busy }
+            ∷ record { applies = not (is_name name.now); refusal = refusal.BadName } ∷ more)
+            ≡ Some (refusal_of why)) }
     {
         if let Some(fault) = self.core.barred() {
             return Err(fault);
@@ -45,8 +50,11 @@ impl Vault {
     pub(crate) fn admit(&mut self, wish: Wish, task: Task) -> Result<u32, BeginFault>
         requires number { next_job_of self.old < 2 ^ 32 - 1 }
         requires size { IsShort wish }
-        ensures machine { (w : State) (d : Devices) (moment : ℕ) (kind : Kind) → Stands self.old d w → IsKindOf wish kind → IsSpelledKind kind
-            → (begin_refusal 8 w kind ≡ None → IsTask (setup_in w) (new_job w moment kind) (actions_left (setup_in w) (new_job w moment kind)) task)
+        ensures machine { (w : State) (d : Devices) (moment : ℕ) (kind : Kind) → Stands self.old d w
+            → IsKindOf wish kind → IsSpelledKind kind
+            → (begin_refusal 8 w kind ≡ None
+            → IsTask (setup_in w) (new_job w moment kind)
+            (actions_left (setup_in w) (new_job w moment kind)) task)
             → MakesBegin w moment kind result self.new d }
         ensures unchanged { OnErr result (IsUnchanged self.old self.new) }
     {

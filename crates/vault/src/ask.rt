@@ -2,6 +2,7 @@ ghost use Rattle.std.specs.Prelude.{◌≡◌, ◌≢◌, slice_get, ◌≤◌, 
 ghost use Rattle.std.specs.List.{list_all};
 ghost use Rattle.hail_columns.specs.Challenges.{honest_answer};
 ghost use Rattle.hail_devices.specs.Cells.{Cells};
+ghost use Rattle.hail_devices.specs.Faults.{one_more};
 ghost use Rattle.hail_devices.specs.ProviderCalls.{Asks};
 ghost use Rattle.hail_machine.specs.Actions.{Ask as AskAction};
 ghost use Rattle.hail_machine.specs.States.{State};
@@ -9,7 +10,9 @@ ghost use Rattle.challenge.specs.Asked.{asked};
 ghost use Rattle.record_codec.specs.Entries.{IsPadded};
 ghost use Rattle.vault_core.specs.declared.pinned.Pinned.{Pinned as PinnedValue};
 ghost use Rattle.vault.specs.Asking.{length_among, length_in, IsQuestion, challenge_put, HasHeard, HasJudged, TakesAsk, HasRoomForAsk, CanJudge, CanAsk, Asked, MayAsk, TellsAsk, MayTell, MayPut};
-ghost use Rattle.vault.specs.Devices.{as_seen, devices};
+ghost use Rattle.vault.specs.Calls.{CalledOnce};
+ghost use Rattle.vault.specs.Devices.{devices};
+ghost use Rattle.provider_model.specs.Seen.{provider_seen};
 ghost use Rattle.vault.specs.Stands.{Stands, Comes, MakesTurn};
 ghost use Rattle.vault.specs.declared.turn.Turn.TheVariants as turn;
 ghost use Rattle.vault.specs.Outcomes.{IfEnded, IsNoAction, HasPaddedCounts};
@@ -56,8 +59,9 @@ fn length_of(pinned: &[Pinned], object: u64) -> Option<u32>
 
 /// Asks a provider. One that fails gives no answer.
 fn ask_provider<P: Provider>(from: &mut P, object: u64, challenge: &Challenge) -> Option<Symbol>
-    ensures { Asks (honest_answer (asked challenge.now)) object (as_seen P.held P.store_faults P.other_faults P.fetches from.old)
-        result (as_seen P.held P.store_faults P.other_faults P.fetches from.new) }
+    ensures asked { Asks (honest_answer (asked challenge.now)) object (provider_seen P.Provider from.old)
+        result (provider_seen P.Provider from.new) }
+    ensures called { P.calls from.new ≡ one_more (P.calls from.old) }
 {
     let answer = from.ask(object, challenge);
     match answer {
@@ -106,8 +110,8 @@ fn is_padded(counts: &Counts) -> bool
 impl AuditTask {
     ghost use Rattle.std.specs.Prelude.{◌≡◌, ◌≤◌, ◌↔◌, ◌+◌, ◌<◌, ◌^◌, ◌*◌, ℕ, Option, OnSome, IfSome, IsSome, All, length, slice_index};
     ghost use Rattle.hail_columns.specs.Challenges.{honest_answer};
+    ghost use Rattle.hail_devices.specs.Faults.{one_more};
     ghost use Rattle.hail_devices.specs.ProviderCalls.{Asks};
-    ghost use Rattle.vault.specs.Devices.{as_seen};
     ghost use Rattle.vault.specs.Asking.{challenge_put, HasHeard, HasJudged, TakesAsk, HasRoomForAsk, CanJudge, CanAsk};
 
     /// Asks a provider, and keeps its answer. It takes no memory where there is room.
@@ -118,9 +122,12 @@ impl AuditTask {
         provider: u32,
         from: &mut P,
     ) -> Option<()>
-        ensures heard { OnSome result ((symbol : Option ℕ) × HasHeard question.now provider self.old self.new symbol
-            × Asks (honest_answer (challenge_put master.now.0 question.now)) question.now.file.id (as_seen P.held P.store_faults P.other_faults P.fetches from.old)
-            symbol (as_seen P.held P.store_faults P.other_faults P.fetches from.new)) }
+        ensures heard { OnSome result
+            ((symbol : Option ℕ) × HasHeard question.now provider self.old self.new symbol
+            × Asks (honest_answer (challenge_put master.now.0 question.now)) question.now.file.id
+            (provider_seen P.Provider from.old)
+            symbol (provider_seen P.Provider from.new)) }
+        ensures called { OnSome result (P.calls from.new ≡ one_more (P.calls from.old)) }
         ensures room { HasRoomForAsk self.old.heard → IsSome result }
     {
         self.heard.asks.reserve(1).ok()?;
@@ -186,9 +193,12 @@ impl AuditTask {
         work: &mut Work,
     ) -> Option<()>
         requires { 16 ≤ work.old.size }
-        ensures asked { OnSome result ((symbol : Option ℕ) × TakesAsk master.now.0 question.now provider self.old self.new symbol
-            × Asks (honest_answer (challenge_put master.now.0 question.now)) question.now.file.id (as_seen P.held P.store_faults P.other_faults P.fetches from.old)
-            symbol (as_seen P.held P.store_faults P.other_faults P.fetches from.new)) }
+        ensures asked { OnSome result
+            ((symbol : Option ℕ) × TakesAsk master.now.0 question.now provider self.old self.new symbol
+            × Asks (honest_answer (challenge_put master.now.0 question.now)) question.now.file.id
+            (provider_seen P.Provider from.old)
+            symbol (provider_seen P.Provider from.new)) }
+        ensures called { OnSome result (P.calls from.new ≡ one_more (P.calls from.old)) }
         ensures there { CanAsk question.now.file.shape.n provider self.old → IsSome result }
         ensures room { work.new.size ≡ work.old.size }
     {
@@ -212,9 +222,12 @@ impl Task {
         work: &mut Work,
     ) -> Option<()>
         requires { 16 ≤ work.old.size }
-        ensures asked { OnSome result ((symbol : Option ℕ) × Asked master.now.0 question.now provider self.old self.new symbol
-            × Asks (honest_answer (challenge_put master.now.0 question.now)) question.now.file.id (as_seen P.held P.store_faults P.other_faults P.fetches from.old)
-            symbol (as_seen P.held P.store_faults P.other_faults P.fetches from.new)) }
+        ensures asked { OnSome result
+            ((symbol : Option ℕ) × Asked master.now.0 question.now provider self.old self.new symbol
+            × Asks (honest_answer (challenge_put master.now.0 question.now)) question.now.file.id
+            (provider_seen P.Provider from.old)
+            symbol (provider_seen P.Provider from.new)) }
+        ensures called { OnSome result (P.calls from.new ≡ one_more (P.calls from.old)) }
         ensures there { MayAsk question.now.file.shape.n provider self.old → IsSome result }
         ensures room { work.new.size ≡ work.old.size }
     {
@@ -293,15 +306,16 @@ impl Vault {
     ) -> Option<Turn>
         requires { Comes self.old.core job (AskAction provider object round) }
         ensures machine { (w : State) (moment : ℕ) (holds : Option Cells) (faults : ℕ)
-            → Stands self.old (devices holds faults (map (as_seen P.held P.store_faults P.other_faults P.fetches) providers.old)) w
+            → Stands self.old (devices holds faults (map (provider_seen P.Provider) providers.old)) w
             → MakesTurn w moment job result self.new
-            (devices holds faults (map (as_seen P.held P.store_faults P.other_faults P.fetches) providers.old))
-            (devices holds faults (map (as_seen P.held P.store_faults P.other_faults P.fetches) providers.new)) }
+            (devices holds faults (map (provider_seen P.Provider) providers.old))
+            (devices holds faults (map (provider_seen P.Provider) providers.new)) }
         ensures count { length providers.new ≡ length providers.old }
         ensures others { (k : ℕ) → k ≢ provider → slice_get providers.new k ≡ slice_get providers.old k }
         ensures left { result ≡ Some turn.More → left_of self.new job < left_of self.old job }
         ensures padded { IfSome result (λ turn. IfEnded turn (λ ended. HasPaddedCounts ended.answer)) }
         ensures acted { IfSome result (λ turn. IsNoAction turn → ⊥) }
+        ensures called { OnSome result (CalledOnce P.calls provider providers.old providers.new) }
     {
         let place = place_of(&self.jobs, job)?;
         let index = provider as usize;

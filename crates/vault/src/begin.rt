@@ -37,7 +37,12 @@ impl Vault {
             name,
             length: length as u32,
         };
-        self.admit(wish, Task::Put(PutTask { bytes, bench }))
+        let task = PutTask {
+            bytes,
+            bench,
+            at_hand: None,
+        };
+        self.admit(wish, Task::Put(task))
     }
 
     /// Begins to get the file of a name. No step of it takes memory.

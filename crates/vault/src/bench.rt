@@ -1,5 +1,5 @@
 ghost use Rattle.std.specs.Prelude.{◌≡◌, ◌*◌, length, All};
-ghost use Rattle.server_code.specs.Any.{profile_of};
+ghost use Rattle.server_code.specs.Any.{code_profile};
 
 use crate::codec::Codec;
 use column_codec::{Block, ObjectKeys, RowLost, Trust};
@@ -16,7 +16,7 @@ pub struct Bench {
     pub column: Vec<Symbol>,
     pub scratch: Vec<Block>,
     pub trust: Trust,
-    ghost code_fits: { profile_of code ≡ keys.file.profile },
+    ghost code_fits: { code_profile code ≡ keys.file.profile },
     ghost rows_fit: { length rows.items ≡ keys.file.shape.l * keys.file.profile.keep },
     ghost column_fits: { length column.items ≡ keys.file.profile.size },
     ghost scratch_fits: { length scratch.items ≡ keys.file.shape.n },
@@ -27,7 +27,7 @@ impl Bench {
     ghost use Rattle.std.specs.Prelude.{◌≡◌, ◌<◌, ◌*◌, ◌↔◌, length, IsSome, OnSome, OnOk, OnErr, IfErr, IfSome, IsTrue};
     ghost use Rattle.hail_columns.specs.Columns.{column_of_symbols};
     ghost use Rattle.hail_columns.specs.Objects.{symbols_in};
-    ghost use Rattle.file_layout.specs.Files.{object_of};
+    ghost use Rattle.file_layout.specs.Files.{shaped_object};
     ghost use Rattle.column_codec.specs.PresentBlocks.{present_blocks};
     ghost use Rattle.vault.specs.Tasks.{bench_object};
     ghost use Rattle.vault.specs.Opening.{OpensAs};
@@ -56,7 +56,9 @@ impl Bench {
         ensures there { IsTrue result ↔ (provider < self.old.keys.file.shape.n) }
         ensures keys { self.new.keys ≡ self.old.keys }
         ensures rows { self.new.rows ≡ self.old.rows }
-        ensures column { IsTrue result → self.new.column.items ≡ column_of_symbols (bench_object self.old) self.old.rows.items provider stripe }
+        ensures column { IsTrue result
+            → self.new.column.items ≡ column_of_symbols (bench_object self.old) self.old.rows.items provider
+            stripe }
     {
         let provider = provider as usize;
         if provider >= usize::from(self.keys.file.shape.n) {
@@ -77,7 +79,9 @@ impl Bench {
     ) -> Result<(), RowLost>
         requires seen { length seen.now ≡ self.old.keys.file.shape.n * self.old.keys.file.profile.size }
         requires present { length present.now ≡ self.old.keys.file.shape.n }
-        ensures opened { OpensAs (bench_object self.old) stripe (present_blocks self.old.keys.file.profile.size present.now seen.now) result self.new.rows.items }
+        ensures opened { OpensAs (bench_object self.old) stripe
+            (present_blocks self.old.keys.file.profile.size present.now seen.now) result
+            self.new.rows.items }
         ensures keys { self.new.keys ≡ self.old.keys }
     {
         self.keys.open_trusting(

@@ -1,6 +1,7 @@
 ghost use Rattle.std.specs.Prelude.{◌≡◌, ◌+◌, ◌≤◌, ◌++◌, ℕ, Bool, List, Some, None, length, take, drop, replicate, IsOk, OnOk, vec_len, vec_capacity, if◌then◌else◌};
+ghost use Rattle.hail_devices.specs.Faults.{one_more};
 ghost use Rattle.hail_devices.specs.ProviderCalls.{Fetches};
-ghost use Rattle.vault.specs.Devices.{as_seen};
+ghost use Rattle.provider_model.specs.Seen.{provider_seen};
 
 use hail_field::Symbol;
 use hail_field::laws::symbols_are_numbers;
@@ -29,8 +30,9 @@ fn fetch_into<P: Provider>(
     requires some { start + 1 ≤ length all.old }
     requires few { length all.old ≤ start + 128 }
     ensures front { take start all.new ≡ take start all.old }
-    ensures fetched { Fetches (length (drop start all.old)) object stripe (as_seen P.held P.store_faults P.other_faults P.fetches from.old)
-        (if result then Some (drop start all.new) else None) (as_seen P.held P.store_faults P.other_faults P.fetches from.new) }
+    ensures fetched { Fetches (length (drop start all.old)) object stripe (provider_seen P.Provider from.old)
+        (if result then Some (drop start all.new) else None) (provider_seen P.Provider from.new) }
+    ensures called { P.calls from.new ≡ one_more (P.calls from.old) }
 {
     let out = &mut all[start..];
     let found = match from.fetch(object, stripe, out) {
@@ -65,8 +67,9 @@ impl Blocks {
         stripe: u32,
     ) -> Result<(), Memory>
         ensures fetched { OnOk result ((found : Bool) × (block : List ℕ) × Grows self.old self.new found block
-            × Fetches self.old.size object stripe (as_seen P.held P.store_faults P.other_faults P.fetches from.old)
-            (given_of found block) (as_seen P.held P.store_faults P.other_faults P.fetches from.new)) }
+            × Fetches self.old.size object stripe (provider_seen P.Provider from.old)
+            (given_of found block) (provider_seen P.Provider from.new)) }
+        ensures called { OnOk result (P.calls from.new ≡ one_more (P.calls from.old)) }
         ensures room { HasRoom self.old → IsOk result }
     {
         self.present.reserve(1)?;

@@ -108,7 +108,8 @@ impl Vault {
     /// Ends a job that made all its actions: what it did, read or found.
     pub(crate) fn end(&mut self, job: u32) -> Option<Turn>
         requires { Comes self.old.core job End }
-        ensures machine { (w : State) (moment : ℕ) (d : Devices) → Stands self.old d w → MakesTurn w moment job result self.new d d }
+        ensures machine { (w : State) (moment : ℕ) (d : Devices) → Stands self.old d w
+            → MakesTurn w moment job result self.new d d }
         ensures left { result ≡ Some turn.More → left_of self.new job < left_of self.old job }
         ensures padded { IfSome result (λ turn. IfEnded turn (λ ended. HasPaddedCounts ended.answer)) }
         ensures acted { IfSome result (λ turn. IsNoAction turn → ⊥) }

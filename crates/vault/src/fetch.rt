@@ -1,9 +1,12 @@
 ghost use Rattle.std.specs.Prelude.{◌≡◌, ◌≢◌, slice_get, ℕ, Bool, List, Option, length, map, IsOk, IsSome, OnOk, OnSome, ◌<◌, Some, IfSome};
 ghost use Rattle.hail_devices.specs.Cells.{Cells};
+ghost use Rattle.hail_devices.specs.Faults.{one_more};
 ghost use Rattle.hail_devices.specs.ProviderCalls.{Fetches as FetchesOf};
 ghost use Rattle.hail_machine.specs.Actions.{Fetch as FetchAction};
 ghost use Rattle.hail_machine.specs.States.{State};
-ghost use Rattle.vault.specs.Devices.{as_seen, devices};
+ghost use Rattle.vault.specs.Calls.{CalledOnce};
+ghost use Rattle.vault.specs.Devices.{devices};
+ghost use Rattle.provider_model.specs.Seen.{provider_seen};
 ghost use Rattle.vault.specs.Blocks.{given_of};
 ghost use Rattle.vault.specs.Fetching.{TakesFetch, HasRoomFor, GrowsFetches, HasRoomForFetch, fetch_size};
 ghost use Rattle.vault.specs.Stands.{Stands, Comes, MakesTurn};
@@ -23,9 +26,11 @@ use vault_core::Reply;
 impl Fetches {
     /// Makes one fetch more. It takes no memory where there is room.
     fn fetch<P: Provider>(&mut self, from: &mut P, fetch: Fetch) -> Result<(), Memory>
-        ensures fetched { OnOk result ((found : Bool) × (block : List ℕ) × GrowsFetches self.old self.new fetch found block
-            × FetchesOf self.old.blocks.size fetch.object fetch.stripe (as_seen P.held P.store_faults P.other_faults P.fetches from.old)
-            (given_of found block) (as_seen P.held P.store_faults P.other_faults P.fetches from.new)) }
+        ensures fetched { OnOk result
+            ((found : Bool) × (block : List ℕ) × GrowsFetches self.old self.new fetch found block
+            × FetchesOf self.old.blocks.size fetch.object fetch.stripe (provider_seen P.Provider from.old)
+            (given_of found block) (provider_seen P.Provider from.new)) }
+        ensures called { OnOk result (P.calls from.new ≡ one_more (P.calls from.old)) }
         ensures room { HasRoomForFetch self.old → IsOk result }
     {
         self.fetches.reserve(1)?;
@@ -38,9 +43,11 @@ impl Fetches {
 impl Task {
     /// Makes a fetch of a get or a repair.
     fn fetch<P: Provider>(&mut self, from: &mut P, fetch: Fetch) -> Option<()>
-        ensures fetched { OnSome result ((found : Bool) × (block : List ℕ) × TakesFetch self.old self.new fetch found block
-            × FetchesOf (fetch_size self.old) fetch.object fetch.stripe (as_seen P.held P.store_faults P.other_faults P.fetches from.old)
-            (given_of found block) (as_seen P.held P.store_faults P.other_faults P.fetches from.new)) }
+        ensures fetched { OnSome result
+            ((found : Bool) × (block : List ℕ) × TakesFetch self.old self.new fetch found block
+            × FetchesOf (fetch_size self.old) fetch.object fetch.stripe (provider_seen P.Provider from.old)
+            (given_of found block) (provider_seen P.Provider from.new)) }
+        ensures called { OnSome result (P.calls from.new ≡ one_more (P.calls from.old)) }
         ensures room { HasRoomFor self.old → IsSome result }
     {
         match self {
@@ -63,15 +70,16 @@ impl Vault {
     ) -> Option<Turn>
         requires { Comes self.old.core job (FetchAction provider object stripe) }
         ensures machine { (w : State) (moment : ℕ) (holds : Option Cells) (faults : ℕ)
-            → Stands self.old (devices holds faults (map (as_seen P.held P.store_faults P.other_faults P.fetches) providers.old)) w
+            → Stands self.old (devices holds faults (map (provider_seen P.Provider) providers.old)) w
             → MakesTurn w moment job result self.new
-            (devices holds faults (map (as_seen P.held P.store_faults P.other_faults P.fetches) providers.old))
-            (devices holds faults (map (as_seen P.held P.store_faults P.other_faults P.fetches) providers.new)) }
+            (devices holds faults (map (provider_seen P.Provider) providers.old))
+            (devices holds faults (map (provider_seen P.Provider) providers.new)) }
         ensures count { length providers.new ≡ length providers.old }
         ensures others { (k : ℕ) → k ≢ provider → slice_get providers.new k ≡ slice_get providers.old k }
         ensures left { result ≡ Some turn.More → left_of self.new job < left_of self.old job }
         ensures padded { IfSome result (λ turn. IfEnded turn (λ ended. HasPaddedCounts ended.answer)) }
         ensures acted { IfSome result (λ turn. IsNoAction turn → ⊥) }
+        ensures called { OnSome result (CalledOnce P.calls provider providers.old providers.new) }
     {
         let place = place_of(&self.jobs, job)?;
         let index = provider as usize;

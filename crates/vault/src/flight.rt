@@ -28,7 +28,7 @@ pub enum Moved {
 
 impl Flight {
     ghost use Rattle.std.specs.Prelude.{◌≡◌, ◌+◌, ◌^◌, ◌≤◌, ◌++◌, ◌∷◌, [], length, is_some};
-    ghost use Rattle.hail_devices.specs.Faults.{HasCause};
+    ghost use Rattle.hail_devices.specs.Faults.{HasCause, one_more};
     ghost use Rattle.hail_devices.specs.Told.{Goes};
     ghost use Rattle.hail_records.specs.Records.{record_size};
     ghost use Rattle.hail_records.specs.Spellings.{spelling};
@@ -54,9 +54,11 @@ impl Flight {
     pub fn turn<D: Disk>(self, disk: &mut D) -> Moved
         ensures made { MakesMove self.append (D.holds disk.old) result (D.holds disk.new) }
         ensures cells { ChangesCells self.append (D.holds disk.old) result (D.holds disk.new) }
-        ensures beyond { Goes (SameFrom (gate_of self.append + 1 + length (body_of self.append))) (D.holds disk.old) (D.holds disk.new) }
+        ensures beyond { Goes (SameFrom (gate_of self.append + 1 + length (body_of self.append)))
+            (D.holds disk.old) (D.holds disk.new) }
         ensures tells { is_some (D.holds disk.new) ≡ is_some (D.holds disk.old) }
         ensures cause { HasCause (D.faults disk.old) (D.faults disk.new) (HasFailed result) }
+        ensures called { D.calls disk.new ≡ one_more (D.calls disk.old) }
     {
         let mut append = self.append;
         match append.turn(disk) {

@@ -2,7 +2,7 @@ ghost use Rattle.std.specs.Prelude.{◌≡◌, ◌↔◌, ◌<◌, ◌≤◌, �
 ghost use Rattle.hail_records.specs.Records.{Record as EntryData};
 ghost use Rattle.hail_records.specs.Journal.{magic};
 ghost use Rattle.vault.specs.Faults.{refusal_answer};
-ghost use Rattle.vault.specs.Folding.{IsReadUpTo, IsFolded, Takes, IsFoldFault};
+ghost use Rattle.vault.specs.Folding.{IsReadUpTo, IsFolded, TakesRecord, IsFoldFault};
 
 use crate::fault::StartFault;
 use record_codec::Record;
@@ -32,8 +32,10 @@ fn answer_to(why: Refused, at: u64) -> StartFault
 fn take_record(table: &mut Table, bytes: &[u8], gate: usize) -> Result<Option<usize>, StartFault>
     requires within { gate < length bytes.now }
     requires few { length bytes.now ≤ 2 ^ 24 }
-    ensures taken { (rs : List EntryData) → IsReadUpTo bytes.now rs table.old gate → IfOk result (Takes bytes.now rs table.new gate) }
-    ensures refused { (rs : List EntryData) → IsReadUpTo bytes.now rs table.old gate → IfErr result (IsFoldFault bytes.now) }
+    ensures taken { (rs : List EntryData) → IsReadUpTo bytes.now rs table.old gate
+        → IfOk result (TakesRecord bytes.now rs table.new gate) }
+    ensures refused { (rs : List EntryData) → IsReadUpTo bytes.now rs table.old gate
+        → IfErr result (IsFoldFault bytes.now) }
 {
     if bytes[gate] != 1 {
         return Ok(None);

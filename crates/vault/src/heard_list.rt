@@ -39,14 +39,17 @@ impl Blocks {
 impl Fetches {
     /// How many fetches were made.
     fn count(&self) -> usize
-        ensures { result ≡ length (fetched_entries self.now.job self.now.fetches.items (blocks_in self.now.blocks)) }
+        ensures { result ≡ length (fetched_entries self.now.job self.now.fetches.items
+            (blocks_in self.now.blocks)) }
     {
         self.fetches.len().min(self.blocks.present.len())
     }
 
     /// What the fetch at a place gave.
     fn at(&self, place: usize) -> Option<Heard<'_>>
-        ensures { option_map entry_heard result ≡ slice_get (fetched_entries self.now.job self.now.fetches.items (blocks_in self.now.blocks)) place }
+        ensures { option_map entry_heard result
+            ≡ slice_get (fetched_entries self.now.job self.now.fetches.items (blocks_in self.now.blocks))
+            place }
     {
         let fetch = item_at(&self.fetches, place)?;
         let block = self.blocks.at(place)?;
@@ -70,7 +73,8 @@ impl Answers {
 
     /// What the ask at a place gave.
     fn at(&self, place: usize) -> Option<Heard<'_>>
-        ensures { option_map entry_heard result ≡ slice_get (answered_entries self.now.job self.now.asks.items self.now.symbols.items) place }
+        ensures { option_map entry_heard result
+            ≡ slice_get (answered_entries self.now.job self.now.asks.items self.now.symbols.items) place }
     {
         let ask = item_at(&self.asks, place)?;
         let symbol = item_at(&self.symbols, place)?;

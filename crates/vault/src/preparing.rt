@@ -13,7 +13,7 @@ ghost use Rattle.journal_core.specs.Moves.{MayStandFor};
 ghost use Rattle.vault.specs.declared.fault.InitFault.TheVariants as init_fault;
 ghost use Rattle.hail_openings.specs.Journals.{journal_read};
 ghost use Rattle.vault.specs.Causes.{IsInitFault, IsNoWrite};
-ghost use Rattle.vault.specs.Preparing.{IsBlank, emptied, IsReadied, IsHalfReady, with_setup, first_answer, IsTextFault};
+ghost use Rattle.vault.specs.Preparing.{IsBlank, emptied, IsReadied, IsHalfReady, with_first_record, first_answer, IsTextFault};
 
 use crate::fault::InitFault;
 use crate::reading::read_disk;
@@ -33,7 +33,8 @@ const FIRST_GATE: u64 = 8;
 /// Writes the text of no record to the front of a disk.
 fn make_empty<D: Disk>(disk: &mut D) -> Result<(), WriteFault>
     ensures ok { OnOk result (D.holds disk.new ≡ option_map emptied (D.holds disk.old)) }
-    ensures left { OnErr result (IfSome (D.holds disk.old) (λ cells. length (reads cells) ≤ 9) → EachImage (D.holds disk.new) (λ image. length image ≤ 9)) }
+    ensures left { OnErr result (IfSome (D.holds disk.old) (λ cells. length (reads cells) ≤ 9) → EachImage
+        (D.holds disk.new) (λ image. length image ≤ 9)) }
     ensures tells { is_some (D.holds disk.new) ≡ is_some (D.holds disk.old) }
     ensures cause { HasCause (D.faults disk.old) (D.faults disk.new) (IsErrOf result write_fault.Failed) }
 {
@@ -68,9 +69,12 @@ fn has_no_record(alloc: Global, bytes: &[u8]) -> Result<(), InitFault>
 /// Makes a disk ready for its first record: it reads a journal with no record, and no byte is loose.
 pub(crate) fn prepare<D: Disk>(alloc: Global, disk: &mut D) -> Result<(), InitFault>
     ensures ok { OnOk result (Goes IsReadied (D.holds disk.old) (D.holds disk.new)) }
-    ensures refused { (s : SetupData) → IfErr result (λ why. IfSome (D.holds disk.old) (λ cells. IsInitFault (journal_read cells) s why)) }
+    ensures refused { (s : SetupData)
+        → IfErr result (λ why. IfSome (D.holds disk.old)
+        (λ cells. IsInitFault (journal_read cells) s why)) }
     ensures unjudged { IsErrOf result init_fault.BadSetup → ⊥ }
-    ensures looked { IfErr result (λ why. IsNoWrite why → D.holds disk.new ≡ option_map synced (D.holds disk.old)) }
+    ensures looked { IfErr result (λ why. IsNoWrite why → D.holds disk.new ≡ option_map synced
+        (D.holds disk.old)) }
     ensures left { OnErr result (IfSome (D.holds disk.old) (λ cells. IsHalfReady cells (D.holds disk.new))) }
     ensures tells { is_some (D.holds disk.new) ≡ is_some (D.holds disk.old) }
     ensures cause { HasCause (D.faults disk.old) (D.faults disk.new) (IsErrOf result init_fault.DiskFault) }
@@ -108,9 +112,11 @@ pub(crate) fn append_setup<D: Disk>(
     setup: &Setup,
 ) -> Result<(), WriteFault>
     requires { IsTrue (is_setup (with_master setup.now master.now.0)) }
-    ensures ok { OnOk result (D.holds disk.new ≡ option_map (with_setup (with_master setup.now master.now.0)) (D.holds disk.old)) }
+    ensures ok { OnOk result (D.holds disk.new ≡ option_map
+        (with_first_record (with_master setup.now master.now.0)) (D.holds disk.old)) }
     ensures spelled { IsTrue (is_in_grammar (SetUp (with_master setup.now master.now.0))) }
-    ensures left { OnErr result (IfSome (D.holds disk.old) IsBlank → MayStandFor [] (SetUp (with_master setup.now master.now.0)) (D.holds disk.new)) }
+    ensures left { OnErr result (IfSome (D.holds disk.old) IsBlank → MayStandFor []
+        (SetUp (with_master setup.now master.now.0)) (D.holds disk.new)) }
     ensures tells { is_some (D.holds disk.new) ≡ is_some (D.holds disk.old) }
     ensures cause { HasCause (D.faults disk.old) (D.faults disk.new) (IsErrOf result write_fault.Failed) }
 {

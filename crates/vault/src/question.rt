@@ -1,6 +1,6 @@
 ghost use Rattle.std.specs.Prelude.{◌≤◌, ◌*◌, []};
 ghost use Rattle.hail_columns.specs.Objects.{stripes};
-ghost use Rattle.file_layout.specs.Files.{object_of};
+ghost use Rattle.file_layout.specs.Files.{shaped_object};
 
 use file_layout::FileShape;
 
@@ -11,7 +11,7 @@ pub struct Question {
     pub number: u64,
     pub round: u32,
     pub picks: u32,
-    ghost rows: { 1 ≤ stripes (object_of [] file) file.length * file.profile.size },
+    ghost rows: { 1 ≤ stripes (shaped_object [] file) file.length * file.profile.size },
     ghost some_picks: { 1 ≤ picks },
     ghost few_picks: { picks ≤ 64 },
 }

@@ -19,7 +19,8 @@ const EMPTY: u64 = 9;
 
 /// The bytes of a disk that are looked at, after a sync; None where it has at most nine, of which none is read.
 pub(crate) fn read_disk<D: Disk>(alloc: Global, disk: &mut D) -> Result<Option<Vec<u8>>, WriteFault>
-    ensures empty { IfOk result (λ found. IfSome (D.holds disk.old) (λ cells. IfNone found (length (reads cells) ≤ 9))) }
+    ensures empty { IfOk result (λ found. IfSome (D.holds disk.old)
+        (λ cells. IfNone found (length (reads cells) ≤ 9))) }
     ensures bytes { IfOk result (λ found. IfSome (D.holds disk.old) (λ cells. IfSome found (λ v.
         (9 < length (reads cells)) × (v.items ≡ journal_read cells)))) }
     ensures few { IfOk result (λ found. IfSome found (λ v. length v.items ≤ 2 ^ 24)) }

@@ -1,9 +1,12 @@
-ghost use Rattle.std.specs.Prelude.{◌≡◌, ◌≢◌, slice_get, ℕ, Option, length, map, ◌<◌, Some, IfSome};
+ghost use Rattle.std.specs.Prelude.{◌≡◌, ◌≢◌, slice_get, ℕ, Option, length, map, ◌<◌, Some, IfSome, OnSome};
 ghost use Rattle.hail_devices.specs.Cells.{Cells};
+ghost use Rattle.hail_devices.specs.Faults.{one_more};
 ghost use Rattle.hail_devices.specs.ProviderCalls.{Removes};
 ghost use Rattle.hail_machine.specs.Actions.{Remove};
 ghost use Rattle.hail_machine.specs.States.{State};
-ghost use Rattle.vault.specs.Devices.{as_seen, devices};
+ghost use Rattle.vault.specs.Calls.{CalledOnce};
+ghost use Rattle.vault.specs.Devices.{devices};
+ghost use Rattle.provider_model.specs.Seen.{provider_seen};
 ghost use Rattle.vault.specs.Stands.{Stands, Comes, MakesTurn};
 ghost use Rattle.vault.specs.declared.turn.Turn.TheVariants as turn;
 ghost use Rattle.vault.specs.Outcomes.{IfEnded, IsNoAction, HasPaddedCounts};
@@ -16,7 +19,8 @@ use vault_core::Reply;
 
 /// Takes an object away from a provider; that it failed does not count.
 fn remove_from<P: Provider>(from: &mut P, object: u64)
-    ensures { Removes object (as_seen P.held P.store_faults P.other_faults P.fetches from.old) (as_seen P.held P.store_faults P.other_faults P.fetches from.new) }
+    ensures removed { Removes object (provider_seen P.Provider from.old) (provider_seen P.Provider from.new) }
+    ensures called { P.calls from.new ≡ one_more (P.calls from.old) }
 {
     let _ = from.remove(object);
 }
@@ -32,15 +36,16 @@ impl Vault {
     ) -> Option<Turn>
         requires { Comes self.old.core job (Remove provider object) }
         ensures machine { (w : State) (moment : ℕ) (holds : Option Cells) (faults : ℕ)
-            → Stands self.old (devices holds faults (map (as_seen P.held P.store_faults P.other_faults P.fetches) providers.old)) w
+            → Stands self.old (devices holds faults (map (provider_seen P.Provider) providers.old)) w
             → MakesTurn w moment job result self.new
-            (devices holds faults (map (as_seen P.held P.store_faults P.other_faults P.fetches) providers.old))
-            (devices holds faults (map (as_seen P.held P.store_faults P.other_faults P.fetches) providers.new)) }
+            (devices holds faults (map (provider_seen P.Provider) providers.old))
+            (devices holds faults (map (provider_seen P.Provider) providers.new)) }
         ensures count { length providers.new ≡ length providers.old }
         ensures others { (k : ℕ) → k ≢ provider → slice_get providers.new k ≡ slice_get providers.old k }
         ensures left { result ≡ Some turn.More → left_of self.new job < left_of self.old job }
         ensures padded { IfSome result (λ turn. IfEnded turn (λ ended. HasPaddedCounts ended.answer)) }
         ensures acted { IfSome result (λ turn. IsNoAction turn → ⊥) }
+        ensures called { OnSome result (CalledOnce P.calls provider providers.old providers.new) }
     {
         let index = provider as usize;
         if index >= providers.len() {

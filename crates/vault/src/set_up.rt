@@ -29,17 +29,23 @@ pub fn init<D: Disk>(
     master: &Master,
     setup: &Setup,
 ) -> Result<(), InitFault>
-    ensures ok { OnOk result (Goes (IsSetUpOn (with_master setup.now master.now.0)) (D.holds disk.old) (D.holds disk.new)) }
-    ensures bad_setup { IsErrOf result init_fault.BadSetup ↔ (is_setup (with_master setup.now master.now.0) ≡ false) }
+    ensures ok { OnOk result (Goes (IsSetUpOn (with_master setup.now master.now.0)) (D.holds disk.old)
+        (D.holds disk.new)) }
+    ensures bad_setup { IsErrOf result init_fault.BadSetup
+        ↔ (is_setup (with_master setup.now master.now.0) ≡ false) }
     ensures unlooked { IsErrOf result init_fault.BadSetup → disk.new ≡ disk.old }
-    ensures refused { IfErr result (λ why. IfSome (D.holds disk.old) (λ cells. IsInitFault (journal_read cells) (with_master setup.now master.now.0) why)) }
-    ensures looked { IfErr result (λ why. IsNoWrite why → Goes IsResynced (D.holds disk.old) (D.holds disk.new)) }
-    ensures left { OnErr result (IfSome (D.holds disk.old) (λ cells. EachImage (D.holds disk.new) (MayBeLeft (with_master setup.now master.now.0) cells))) }
+    ensures refused { IfErr result (λ why. IfSome (D.holds disk.old)
+        (λ cells. IsInitFault (journal_read cells) (with_master setup.now master.now.0) why)) }
+    ensures looked { IfErr result (λ why. IsNoWrite why → Goes IsResynced (D.holds disk.old)
+        (D.holds disk.new)) }
+    ensures left { OnErr result (IfSome (D.holds disk.old)
+        (λ cells. EachImage (D.holds disk.new) (MayBeLeft (with_master setup.now master.now.0) cells))) }
     ensures tells { is_some (D.holds disk.new) ≡ is_some (D.holds disk.old) }
     ensures cause { HasCause (D.faults disk.old) (D.faults disk.new) (IsErrOf result init_fault.DiskFault) }
     ensures machine { (w : State) (providers : List Provider) (moment : ℕ) → MayInit w (D.holds disk.old)
         → AreDevices (devices (D.holds disk.old) (D.faults disk.old) providers) w
-        → MakesInit w moment (with_master setup.now master.now.0) result (devices (D.holds disk.new) (D.faults disk.new) providers) }
+        → MakesInit w moment (with_master setup.now master.now.0) result
+        (devices (D.holds disk.new) (D.faults disk.new) providers) }
 {
     if !setup.check() {
         return Err(InitFault::BadSetup);

@@ -30,11 +30,14 @@ impl Vault {
             → Stands v (devices (D.holds disk.new) (D.faults disk.new) providers) w)) }
         ensures carries { IfOk result (λ v. Carries v (D.holds disk.new)) }
         ensures number { IfOk result (λ v. next_job_of v ≡ first) }
-        ensures refused { IfErr result (λ why. IfSome (D.holds disk.old) (λ cells. IsStartFault (journal_read cells) why)) }
+        ensures refused { IfErr result
+            (λ why. IfSome (D.holds disk.old) (λ cells. IsStartFault (journal_read cells) why)) }
         ensures synced { OnOk result (D.holds disk.new ≡ option_map synced (D.holds disk.old)) }
-        ensures resynced { IfErr result (λ why. LiesInJournal why → D.holds disk.new ≡ option_map synced (D.holds disk.old)) }
+        ensures resynced { IfErr result
+            (λ why. LiesInJournal why → D.holds disk.new ≡ option_map synced (D.holds disk.old)) }
         ensures disk { Goes IsResynced (D.holds disk.old) (D.holds disk.new) }
-        ensures cause { HasCause (D.faults disk.old) (D.faults disk.new) (IsErrOf result start_fault.DiskFault) }
+        ensures cause { HasCause (D.faults disk.old) (D.faults disk.new)
+            (IsErrOf result start_fault.DiskFault) }
     {
         let Some(bytes) = read_disk(alloc, disk)? else {
             return Err(StartFault::NotSetUp);

@@ -1,12 +1,13 @@
-ghost use Rattle.std.specs.Prelude.{◌≡◌, ◌≢◌, ◌<◌, ◌≤◌, ◌++◌, ◌∷◌, [], ℕ, true, false, None, Some, IfSome, is_some, length, map, slice_get};
+ghost use Rattle.std.specs.Prelude.{◌≡◌, ◌≢◌, ◌<◌, ◌≤◌, ◌++◌, ◌∷◌, [], ℕ, true, false, None, Some, IfSome, OnSome, is_some, length, map, slice_get};
+ghost use Rattle.hail_devices.specs.Faults.{one_more};
 ghost use Rattle.hail_machine.specs.States.{State};
 ghost use Rattle.hail_records.specs.Records.{Record as Entry};
 ghost use Rattle.hail_records.specs.Spellings.{spelling};
-ghost use Rattle.vault.specs.Calls.{calls_disk, called_provider, moves_before_next, MovesCells};
-ghost use Rattle.vault.specs.Devices.{Devices, as_seen, devices};
+ghost use Rattle.vault.specs.Calls.{calls_disk, called_provider, moves_before_next, CalledOnce, MovesCells};
+ghost use Rattle.vault.specs.Devices.{Devices, devices_seen};
 ghost use Rattle.vault.specs.Outcomes.{IfEnded, IsNoAction, HasPaddedCounts};
 ghost use Rattle.vault.specs.declared.turn.Turn.TheVariants as turn;
-ghost use Rattle.vault.specs.Seen.{provider_count, coming_of, entry_of, closed_gate_of, left_of, IsUnchanged};
+ghost use Rattle.vault.specs.Seen.{provider_count, coming_of, vault_entry, closed_gate_of, left_of, IsUnchanged};
 ghost use Rattle.vault.specs.Stands.{Stands, Comes, MakesStep, MakesTurn};
 ghost use Rattle.vault_core.specs.Coming.{Acts, IsNoJob, seen_action};
 
@@ -17,8 +18,8 @@ use provider_model::Provider;
 use vault_core::{Action, Next};
 
 impl Vault {
-    /// Makes the next action of a job, with at most one call of a device. Conditions: the setup's `n` providers at least, of
-    /// which only these are used; and the disk is the one that the vault was opened over.
+    /// Makes the next action of a job, with its one call of a device, if it has one. Conditions: the setup's `n` providers
+    /// at least, of which only these are used; and the disk is the one that the vault was opened over.
     pub fn step<D: Disk, P: Provider>(
         &mut self,
         job: u32,
@@ -27,24 +28,33 @@ impl Vault {
     ) -> Turn
         requires { provider_count self.old ≤ length providers.old }
         ensures machine { (w : State) (moment : ℕ)
-            → Stands self.old (devices (D.holds disk.old) (D.faults disk.old) (map (as_seen P.held P.store_faults P.other_faults P.fetches) providers.old)) w
+            → Stands self.old (devices_seen D.Disk P.Provider disk.old providers.old) w
             → MakesStep w moment job result self.new
-            (devices (D.holds disk.old) (D.faults disk.old) (map (as_seen P.held P.store_faults P.other_faults P.fetches) providers.old))
-            (devices (D.holds disk.new) (D.faults disk.new) (map (as_seen P.held P.store_faults P.other_faults P.fetches) providers.new)) }
+            (devices_seen D.Disk P.Provider disk.old providers.old)
+            (devices_seen D.Disk P.Provider disk.new providers.new) }
         ensures tells { is_some (D.holds disk.new) ≡ is_some (D.holds disk.old) }
         ensures left { result ≡ turn.More → left_of self.new job < left_of self.old job }
         ensures padded { IfEnded result (λ ended. HasPaddedCounts ended.answer) }
         ensures still { calls_disk (coming_of self.old job) ≡ false → disk.new ≡ disk.old }
-        ensures moves { (w : State) (entry : Entry) → Stands self.old (devices (D.holds disk.old) (D.faults disk.old) (map (as_seen P.held P.store_faults P.other_faults P.fetches) providers.old)) w
-            → entry_of self.old job ≡ Some entry → calls_disk (coming_of self.old job) ≡ true
-            → MovesCells (moves_before_next (coming_of self.old job)) (closed_gate_of self.old) (spelling entry ++ 0 ∷ []) result (D.holds disk.old) (D.holds disk.new) }
+        ensures moves { (w : State) (entry : Entry)
+            → Stands self.old (devices_seen D.Disk P.Provider disk.old providers.old) w
+            → vault_entry self.old job ≡ Some entry → calls_disk (coming_of self.old job) ≡ true
+            → MovesCells (moves_before_next (coming_of self.old job)) (closed_gate_of self.old)
+            (spelling entry ++ 0 ∷ []) result (D.holds disk.old) (D.holds disk.new) }
         ensures away { called_provider (coming_of self.old job) ≡ None → providers.new ≡ providers.old }
         ensures count { length providers.new ≡ length providers.old }
         ensures others { (j k : ℕ) → called_provider (coming_of self.old job) ≡ Some j → k ≢ j
             → slice_get providers.new k ≡ slice_get providers.old k }
-        ensures waits { IsNoAction result → result ≢ turn.NoSuchJob → IsUnchanged self.old self.new × (disk.new ≡ disk.old) × (providers.new ≡ providers.old) }
-        ensures no_job { coming_of self.old job ≡ IsNoJob → IsUnchanged self.old self.new × (disk.new ≡ disk.old) × (providers.new ≡ providers.old) }
-        ensures gone { (w : State) → Stands self.old (devices (D.holds disk.old) (D.faults disk.old) (map (as_seen P.held P.store_faults P.other_faults P.fetches) providers.old)) w
+        ensures one_disk_call { calls_disk (coming_of self.old job) ≡ true → result ≢ turn.NoSuchJob
+            → D.calls disk.new ≡ one_more (D.calls disk.old) }
+        ensures one_provider_call { (j : ℕ) → called_provider (coming_of self.old job) ≡ Some j
+            → result ≢ turn.NoSuchJob
+            → CalledOnce P.calls j providers.old providers.new }
+        ensures waits { IsNoAction result → result ≢ turn.NoSuchJob
+            → IsUnchanged self.old self.new × (disk.new ≡ disk.old) × (providers.new ≡ providers.old) }
+        ensures no_job { coming_of self.old job ≡ IsNoJob
+            → IsUnchanged self.old self.new × (disk.new ≡ disk.old) × (providers.new ≡ providers.old) }
+        ensures gone { (w : State) → Stands self.old (devices_seen D.Disk P.Provider disk.old providers.old) w
             → result ≡ turn.NoSuchJob → coming_of self.old job ≡ IsNoJob }
     {
         match self.core.next(job) {
@@ -68,21 +78,28 @@ impl Vault {
     ) -> Option<Turn>
         requires { Comes self.old.core job (seen_action action) }
         ensures machine { (w : State) (moment : ℕ)
-            → Stands self.old (devices (D.holds disk.old) (D.faults disk.old) (map (as_seen P.held P.store_faults P.other_faults P.fetches) providers.old)) w
+            → Stands self.old (devices_seen D.Disk P.Provider disk.old providers.old) w
             → MakesTurn w moment job result self.new
-            (devices (D.holds disk.old) (D.faults disk.old) (map (as_seen P.held P.store_faults P.other_faults P.fetches) providers.old))
-            (devices (D.holds disk.new) (D.faults disk.new) (map (as_seen P.held P.store_faults P.other_faults P.fetches) providers.new)) }
+            (devices_seen D.Disk P.Provider disk.old providers.old)
+            (devices_seen D.Disk P.Provider disk.new providers.new) }
         ensures tells { is_some (D.holds disk.new) ≡ is_some (D.holds disk.old) }
         ensures left { result ≡ Some turn.More → left_of self.new job < left_of self.old job }
         ensures padded { IfSome result (λ turn. IfEnded turn (λ ended. HasPaddedCounts ended.answer)) }
         ensures still { calls_disk (Acts (seen_action action)) ≡ false → disk.new ≡ disk.old }
-        ensures moves { (w : State) (entry : Entry) → Stands self.old (devices (D.holds disk.old) (D.faults disk.old) (map (as_seen P.held P.store_faults P.other_faults P.fetches) providers.old)) w
-            → entry_of self.old job ≡ Some entry → calls_disk (Acts (seen_action action)) ≡ true
-            → IfSome result (λ turn. MovesCells (moves_before_next (Acts (seen_action action))) (closed_gate_of self.old) (spelling entry ++ 0 ∷ []) turn (D.holds disk.old) (D.holds disk.new)) }
+        ensures moves { (w : State) (entry : Entry)
+            → Stands self.old (devices_seen D.Disk P.Provider disk.old providers.old) w
+            → vault_entry self.old job ≡ Some entry → calls_disk (Acts (seen_action action)) ≡ true
+            → IfSome result (λ turn. MovesCells (moves_before_next (Acts (seen_action action)))
+            (closed_gate_of self.old) (spelling entry ++ 0 ∷ []) turn (D.holds disk.old)
+            (D.holds disk.new)) }
         ensures away { called_provider (Acts (seen_action action)) ≡ None → providers.new ≡ providers.old }
         ensures count { length providers.new ≡ length providers.old }
         ensures others { (j k : ℕ) → called_provider (Acts (seen_action action)) ≡ Some j → k ≢ j
             → slice_get providers.new k ≡ slice_get providers.old k }
+        ensures one_disk_call { calls_disk (Acts (seen_action action)) ≡ true
+            → OnSome result (D.calls disk.new ≡ one_more (D.calls disk.old)) }
+        ensures one_provider_call { (j : ℕ) → called_provider (Acts (seen_action action)) ≡ Some j
+            → OnSome result (CalledOnce P.calls j providers.old providers.new) }
         ensures acted { IfSome result (λ turn. IsNoAction turn → ⊥) }
     {
         match action {

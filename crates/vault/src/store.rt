@@ -1,10 +1,13 @@
-ghost use Rattle.std.specs.Prelude.{◌≡◌, ◌≢◌, ◌≤◌, ◌<◌, ℕ, List, Option, length, map, slice_get, IfSome, IsSome, Some};
+ghost use Rattle.std.specs.Prelude.{◌≡◌, ◌≢◌, ◌≤◌, ◌<◌, ℕ, List, Option, length, map, slice_get, IfSome, IsSome, OnSome, Some};
 ghost use Rattle.hail_columns.specs.Columns.{column_of_symbols};
 ghost use Rattle.hail_devices.specs.Cells.{Cells};
+ghost use Rattle.hail_devices.specs.Faults.{one_more};
 ghost use Rattle.hail_machine.specs.Actions.{Store};
 ghost use Rattle.hail_machine.specs.States.{State};
-ghost use Rattle.vault.specs.Devices.{as_seen, devices};
-ghost use Rattle.vault.specs.Storing.{StoresAs, turned, stored_block, KeepsTask, IsStorer};
+ghost use Rattle.vault.specs.Calls.{CalledOnce};
+ghost use Rattle.vault.specs.Devices.{devices};
+ghost use Rattle.vault.specs.Storing.{turned, stored_block, KeepsTask, IsStorer};
+ghost use Rattle.provider_model.specs.Seen.{StoresAs, provider_seen};
 ghost use Rattle.vault.specs.Stands.{Stands, Comes, MakesTurn};
 ghost use Rattle.vault.specs.declared.turn.Turn.TheVariants as turn;
 ghost use Rattle.vault.specs.Outcomes.{IfEnded, IsNoAction, HasPaddedCounts};
@@ -12,7 +15,7 @@ ghost use Rattle.vault.specs.Seen.{left_of};
 
 use crate::bench::Bench;
 use crate::end::place_of;
-use crate::tasks::Task;
+use crate::tasks::{PutTask, Task};
 use crate::turn::{Answer, Turn};
 use crate::vault::Vault;
 use hail_field::Symbol;
@@ -28,17 +31,18 @@ fn store_block<P: Provider>(
 ) -> Result<(), StoreFault>
     requires some { 1 ≤ length block.now }
     requires few { length block.now ≤ 128 }
-    ensures { StoresAs object stripe block.now result (as_seen P.held P.store_faults P.other_faults P.fetches to.old)
-        (as_seen P.held P.store_faults P.other_faults P.fetches to.new) }
+    ensures stored { StoresAs object stripe block.now result (provider_seen P.Provider to.old)
+        (provider_seen P.Provider to.new) }
+    ensures called { P.calls to.new ≡ one_more (P.calls to.old) }
 {
     to.store(object, stripe, block)
 }
 
 impl Bench {
-    ghost use Rattle.std.specs.Prelude.{◌≡◌, ◌<◌, IfSome, IsSome};
+    ghost use Rattle.std.specs.Prelude.{◌≡◌, ◌<◌, IfSome, IsSome, OnSome};
     ghost use Rattle.hail_columns.specs.Columns.{column_of_symbols};
-    ghost use Rattle.vault.specs.Devices.{as_seen};
-    ghost use Rattle.vault.specs.Storing.{StoresAs, turned};
+    ghost use Rattle.hail_devices.specs.Faults.{one_more};
+    ghost use Rattle.vault.specs.Storing.{turned};
     ghost use Rattle.vault.specs.Tasks.{bench_object};
 
     /// Stores a provider's block of the stripe at hand; None where there is no such provider.
@@ -49,8 +53,11 @@ impl Bench {
         object: u64,
         stripe: u32,
     ) -> Option<Result<(), StoreFault>>
-        ensures stored { IfSome result (λ r. StoresAs object stripe (column_of_symbols (turned self.old object) self.old.rows.items provider stripe) r
-            (as_seen P.held P.store_faults P.other_faults P.fetches to.old) (as_seen P.held P.store_faults P.other_faults P.fetches to.new)) }
+        ensures stored { IfSome result
+            (λ r. StoresAs object stripe
+            (column_of_symbols (turned self.old object) self.old.rows.items provider stripe) r
+            (provider_seen P.Provider to.old) (provider_seen P.Provider to.new)) }
+        ensures called { OnSome result (P.calls to.new ≡ one_more (P.calls to.old)) }
         ensures there { provider < self.old.keys.file.shape.n → IsSome result }
         ensures object { bench_object self.new ≡ turned self.old object }
         ensures rows { self.new.rows ≡ self.old.rows }
@@ -63,6 +70,50 @@ impl Bench {
     }
 }
 
+impl PutTask {
+    ghost use Rattle.std.specs.Prelude.{◌≡◌, ◌<◌, IfSome, IsSome, OnSome};
+    ghost use Rattle.hail_devices.specs.Faults.{one_more};
+    ghost use Rattle.hail_columns.specs.Columns.{column_of_symbols};
+    ghost use Rattle.hail_columns.specs.Objects.{symbols_in};
+    ghost use Rattle.vault.specs.Storing.{turned};
+    ghost use Rattle.vault.specs.Tasks.{bench_object};
+
+    /// Takes the symbols of a stripe out of the bytes of the file, once for all its providers.
+    fn gather(&mut self, stripe: u32)
+        ensures bytes { self.new.bytes ≡ self.old.bytes }
+        ensures keys { self.new.bench.keys ≡ self.old.bench.keys }
+        ensures rows { self.new.bench.rows.items
+            ≡ symbols_in (bench_object self.old.bench) self.old.bytes stripe }
+    {
+        if self.at_hand == Some(stripe) {
+            return;
+        }
+        self.bench.take_stripe(self.bytes.as_slice(), stripe);
+        self.at_hand = Some(stripe);
+    }
+
+    /// Stores a provider's block of a stripe of the file; None where there is no such provider.
+    fn store<P: Provider>(
+        &mut self,
+        to: &mut P,
+        provider: u32,
+        object: u64,
+        stripe: u32,
+    ) -> Option<Result<(), StoreFault>>
+        ensures stored { IfSome result (λ r. StoresAs object stripe
+            (column_of_symbols (turned self.old.bench object)
+            (symbols_in (turned self.old.bench object) self.old.bytes stripe) provider stripe) r
+            (provider_seen P.Provider to.old) (provider_seen P.Provider to.new)) }
+        ensures called { OnSome result (P.calls to.new ≡ one_more (P.calls to.old)) }
+        ensures there { provider < self.old.bench.keys.file.shape.n → IsSome result }
+        ensures object { bench_object self.new.bench ≡ turned self.old.bench object }
+        ensures bytes { self.new.bytes ≡ self.old.bytes }
+    {
+        self.gather(stripe);
+        self.bench.store(to, provider, object, stripe)
+    }
+}
+
 impl Task {
     /// Stores a block of a put or a repair; None where there is nothing to store, or no such provider.
     fn store<P: Provider>(
@@ -72,16 +123,15 @@ impl Task {
         object: u64,
         stripe: u32,
     ) -> Option<Result<(), StoreFault>>
-        ensures stored { IfSome result (λ r. StoresAs object stripe (stored_block self.old object provider stripe) r
-            (as_seen P.held P.store_faults P.other_faults P.fetches to.old) (as_seen P.held P.store_faults P.other_faults P.fetches to.new)) }
+        ensures stored { IfSome result
+            (λ r. StoresAs object stripe (stored_block self.old object provider stripe) r
+            (provider_seen P.Provider to.old) (provider_seen P.Provider to.new)) }
+        ensures called { OnSome result (P.calls to.new ≡ one_more (P.calls to.old)) }
         ensures there { IsStorer self.old provider → IsSome result }
         ensures keeps { IfSome result (λ _. KeepsTask self.old self.new object) }
     {
         match self {
-            Task::Put(put) => {
-                put.bench.take_stripe(put.bytes.as_slice(), stripe);
-                put.bench.store(to, provider, object, stripe)
-            }
+            Task::Put(put) => put.store(to, provider, object, stripe),
             Task::Repair(repair) => repair.bench.store(to, provider, object, stripe),
             _ => None,
         }
@@ -100,15 +150,16 @@ impl Vault {
     ) -> Option<Turn>
         requires { Comes self.old.core job (Store provider object stripe) }
         ensures machine { (w : State) (moment : ℕ) (holds : Option Cells) (faults : ℕ)
-            → Stands self.old (devices holds faults (map (as_seen P.held P.store_faults P.other_faults P.fetches) providers.old)) w
+            → Stands self.old (devices holds faults (map (provider_seen P.Provider) providers.old)) w
             → MakesTurn w moment job result self.new
-            (devices holds faults (map (as_seen P.held P.store_faults P.other_faults P.fetches) providers.old))
-            (devices holds faults (map (as_seen P.held P.store_faults P.other_faults P.fetches) providers.new)) }
+            (devices holds faults (map (provider_seen P.Provider) providers.old))
+            (devices holds faults (map (provider_seen P.Provider) providers.new)) }
         ensures count { length providers.new ≡ length providers.old }
         ensures others { (k : ℕ) → k ≢ provider → slice_get providers.new k ≡ slice_get providers.old k }
         ensures left { result ≡ Some turn.More → left_of self.new job < left_of self.old job }
         ensures padded { IfSome result (λ turn. IfEnded turn (λ ended. HasPaddedCounts ended.answer)) }
         ensures acted { IfSome result (λ turn. IsNoAction turn → ⊥) }
+        ensures called { OnSome result (CalledOnce P.calls provider providers.old providers.new) }
     {
         let place = place_of(&self.jobs, job)?;
         let index = provider as usize;

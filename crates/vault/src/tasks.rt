@@ -1,3 +1,8 @@
+ghost use Rattle.std.specs.Prelude.{◌≡◌};
+ghost use Rattle.std.specs.Option.{ForSome};
+ghost use Rattle.hail_columns.specs.Objects.{symbols_in};
+ghost use Rattle.file_layout.specs.Files.{shaped_object};
+
 use crate::bench::Bench;
 use crate::blocks::Blocks;
 use crate::heard::{Answers, Fetches};
@@ -5,11 +10,14 @@ use file_layout::FileShape;
 use record_codec::Counts;
 use stream_model::Bytes;
 
-/// What a put works with: the bytes of its file.
+/// What a put works with: the bytes of its file, and the stripe whose symbols are at hand.
 #[derive(Drop)]
 pub struct PutTask {
     pub bytes: Bytes,
     pub bench: Bench,
+    pub at_hand: Option<u32>,
+    ghost gathered: { ForSome at_hand (λ stripe. bench.rows.items
+        ≡ symbols_in (shaped_object bench.keys.master.0 bench.keys.file) bytes stripe) },
 }
 
 /// What a get works with: what its fetches gave, and the bytes that were opened so far, of a file of this length.

@@ -1,5 +1,5 @@
 ghost use Rattle.std.specs.Prelude.{◌≡◌};
-ghost use Rattle.vault.specs.Seen.{setup_of, table_of, next_job_of};
+ghost use Rattle.vault.specs.Seen.{vault_setup, table_of, next_job_of};
 
 use crate::codec::Codec;
 use crate::flight::Flight;
@@ -29,7 +29,7 @@ pub struct Vault {
 impl Vault {
     /// The numbers that the store was set up with.
     pub fn setup(&self) -> Setup
-        ensures { result ≡ setup_of self.now }
+        ensures { result ≡ vault_setup self.now }
     {
         self.setup
     }

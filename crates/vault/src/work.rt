@@ -54,7 +54,9 @@ impl Blocks {
 
     /// Opens the stripe of the last blocks, one of each provider; None where there are no such.
     fn open(&self, bench: &mut Bench, codec: &mut Codec, stripe: u32) -> Option<Result<(), RowLost>>
-        ensures opened { IfSome result (λ r. OpensAs (bench_object bench.old) stripe (last_blocks bench.old.keys.file.shape.n self.now) r bench.new.rows.items) }
+        ensures opened { IfSome result
+            (λ r. OpensAs (bench_object bench.old) stripe (last_blocks bench.old.keys.file.shape.n self.now)
+            r bench.new.rows.items) }
         ensures there { HasLast bench.old self.now → IsSome result }
         ensures keys { bench.new.keys ≡ bench.old.keys }
     {
@@ -106,7 +108,8 @@ impl RepairTask {
 
     /// Opens a stripe, and makes room for the blocks of the next.
     fn work(&mut self, codec: &mut Codec, object: u64, stripe: u32) -> Option<Result<(), RowLost>>
-        ensures works { IfSome result (λ r. WorksAs (task.Repair self.old) (task.Repair self.new) object stripe r) }
+        ensures works { IfSome result
+            (λ r. WorksAs (task.Repair self.old) (task.Repair self.new) object stripe r) }
         ensures there { CanWork (task.Repair self.old) → IsSome result }
     {
         self.bench.turn_to(object);
@@ -134,7 +137,8 @@ impl Vault {
     /// Opens the stripe whose blocks were just fetched. A row that is not accepted ends the job.
     pub(crate) fn work(&mut self, job: u32, object: u64, stripe: u32) -> Option<Turn>
         requires { Comes self.old.core job (Work object stripe) }
-        ensures machine { (w : State) (moment : ℕ) (d : Devices) → Stands self.old d w → MakesTurn w moment job result self.new d d }
+        ensures machine { (w : State) (moment : ℕ) (d : Devices) → Stands self.old d w
+            → MakesTurn w moment job result self.new d d }
         ensures left { result ≡ Some turn.More → left_of self.new job < left_of self.old job }
         ensures padded { IfSome result (λ turn. IfEnded turn (λ ended. HasPaddedCounts ended.answer)) }
         ensures acted { IfSome result (λ turn. IsNoAction turn → ⊥) }

@@ -1,13 +1,13 @@
 -- A core with one more job: it is kept, and stands for the state after the begin.
 use Rattle.std.proofs.Common.{◌≡◌, ℕ, zero, suc, ◌+◌, ◌-◌, ◌<◌, ◌≤◌, Bool, true, false, List, [], ◌∷◌, ◌++◌, Option, Some, None, Vec, Global, length, map, drop, inl, inr, refl, ap, sym, subst, ◌∙◌, length-append, arith}
-use Rattle.std.specs.Prelude.{nat_lt, ◌==◌, ◌||◌, IsTrue, sum, sum_by, if◌then◌else◌}
+use Rattle.std.specs.Prelude.{nat_lt, ◌==◌, ◌||◌, sum, sum_by, if◌then◌else◌}
 use Rattle.std.specs.List.{All, AllZip}
-use Rattle.std.specs.Prelude.{Result, Ok, Err, is_err, OnOk}
-use Rattle.std.proofs.lemmas.Bool.{cases_Bool, false≢true}
+use Rattle.std.specs.Prelude.{Result, Ok, Err, OnOk}
+use Rattle.std.proofs.lemmas.Bool.{cases_Bool}
 use Rattle.std.proofs.lemmas.Bool.Decides.{nat_tests}
 use Rattle.std.proofs.lemmas.List.Elements.{All-push}
 use Rattle.std.proofs.lemmas.List.Sums.{sum_by_push}
-use Rattle.hail_records.specs.Records.{Setup, Record, is_setup, largest_journal}
+use Rattle.hail_records.specs.Records.{Setup, Record, largest_journal}
 use Rattle.hail_machine.specs.Jobs.{Kind}
 use Rattle.hail_machine.specs.Events.{Begin, Begun, IsSpelledKind}
 use Rattle.hail_machine.specs.States.{State, Append, setup_in}
@@ -24,13 +24,14 @@ use Rattle.vault_core.specs.declared.own.Core.TheInside.{Inside}
 use Rattle.vault_core.specs.View.{CoreJob, CoreView, AreRising, job_in}
 use Rattle.vault_core.specs.Reserves.{sizes_of, reserved_of, starts_of, Reserves}
 use Rattle.vault_core.specs.Coming.{entry_of_found}
-use Rattle.vault_core.specs.Carried.{IsKindOf, IsJobOf, IsFlight, CoreIs, begun}
-use Rattle.vault_core.specs.Parts.{seen, view_of, IsKept, IsCore}
+use Rattle.vault_core.specs.Carried.{IsKindOf, IsJobOf, IsCoreFlight, CoreIs, begun}
+use Rattle.vault_core.specs.Parts.{core_job, view_of, IsJobKept, IsCore}
 use Rattle.vault_core.specs.Refusing.{is_busy_in, word_refusal_in, is_used_up, is_full_in, or_full, refusal_in}
 use Rattle.vault_core.specs.Making.{cursor_first, starts_for, admitted, IsMade}
 use Rattle.vault_core.proofs.Counts.{gates_at, reserved_is, reserved_at}
 use Rattle.vault_core.proofs.Joins.{made-is}
 use Rattle.vault_core.proofs.Refusals.{length-seen}
+use Rattle.vault_core.proofs.Kept.{rising_push}
 
 -- ---- lists
 
@@ -40,9 +41,9 @@ zip-push R [] (b ∷ ys) x y h r = absurd h
 zip-push R (a ∷ xs) [] x y h r = absurd h
 zip-push R (a ∷ xs) (b ∷ ys) x y h r = (h.0, zip-push R xs ys x y h.1 r)
 
-seen-push : (n : ℕ) (js : List Job) (j : Job) → map (seen n) (js ++ j ∷ []) ≡ map (seen n) js ++ seen n j ∷ []
+seen-push : (n : ℕ) (js : List Job) (j : Job) → map (core_job n) (js ++ j ∷ []) ≡ map (core_job n) js ++ core_job n j ∷ []
 seen-push n [] j = refl
-seen-push n (i ∷ js) j = ap (λ (xs : List CoreJob). seen n i ∷ xs) (seen-push n js j)
+seen-push n (i ∷ js) j = ap (λ (xs : List CoreJob). core_job n i ∷ xs) (seen-push n js j)
 
 -- ---- the room of a new job
 
@@ -58,7 +59,7 @@ cursor-room n wish.Audit ts = refl
 cursor-room n wish.Repair [] = refl
 cursor-room n wish.Repair (t ∷ ts) = refl
 
-pub made-room : (t : Kept) (s : Setup) (k : ℕ) (v : Wish) (job : Job) → IsMade t s k v job → reserved_of s.n (seen s.n job) ≡ sum (sizes_of s.n v)
+pub made-room : (t : Kept) (s : Setup) (k : ℕ) (v : Wish) (job : Job) → IsMade t s k v job → reserved_of s.n (core_job s.n job) ≡ sum (sizes_of s.n v)
 made-room t s k v job made = reserved_is s.n job ∙ (ap (λ (x : Wish). reserved_at s.n x job.cursor) made.wish ∙ (ap (reserved_at s.n v) made.cursor ∙ cursor-room s.n v job.tasks.items))
 
 none-by : (b u f : Bool) (o : Option BeginFault) → None ≡ (if b then Some fault.MustReopen else (if u then Some fault.Busy else or_full o f)) → (u ≡ false) × (f ≡ false)
@@ -83,10 +84,6 @@ room-left c v res h = by v (none-by c.barred (is_busy_in c v) (is_full_in c v) (
 
 -- ---- the core is kept
 
-rising-more : (low : ℕ) (js : List CoreJob) (next : ℕ) (x : CoreJob) → x.number ≡ next → AreRising low js next → AreRising low (js ++ x ∷ []) (next + 1)
-rising-more low [] next x e h = ((let l : low ≤ next = h in omega (arith, l, e)), (let l : x.number + 1 ≤ next + 1 = omega (arith, e) in l))
-rising-more low (j ∷ js) next x e h = (h.0, rising-more (j.number + 1) js next x e h.1)
-
 starts-le : (j : CoreJob) (v : Wish) → j.wish ≡ v → starts_of j ≤ starts_for v
 starts-le j v e = subst (λ (k : ℕ). k ≤ starts_for v) (sym (ap (λ (x : Wish). starts_of (record j { wish = x })) e)) (by v)
   where
@@ -102,27 +99,27 @@ starts-le j v e = subst (λ (k : ℕ). k ≤ starts_for v) (sym (ap (λ (x : Wis
     by wish.Repair = omega arith
 
 module _ (a : Inside) (job : Job) (t : Kept) (js : Vec Job Global) (k : ℕ) (table : t ≡ record a.table { spare = a.table.spare + starts_for job.wish }) (jobs : js.items ≡ a.jobs.items ++ job ∷ []) where
-  jobs-seen : map (seen a.setup.n) js.items ≡ map (seen a.setup.n) a.jobs.items ++ seen a.setup.n job ∷ []
-  jobs-seen = ap (map (seen a.setup.n)) jobs ∙ seen-push a.setup.n a.jobs.items job
+  jobs-seen : map (core_job a.setup.n) js.items ≡ map (core_job a.setup.n) a.jobs.items ++ core_job a.setup.n job ∷ []
+  jobs-seen = ap (map (core_job a.setup.n)) jobs ∙ seen-push a.setup.n a.jobs.items job
 
   pub admitted-view : (v : CoreView) → view_of a ≡ v → view_of (record a { table = t; jobs = js; next_job = a.next_job + 1 }) ≡ admitted v job.wish job
   admitted-view v e = subst (λ (c : CoreView). view_of (record a { table = t; jobs = js; next_job = a.next_job + 1 }) ≡ admitted c job.wish job) e
-      (ap (λ (x : Kept). record (view_of a) { table = x; jobs = map (seen a.setup.n) js.items; next_job = a.next_job + 1 }) table
+      (ap (λ (x : Kept). record (view_of a) { table = x; jobs = map (core_job a.setup.n) js.items; next_job = a.next_job + 1 }) table
       ∙ ap (λ (xs : List CoreJob). record (view_of a) { table = record a.table { spare = a.table.spare + starts_for job.wish }; jobs = xs; next_job = a.next_job + 1 }) jobs-seen)
 
-  pub admitted-core : IsCore a → job.number ≡ a.next_job → IsKept a.setup.n job → length a.jobs.items < 8 →
-      a.end + sum_by (reserved_of a.setup.n) (map (seen a.setup.n) a.jobs.items) + reserved_of a.setup.n (seen a.setup.n job) ≤ largest_journal →
+  pub admitted-core : IsCore a → job.number ≡ a.next_job → IsJobKept a.setup.n job → length a.jobs.items < 8 →
+      a.end + sum_by (reserved_of a.setup.n) (map (core_job a.setup.n) a.jobs.items) + reserved_of a.setup.n (core_job a.setup.n job) ≤ largest_journal →
       IsCore (record a { table = t; jobs = js; next_job = a.next_job + 1 })
   admitted-core core number kept few room = record {
     set_up = core.set_up;
-    kept = subst (All (IsKept a.setup.n)) (sym jobs) (All-push (IsKept a.setup.n) a.jobs.items job core.kept kept);
+    kept = subst (All (IsJobKept a.setup.n)) (sym jobs) (All-push (IsJobKept a.setup.n) a.jobs.items job core.kept kept);
     few = (let e = ap (λ (xs : List Job). length xs) jobs in let l = length-append a.jobs.items (job ∷ []) in let o : length (job ∷ []) ≡ 1 = refl in omega (arith, e, l, o, few));
     begun = core.begun;
-    numbered = subst (λ (xs : List CoreJob). AreRising 0 xs (a.next_job + 1)) (sym jobs-seen) (rising-more 0 (map (seen a.setup.n) a.jobs.items) a.next_job (seen a.setup.n job) number core.numbered);
+    numbered = subst (λ (xs : List CoreJob). AreRising 0 xs (a.next_job + 1)) (sym jobs-seen) (rising_push 0 (map (core_job a.setup.n) a.jobs.items) a.next_job (core_job a.setup.n job) number core.numbered);
     reserves = record {
-      room = (let e = ap (λ (xs : List CoreJob). sum_by (reserved_of a.setup.n) xs) jobs-seen in let p = sum_by_push (reserved_of a.setup.n) (map (seen a.setup.n) a.jobs.items) (seen a.setup.n job) in omega (arith, e, p, room));
-      spare = (let e = ap (λ (xs : List CoreJob). sum_by starts_of xs) jobs-seen in let p = sum_by_push starts_of (map (seen a.setup.n) a.jobs.items) (seen a.setup.n job) in
-          let q = starts-le (seen a.setup.n job) job.wish refl in let r = core.reserves.spare in let z = ap (λ (x : Kept). x.spare) table in omega (arith, e, p, q, r, z));
+      room = (let e = ap (λ (xs : List CoreJob). sum_by (reserved_of a.setup.n) xs) jobs-seen in let p = sum_by_push (reserved_of a.setup.n) (map (core_job a.setup.n) a.jobs.items) (core_job a.setup.n job) in omega (arith, e, p, room));
+      spare = (let e = ap (λ (xs : List CoreJob). sum_by starts_of xs) jobs-seen in let p = sum_by_push starts_of (map (core_job a.setup.n) a.jobs.items) (core_job a.setup.n job) in
+          let q = starts-le (core_job a.setup.n job) job.wish refl in let r = core.reserves.spare in let z = ap (λ (x : Kept). x.spare) table in omega (arith, e, p, q, r, z));
     };
   }
 
@@ -139,12 +136,12 @@ found-more (j ∷ js) x k t e h = elim (cases_Bool (j.number == k)) [
   | inr n ↦ rw n (found-more js x k t e (subst (λ (b : Bool). entry_of_found t (if b then Some j else job_in js k) ≡ Some e) n h))
 ]
 
-flight-more : (c : CoreView) (v : Wish) (job : Job) (o : Option Append) → IsFlight c o → IsFlight (admitted c v job) o
+flight-more : (c : CoreView) (v : Wish) (job : Job) (o : Option Append) → IsCoreFlight c o → IsCoreFlight (admitted c v job) o
 flight-more c v job None h = h
 flight-more c v job (Some a) h = (
   h.0,
-  same-entry c.table (c.table.spare + starts_for v) (job_in (c.jobs ++ seen c.setup.n job ∷ []) a.job)
-      ∙ (ap (entry_of_found c.table) (found-more c.jobs (seen c.setup.n job) a.job c.table a.entry h.1) ∙ h.1),
+  same-entry c.table (c.table.spare + starts_for v) (job_in (c.jobs ++ core_job c.setup.n job ∷ []) a.job)
+      ∙ (ap (entry_of_found c.table) (found-more c.jobs (core_job c.setup.n job) a.job c.table a.entry h.1) ∙ h.1),
 )
 
 pub core-begun : (c : CoreView) (w : State) (kind : Kind) (moment : ℕ) (v : Wish) (job : Job) → CoreIs c w → IsKindOf v kind → IsSpelledKind kind → begin_refusal 8 w kind ≡ None →
@@ -153,10 +150,10 @@ unfolding setup_in
 core-begun c w kind moment v job is of spelled allowed least most made = record {
   sound = events-sound 8 moment w is.sound (Begin kind) (Begun w.next_job) (begun w moment kind) spelled (is.is_open, allowed, refl, refl);
   is_open = is.is_open;
-  table = record { setup = is.table.setup; files = is.table.files; started = is.table.started; id = is.table.id; audit = is.table.audit; running = is.table.running; due = is.table.due };
+  table = record { setup = is.table.setup; version = is.table.version; files = is.table.files; started = is.table.started; id = is.table.id; audit = is.table.audit; running = is.table.running; due = is.table.due };
   setup = is.setup;
   end = is.end;
-  jobs = zip-push (IsJobOf c.setup) c.jobs w.jobs (seen c.setup.n job) (new_job w moment kind) is.jobs
+  jobs = zip-push (IsJobOf c.setup) c.jobs w.jobs (core_job c.setup.n job) (new_job w moment kind) is.jobs
       (made-is c.table c.setup w moment v kind job (subst (λ (k : ℕ). IsMade c.table c.setup k v job) is.next_job made) least most is.table is.setup is.sound.files of);
   next_job = ap (λ (k : ℕ). k + 1) is.next_job;
   append = flight-more c v job w.append is.append;
@@ -165,16 +162,9 @@ core-begun c w kind moment v job is of spelled allowed least most made = record 
 
 -- ---- what a call gave
 
-pub on_ok : {A E : Type 0} (r : Result A E) (P : Type 0) → is_err r ≡ false → OnOk r P → P
-on_ok (Ok x) P e h = h
-on_ok (Err x) P e h = absurd (false≢true (sym e))
-
 pub on_ok_then : {A E : Type 0} (r : Result A E) (P Q : Type 0) → (P → Q) → OnOk r P → OnOk r Q
 on_ok_then (Ok x) P Q f h = f h
 on_ok_then (Err x) P Q f h = h
 
-pub limits : (s : Setup) → IsTrue (is_setup s) → (4 ≤ s.n) × (s.n ≤ 16)
-limits s h = (grind (arith, nat_tests, h), grind (arith, nat_tests, h))
-
-pub fewer-than : (n : ℕ) (js : List Job) → length (map (seen n) js) < 8 → length js < 8
+pub fewer-than : (n : ℕ) (js : List Job) → length (map (core_job n) js) < 8 → length js < 8
 fewer-than n js h = let e = length-seen n js in omega (arith, e, h)

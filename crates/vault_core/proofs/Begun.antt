@@ -22,8 +22,8 @@ use Rattle.vault_core.specs.declared.job.Job.{Job}
 use Rattle.vault_core.specs.View.{flag_at}
 use Rattle.vault_core.specs.Rest.{numbers, calls_from, rewrite_of, rewrites_from, work_of, turn_of, turns_from, tasks_of, closing_of, tasks_on, rest_of}
 use Rattle.vault_core.specs.Coming.{takes_older, most_of}
-use Rattle.vault_core.specs.Parts.{seen, is_caller, is_opener, comes_to, IsWithin, IsWishable, IsAt, IsKept}
-use Rattle.vault_core.specs.Refusing.{IsNamed}
+use Rattle.vault_core.specs.Parts.{core_job, is_caller, is_opener, comes_to, IsWithin, IsWishable, MayBeAt, IsJobKept}
+use Rattle.vault_core.specs.Refusing.{HasName}
 use Rattle.vault_core.specs.Wished.{IsShort}
 use Rattle.vault_core.specs.Making.{pins_for, targets_of, turns_for, tasks_made, size_of_turn, other_actions, cursor_on, cursor_first, IsMade}
 use Rattle.vault_core.proofs.Rests.{rest_is, task_here}
@@ -113,21 +113,21 @@ all_first : (t : Task) (ts : List Task) → All (λ (x : Task). 0 < x.turns) (t 
 all_first t ts h = h 0 t (omega arith)
 
 pub first-at : (n : ℕ) (job : Job) (w : Wish) → 0 < n → job.wish ≡ w → All (λ (t : Task). 0 < t.turns) job.tasks.items →
-    IsAt n job (cursor_first w job.tasks.items) (front_of w ++ tasks_on n job job.tasks.items)
+    MayBeAt n job (cursor_first w job.tasks.items) (front_of w ++ tasks_on n job job.tasks.items)
 first-at n job (wish.Put name size) l e all = record { comes = ap is_opener e; within = tt; rest = refl }
 first-at n job (wish.Drop name) l e all = record { comes = ap is_opener e; within = tt; rest = refl }
 first-at n job wish.Audit l e all = record { comes = ap is_opener e; within = tt; rest = refl }
 first-at n job (wish.Get name) l e all = by job.tasks.items refl all
   where
-    by : (ts : List Task) → job.tasks.items ≡ ts → All (λ (t : Task). 0 < t.turns) ts → IsAt n job (cursor_on at.Ending ts) (tasks_on n job ts)
+    by : (ts : List Task) → job.tasks.items ≡ ts → All (λ (t : Task). 0 < t.turns) ts → MayBeAt n job (cursor_on at.Ending ts) (tasks_on n job ts)
     by [] f h = record { comes = refl; within = tt; rest = sym (ap closing_of e) }
-    by (t ∷ ts) f h = subst (IsAt n job (cursor_on at.Ending (t ∷ ts))) (ap (λ (xs : List Task). tasks_on n job xs) f)
+    by (t ∷ ts) f h = subst (MayBeAt n job (cursor_on at.Ending (t ∷ ts))) (ap (λ (xs : List Task). tasks_on n job xs) f)
         (task_here n job 0 t l (ap is_caller e) (all_first t ts h) (ap (λ (xs : List Task). slice_get xs 0) f))
 first-at n job wish.Repair l e all = by job.tasks.items refl all
   where
-    by : (ts : List Task) → job.tasks.items ≡ ts → All (λ (t : Task). 0 < t.turns) ts → IsAt n job (cursor_on (at.Closing move.Body) ts) (tasks_on n job ts)
+    by : (ts : List Task) → job.tasks.items ≡ ts → All (λ (t : Task). 0 < t.turns) ts → MayBeAt n job (cursor_on (at.Closing move.Body) ts) (tasks_on n job ts)
     by [] f h = record { comes = ap (λ (w : Wish). comes_to w (at.Closing move.Body)) e; within = tt; rest = sym (ap closing_of e) }
-    by (t ∷ ts) f h = subst (IsAt n job (cursor_on (at.Closing move.Body) (t ∷ ts))) (ap (λ (xs : List Task). tasks_on n job xs) f)
+    by (t ∷ ts) f h = subst (MayBeAt n job (cursor_on (at.Closing move.Body) (t ∷ ts))) (ap (λ (xs : List Task). tasks_on n job xs) f)
         (task_here n job 0 t l (ap is_caller e) (all_first t ts h) (ap (λ (xs : List Task). slice_get xs 0) f))
 
 -- a removal from each provider, where a gate is left
@@ -148,7 +148,7 @@ no-tasks t s (wish.Get name) pins e h = absurd (false≢true (sym h))
 no-tasks t s wish.Audit pins e h = absurd (false≢true (sym h))
 no-tasks t s wish.Repair pins e h = absurd (false≢true (sym h))
 
-wishable : (v : Wish) → IsNamed v → IsShort v → IsWishable v
+wishable : (v : Wish) → HasName v → IsShort v → IsWishable v
 wishable (wish.Put name size) named short = (named, short)
 wishable (wish.Get name) named short = tt
 wishable (wish.Drop name) named short = named
@@ -171,13 +171,13 @@ module _ (t : Kept) (s : Setup) (k : ℕ) (w : Wish) (job : Job) (made : IsMade 
   made-all : All (λ (x : Task). 0 < x.turns) job.tasks.items
   made-all = subst (All (λ (x : Task). 0 < x.turns)) (sym made.tasks) (tasks-all (turns_for s w) (targets_of w job.pinned.items))
 
-  made-first : IsAt s.n job (cursor_first w job.tasks.items) (front_of w ++ tasks_on s.n job job.tasks.items)
+  made-first : MayBeAt s.n job (cursor_first w job.tasks.items) (front_of w ++ tasks_on s.n job job.tasks.items)
   made-first = first-at s.n job w (omega arith) made.wish made-all
 
   pub made-rest : rest_of s.n job ≡ front_of w ++ tasks_on s.n job job.tasks.items
   made-rest = rest_is s.n job (cursor_first w job.tasks.items) made.cursor ∙ made-first.rest
 
-  made-most : job.left ≡ sum_by (λ (x : Task). x.turns * size_of_turn s.n w job.flagged) job.tasks.items + other_actions s.n w → job.left ≡ most_of s.n (seen s.n job)
+  made-most : job.left ≡ sum_by (λ (x : Task). x.turns * size_of_turn s.n w job.flagged) job.tasks.items + other_actions s.n w → job.left ≡ most_of s.n (core_job s.n job)
   made-most l =
       let a = ap (λ (xs : List Action). length xs) made-rest in
       let b = length-append (front_of w) (tasks_on s.n job job.tasks.items) in
@@ -189,8 +189,8 @@ module _ (t : Kept) (s : Setup) (k : ℕ) (w : Wish) (job : Job) (made : IsMade 
       ap (one_more s.n job.wish) (gates_is s.n job ∙ (ap (λ (v : Wish). gates_at v job.cursor) made.wish ∙ ap (gates_at w) made.cursor)) ∙ ap (λ (v : Wish). one_more s.n v (gates_at w (cursor_first w job.tasks.items))) made.wish in
       omega (arith, a, b, c, d, e, f, g, l)
 
-  pub made-kept : IsNamed w → IsShort w → length job.flagged ≡ 16 →
-      job.left ≡ sum_by (λ (x : Task). x.turns * size_of_turn s.n w job.flagged) job.tasks.items + other_actions s.n w → IsKept s.n job
+  pub made-kept : HasName w → IsShort w → length job.flagged ≡ 16 →
+      job.left ≡ sum_by (λ (x : Task). x.turns * size_of_turn s.n w job.flagged) job.tasks.items + other_actions s.n w → IsJobKept s.n job
   made-kept named short long l = record {
     stays = record {
       tasks = made-all;

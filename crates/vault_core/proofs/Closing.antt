@@ -3,7 +3,7 @@ use Rattle.std.proofs.Common.{◌≡◌, ℕ, zero, suc, ◌+◌, ◌-◌, ◌<�
 use Rattle.std.specs.Prelude.{Option, if◌then◌else◌, ◌==◌, ◌&&◌, ◌||◌, not, nat_lt, slice_get, IsTrue}
 use Rattle.std.specs.List.{AllZip, flat_map, list_any, range_with_len}
 use Rattle.std.proofs.Math.Seq.{drop-append-add}
-use Rattle.std.proofs.lemmas.Bool.{cases_Bool, ltb-false, ltb-true, false≢true}
+use Rattle.std.proofs.lemmas.Bool.{cases_Bool, ltb-false, ltb-true, false≢true, not-true, not-false}
 use Rattle.std.proofs.lemmas.List.{append-nil}
 use Rattle.hail_records.specs.Records.{Setup}
 use Rattle.hail_records.specs.Table.{File, file_of}
@@ -14,18 +14,19 @@ use Rattle.hail_machine.specs.Appends.{is_first_append, removable, taken_out}
 use Rattle.hail_machine.specs.Audits.{HasSums}
 use Rattle.hail_machine.specs.Steps.{next_action}
 use Rattle.hail_machine.proofs.Fair.{gate_place}
-use Rattle.sound_states.proofs.Orders.{put-list, audit-list, drop_rest, audit_rest, next-listed, next-left}
+use Rattle.sound_states.proofs.Orders.{put-list, audit-list, drop_rest, audit_rest, next-left}
 use Rattle.sound_states.proofs.Gates.{decided, drop-list, drop-gate, put-behind}
 use Rattle.sound_states.proofs.Going.{onward}
 use Rattle.vault_table.specs.Values.{Kept, IsFoldOf}
+use Rattle.hail_machine.proofs.NextActions.{next_stands}
 use Rattle.vault_core.specs.declared.pinned.Pinned.{Pinned}
 use Rattle.vault_core.specs.declared.wish.Wish.{Wish}
 use Rattle.vault_core.specs.declared.wish.Wish.TheVariants as wish
 use Rattle.vault_core.specs.View.{CoreJob}
-use Rattle.vault_core.specs.Coming.{is_ask}
+use Rattle.vault_core.specs.Coming.{asks_next}
 use Rattle.vault_core.specs.Going.{removals_of}
 use Rattle.vault_core.specs.Carried.{IsKindOf, has_asked, opens, pin_of, IsJobOf}
-use Rattle.vault_core.specs.Fed.{is_gate, moved, is_pinned_in, removable_in, older_of, is_taker, decides_now, gated}
+use Rattle.vault_core.specs.Fed.{is_gate, stepped, is_pinned_in, removable_in, older_of, is_taker, decides_now, gated}
 use Rattle.vault_core.proofs.Places.{any-map}
 use Rattle.vault_core.proofs.Standing.{get-drop, file_here}
 use Rattle.vault_core.proofs.Onward.{sums-same, no-sums, asks-none, head-here, left-here, opening-on, on-moved}
@@ -61,14 +62,6 @@ removals s cs w (Some f) h = subst (λ (b : Bool). removals_of s.n (if is_pinned
 
 -- ---- where the fourth move stands
 
-not_false : (b : Bool) → not b ≡ true → b ≡ false
-not_false true h = absurd (false≢true h)
-not_false false h = refl
-
-not_true : (b : Bool) → not b ≡ false → b ≡ true
-not_true true h = refl
-not_true false h = absurd (false≢true (sym h))
-
 gate_within : (rest : List Action) (p : ℕ) → p < 4 → slice_get (append_actions ++ rest) p ≡ Some SyncGate → p ≡ 3
 gate_within rest zero l h = absurd (let e : Some WriteBody ≡ Some SyncGate = h in cc)
 gate_within rest (suc zero) l h = absurd (let e : Some SyncBody ≡ Some SyncGate = h in cc)
@@ -101,7 +94,7 @@ module _ (w : State) (t : Kept) (cs : List CoreJob) (c : CoreJob) (m : Job) (f :
       by : (v : Wish) (k : Kind) → c.wish ≡ v → m.kind ≡ k → IsKindOf v k → is_taker v c.opening ≡ true →
           removals_of (setup_in w).n (older_of t cs v) ≡ actions_left (setup_in w) (decided m (taken_out w m k))
       by (wish.Put name size) (PutJob called bytes) e g h b =
-          (let opened : c.opening ≡ false = not_false c.opening b in
+          (let opened : c.opening ≡ false = not-true c.opening b in
           let first : is_first_append m ≡ false = sym (ap (λ (x : Wish). opens x && is_first_append m) e) ∙ (sym is.opening ∙ opened) in
           let later : 4 ≤ m.place = ltb-false m.place 4 first in
           let at = gate_place w m called bytes g next later in
@@ -111,7 +104,7 @@ module _ (w : State) (t : Kept) (cs : List CoreJob) (c : CoreJob) (m : Job) (f :
           ∙ sym (ap (drop (m.place + 1)) (put-list (setup_in w) (decided m (taken_out w m (PutJob called bytes))) called bytes g)
           ∙ put-behind (setup_in w) (decided m (taken_out w m (PutJob called bytes))) bytes (m.place + 1) (omega (arith, at))))))
       by (wish.Drop name) (DropJob called) e g h b =
-          (let at = drop-gate (setup_in w) m m.place (ap (λ (xs : List Action). slice_get xs m.place) (sym (drop-list (setup_in w) m called g)) ∙ next-listed w m SyncGate next not_end) in
+          (let at = drop-gate (setup_in w) m m.place (ap (λ (xs : List Action). slice_get xs m.place) (sym (drop-list (setup_in w) m called g)) ∙ next_stands w m SyncGate next not_end) in
           let four : m.place + 1 ≡ 4 + 0 = omega (arith, at) in
           ap (λ (o : Option File). removals_of (setup_in w).n (removable_in cs o)) (file_here t w.records name f ∙ ap (file_of w.records) (sym h))
           ∙ (removals (setup_in w) cs w (file_in w called) all
@@ -131,24 +124,24 @@ module _ (w : State) (t : Kept) (cs : List CoreJob) (c : CoreJob) (m : Job) (f :
       by : (v : Wish) (k : Kind) → c.wish ≡ v → IsKindOf v k → is_taker v c.opening ≡ false → taken_out w m k ≡ []
       by (wish.Put name size) (PutJob called bytes) e h b =
           ap (λ (x : Bool). if x then [] else removable w (file_in w called))
-          (sym (ap (λ (x : Wish). opens x && is_first_append m) e) ∙ (sym is.opening ∙ not_true c.opening b))
+          (sym (ap (λ (x : Wish). opens x && is_first_append m) e) ∙ (sym is.opening ∙ not-false c.opening b))
       by (wish.Get name) (GetJob called) e h b = refl
       by (wish.Drop name) k e h b = absurd (false≢true (sym b))
       by wish.Audit AuditJob e h b = refl
       by wish.Repair RepairJob e h b = refl
       by v k e h b = absurd h
 
-  sums_closed : IsTrue (has_asked (moved c)) → HasSums (setup_in w) (onward m m.subject m.given) c.sums
+  sums_closed : IsTrue (has_asked (stepped c)) → HasSums (setup_in w) (onward m m.subject m.given) c.sums
   sums_closed has = elim (cases_Bool c.opening) [
-    | inr b ↦ sums-same (setup_in w) m (onward m m.subject m.given) refl refl c.sums refl (is.sums (asked_whole c p.audit b (ap is_ask head)))
+    | inr b ↦ sums-same (setup_in w) m (onward m m.subject m.given) refl refl c.sums refl (is.sums (asked_whole c p.audit b (ap asks_next head)))
     | inl b ↦ subst (HasSums (setup_in w) (onward m m.subject m.given)) (sym (is.unjudged b))
         (no-sums (setup_in w) (onward m m.subject m.given) some
-        (asks-none (setup_in w) m kind (ap (λ (k : ℕ). is_ask (slice_get (actions_of (setup_in w) m) k)) (four b)
-        ∙ (sym (ap is_ask (ap (λ (xs : List Action). slice_get (drop 1 xs) 0) (left-here w c m SyncGate is next not_end) ∙ get-drop (m.place + 1) (actions_of (setup_in w) m))) ∙ p.head))))
+        (asks-none (setup_in w) m kind (ap (λ (k : ℕ). asks_next (slice_get (actions_of (setup_in w) m) k)) (four b)
+        ∙ (sym (ap asks_next (ap (λ (xs : List Action). slice_get (drop 1 xs) 0) (left-here w c m SyncGate is next not_end) ∙ get-drop (m.place + 1) (actions_of (setup_in w) m))) ∙ p.head))))
   ]
     where
-      p : Asked (moved c)
-      p = asked_parts (moved c) has
+      p : Asked (stepped c)
+      p = asked_parts (stepped c) has
 
       kind : m.kind ≡ AuditJob
       kind = audit_kind c.wish m.kind p.audit is.kind
@@ -156,7 +149,7 @@ module _ (w : State) (t : Kept) (cs : List CoreJob) (c : CoreJob) (m : Job) (f :
       four : c.opening ≡ true → 4 ≡ m.place + 1
       four b =
           (let first : is_first_append m ≡ true = sym (ap (λ (x : Wish). opens x && is_first_append m) p.audit) ∙ (sym is.opening ∙ b) in
-          let three = gate_within (audit_rest (setup_in w) m) m.place (ltb-true m.place 4 first) (ap (λ (xs : List Action). slice_get xs m.place) (sym (audit-list (setup_in w) m kind)) ∙ next-listed w m SyncGate next not_end) in
+          let three = gate_within (audit_rest (setup_in w) m) m.place (ltb-true m.place 4 first) (ap (λ (xs : List Action). slice_get xs m.place) (sym (audit-list (setup_in w) m kind)) ∙ next_stands w m SyncGate next not_end) in
           omega (arith, three))
 
   decides_is : decides_now c ≡ is_taker c.wish c.opening
@@ -165,7 +158,7 @@ module _ (w : State) (t : Kept) (cs : List CoreJob) (c : CoreJob) (m : Job) (f :
   -- the append of the job is done
   pub on-gated : IsJobOf (setup_in w) (gated (setup_in w).n t cs c) (decided m (taken_out w m m.kind))
   on-gated = elim (cases_Bool (is_taker c.wish c.opening)) [
-    | inl d ↦ subst (λ (b : Bool). IsJobOf (setup_in w) (if b then record c { rest = removals_of (setup_in w).n (older_of t cs c.wish); opening = false } else moved c) (decided m (taken_out w m m.kind)))
+    | inl d ↦ subst (λ (b : Bool). IsJobOf (setup_in w) (if b then record c { rest = removals_of (setup_in w).n (older_of t cs c.wish); opening = false } else stepped c) (decided m (taken_out w m m.kind)))
         (sym (decides_is ∙ d))
         (record {
           number = is.number;
@@ -178,7 +171,7 @@ module _ (w : State) (t : Kept) (cs : List CoreJob) (c : CoreJob) (m : Job) (f :
           unjudged = λ o. absurd (false≢true o);
           sums = λ has. absurd (false≢true (sym (ap (λ (x : Wish). is_taker x c.opening) (asked_parts (record c { rest = removals_of (setup_in w).n (older_of t cs c.wish); opening = false }) has).audit) ∙ d));
         })
-    | inr d ↦ subst (λ (b : Bool). IsJobOf (setup_in w) (if b then record c { rest = removals_of (setup_in w).n (older_of t cs c.wish); opening = false } else moved c) (decided m (taken_out w m m.kind)))
+    | inr d ↦ subst (λ (b : Bool). IsJobOf (setup_in w) (if b then record c { rest = removals_of (setup_in w).n (older_of t cs c.wish); opening = false } else stepped c) (decided m (taken_out w m m.kind)))
         (sym (decides_is ∙ d))
-        (subst (λ (o : List ℕ). IsJobOf (setup_in w) (moved c) (decided m o)) (sym (keeps d)) (on-moved w c m SyncGate is next not_end m.given sums_closed))
+        (subst (λ (o : List ℕ). IsJobOf (setup_in w) (stepped c) (decided m o)) (sym (keeps d)) (on-moved w c m SyncGate is next not_end m.given sums_closed))
   ]

@@ -17,7 +17,7 @@ use Rattle.vault_core.specs.declared.job.Job.{Job}
 use Rattle.vault_core.specs.View.{flag_at}
 use Rattle.vault_core.specs.Rest.{numbers, call_of, calls_from, rewrite_of, rewrites_from, work_of, turn_of, turns_from, tasks_of, moves_from, closing_of, tasks_on, beyond, rest_at, rest_of}
 use Rattle.vault_core.specs.Reserves.{sizes_of, last_size, reserved_of}
-use Rattle.vault_core.specs.Parts.{comes_to, is_opening, is_past, seen}
+use Rattle.vault_core.specs.Parts.{comes_to, is_opening, is_past, core_job}
 
 -- how many gates are among these actions
 abbrev pub gates : List Action → ℕ
@@ -150,7 +150,7 @@ gates_is n job = gates_here n job job.cursor
 abbrev pub reserved_at : ℕ → Wish → Cursor → ℕ
 reserved_at n w c = sum (drop (length (sizes_of n w) - gates_at w c) (sizes_of n w))
 
-pub reserved_is : (n : ℕ) (job : Job) → reserved_of n (seen n job) ≡ reserved_at n job.wish job.cursor
+pub reserved_is : (n : ℕ) (job : Job) → reserved_of n (core_job n job) ≡ reserved_at n job.wish job.cursor
 reserved_is n job = ap (λ (k : ℕ). sum (drop (length (sizes_of n job.wish) - k) (sizes_of n job.wish))) (gates_is n job)
 
 pub reserved_opening : (n : ℕ) (w : Wish) (c : Cursor) → comes_to w c ≡ true → is_opening c ≡ true → sum (sizes_of n w) ≡ reserved_at n w c

@@ -18,23 +18,19 @@ use Rattle.vault_core.specs.View.{CoreJob, CoreView}
 use Rattle.vault_core.specs.Coming.{takes_older}
 use Rattle.vault_core.specs.Rest.{numbers, calls_from, turn_of, turns_from, tasks_of, closing_of, rest_at, rest_of}
 use Rattle.vault_core.specs.Going.{aimed, drawn_tasks, decides, decides_at, goes_opening}
-use Rattle.vault_core.specs.Parts.{seen, view_of, is_opening, is_over, IsKept, IsCore}
-use Rattle.vault_core.specs.Fed.{first_of, first_at, is_gate, renamed, all_renamed, moved, number_drawn, drawn}
+use Rattle.vault_core.specs.Parts.{core_job, view_of, is_opening, is_over, IsJobKept, IsCore}
+use Rattle.vault_core.specs.Fed.{first_of, first_at, is_gate, renamed, all_renamed, stepped, number_drawn, drawn}
 use Rattle.vault_core.specs.Reserves.{reserved_of, starts_of}
 use Rattle.vault_core.proofs.Counts.{gates, gates-cons}
 use Rattle.vault_core.proofs.Gates.{action_at, first_is}
-use Rattle.vault_core.proofs.Kept.{seen_at, other_view, starts_not_more, and_left, moved_room, reserved_fewer}
+use Rattle.vault_core.proofs.Kept.{seen_at, other_view, starts_not_more, and_left, moved_room, reserved_fewer, renamed_stripe}
 use Rattle.vault_core.proofs.Moving.{within, kept_at, seen_by, seen_moved}
 
 -- ---- stores under another number
 
-renamed_calls : (k o t : ℕ) (ks : List ℕ) → map (λ j. Store j k t) ks ≡ map (renamed k) (map (λ j. Store j o t) ks)
-renamed_calls k o t [] = refl
-renamed_calls k o t (j ∷ ks) = ap (λ (xs : List Action). Store j k t ∷ xs) (renamed_calls k o t ks)
-
 renamed_turn : (n k o t : ℕ) (w : Wish) (name : List ℕ) (size : ℕ) (fl : List Bool) → w ≡ wish.Put name size → turn_of n w fl k t ≡ map (renamed k) (turn_of n w fl o t)
 renamed_turn n k o t w name size fl e = subst (λ (v : Wish). turn_of n v fl k t ≡ map (renamed k) (turn_of n v fl o t)) (sym e)
-    (ap (λ (xs : List Action). xs ++ []) (renamed_calls k o t (numbers 0 n)) ∙ sym (map-append (renamed k) (calls_from 0 n (wish.Put name size) o t) []))
+    (ap (λ (xs : List Action). xs ++ []) (renamed_stripe k o t (numbers 0 n)) ∙ sym (map-append (renamed k) (calls_from 0 n (wish.Put name size) o t) []))
 
 renamed_turns : (n k o : ℕ) (w : Wish) (name : List ℕ) (size : ℕ) (fl : List Bool) (ts : List ℕ) → w ≡ wish.Put name size →
     flat_map (turn_of n w fl k) ts ≡ map (renamed k) (flat_map (turn_of n w fl o) ts)
@@ -90,10 +86,10 @@ at_start w (at.Closing move.GateSync) h X a b = cc
 at_start w (at.Removing object j) h X a b = cc
 at_start w at.Ending h X a b = cc
 
-starts_at : (n : ℕ) (job : Job) → IsKept n job → slice_get (rest_of n job) 0 ≡ Some WriteBody → action_at job.wish job.cursor ≡ WriteBody
+starts_at : (n : ℕ) (job : Job) → IsJobKept n job → slice_get (rest_of n job) 0 ≡ Some WriteBody → action_at job.wish job.cursor ≡ WriteBody
 starts_at n job kept h = let s : Some (action_at job.wish job.cursor) ≡ Some WriteBody = sym (first_is n job kept) ∙ h in let r : action_at job.wish job.cursor ≡ WriteBody = cc in r
 
-pub rest_drawn : (n : ℕ) (job : Job) (k : ℕ) (v : Vec Task Global) → IsKept n job → slice_get (rest_of n job) 0 ≡ Some WriteBody → v.items ≡ drawn_tasks k job.wish job.tasks.items →
+pub rest_drawn : (n : ℕ) (job : Job) (k : ℕ) (v : Vec Task Global) → IsJobKept n job → slice_get (rest_of n job) 0 ≡ Some WriteBody → v.items ≡ drawn_tasks k job.wish job.tasks.items →
     rest_of n (record job { subject = k; tasks = v }) ≡ all_renamed k job.wish (rest_of n job)
 unfolding rest_of
 rest_drawn n job k v kept h e = at_start job.wish job.cursor (starts_at n job kept h) _
@@ -151,8 +147,8 @@ drawn_idle k (wish.Drop name) ts us e h = e ∙ h
 drawn_idle k wish.Audit ts us e h = e ∙ h
 drawn_idle k wish.Repair ts us e h = e ∙ h
 
-pub kept_drawn : (n : ℕ) (job : Job) (k : ℕ) (v : Vec Task Global) → IsKept n job → slice_get (rest_of n job) 0 ≡ Some WriteBody → v.items ≡ drawn_tasks k job.wish job.tasks.items →
-    IsKept n (record job { subject = k; tasks = v })
+pub kept_drawn : (n : ℕ) (job : Job) (k : ℕ) (v : Vec Task Global) → IsJobKept n job → slice_get (rest_of n job) 0 ≡ Some WriteBody → v.items ≡ drawn_tasks k job.wish job.tasks.items →
+    IsJobKept n (record job { subject = k; tasks = v })
 kept_drawn n job k v kept h e = record {
   stays = record {
     tasks = drawn_turns k job.wish job.tasks.items v.items e kept.stays.tasks;
@@ -171,7 +167,7 @@ kept_drawn n job k v kept h e = record {
       ∙ ap (λ (xs : List Action). length xs + (if takes_older job.wish && nat_lt 0 (gates xs) then n else 0)) (sym (rest_drawn n job k v kept h e))));
 }
 
-pub start_going : (n : ℕ) (job : Job) → IsKept n job → slice_get (rest_of n job) 0 ≡ Some WriteBody → (is_over job.cursor ≡ false) × (decides job ≡ false)
+pub start_going : (n : ℕ) (job : Job) → IsJobKept n job → slice_get (rest_of n job) 0 ≡ Some WriteBody → (is_over job.cursor ≡ false) × (decides job ≡ false)
 start_going n job kept h = at_start job.wish job.cursor (starts_at n job kept h) _
     (λ c. (ap is_over c, ap (decides_at job.wish) c ∙ opening job.wish))
     (λ c. (ap is_over c, ap (decides_at job.wish) c ∙ closing job.wish))
@@ -192,8 +188,8 @@ start_going n job kept h = at_start job.wish job.cursor (starts_at n job kept h)
 
 -- the job at a place, whose next action is the first move of an append
 pub record StartHere (a : Inside) (place : ℕ) (job : Job) : Type 0 where
-  pub here : slice_get (view_of a).jobs place ≡ Some (seen a.setup.n job)
-  pub kept : IsKept a.setup.n job
+  pub here : slice_get (view_of a).jobs place ≡ Some (core_job a.setup.n job)
+  pub kept : IsJobKept a.setup.n job
   pub starts : slice_get (rest_of a.setup.n job) 0 ≡ Some WriteBody
 
 pub start_here : (a : Inside) (c : CoreView) (place : ℕ) (job : Job) → view_of a ≡ c → IsCore a → job ≡ get_or a.jobs.items place job → first_at c place ≡ Some WriteBody → StartHere a place job
@@ -203,13 +199,13 @@ start_here a c place job v h e f =
     let here = seen_at a place job l e in
     record { here = here; kept = kept_at a place job h l e; starts = ap first_of (sym here) ∙ p }
 
-module _ (n : ℕ) (old mid : Job) (k : ℕ) (kept : IsKept n old) (starts : slice_get (rest_of n old) 0 ≡ Some WriteBody) (subject : mid.subject ≡ k)
+module _ (n : ℕ) (old mid : Job) (k : ℕ) (kept : IsJobKept n old) (starts : slice_get (rest_of n old) 0 ≡ Some WriteBody) (subject : mid.subject ≡ k)
     (tasks : mid.tasks.items ≡ drawn_tasks k old.wish old.tasks.items) (same : mid ≡ record old { subject = mid.subject; tasks = mid.tasks }) where
   named : mid.tasks.items ≡ drawn_tasks mid.subject old.wish old.tasks.items
   named = subst (λ (s : ℕ). mid.tasks.items ≡ drawn_tasks s old.wish old.tasks.items) (sym subject) tasks
 
-  pub mid_kept : IsKept n mid
-  mid_kept = subst (IsKept n) (sym same) (kept_drawn n old mid.subject mid.tasks kept starts named)
+  pub mid_kept : IsJobKept n mid
+  mid_kept = subst (IsJobKept n) (sym same) (kept_drawn n old mid.subject mid.tasks kept starts named)
 
   pub mid_going : is_over mid.cursor ≡ false
   mid_going = ap (λ (x : Job). is_over x.cursor) same ∙ (start_going n old kept starts).0
@@ -220,14 +216,14 @@ module _ (n : ℕ) (old mid : Job) (k : ℕ) (kept : IsKept n old) (starts : sli
   mid_rest : rest_of n mid ≡ all_renamed k old.wish (rest_of n old)
   mid_rest = ap (rest_of n) same ∙ (rest_drawn n old mid.subject mid.tasks kept starts named ∙ ap (λ (s : ℕ). all_renamed s old.wish (rest_of n old)) subject)
 
-  mid_seen : seen n mid ≡ record (seen n old) { subject = k; rest = all_renamed k old.wish (rest_of n old) }
-  mid_seen = seen_by n old mid k (all_renamed k old.wish (rest_of n old)) (is_opening old.cursor) (seen n old).sums
+  mid_seen : core_job n mid ≡ record (core_job n old) { subject = k; rest = all_renamed k old.wish (rest_of n old) }
+  mid_seen = seen_by n old mid k (all_renamed k old.wish (rest_of n old)) (is_opening old.cursor) (core_job n old).sums
       (ap (λ (x : Job). x.number) same) (ap (λ (x : Job). x.wish) same) (ap (λ (x : Job). x.pinned.items) same) (ap (λ (x : Job). x.flagged) same)
-      subject mid_rest (ap (λ (x : Job). is_opening x.cursor) same) (ap (λ (x : Job). (seen n x).sums) same)
+      subject mid_rest (ap (λ (x : Job). is_opening x.cursor) same) (ap (λ (x : Job). (core_job n x).sums) same)
 
   pub seen_drawn : (new : Job) → rest_of n new ≡ drop 1 (rest_of n mid) → is_opening new.cursor ≡ goes_opening mid.cursor →
-      new ≡ record mid { cursor = new.cursor; left = new.left } → seen n new ≡ drawn (seen n old) k
-  seen_drawn new r o e = seen_moved n mid new mid_kept r o e ∙ ap moved mid_seen
+      new ≡ record mid { cursor = new.cursor; left = new.left } → core_job n new ≡ drawn (core_job n old) k
+  seen_drawn new r o e = seen_moved n mid new mid_kept r o e ∙ ap stepped mid_seen
 
 pub drawn_room : (n : ℕ) (j : CoreJob) (k : ℕ) → reserved_of n (drawn j k) ≤ reserved_of n j
 drawn_room n j k =
@@ -239,19 +235,19 @@ pub drawn_starts : (j : CoreJob) (k : ℕ) → starts_of (drawn j k) ≤ starts_
 drawn_starts j k = starts_not_more j (drawn j k) refl (and_left j.opening (not (is_gate (slice_get (all_renamed k j.wish j.rest) 0))))
 
 pub begun_view : (a : Inside) (c : CoreView) (v : Vec Job Global) (place k : ℕ) (old new index : Job) → view_of a ≡ c → v.items ≡ set a.jobs.items place new →
-    slice_get (view_of a).jobs place ≡ Some (seen a.setup.n old) → slice_get (view_of a).jobs place ≡ Some (seen a.setup.n index) → seen a.setup.n new ≡ drawn (seen a.setup.n old) k →
-    k ≡ number_drawn c.table (seen c.setup.n index) index.wish → (j : CoreJob) → slice_get c.jobs place ≡ Some j →
+    slice_get (view_of a).jobs place ≡ Some (core_job a.setup.n old) → slice_get (view_of a).jobs place ≡ Some (core_job a.setup.n index) → core_job a.setup.n new ≡ drawn (core_job a.setup.n old) k →
+    k ≡ number_drawn c.table (core_job c.setup.n index) index.wish → (j : CoreJob) → slice_get c.jobs place ≡ Some j →
     view_of (record a { jobs = v; append = Some new.number }) ≡ record c { jobs = set c.jobs place (drawn j (number_drawn c.table j j.wish)); append = Some j.number }
 begun_view a c v place k old new index view e here here2 s num j g =
     let at : slice_get (view_of a).jobs place ≡ Some j = ap (λ (x : CoreView). slice_get x.jobs place) view ∙ g in
-    let one : Some (seen a.setup.n old) ≡ Some j = sym here ∙ at in
-    let two : Some (seen a.setup.n index) ≡ Some j = sym here2 ∙ at in
-    let is_old : seen a.setup.n old ≡ j = cc in
-    let is_index : seen a.setup.n index ≡ j = cc in
-    let is_seen : seen c.setup.n index ≡ j = ap (λ (m : ℕ). seen m index) (sym (ap (λ (x : CoreView). x.setup.n) view)) ∙ is_index in
+    let one : Some (core_job a.setup.n old) ≡ Some j = sym here ∙ at in
+    let two : Some (core_job a.setup.n index) ≡ Some j = sym here2 ∙ at in
+    let is_old : core_job a.setup.n old ≡ j = cc in
+    let is_index : core_job a.setup.n index ≡ j = cc in
+    let is_seen : core_job c.setup.n index ≡ j = ap (λ (m : ℕ). core_job m index) (sym (ap (λ (x : CoreView). x.setup.n) view)) ∙ is_index in
     let is_number : k ≡ number_drawn c.table j j.wish = num ∙ ap (λ (x : CoreJob). number_drawn c.table x x.wish) is_seen in
-    other_view a v place new (drawn (seen a.setup.n old) k) (Some new.number) e s
-    ∙ (ap (λ (x : CoreView). record x { jobs = set x.jobs place (drawn (seen a.setup.n old) k); append = Some new.number }) view
+    other_view a v place new (drawn (core_job a.setup.n old) k) (Some new.number) e s
+    ∙ (ap (λ (x : CoreView). record x { jobs = set x.jobs place (drawn (core_job a.setup.n old) k); append = Some new.number }) view
     ∙ (ap (λ (x : CoreJob). record c { jobs = set c.jobs place (drawn x k); append = Some new.number }) is_old
     ∙ (ap (λ (m : ℕ). record c { jobs = set c.jobs place (drawn j m); append = Some new.number }) is_number
     ∙ ap (λ (m : ℕ). record c { jobs = set c.jobs place (drawn j (number_drawn c.table j j.wish)); append = Some m }) (ap (λ (x : CoreJob). x.number) s ∙ ap (λ (x : CoreJob). x.number) is_old))))

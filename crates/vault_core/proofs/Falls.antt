@@ -4,7 +4,7 @@ use Rattle.std.specs.Prelude.{Option, ◌==◌, position, ◌&&◌, nat_lt, slic
 use Rattle.std.specs.List.{All}
 use Rattle.std.specs.Option.{option_map}
 use Rattle.std.specs.declared.vec.Vec.{Vec}
-use Rattle.std.proofs.lemmas.List.{map-set}
+use Rattle.std.proofs.lemmas.List.{map-set, length-drop}
 use Rattle.std.proofs.lemmas.Bool.{cases_Bool, lt-ltb, ltb-true, false≢true, ne_eqb, eqb-true, eq-eqb}
 use Rattle.hail_columns.specs.Verdicts.{Sums}
 use Rattle.hail_machine.specs.Actions.{Action, SyncGate, End}
@@ -18,16 +18,16 @@ use Rattle.vault_core.specs.declared.own.Core.TheInside.{Inside}
 use Rattle.vault_core.specs.View.{CoreJob, CoreView, AreRising, job_in}
 use Rattle.vault_core.specs.Rest.{rest_of}
 use Rattle.vault_core.specs.Going.{decides, removals_of}
-use Rattle.vault_core.specs.Parts.{seen, view_of, setup_kept, comes_to, IsKept, IsCore}
-use Rattle.vault_core.specs.Coming.{Coming, Acts, Waits, IsNoJob, IsBarred, seen_action, action_next, next_in, is_idle, takes_older, most_of, left_of, written_by, HasReply, TakesReply}
+use Rattle.vault_core.specs.Parts.{core_job, view_of, setup_kept, comes_to, IsJobKept, IsCore}
+use Rattle.vault_core.specs.Coming.{Coming, Acts, Waits, IsNoJob, IsBarred, seen_action, action_next, next_in, is_idle, takes_older, most_of, core_left, written_by, HasReply, TakesReply}
 use Rattle.vault_core.specs.declared.action.Action.{Action as ActionValue}
 use Rattle.vault_core.specs.declared.action.Action.TheVariants as act
 use Rattle.vault_core.specs.declared.reply.Reply.{Reply}
 use Rattle.vault_core.specs.declared.reply.Reply.TheVariants as reply
 use Rattle.record_codec.specs.declared.counts.Counts.{Counts}
-use Rattle.vault_core.specs.Fed.{first_of, first_at, goes_plainly, with_at, number_drawn, moved, judged, drawn, all_renamed, decides_now, gated_by}
-use Rattle.vault_core.proofs.Counts.{gates, gates-cons}
-use Rattle.vault_core.proofs.Kept.{rising_set, gone, seen_at}
+use Rattle.vault_core.specs.Fed.{first_of, first_at, goes_plainly, with_at, number_drawn, stepped, judged, drawn, all_renamed, decides_now, gated_by}
+use Rattle.vault_core.proofs.Counts.{gates}
+use Rattle.vault_core.proofs.Kept.{rising_set, gone, seen_at, gates_fewer}
 use Rattle.vault_core.proofs.Moving.{kept_at}
 use Rattle.vault_core.proofs.Places.{found_at, found_none, first_of_position}
 use Rattle.vault_core.proofs.Pairs.{IsFirst}
@@ -38,14 +38,6 @@ use Rattle.vault_core.proofs.Drawing.{renamed_gates, renamed_length}
 use Rattle.vault_core.proofs.Gating.{gate_at, decides_is, gated_number, providers}
 
 -- ---- a job goes on
-
-shorter : (xs : List Action) → length (drop 1 xs) ≡ length xs - 1
-shorter [] = refl
-shorter (x ∷ xs) = let e : length xs ≡ suc (length xs) - 1 = omega arith in e
-
-fewer : (xs : List Action) → gates (drop 1 xs) ≤ gates xs
-fewer [] = omega arith
-fewer (x ∷ xs) = let e = gates-cons x xs in omega (arith, e)
 
 -- the removals that count where a gate is left
 abbrev extra : Bool → ℕ → ℕ → ℕ
@@ -61,10 +53,10 @@ extra_less true x y n l = elim (cases_Bool (nat_lt 0 x)) [
   | inr f ↦ (let p = ap {B = ℕ} (λ (b : Bool). if b then n else 0) f in omega (arith, p))
 ]
 
-pub moved_falls : (n : ℕ) (j : CoreJob) → 0 < length j.rest → most_of n (moved j) < most_of n j
+pub moved_falls : (n : ℕ) (j : CoreJob) → 0 < length j.rest → most_of n (stepped j) < most_of n j
 moved_falls n j l =
-    let a = shorter j.rest in
-    let b = extra_less (takes_older j.wish) (gates (drop 1 j.rest)) (gates j.rest) n (fewer j.rest) in
+    let a = length-drop 1 j.rest in
+    let b = extra_less (takes_older j.wish) (gates (drop 1 j.rest)) (gates j.rest) n (gates_fewer j.rest) in
     omega (arith, a, b, l)
 
 renamed_most : (n k : ℕ) (j : CoreJob) → most_of n (record j { subject = k; rest = all_renamed k j.wish j.rest }) ≡ most_of n j
@@ -81,23 +73,23 @@ drawn_falls n k j l =
 
 -- ---- an append is done
 
-removed_most : (n : ℕ) (job : Job) (o : Option ℕ) → 0 < n → IsKept n job → decides job ≡ true →
+removed_most : (n : ℕ) (job : Job) (o : Option ℕ) → 0 < n → IsJobKept n job → decides job ≡ true →
     length (removals_of n o) + extra (takes_older job.wish) (gates (removals_of n o)) n ≤ 1 + n
 unfolding rest_of
 removed_most n job None l kept d = let e = (ended n job kept).left in omega (arith, e)
 removed_most n job (Some object) l kept d = let e = (decided n job object (1 + n) l kept d refl).left in omega (arith, e)
 
-pub gated_falls : (n : ℕ) (job : Job) (older : Option ℕ) → 0 < n → IsKept n job → slice_get (rest_of n job) 0 ≡ Some SyncGate →
-    most_of n (gated_by n older (seen n job)) < most_of n (seen n job)
-gated_falls n job older l kept h = elim (cases_Bool (decides_now (seen n job))) [
+pub gated_falls : (n : ℕ) (job : Job) (older : Option ℕ) → 0 < n → IsJobKept n job → slice_get (rest_of n job) 0 ≡ Some SyncGate →
+    most_of n (gated_by n older (core_job n job)) < most_of n (core_job n job)
+gated_falls n job older l kept h = elim (cases_Bool (decides_now (core_job n job))) [
   | inl d ↦ (let is = decides_is n job kept h ∙ d in
-      let e = ap (λ (b : Bool). most_of n (if b then record (seen n job) { rest = removals_of n older; opening = false } else moved (seen n job))) d in
+      let e = ap (λ (b : Bool). most_of n (if b then record (core_job n job) { rest = removals_of n older; opening = false } else stepped (core_job n job))) d in
       let a = removed_most n job older l kept is in
       let b = decides_left n job kept is in
       let c = kept.left in
       omega (arith, e, a, b, c))
-  | inr d ↦ (let e = ap (λ (b : Bool). most_of n (if b then record (seen n job) { rest = removals_of n older; opening = false } else moved (seen n job))) d in
-      let a = moved_falls n (seen n job) (rest_some n job kept) in
+  | inr d ↦ (let e = ap (λ (b : Bool). most_of n (if b then record (core_job n job) { rest = removals_of n older; opening = false } else stepped (core_job n job))) d in
+      let a = moved_falls n (core_job n job) (rest_some n job kept) in
       omega (arith, e, a))
 ]
 
@@ -111,10 +103,10 @@ get_gate name (at.Removing object j) h e = cc
 get_gate name at.Ending h e = cc
 
 -- who is at the last move of an append writes a record
-pub gate_writes : (t : Kept) (n : ℕ) (job : Job) → IsKept n job → slice_get (rest_of n job) 0 ≡ Some SyncGate → None ≡ written_by t (seen n job) job.wish → ⊥
+pub gate_writes : (t : Kept) (n : ℕ) (job : Job) → IsJobKept n job → slice_get (rest_of n job) 0 ≡ Some SyncGate → None ≡ written_by t (core_job n job) job.wish → ⊥
 gate_writes t n job kept h e = by job.wish refl e
   where
-    by : (w : Wish) → job.wish ≡ w → None ≡ written_by t (seen n job) w → ⊥
+    by : (w : Wish) → job.wish ≡ w → None ≡ written_by t (core_job n job) w → ⊥
     by (wish.Put name size) v f = cc
     by (wish.Get name) v f = get_gate name job.cursor (subst (λ (x : Wish). comes_to x job.cursor ≡ true) v kept.comes) (subst (λ (x : Wish). action_at x job.cursor ≡ SyncGate) v (gate_at n job kept h))
     by (wish.Drop name) v f = cc
@@ -141,9 +133,9 @@ set_here [] i j k e = let r : None ≡ Some j = e in cc
 set_here (x ∷ js) zero j k e = refl
 set_here (x ∷ js) (suc i) j k e = set_here js i j k e
 
-kept_of : (n : ℕ) (xs : List Job) (i : ℕ) (j : CoreJob) → All (IsKept n) xs → slice_get (map (seen n) xs) i ≡ Some j → 0 < length j.rest
+kept_of : (n : ℕ) (xs : List Job) (i : ℕ) (j : CoreJob) → All (IsJobKept n) xs → slice_get (map (core_job n) xs) i ≡ Some j → 0 < length j.rest
 kept_of n [] i j h e = let r : None ≡ Some j = e in cc
-kept_of n (x ∷ xs) zero j h e = let r : Some (seen n x) ≡ Some j = e in let s : seen n x ≡ j = cc in subst (λ (y : CoreJob). 0 < length y.rest) s (rest_some n x (h zero x (omega arith)))
+kept_of n (x ∷ xs) zero j h e = let r : Some (core_job n x) ≡ Some j = e in let s : core_job n x ≡ j = cc in subst (λ (y : CoreJob). 0 < length y.rest) s (rest_some n x (h zero x (omega arith)))
 kept_of n (x ∷ xs) (suc i) j h e = kept_of n xs i j (λ k d l. h (suc k) d (omega (arith, l))) e
 
 -- a job that runs has an action left
@@ -152,10 +144,10 @@ some_rest a c place j v h e = kept_of a.setup.n a.jobs.items place j h.kept (ap 
 
 -- ---- what is left of it
 
-left_some : (c : CoreView) (k : ℕ) (j : CoreJob) → job_in c.jobs k ≡ Some j → left_of c k ≡ most_of c.setup.n j
+left_some : (c : CoreView) (k : ℕ) (j : CoreJob) → job_in c.jobs k ≡ Some j → core_left c k ≡ most_of c.setup.n j
 left_some c k j e = ap (λ (o : Option CoreJob). unwrap_or (option_map (most_of c.setup.n) o) 0) e
 
-left_none : (c : CoreView) (k : ℕ) → job_in c.jobs k ≡ None → left_of c k ≡ 0
+left_none : (c : CoreView) (k : ℕ) → job_in c.jobs k ≡ None → core_left c k ≡ 0
 left_none c k e = ap (λ (o : Option CoreJob). unwrap_or (option_map (most_of c.setup.n) o) 0) e
 
 rising_at : (a : Inside) (c : CoreView) → view_of a ≡ c → IsCore a → AreRising 0 c.jobs a.next_job
@@ -163,7 +155,7 @@ rising_at a c v h = subst (λ (x : CoreView). AreRising 0 x.jobs a.next_job) v h
 
 -- a job that has ended has nothing left
 pub removed_falls : (a : Inside) (c new : CoreView) (place : ℕ) → view_of a ≡ c → IsCore a → new.jobs ≡ remove c.jobs place →
-    (j : CoreJob) → slice_get c.jobs place ≡ Some j → left_of new j.number < left_of c j.number
+    (j : CoreJob) → slice_get c.jobs place ≡ Some j → core_left new j.number < core_left c j.number
 removed_falls a c new place v h r j e =
     let up = rising_at a c v h in
     let x = left_some c j.number j (at_number 0 c.jobs a.next_job place j up e) in
@@ -173,7 +165,7 @@ removed_falls a c new place v h r j e =
 
 -- one that has fewer steps left in its place
 pub set_falls : (a : Inside) (c new : CoreView) (place : ℕ) (j k : CoreJob) → view_of a ≡ c → IsCore a → slice_get c.jobs place ≡ Some j → new.setup ≡ c.setup → new.jobs ≡ set c.jobs place k →
-    k.number ≡ j.number → most_of c.setup.n k < most_of c.setup.n j → left_of new j.number < left_of c j.number
+    k.number ≡ j.number → most_of c.setup.n k < most_of c.setup.n j → core_left new j.number < core_left c j.number
 set_falls a c new place j k v h e s r m l =
     let up = rising_at a c v h in
     let x = left_some c j.number j (at_number 0 c.jobs a.next_job place j up e) in
@@ -186,22 +178,22 @@ set_falls a c new place j k v h e s r m l =
 -- ---- the job at a place whose append is done
 
 pub gated_goes : (a : Inside) (c : CoreView) (t : Kept) (v : Vec Job Global) (place z : ℕ) (old new : Job) (older : Option ℕ) → view_of a ≡ c → IsCore a → v.items ≡ set a.jobs.items place new →
-    slice_get (view_of a).jobs place ≡ Some (seen a.setup.n old) → IsKept a.setup.n old → slice_get (rest_of a.setup.n old) 0 ≡ Some SyncGate →
-    seen a.setup.n new ≡ gated_by a.setup.n older (seen a.setup.n old) → (j : CoreJob) → slice_get c.jobs place ≡ Some j →
-    left_of (view_of (record a { table = t; end = a.end + (1 + z); jobs = v; append = None })) j.number < left_of c j.number
+    slice_get (view_of a).jobs place ≡ Some (core_job a.setup.n old) → IsJobKept a.setup.n old → slice_get (rest_of a.setup.n old) 0 ≡ Some SyncGate →
+    core_job a.setup.n new ≡ gated_by a.setup.n older (core_job a.setup.n old) → (j : CoreJob) → slice_get c.jobs place ≡ Some j →
+    core_left (view_of (record a { table = t; end = a.end + (1 + z); jobs = v; append = None })) j.number < core_left c j.number
 gated_goes a c t v place z old new older view h items here kept gate s =
-    subst (λ (x : CoreView). (j : CoreJob) → slice_get x.jobs place ≡ Some j → left_of (view_of (record a { table = t; end = a.end + (1 + z); jobs = v; append = None })) j.number < left_of x j.number) view of_job
+    subst (λ (x : CoreView). (j : CoreJob) → slice_get x.jobs place ≡ Some j → core_left (view_of (record a { table = t; end = a.end + (1 + z); jobs = v; append = None })) j.number < core_left x j.number) view of_job
   where
     some : 0 < a.setup.n
     some = (let p = providers (setup_kept a) h.set_up in let q : 4 ≤ a.setup.n = p.0 in omega (arith, q))
 
-    of_job : (j : CoreJob) → slice_get (view_of a).jobs place ≡ Some j → left_of (view_of (record a { table = t; end = a.end + (1 + z); jobs = v; append = None })) j.number < left_of (view_of a) j.number
-    of_job j e = (let f : Some (seen a.setup.n old) ≡ Some j = sym here ∙ e in
-        let is : seen a.setup.n old ≡ j = cc in
-        set_falls a (view_of a) (view_of (record a { table = t; end = a.end + (1 + z); jobs = v; append = None })) place j (gated_by a.setup.n older (seen a.setup.n old)) refl h e refl
-        (ap (map (seen a.setup.n)) items ∙ (map-set (seen a.setup.n) a.jobs.items place new ∙ ap (set (map (seen a.setup.n) a.jobs.items) place) s))
-        (gated_number a.setup.n older (seen a.setup.n old) ∙ ap (λ (x : CoreJob). x.number) is)
-        (subst (λ (x : CoreJob). most_of a.setup.n (gated_by a.setup.n older (seen a.setup.n old)) < most_of a.setup.n x) is (gated_falls a.setup.n old older some kept gate)))
+    of_job : (j : CoreJob) → slice_get (view_of a).jobs place ≡ Some j → core_left (view_of (record a { table = t; end = a.end + (1 + z); jobs = v; append = None })) j.number < core_left (view_of a) j.number
+    of_job j e = (let f : Some (core_job a.setup.n old) ≡ Some j = sym here ∙ e in
+        let is : core_job a.setup.n old ≡ j = cc in
+        set_falls a (view_of a) (view_of (record a { table = t; end = a.end + (1 + z); jobs = v; append = None })) place j (gated_by a.setup.n older (core_job a.setup.n old)) refl h e refl
+        (ap (map (core_job a.setup.n)) items ∙ (map-set (core_job a.setup.n) a.jobs.items place new ∙ ap (set (map (core_job a.setup.n) a.jobs.items) place) s))
+        (gated_number a.setup.n older (core_job a.setup.n old) ∙ ap (λ (x : CoreJob). x.number) is)
+        (subst (λ (x : CoreJob). most_of a.setup.n (gated_by a.setup.n older (core_job a.setup.n old)) < most_of a.setup.n x) is (gated_falls a.setup.n old older some kept gate)))
 
 -- ---- the step of a job
 
@@ -234,16 +226,16 @@ pub record StepHere (c : CoreView) (k place : ℕ) (r : Reply) (action : Action)
 
 pub step_here : (a : Inside) (c : CoreView) (k place : ℕ) (job : Job) (r : Reply) (action : ActionValue) → view_of a ≡ c → IsCore a → TakesReply c k r →
     Some place ≡ position (λ (j : CoreJob). j.number == k) c.jobs → job ≡ get_or a.jobs.items place job →
-    ((n : ℕ) → IsKept n job → action_next a.table (seen n job) ≡ Some (seen_action action)) → StepHere c k place r (seen_action action)
+    ((n : ℕ) → IsJobKept n job → action_next a.table (core_job n job) ≡ Some (seen_action action)) → StepHere c k place r (seen_action action)
 step_here a c k place job r action v h takes found at acts =
     let t = takes_next c k r takes in
     let s = acts_comes c k t.0 t.1.0 in
     let here : slice_get c.jobs place ≡ Some s.job = sym (found_at c.jobs k place (sym found)) ∙ s.runs in
     let l : place < length (view_of a).jobs = subst (λ (x : CoreView). place < length x.jobs) (sym v) (slice_get_within c.jobs place s.job here) in
     let kept = kept_at a place job h l at in
-    let f : Some (seen a.setup.n job) ≡ Some s.job = sym (seen_at a place job l at) ∙ (ap (λ (x : CoreView). slice_get x.jobs place) v ∙ here) in
-    let is : seen a.setup.n job ≡ s.job = cc in
-    let next : action_next c.table s.job ≡ Some (seen_action action) = sym (ap (λ (x : CoreView). action_next x.table (seen a.setup.n job)) v ∙ ap (action_next c.table) is) ∙ acts a.setup.n kept in
+    let f : Some (core_job a.setup.n job) ≡ Some s.job = sym (seen_at a place job l at) ∙ (ap (λ (x : CoreView). slice_get x.jobs place) v ∙ here) in
+    let is : core_job a.setup.n job ≡ s.job = cc in
+    let next : action_next c.table s.job ≡ Some (seen_action action) = sym (ap (λ (x : CoreView). action_next x.table (core_job a.setup.n job)) v ∙ ap (action_next c.table) is) ∙ acts a.setup.n kept in
     let g : Some t.0 ≡ Some (seen_action action) = sym s.comes ∙ next in
     let same : t.0 ≡ seen_action action = cc in
     record {
@@ -257,22 +249,22 @@ step_here a c k place job r action v h takes found at acts =
       replies = subst (λ (x : Action). HasReply c k (Acts x) r) same t.1.1;
     }
 
-pub step_left : (c new : CoreView) (k place : ℕ) (r : Reply) (a : Action) → StepHere c k place r a → ((j : CoreJob) → slice_get c.jobs place ≡ Some j → left_of new j.number < left_of c j.number) → left_of new k < left_of c k
-step_left c new k place r a s f = subst (λ (n : ℕ). left_of new n < left_of c n) s.number (f s.job s.here)
+pub step_left : (c new : CoreView) (k place : ℕ) (r : Reply) (a : Action) → StepHere c k place r a → ((j : CoreJob) → slice_get c.jobs place ≡ Some j → core_left new j.number < core_left c j.number) → core_left new k < core_left c k
+step_left c new k place r a s f = subst (λ (n : ℕ). core_left new n < core_left c n) s.number (f s.job s.here)
 
-pub moved_goes : (a : Inside) (c new : CoreView) (place : ℕ) → view_of a ≡ c → IsCore a → ((j : CoreJob) → slice_get c.jobs place ≡ Some j → new ≡ with_at c place (moved j)) →
-    (j : CoreJob) → slice_get c.jobs place ≡ Some j → left_of new j.number < left_of c j.number
-moved_goes a c new place v h e j g = set_falls a c new place j (moved j) v h g (ap (λ (x : CoreView). x.setup) (e j g)) (ap (λ (x : CoreView). x.jobs) (e j g)) refl
+pub moved_goes : (a : Inside) (c new : CoreView) (place : ℕ) → view_of a ≡ c → IsCore a → ((j : CoreJob) → slice_get c.jobs place ≡ Some j → new ≡ with_at c place (stepped j)) →
+    (j : CoreJob) → slice_get c.jobs place ≡ Some j → core_left new j.number < core_left c j.number
+moved_goes a c new place v h e j g = set_falls a c new place j (stepped j) v h g (ap (λ (x : CoreView). x.setup) (e j g)) (ap (λ (x : CoreView). x.jobs) (e j g)) refl
     (moved_falls c.setup.n j (some_rest a c place j v h g))
 
 pub judged_goes : (a : Inside) (c new : CoreView) (place : ℕ) (sums : Sums) → view_of a ≡ c → IsCore a → ((j : CoreJob) → slice_get c.jobs place ≡ Some j → new ≡ with_at c place (judged j sums)) →
-    (j : CoreJob) → slice_get c.jobs place ≡ Some j → left_of new j.number < left_of c j.number
+    (j : CoreJob) → slice_get c.jobs place ≡ Some j → core_left new j.number < core_left c j.number
 judged_goes a c new place sums v h e j g = set_falls a c new place j (judged j sums) v h g (ap (λ (x : CoreView). x.setup) (e j g)) (ap (λ (x : CoreView). x.jobs) (e j g)) refl
     (moved_falls c.setup.n j (some_rest a c place j v h g))
 
 pub drawn_goes : (a : Inside) (c new : CoreView) (place : ℕ) → view_of a ≡ c → IsCore a →
     ((j : CoreJob) → slice_get c.jobs place ≡ Some j → new ≡ record (with_at c place (drawn j (number_drawn c.table j j.wish))) { append = Some j.number }) →
-    (j : CoreJob) → slice_get c.jobs place ≡ Some j → left_of new j.number < left_of c j.number
+    (j : CoreJob) → slice_get c.jobs place ≡ Some j → core_left new j.number < core_left c j.number
 drawn_goes a c new place v h e j g = set_falls a c new place j (drawn j (number_drawn c.table j j.wish)) v h g (ap (λ (x : CoreView). x.setup) (e j g)) (ap (λ (x : CoreView). x.jobs) (e j g)) refl
     (drawn_falls c.setup.n (number_drawn c.table j j.wish) j (some_rest a c place j v h g))
 

@@ -18,7 +18,7 @@ use Rattle.vault_core.specs.declared.job.Job.{Job}
 use Rattle.vault_core.specs.View.{CoreJob, CoreView, job_in}
 use Rattle.vault_core.specs.Coming.{is_move, written_by, entry_of_job}
 use Rattle.vault_core.specs.Reserves.{reserved_of, Reserves}
-use Rattle.vault_core.specs.Parts.{seen, comes_to, is_opening, IsKept}
+use Rattle.vault_core.specs.Parts.{core_job, comes_to, is_opening, IsJobKept}
 use Rattle.vault_core.proofs.Counts.{reserved_at, reserved_is}
 use Rattle.vault_core.proofs.Gates.{action_at, first_is}
 use Rattle.vault_core.proofs.Gating.{entry_size, size_of_entry, length_counted, room_at}
@@ -38,8 +38,8 @@ move_at w (at.Removing object j) h = absurd (false≢true h)
 move_at w at.Ending h = absurd (false≢true h)
 
 -- the room of a record is reserved until its append is done
-pub written_room : (n : ℕ) (job : Job) (t : Kept) (entry : Record) → IsKept n job → is_move (slice_get (seen n job).rest 0) ≡ true → written_by t (seen n job) job.wish ≡ Some entry →
-    1 + record_size entry ≤ reserved_of n (seen n job)
+pub written_room : (n : ℕ) (job : Job) (t : Kept) (entry : Record) → IsJobKept n job → is_move (slice_get (core_job n job).rest 0) ≡ true → written_by t (core_job n job) job.wish ≡ Some entry →
+    1 + record_size entry ≤ reserved_of n (core_job n job)
 written_room n job t entry kept mv w = subst (λ (k : ℕ). 1 + record_size entry ≤ k) (sym (reserved_is n job))
     (elim (move_at job.wish job.cursor (ap is_move (sym (first_is n job kept)) ∙ mv)) [
       | inl p ↦ subst (λ (c : Cursor). 1 + record_size entry ≤ reserved_at n job.wish c) (sym p.1)
@@ -49,7 +49,7 @@ written_room n job t entry kept mv w = subst (λ (k : ℕ). 1 + record_size entr
     ])
   where
     sizes : (b : Bool) → b ≡ is_opening job.cursor → entry_size n job.wish b ≡ record_size entry
-    sizes b e = size_of_entry n t (seen n job) job.wish entry (length_counted n job kept) w b e
+    sizes b e = size_of_entry n t (core_job n job) job.wish entry (length_counted n job kept) w b e
 
 job_sum : (f : CoreJob → ℕ) (cs : List CoreJob) (k : ℕ) (j : CoreJob) → job_in cs k ≡ Some j → f j ≤ sum_by f cs
 job_sum f [] k j e = let g : None ≡ Some j = e in cc
@@ -58,12 +58,12 @@ job_sum f (c ∷ cs) k j e = elim (cases_Bool (c.number == k)) [
   | inr b ↦ (let p = job_sum f cs k j (sym (ap (λ (x : Bool). if x then Some c else job_in cs k) b) ∙ e) in let q = sum_by-cons f c cs in omega (arith, p, q))
 ]
 
-pub writing_room : (c : CoreView) (k : ℕ) (job : Job) (t : Kept) (o : Option RecordValue) → Reserves c → IsKept c.setup.n job → Some (seen c.setup.n job) ≡ job_in c.jobs k →
-    option_map entry_of o ≡ entry_of_job t (seen c.setup.n job) → IfSome o (λ entry. c.end + (1 + record_size (entry_of entry)) ≤ 2 ^ 24)
+pub writing_room : (c : CoreView) (k : ℕ) (job : Job) (t : Kept) (o : Option RecordValue) → Reserves c → IsJobKept c.setup.n job → Some (core_job c.setup.n job) ≡ job_in c.jobs k →
+    option_map entry_of o ≡ entry_of_job t (core_job c.setup.n job) → IfSome o (λ entry. c.end + (1 + record_size (entry_of entry)) ≤ 2 ^ 24)
 writing_room c k job t None h kept found e = tt
 writing_room c k job t (Some r) h kept found e =
-    let a = in_append t (seen c.setup.n job) (entry_of r) (sym e) in
-    let b = written_room c.setup.n job t (entry_of r) kept (head_moves t (seen c.setup.n job) a.0) a.1 in
-    let s = job_sum (reserved_of c.setup.n) c.jobs k (seen c.setup.n job) (sym found) in
+    let a = in_append t (core_job c.setup.n job) (entry_of r) (sym e) in
+    let b = written_room c.setup.n job t (entry_of r) kept (head_moves t (core_job c.setup.n job) a.0) a.1 in
+    let s = job_sum (reserved_of c.setup.n) c.jobs k (core_job c.setup.n job) (sym found) in
     let m = h.room in
     omega (arith, b, s, m)

@@ -1,10 +1,10 @@
 -- The first of the actions that a job has not yet made, how many they are, and whether a gate is among them.
-use Rattle.std.proofs.Common.{◌≡◌, ℕ, suc, ◌+◌, ◌-◌, ◌<◌, Bool, true, false, cond, List, [], ◌∷◌, ◌++◌, Some, None, length, map, drop, inl, inr, refl, ap, sym, subst, ◌∙◌, arith}
+use Rattle.std.proofs.Common.{◌≡◌, ℕ, ◌+◌, ◌-◌, ◌<◌, Bool, true, false, cond, List, [], ◌∷◌, ◌++◌, Some, None, length, map, drop, inl, inr, refl, ap, sym, subst, ◌∙◌, arith}
 use Rattle.std.specs.Prelude.{◌⊎◌, nat_lt, Option, not, is_some, if◌then◌else◌, ◌&&◌, slice_get, count_by}
 use Rattle.std.specs.Option.{option_map}
 use Rattle.std.proofs.lemmas.Bool.{cases_Bool, lt-ltb, ltb-true, false≢true}
 use Rattle.std.proofs.lemmas.List.Sums.{sum_by-cons}
-use Rattle.std.proofs.lemmas.List.{length-append, length-map}
+use Rattle.std.proofs.lemmas.List.{length-append, length-map, length-drop}
 use Rattle.std.proofs.lemmas.List.FromFn.{length-range_with_len}
 use Rattle.std.proofs.lemmas.Option.{slice_get_within}
 use Rattle.hail_machine.specs.Actions.{Action, WriteBody, SyncBody, WriteGate, SyncGate, Store, Ask, Work, Remove, End, ends_append}
@@ -19,11 +19,11 @@ use Rattle.vault_core.specs.declared.cursor.Cursor.{Cursor}
 use Rattle.vault_core.specs.declared.cursor.Cursor.TheVariants as at
 use Rattle.vault_core.specs.declared.job.Task.{Task}
 use Rattle.vault_core.specs.declared.job.Job.{Job}
-use Rattle.vault_core.specs.Rest.{numbers, call_of, calls_from, work_of, turns_from, tasks_of, moves_from, moves_after, closing_of, tasks_on, beyond, rest_at, rest_of}
-use Rattle.vault_core.specs.Coming.{takes_older, most_of, is_ask, begins_append, is_last_ask, is_gone, is_idle}
+use Rattle.vault_core.specs.Rest.{numbers, call_of, calls_from, work_of, turns_from, tasks_of, moves_from, actions_after, closing_of, tasks_on, beyond, rest_at, rest_of}
+use Rattle.vault_core.specs.Coming.{takes_older, most_of, asks_next, begins_append, is_last_ask, is_gone, is_idle}
 use Rattle.vault_core.specs.Going.{decides, decides_at}
-use Rattle.vault_core.specs.Parts.{comes_to, is_unbegun, is_opening, is_start, is_over, is_caller, is_worker, is_rewriter, seen, IsWithin, IsAt, IsKept}
-use Rattle.vault_core.proofs.Rests.{numbers_here, calls_here, rewrites_take, rest_is, rest_opening, rest_closing, rest_calling, rest_removing}
+use Rattle.vault_core.specs.Parts.{comes_to, is_unbegun, is_opening, is_start, is_over, is_caller, is_worker, is_rewriter, core_job, IsWithin, MayBeAt, IsJobKept}
+use Rattle.vault_core.proofs.Rests.{numbers_here, calls_here, rewrites_take, rest_is, rest_opening, rest_closing, rest_calling, rest_removing, first_work, first_of_front}
 
 -- the action at a cursor
 abbrev pub action_at : Wish → Cursor → Action
@@ -41,37 +41,27 @@ action_at w (at.Closing move.GateSync) = SyncGate
 action_at w (at.Removing object j) = Remove j object
 action_at w at.Ending = End
 
-of_front : (x : Action) (xs ys zs : List Action) → xs ≡ x ∷ ys → slice_get (xs ++ zs) 0 ≡ Some x
-of_front x xs ys zs e = rw e refl
-
-first_work : (n : ℕ) (w : Wish) (fl : List Bool) (o t : ℕ) (zs : List Action) → is_worker w ≡ true → slice_get (work_of n w fl o t ++ zs) 0 ≡ Some (Work o t)
-first_work n (wish.Get name) fl o t zs h = refl
-first_work n wish.Repair fl o t zs h = refl
-first_work n (wish.Put name size) fl o t zs h = cc
-first_work n (wish.Drop name) fl o t zs h = cc
-first_work n wish.Audit fl o t zs h = cc
-
 pub first_at : (n : ℕ) (job : Job) (c : Cursor) → comes_to job.wish c ≡ true → IsWithin n job.flagged c →
     slice_get (rest_at n job c) 0 ≡ Some (action_at job.wish c)
 first_at n job (at.Opening move.Body) h w = refl
 first_at n job (at.Opening move.BodySync) h w = refl
 first_at n job (at.Opening move.Gate) h w = refl
 first_at n job (at.Opening move.GateSync) h w = refl
-first_at n job (at.Calling spot j) h w = of_front _ _ _ _ (calls_here j n job.wish spot.object spot.turn w.0)
+first_at n job (at.Calling spot j) h w = first_of_front _ _ _ _ (calls_here j n job.wish spot.object spot.turn w.0)
 first_at n job (at.Working spot) h w = first_work n job.wish job.flagged spot.object spot.turn _ h
-first_at n job (at.Rewriting spot j) h w = of_front _ _ _ _ (rewrites_take j n job.flagged spot.object spot.turn w.0 w.1)
+first_at n job (at.Rewriting spot j) h w = first_of_front _ _ _ _ (rewrites_take j n job.flagged spot.object spot.turn w.0 w.1)
 first_at n job (at.Closing move.Body) h w = refl
 first_at n job (at.Closing move.BodySync) h w = refl
 first_at n job (at.Closing move.Gate) h w = refl
 first_at n job (at.Closing move.GateSync) h w = refl
-first_at n job (at.Removing object j) h w = of_front _ _ _ _ (ap (map (λ k. Remove k object)) (numbers_here j n w))
+first_at n job (at.Removing object j) h w = first_of_front _ _ _ _ (ap (map (λ k. Remove k object)) (numbers_here j n w))
 first_at n job at.Ending h w = refl
 
-pub first_is : (n : ℕ) (job : Job) → IsKept n job → slice_get (rest_of n job) 0 ≡ Some (action_at job.wish job.cursor)
+pub first_is : (n : ℕ) (job : Job) → IsJobKept n job → slice_get (rest_of n job) 0 ≡ Some (action_at job.wish job.cursor)
 unfolding rest_of
 first_is n job kept = first_at n job job.cursor kept.comes kept.within
 
-pub rest_some : (n : ℕ) (job : Job) → IsKept n job → 0 < length (rest_of n job)
+pub rest_some : (n : ℕ) (job : Job) → IsJobKept n job → 0 < length (rest_of n job)
 rest_some n job kept = slice_get_within (rest_of n job) 0 (action_at job.wish job.cursor) (first_is n job kept)
 
 -- ---- asks
@@ -98,19 +88,19 @@ begins_is w (at.Closing move.GateSync) = refl
 begins_is w (at.Removing object j) = refl
 begins_is w at.Ending = refl
 
-second_of : (xs : List Action) → slice_get xs 1 ≡ slice_get (drop 1 xs) 0
+pub second_of : (xs : List Action) → slice_get xs 1 ≡ slice_get (drop 1 xs) 0
 second_of [] = refl
 second_of (x ∷ xs) = refl
 
 -- behind an ask stands the cursor's action
-pub asks_last : (n : ℕ) (job : Job) (c : Cursor) (j o t : ℕ) → slice_get (rest_of n job) 0 ≡ Some (Ask j o t) → IsAt n job c (drop 1 (rest_of n job)) →
+pub asks_last : (n : ℕ) (job : Job) (c : Cursor) (j o t : ℕ) → slice_get (rest_of n job) 0 ≡ Some (Ask j o t) → MayBeAt n job c (drop 1 (rest_of n job)) →
     is_start c ≡ is_last_ask (rest_of n job)
 asks_last n job c j o t e is = rw (e, second_of (rest_of n job), ← is.rest, first_at n job c is.comes is.within) (sym (begins_is job.wish c))
 
-pub asks_not : (xs : List Action) (a : Action) → slice_get xs 0 ≡ Some a → is_ask (Some a) ≡ false → false ≡ is_last_ask xs
+pub asks_not : (xs : List Action) (a : Action) → slice_get xs 0 ≡ Some a → asks_next (Some a) ≡ false → false ≡ is_last_ask xs
 asks_not xs a e h = rw (e, h) refl
 
-pub not_over : (n : ℕ) (job : Job) (a : Action) → IsKept n job → slice_get (rest_of n job) 0 ≡ Some a → (a ≡ End → ⊥) → is_over job.cursor ≡ false
+pub not_over : (n : ℕ) (job : Job) (a : Action) → IsJobKept n job → slice_get (rest_of n job) 0 ≡ Some a → (a ≡ End → ⊥) → is_over job.cursor ≡ false
 not_over n job a kept e h = by job.cursor (let s : Some (action_at job.wish job.cursor) ≡ Some a = sym (first_is n job kept) ∙ e in let r : action_at job.wish job.cursor ≡ a = cc in r)
   where
     by : (c : Cursor) → action_at job.wish c ≡ a → is_over c ≡ false
@@ -152,10 +142,10 @@ no_removes object (k ∷ ks) = no_removes object ks
 gate_put : (n : ℕ) (job : Job) (name : List ℕ) (size : ℕ) (tasks : List Task) → job.wish ≡ wish.Put name size → has_gate (tasks_on n job tasks) ≡ true
 gate_put n job name size tasks e = gate_in (tasks_of n job.wish job.flagged tasks) (closing_of job.wish) (subst (λ (w : Wish). has_gate (closing_of w) ≡ true) (sym e) refl)
 
-gate_after : (m : Move) (xs : List Action) → has_gate xs ≡ true → has_gate (moves_after m ++ xs) ≡ true
-gate_after m xs h = gate_in (moves_after m) xs h
+gate_after : (m : Move) (xs : List Action) → has_gate xs ≡ true → has_gate (actions_after m ++ xs) ≡ true
+gate_after m xs h = gate_in (actions_after m) xs h
 
-gate_before : (m : Move) (xs : List Action) → (m ≡ move.GateSync → ⊥) → has_gate (moves_after m ++ xs) ≡ true
+gate_before : (m : Move) (xs : List Action) → (m ≡ move.GateSync → ⊥) → has_gate (actions_after m ++ xs) ≡ true
 gate_before move.Body xs h = gate_first xs
 gate_before move.BodySync xs h = gate_first xs
 gate_before move.Gate xs h = gate_first xs
@@ -179,14 +169,14 @@ both : (xs ys : List Action) → has_gate xs ≡ true → has_gate ys ≡ true �
 both xs ys a b = a ∙ sym b
 
 -- a gate is left behind an action where one was, but for the action that decides
-pub gates_kept : (n : ℕ) (job : Job) → IsKept n job → decides job ≡ false → takes_older job.wish ≡ true →
+pub gates_kept : (n : ℕ) (job : Job) → IsJobKept n job → decides job ≡ false → takes_older job.wish ≡ true →
     has_gate (drop 1 (rest_of n job)) ≡ has_gate (rest_of n job)
 gates_kept n job kept undecided takes = by job.cursor refl
   where
     comes : (c : Cursor) → job.cursor ≡ c → comes_to job.wish c ≡ true
     comes c e = subst (λ (x : Cursor). comes_to job.wish x ≡ true) e kept.comes
 
-    at_opening : (m : Move) → job.cursor ≡ at.Opening m → has_gate (moves_after m ++ tasks_on n job job.tasks.items) ≡ true
+    at_opening : (m : Move) → job.cursor ≡ at.Opening m → has_gate (actions_after m ++ tasks_on n job job.tasks.items) ≡ true
     at_opening m e = elim (cases_move m) [
       | inr other ↦ gate_before m _ other
       | inl gate ↦ elim (takers job.wish takes) [
@@ -195,7 +185,7 @@ gates_kept n job kept undecided takes = by job.cursor refl
       ]
     ]
 
-    at_closing : (m : Move) → job.cursor ≡ at.Closing m → has_gate (moves_after m ++ End ∷ []) ≡ true
+    at_closing : (m : Move) → job.cursor ≡ at.Closing m → has_gate (actions_after m ++ End ∷ []) ≡ true
     at_closing m e = elim (cases_move m) [
       | inr other ↦ gate_before m _ other
       | inl gate ↦ elim (takers job.wish takes) [
@@ -228,7 +218,7 @@ gates_kept n job kept undecided takes = by job.cursor refl
     no_rewriter wish.Repair h = absurd (false≢true h)
 
     by : (c : Cursor) → job.cursor ≡ c → has_gate (drop 1 (rest_of n job)) ≡ has_gate (rest_of n job)
-    by (at.Opening m) e = ap has_gate (rest_opening n job m e) ∙ (both (moves_after m ++ tasks_on n job job.tasks.items) (moves_from m ++ tasks_on n job job.tasks.items) (at_opening m e) (gate_moves m (tasks_on n job job.tasks.items)) ∙ ap has_gate (sym (rest_is n job _ e)))
+    by (at.Opening m) e = ap has_gate (rest_opening n job m e) ∙ (both (actions_after m ++ tasks_on n job job.tasks.items) (moves_from m ++ tasks_on n job job.tasks.items) (at_opening m e) (gate_moves m (tasks_on n job job.tasks.items)) ∙ ap has_gate (sym (rest_is n job _ e)))
     by (at.Calling spot j) e = ap has_gate (rest_calling n job spot j e kept.within)
         ∙ (both (calls_from (j + 1) n job.wish spot.object spot.turn ++ (work_of n job.wish job.flagged spot.object spot.turn ++ beyond n job spot))
         (calls_from j n job.wish spot.object spot.turn ++ (work_of n job.wish job.flagged spot.object spot.turn ++ beyond n job spot))
@@ -239,24 +229,20 @@ gates_kept n job kept undecided takes = by job.cursor refl
         ∙ ap has_gate (sym (rest_is n job _ e)))
     by (at.Working spot) e = absurd (never (at.Working spot) e no_worker)
     by (at.Rewriting spot j) e = absurd (never (at.Rewriting spot j) e no_rewriter)
-    by (at.Closing m) e = ap has_gate (rest_closing n job m e) ∙ (both (moves_after m ++ End ∷ []) (moves_from m ++ End ∷ []) (at_closing m e) (gate_moves m (End ∷ [])) ∙ ap has_gate (sym (rest_is n job _ e)))
+    by (at.Closing m) e = ap has_gate (rest_closing n job m e) ∙ (both (actions_after m ++ End ∷ []) (moves_from m ++ End ∷ []) (at_closing m e) (gate_moves m (End ∷ [])) ∙ ap has_gate (sym (rest_is n job _ e)))
     by (at.Removing object j) e = ap has_gate (rest_removing n job object j e kept.within)
         ∙ (no_removes object (numbers (j + 1) n) ∙ (sym (no_removes object (numbers j n)) ∙ ap has_gate (sym (rest_is n job _ e))))
     by at.Ending e = ap (λ (xs : List Action). has_gate (drop 1 xs)) (rest_is n job _ e) ∙ ap has_gate (sym (rest_is n job _ e))
 
 -- ---- how many they are
 
-length-drop_one : (xs : List Action) → length (drop 1 xs) ≡ length xs - 1
-length-drop_one [] = refl
-length-drop_one (x ∷ xs) = let e : length xs ≡ suc (length xs) - 1 = omega arith in e
-
 -- how many steps may remain falls by one
-pub most_falls : (n : ℕ) (job : Job) (rest : List Action) → IsKept n job → decides job ≡ false → rest ≡ drop 1 (rest_of n job) →
-    length rest + (if takes_older job.wish && has_gate rest then n else 0) ≡ most_of n (seen n job) - 1
-most_falls n job rest kept undecided e = subst (λ (xs : List Action). length xs + (if takes_older job.wish && has_gate xs then n else 0) ≡ most_of n (seen n job) - 1) (sym e)
+pub most_falls : (n : ℕ) (job : Job) (rest : List Action) → IsJobKept n job → decides job ≡ false → rest ≡ drop 1 (rest_of n job) →
+    length rest + (if takes_older job.wish && has_gate rest then n else 0) ≡ most_of n (core_job n job) - 1
+most_falls n job rest kept undecided e = subst (λ (xs : List Action). length xs + (if takes_older job.wish && has_gate xs then n else 0) ≡ most_of n (core_job n job) - 1) (sym e)
     (elim (cases_Bool (takes_older job.wish)) [
-      | inl takes ↦ rw (gates_kept n job kept undecided takes, length-drop_one (rest_of n job)) (let l = rest_some n job kept in omega arith)
-      | inr not ↦ rw (not, length-drop_one (rest_of n job)) (let l = rest_some n job kept in omega arith)
+      | inl takes ↦ rw (gates_kept n job kept undecided takes, length-drop 1 (rest_of n job)) (let l = rest_some n job kept in omega arith)
+      | inr not ↦ rw (not, length-drop 1 (rest_of n job)) (let l = rest_some n job kept in omega arith)
     ])
 
 -- ---- a job that has gone on
@@ -270,12 +256,12 @@ at_same n job k at_ (at.Closing m) = refl
 at_same n job k at_ (at.Removing object j) = refl
 at_same n job k at_ at.Ending = refl
 
-pub rest_moved : (n : ℕ) (job : Job) (c : Cursor) (k : ℕ) (xs : List Action) → IsAt n job c xs → rest_of n (record job { cursor = c; left = k }) ≡ xs
+pub rest_moved : (n : ℕ) (job : Job) (c : Cursor) (k : ℕ) (xs : List Action) → MayBeAt n job c xs → rest_of n (record job { cursor = c; left = k }) ≡ xs
 unfolding rest_of
 rest_moved n job c k xs is = at_same n job k c c ∙ is.rest
 
-pub advanced : (n : ℕ) (job : Job) (c : Cursor) → IsKept n job → decides job ≡ false → IsAt n job c (drop 1 (rest_of n job)) →
-    IsKept n (record job { cursor = c; left = job.left - 1 })
+pub advanced : (n : ℕ) (job : Job) (c : Cursor) → IsJobKept n job → decides job ≡ false → MayBeAt n job c (drop 1 (rest_of n job)) →
+    IsJobKept n (record job { cursor = c; left = job.left - 1 })
 advanced n job c kept undecided is = record {
   stays = record {
     tasks = kept.stays.tasks;
@@ -291,7 +277,7 @@ advanced n job c kept undecided is = record {
 }
 
 -- what is left of a job that decides
-pub decides_rest : (n : ℕ) (job : Job) → IsKept n job → decides job ≡ true → rest_of n job ≡ SyncGate ∷ End ∷ []
+pub decides_rest : (n : ℕ) (job : Job) → IsJobKept n job → decides job ≡ true → rest_of n job ≡ SyncGate ∷ End ∷ []
 decides_rest n job kept d = by job.wish job.cursor refl refl d
   where
     no_tasks : (name : List ℕ) → job.wish ≡ wish.Drop name → job.tasks.items ≡ []
@@ -313,7 +299,7 @@ decides_takes job d = by job.wish job.cursor d
     by wish.Audit c h = absurd (false≢true h)
     by wish.Repair c h = absurd (false≢true h)
 
-pub decides_left : (n : ℕ) (job : Job) → IsKept n job → decides job ≡ true → job.left ≡ 2 + n
+pub decides_left : (n : ℕ) (job : Job) → IsJobKept n job → decides job ≡ true → job.left ≡ 2 + n
 decides_left n job kept d = kept.left ∙ rw (decides_rest n job kept d, decides_takes job d) refl
 
 length_numbers : (a b : ℕ) → length (numbers a b) ≡ b - a
@@ -337,8 +323,8 @@ removing_most n object w =
     let d = and_no_gate w (map (λ k. Remove k object) (numbers 0 n) ++ End ∷ []) n (no_removes object (numbers 0 n)) in
     omega (arith, a, b, c, d)
 
-pub decided : (n : ℕ) (job : Job) (object k : ℕ) → 0 < n → IsKept n job → decides job ≡ true → k ≡ 1 + n →
-    IsKept n (record job { cursor = at.Removing object 0; left = k })
+pub decided : (n : ℕ) (job : Job) (object k : ℕ) → 0 < n → IsJobKept n job → decides job ≡ true → k ≡ 1 + n →
+    IsJobKept n (record job { cursor = at.Removing object 0; left = k })
 unfolding rest_of
 decided n job object k l kept d e = record {
   stays = record {
@@ -354,7 +340,7 @@ decided n job object k l kept d e = record {
   left = e ∙ sym (removing_most n object job.wish);
 }
 
-pub ended : (n : ℕ) (job : Job) → IsKept n job → IsKept n (record job { cursor = at.Ending; left = 1 })
+pub ended : (n : ℕ) (job : Job) → IsJobKept n job → IsJobKept n (record job { cursor = at.Ending; left = 1 })
 unfolding rest_of
 ended n job kept = record {
   stays = record {
@@ -386,7 +372,7 @@ unbegun_is n job (at.Removing object j) = refl
 unbegun_is n job at.Ending = refl
 
 pub idle_is : (n : ℕ) (job : Job) (t : Kept) (name : List ℕ) → job.wish ≡ wish.Drop name → find_file t.files name ≡ None →
-    is_unbegun job.cursor ≡ is_idle t (seen n job)
+    is_unbegun job.cursor ≡ is_idle t (core_job n job)
 unfolding rest_of
 idle_is n job t name w e = unbegun_is n job job.cursor
     ∙ ap (λ (b : Bool). b && (is_opening job.cursor && begins_append (slice_get (rest_at n job job.cursor) 0))) (sym (ap (is_gone t) w ∙ ap (λ (o : Option File). not (is_some o)) e))

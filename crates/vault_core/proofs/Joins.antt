@@ -5,6 +5,7 @@ use Rattle.std.specs.List.{flat_map, range_with_len}
 use Rattle.std.proofs.lemmas.Bool.{cases_Bool, false≢true}
 use Rattle.std.proofs.lemmas.Bool.Decides.{nat_tests}
 use Rattle.std.proofs.lemmas.List.Folds.{flat_map-map}
+use Rattle.plain_facts.specs.Lists.{In}
 use Rattle.hail_codes.specs.Points.{upto}
 use Rattle.hail_columns.specs.Verdicts.{Sums}
 use Rattle.hail_records.specs.Records.{Setup}
@@ -16,7 +17,7 @@ use Rattle.hail_machine.specs.Jobs.{Job as MachineJob, Pinned as PinnedBytes}
 use Rattle.hail_machine.specs.Actions.{Action, Store, Ask, Work, End, append_actions, on_each_provider, on_each_stripe, store_actions, open_actions, rewrite_actions, rounds_of, remove_actions, actions_by, actions_of, actions_left}
 use Rattle.hail_machine.specs.Begins.{pinned_file, pin, pin_all, pin_one, pinned_for, due_number, due_flags, subject_at_begin, new_job}
 use Rattle.hail_machine.specs.States.{State, setup_in, file_in}
-use Rattle.hail_machine.proofs.RecordFacts.{In, listed_file}
+use Rattle.hail_machine.proofs.RecordFacts.{listed_file}
 use Rattle.sound_states.specs.Follows.{AreHeld}
 use Rattle.record_codec.specs.declared.counts.Counts.{Counts}
 use Rattle.record_codec.specs.Entries.{counted}
@@ -29,7 +30,7 @@ use Rattle.vault_core.specs.declared.job.Job.{Job}
 use Rattle.vault_core.specs.View.{CoreJob, flag_at}
 use Rattle.vault_core.specs.Rest.{numbers, call_of, calls_from, rewrite_of, rewrites_from, turn_of, turns_from, tasks_of, closing_of, rest_of}
 use Rattle.vault_core.specs.Carried.{IsKindOf, pin_of, has_asked, opens, IsJobOf}
-use Rattle.vault_core.specs.Parts.{seen, is_opening}
+use Rattle.vault_core.specs.Parts.{core_job, is_opening}
 use Rattle.vault_core.specs.Making.{pin_of_file, put_pin, pins_of, pins_found, pins_for, targets_of, turns_for, tasks_made, subject_for, cursor_first, IsMade}
 use Rattle.vault_core.proofs.Rests.{turns_none}
 use Rattle.vault_core.proofs.Begun.{front_of, take-zeros, made-rest}
@@ -230,7 +231,7 @@ module _ (t : Kept) (s : Setup) (w : State) (moment : ℕ) (v : Wish) (k : Kind)
   made-opening : is_opening job.cursor ≡ (opens v && true)
   made-opening = ap is_opening made.cursor ∙ opens-first v job.tasks.items
 
-  pub made-is : IsJobOf s (seen s.n job) (new_job w moment k)
+  pub made-is : IsJobOf s (core_job s.n job) (new_job w moment k)
   made-is = record {
     number = made.number;
     kind = kind-along v job.wish k made.wish kind;
@@ -240,5 +241,5 @@ module _ (t : Kept) (s : Setup) (w : State) (moment : ℕ) (v : Wish) (k : Kind)
     opening = made-opening ∙ ap (λ (x : Wish). opens x && true) (sym made.wish);
     rest = made-actions;
     unjudged = λ _. made-sums;
-    sums = λ h. absurd (not-asked (seen s.n job) v made.wish made-opening h);
+    sums = λ h. absurd (not-asked (core_job s.n job) v made.wish made-opening h);
   }

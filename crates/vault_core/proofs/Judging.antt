@@ -1,27 +1,28 @@
 -- The sums of an audit, before an action and after it.
-use Rattle.std.proofs.Common.{◌≡◌, ℕ, ◌+◌, Bool, true, false, List, [], ◌∷◌, Some, drop, inl, inr, refl, ap, sym, ◌∙◌}
+use Rattle.std.proofs.Common.{◌≡◌, ℕ, ◌+◌, Bool, true, false, List, [], Some, drop, inl, inr, refl, ap, sym, ◌∙◌}
 use Rattle.std.specs.Prelude.{Option, ◌⊎◌, ◌&&◌, not, slice_get, IsTrue, nat_lt}
-use Rattle.std.proofs.lemmas.Bool.{false≢true}
+use Rattle.std.proofs.lemmas.Bool.{false≢true, not-true, and_parts}
+use Rattle.std.proofs.Math.Bool.{and-true}
 use Rattle.hail_columns.specs.Verdicts.{Sums}
 use Rattle.hail_machine.specs.Jobs.{Kind, AuditJob, Given, Job}
 use Rattle.hail_machine.specs.Actions.{Action, WriteBody, SyncBody, WriteGate, SyncGate, Store, Fetch, Ask, Work, Remove, End, actions_of}
 use Rattle.hail_machine.specs.States.{State, setup_in}
 use Rattle.hail_machine.specs.Audits.{HasSums}
 use Rattle.hail_machine.specs.Steps.{next_action}
-use Rattle.sound_states.proofs.Orders.{next-listed}
+use Rattle.hail_machine.proofs.NextActions.{next_stands}
 use Rattle.sound_states.proofs.Going.{onward}
 use Rattle.vault_core.specs.declared.wish.Wish.{Wish}
 use Rattle.vault_core.specs.declared.wish.Wish.TheVariants as wish
 use Rattle.vault_core.specs.View.{CoreJob}
-use Rattle.vault_core.specs.Coming.{is_ask, begins_append, is_last_ask}
-use Rattle.vault_core.specs.Carried.{IsKindOf, is_audit, has_asked, opens, IsJobOf}
-use Rattle.vault_core.specs.Fed.{goes_plainly, is_gate, moved, judged}
+use Rattle.vault_core.specs.Coming.{asks_next, begins_append, is_last_ask}
+use Rattle.vault_core.specs.Carried.{IsKindOf, is_audit_wish, has_asked, opens, IsJobOf}
+use Rattle.vault_core.specs.Fed.{goes_plainly, is_gate, stepped, judged}
 use Rattle.vault_core.proofs.Kept.{and_left}
-use Rattle.vault_core.proofs.Gating.{and_first}
 use Rattle.vault_core.proofs.Standing.{get-drop}
 use Rattle.vault_core.proofs.Onward.{opens-list, ask_behind, sums-same, ask-then, head-here, left-here, rest-on, opening-on}
+use Rattle.vault_core.proofs.Gates.{second_of}
 
-audit_is : (v : Wish) → is_audit v ≡ true → v ≡ wish.Audit
+audit_is : (v : Wish) → is_audit_wish v ≡ true → v ≡ wish.Audit
 audit_is (wish.Put name size) h = absurd (false≢true h)
 audit_is (wish.Get name) h = absurd (false≢true h)
 audit_is (wish.Drop name) h = absurd (false≢true h)
@@ -36,29 +37,21 @@ audit_kind (wish.Get name) k e h = cc
 audit_kind (wish.Drop name) k e h = cc
 audit_kind wish.Repair k e h = cc
 
-not_false : (b : Bool) → not b ≡ true → b ≡ false
-not_false true h = absurd (false≢true h)
-not_false false h = refl
-
 -- what it says that an audit has asked all
 pub record Asked (c : CoreJob) : Type 0 where
   pub audit : c.wish ≡ wish.Audit
   pub opened : c.opening ≡ false
-  pub head : is_ask (slice_get c.rest 0) ≡ false
+  pub head : asks_next (slice_get c.rest 0) ≡ false
 
 pub asked_parts : (c : CoreJob) → has_asked c ≡ true → Asked c
 asked_parts c h =
-    let a = and_first (is_audit c.wish) (not c.opening && not (is_ask (slice_get c.rest 0))) h in
-    let b = and_first (not c.opening) (not (is_ask (slice_get c.rest 0))) a.1 in
-    record { audit = audit_is c.wish a.0; opened = not_false c.opening b.0; head = not_false (is_ask (slice_get c.rest 0)) b.1 }
+    let a = and_parts (is_audit_wish c.wish) (not c.opening && not (asks_next (slice_get c.rest 0))) h in
+    let b = and_parts (not c.opening) (not (asks_next (slice_get c.rest 0))) a.1 in
+    record { audit = audit_is c.wish a.0; opened = not-true c.opening b.0; head = not-true (asks_next (slice_get c.rest 0)) b.1 }
 
-pub asked_whole : (c : CoreJob) → c.wish ≡ wish.Audit → c.opening ≡ false → is_ask (slice_get c.rest 0) ≡ false → has_asked c ≡ true
-asked_whole c a o h = ap (λ (v : Wish). is_audit v && (not c.opening && not (is_ask (slice_get c.rest 0)))) a
-    ∙ (ap (λ (b : Bool). not b && not (is_ask (slice_get c.rest 0))) o ∙ ap not h)
-
-second_here : (xs : List Action) → slice_get xs 1 ≡ slice_get (drop 1 xs) 0
-second_here [] = refl
-second_here (x ∷ xs) = refl
+pub asked_whole : (c : CoreJob) → c.wish ≡ wish.Audit → c.opening ≡ false → asks_next (slice_get c.rest 0) ≡ false → has_asked c ≡ true
+asked_whole c a o h = ap (λ (v : Wish). is_audit_wish v && (not c.opening && not (asks_next (slice_get c.rest 0)))) a
+    ∙ (ap (λ (b : Bool). not b && not (asks_next (slice_get c.rest 0))) o ∙ ap not h)
 
 no_gate : (a : Action) → goes_plainly (Some a) ≡ true → is_gate (Some a) ≡ false
 no_gate WriteBody h = refl
@@ -72,40 +65,36 @@ no_gate (Work o t) h = refl
 no_gate (Remove j o) h = refl
 no_gate End h = refl
 
-pub and_true : (b : Bool) → (b && true) ≡ b
-and_true true = refl
-and_true false = refl
-
 module _ (w : State) (c : CoreJob) (m : Job) (a : Action) (is : IsJobOf (setup_in w) c m) (next : next_action w m ≡ Some a) (on : a ≡ End → ⊥) where
   -- an action that is not the last ask of an audit changes nothing of what is judged
-  pub sums-on : (given : List Given) → goes_plainly (Some a) ≡ true → is_last_ask c.rest ≡ false → (given ≡ m.given) ⊎ (m.kind ≡ AuditJob → is_ask (Some a) ≡ true) →
-      IsTrue (has_asked (moved c)) → HasSums (setup_in w) (onward m m.subject given) c.sums
-  sums-on given plain last gave has = by (is_ask (Some a)) refl
+  pub sums-on : (given : List Given) → goes_plainly (Some a) ≡ true → is_last_ask c.rest ≡ false → (given ≡ m.given) ⊎ (m.kind ≡ AuditJob → asks_next (Some a) ≡ true) →
+      IsTrue (has_asked (stepped c)) → HasSums (setup_in w) (onward m m.subject given) c.sums
+  sums-on given plain last gave has = by (asks_next (Some a)) refl
     where
-      parts : Asked (moved c)
-      parts = asked_parts (moved c) has
+      parts : Asked (stepped c)
+      parts = asked_parts (stepped c) has
 
       kind : m.kind ≡ AuditJob
       kind = audit_kind c.wish m.kind parts.audit is.kind
 
       opened : c.opening ≡ false
-      opened = sym (and_true c.opening) ∙ (ap (λ (b : Bool). c.opening && not b) (sym (ap is_gate (head-here w c m a is next on) ∙ no_gate a plain)) ∙ parts.opened)
+      opened = sym (and-true c.opening) ∙ (ap (λ (b : Bool). c.opening && not b) (sym (ap is_gate (head-here w c m a is next on) ∙ no_gate a plain)) ∙ parts.opened)
 
-      head : slice_get (moved c).rest 0 ≡ slice_get (actions_of (setup_in w) m) (m.place + 1)
+      head : slice_get (stepped c).rest 0 ≡ slice_get (actions_of (setup_in w) m) (m.place + 1)
       head = ap (λ (xs : List Action). slice_get (drop 1 xs) 0) (left-here w c m a is next on) ∙ get-drop (m.place + 1) (actions_of (setup_in w) m)
 
-      by : (b : Bool) → is_ask (Some a) ≡ b → HasSums (setup_in w) (onward m m.subject given) c.sums
+      by : (b : Bool) → asks_next (Some a) ≡ b → HasSums (setup_in w) (onward m m.subject given) c.sums
       by false e = elim gave [
-        | inl g ↦ sums-same (setup_in w) m (onward m m.subject given) (sym g) refl c.sums refl (is.sums (asked_whole c parts.audit opened (ap is_ask (head-here w c m a is next on) ∙ e)))
+        | inl g ↦ sums-same (setup_in w) m (onward m m.subject given) (sym g) refl c.sums refl (is.sums (asked_whole c parts.audit opened (ap asks_next (head-here w c m a is next on) ∙ e)))
         | inr h ↦ absurd (false≢true (sym e ∙ h kind))
       ]
-      by true e = absurd (not_ask a e (next-listed w m a next on))
+      by true e = absurd (not_ask a e (next_stands w m a next on))
         where
-          not_ask : (x : Action) → is_ask (Some x) ≡ true → slice_get (actions_of (setup_in w) m) m.place ≡ Some x → ⊥
+          not_ask : (x : Action) → asks_next (Some x) ≡ true → slice_get (actions_of (setup_in w) m) m.place ≡ Some x → ⊥
           not_ask (Ask j o t) f listed = elim (ask-then (setup_in w) m j o t kind listed) [
-            | inl asks ↦ false≢true (sym parts.head ∙ (ap is_ask head ∙ asks))
-            | inr starts ↦ false≢true (sym last ∙ (ap (λ (o : Option Action). is_ask o && begins_append (slice_get c.rest 1)) (head-here w c m a is next on)
-                ∙ (ap (λ (b : Bool). b && begins_append (slice_get c.rest 1)) e ∙ (ap begins_append (second_here c.rest ∙ head) ∙ starts))))
+            | inl asks ↦ false≢true (sym parts.head ∙ (ap asks_next head ∙ asks))
+            | inr starts ↦ false≢true (sym last ∙ (ap (λ (o : Option Action). asks_next o && begins_append (slice_get c.rest 1)) (head-here w c m a is next on)
+                ∙ (ap (λ (b : Bool). b && begins_append (slice_get c.rest 1)) e ∙ (ap begins_append (second_of c.rest ∙ head) ∙ starts))))
           ]
           not_ask WriteBody f listed = false≢true f
           not_ask SyncBody f listed = false≢true f
@@ -138,4 +127,4 @@ module _ (w : State) (c : CoreJob) (m : Job) (a : Action) (is : IsJobOf (setup_i
           by false f = ap (λ (x : Bool). x && nat_lt m.place 4) f
           by true f = (let l = opens-list (setup_in w) m c.wish m.kind refl is.kind f in
               ap (λ (x : Bool). x && nat_lt m.place 4) f
-              ∙ ask_behind l.0 m.place j o t (ap (λ (xs : List Action). slice_get xs m.place) (sym l.1) ∙ (next-listed w m a next on ∙ ap Some e)))
+              ∙ ask_behind l.0 m.place j o t (ap (λ (xs : List Action). slice_get xs m.place) (sym l.1) ∙ (next_stands w m a next on ∙ ap Some e)))

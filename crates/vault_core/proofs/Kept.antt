@@ -9,16 +9,16 @@ use Rattle.std.proofs.lemmas.List.{map-set, length-map, length-set}
 use Rattle.std.proofs.lemmas.List.Edits.{length-remove}
 use Rattle.std.proofs.lemmas.List.Elements.{All-take, All-drop, All-append, All-set}
 use Rattle.std.proofs.lemmas.List.Sums.{sum_by-set, sum_by-remove, sum_by-take-drop}
-use Rattle.hail_machine.specs.Actions.{Action}
+use Rattle.hail_machine.specs.Actions.{Action, Store}
 use Rattle.vault_core.specs.declared.wish.Wish.{Wish}
 use Rattle.vault_core.specs.declared.wish.Wish.TheVariants as wish
 use Rattle.vault_core.specs.declared.job.Job.{Job}
 use Rattle.std.specs.declared.vec.Vec.{Vec}
 use Rattle.vault_core.specs.declared.own.Core.TheInside.{Inside}
-use Rattle.vault_core.specs.Parts.{seen, view_of, IsKept, IsCore}
+use Rattle.vault_core.specs.Parts.{core_job, view_of, IsJobKept, IsCore}
 use Rattle.vault_core.specs.View.{CoreJob, CoreView, AreRising, job_in}
 use Rattle.vault_core.specs.Reserves.{sizes_of, reserved_of, starts_by, starts_of, Reserves}
-use Rattle.vault_core.specs.Fed.{moved, is_own, freed, is_gate}
+use Rattle.vault_core.specs.Fed.{stepped, is_own, freed, is_gate, renamed}
 use Rattle.vault_core.proofs.Counts.{gates, gates-cons}
 
 pub map-remove : {X Y : Type 0} (f : X → Y) (xs : List X) (i : ℕ) → map f (remove xs i) ≡ remove (map f xs) i
@@ -53,7 +53,7 @@ reserves_other c place j k o e r s h =
 
 -- ---- a job that has made an action needs no more than before
 
-gates_fewer : (xs : List Action) → gates (drop 1 xs) ≤ gates xs
+pub gates_fewer : (xs : List Action) → gates (drop 1 xs) ≤ gates xs
 gates_fewer [] = omega arith
 gates_fewer (x ∷ xs) = let e = gates-cons x xs in omega (arith, e)
 
@@ -82,15 +82,15 @@ starts_fewer wish.Repair a b h = omega arith
 pub starts_not_more : (j k : CoreJob) → k.wish ≡ j.wish → (k.opening ≡ true → j.opening ≡ true) → starts_of k ≤ starts_of j
 starts_not_more j k w h = subst (λ (x : Wish). starts_by x k.opening ≤ starts_of j) (sym w) (starts_fewer j.wish j.opening k.opening h)
 
-pub moved_room : (n : ℕ) (j : CoreJob) → reserved_of n (moved j) ≤ reserved_of n j
-moved_room n j = reserved_fewer n j (moved j) refl (gates_fewer j.rest)
+pub moved_room : (n : ℕ) (j : CoreJob) → reserved_of n (stepped j) ≤ reserved_of n j
+moved_room n j = reserved_fewer n j (stepped j) refl (gates_fewer j.rest)
 
 pub and_left : (a b : Bool) → (a && b) ≡ true → a ≡ true
 and_left true b h = refl
 and_left false b h = absurd (false≢true h)
 
-pub moved_starts : (j : CoreJob) → starts_of (moved j) ≤ starts_of j
-moved_starts j = starts_not_more j (moved j) refl (and_left j.opening (not (is_gate (slice_get j.rest 0))))
+pub moved_starts : (j : CoreJob) → starts_of (stepped j) ≤ starts_of j
+moved_starts j = starts_not_more j (stepped j) refl (and_left j.opening (not (is_gate (slice_get j.rest 0))))
 
 -- ---- the numbers of jobs
 
@@ -136,32 +136,32 @@ gone low (x ∷ js) next (suc i) j h e = rw (ne_eqb x.number j.number (λ m. abs
 pub less_view : (a : Inside) (v : Vec Job Global) (place : ℕ) (o : Option ℕ) (b : Bool) → v.items ≡ remove a.jobs.items place →
     view_of (record a { jobs = v; append = o; barred = b }) ≡ record (view_of a) { jobs = remove (view_of a).jobs place; append = o; barred = b }
 less_view a v place o b e = ap (λ (js : List CoreJob). record (view_of a) { jobs = js; append = o; barred = b })
-    (ap (map (seen a.setup.n)) e ∙ map-remove (seen a.setup.n) a.jobs.items place)
+    (ap (map (core_job a.setup.n)) e ∙ map-remove (core_job a.setup.n) a.jobs.items place)
 
 pub less_core : (a : Inside) (v : Vec Job Global) (place : ℕ) (d : Job) (o : Option ℕ) (b : Bool) → place < length (view_of a).jobs → v.items ≡ remove a.jobs.items place → IsCore a →
     IsCore (record a { jobs = v; append = o; barred = b })
 less_core a v place d o b l e h = record {
   set_up = h.set_up;
-  kept = subst (All (IsKept a.setup.n)) (sym e) (All-remove (IsKept a.setup.n) a.jobs.items place h.kept);
-  few = (let m : length (map (seen a.setup.n) a.jobs.items) ≡ length a.jobs.items = simp length-map in let r = length-remove a.jobs.items place (omega (arith, l, m)) in let s = ap length e in let f = h.few in omega (arith, r, s, f));
+  kept = subst (All (IsJobKept a.setup.n)) (sym e) (All-remove (IsJobKept a.setup.n) a.jobs.items place h.kept);
+  few = (let m : length (map (core_job a.setup.n) a.jobs.items) ≡ length a.jobs.items = simp length-map in let r = length-remove a.jobs.items place (omega (arith, l, m)) in let s = ap length e in let f = h.few in omega (arith, r, s, f));
   begun = h.begun;
-  reserves = subst Reserves (sym (less_view a v place o b e)) (reserves_less (view_of a) place (seen a.setup.n d) o b l h.reserves);
+  reserves = subst Reserves (sym (less_view a v place o b e)) (reserves_less (view_of a) place (core_job a.setup.n d) o b l h.reserves);
   numbered = subst (λ (x : CoreView). AreRising 0 x.jobs a.next_job) (sym (less_view a v place o b e)) (rising_remove 0 (view_of a).jobs a.next_job place h.numbered);
 }
 
 -- ---- a core with another job
 
-pub other_view : (a : Inside) (v : Vec Job Global) (place : ℕ) (job : Job) (k : CoreJob) (o : Option ℕ) → v.items ≡ set a.jobs.items place job → seen a.setup.n job ≡ k →
+pub other_view : (a : Inside) (v : Vec Job Global) (place : ℕ) (job : Job) (k : CoreJob) (o : Option ℕ) → v.items ≡ set a.jobs.items place job → core_job a.setup.n job ≡ k →
     view_of (record a { jobs = v; append = o }) ≡ record (view_of a) { jobs = set (view_of a).jobs place k; append = o }
 other_view a v place job k o e s = ap (λ (js : List CoreJob). record (view_of a) { jobs = js; append = o })
-    (ap (map (seen a.setup.n)) e ∙ (map-set (seen a.setup.n) a.jobs.items place job ∙ ap (set (map (seen a.setup.n) a.jobs.items) place) s))
+    (ap (map (core_job a.setup.n)) e ∙ (map-set (core_job a.setup.n) a.jobs.items place job ∙ ap (set (map (core_job a.setup.n) a.jobs.items) place) s))
 
-pub other_core : (a : Inside) (v : Vec Job Global) (place : ℕ) (job : Job) (j k : CoreJob) (o : Option ℕ) → v.items ≡ set a.jobs.items place job → seen a.setup.n job ≡ k →
-    slice_get (view_of a).jobs place ≡ Some j → k.number ≡ j.number → IsKept a.setup.n job → reserved_of a.setup.n k ≤ reserved_of a.setup.n j → starts_of k ≤ starts_of j →
+pub other_core : (a : Inside) (v : Vec Job Global) (place : ℕ) (job : Job) (j k : CoreJob) (o : Option ℕ) → v.items ≡ set a.jobs.items place job → core_job a.setup.n job ≡ k →
+    slice_get (view_of a).jobs place ≡ Some j → k.number ≡ j.number → IsJobKept a.setup.n job → reserved_of a.setup.n k ≤ reserved_of a.setup.n j → starts_of k ≤ starts_of j →
     IsCore a → IsCore (record a { jobs = v; append = o })
 other_core a v place job j k o e s g num kept r t h = record {
   set_up = h.set_up;
-  kept = subst (All (IsKept a.setup.n)) (sym e) (All-set (IsKept a.setup.n) a.jobs.items place job kept h.kept);
+  kept = subst (All (IsJobKept a.setup.n)) (sym e) (All-set (IsJobKept a.setup.n) a.jobs.items place job kept h.kept);
   few = (let r = length-set a.jobs.items place job in let s = ap length e in let f = h.few in omega (arith, r, s, f));
   begun = h.begun;
   reserves = subst Reserves (sym (other_view a v place job k o e s)) (reserves_other (view_of a) place j k o g r t h.reserves);
@@ -171,10 +171,10 @@ other_core a v place job j k o e s g num kept r t h = record {
 -- ---- the job at a place
 
 pub seen_at : (a : Inside) (place : ℕ) (job : Job) → place < length (view_of a).jobs → job ≡ get_or a.jobs.items place job →
-    slice_get (view_of a).jobs place ≡ Some (seen a.setup.n job)
+    slice_get (view_of a).jobs place ≡ Some (core_job a.setup.n job)
 seen_at a place job l e =
-    let m : length (map (seen a.setup.n) a.jobs.items) ≡ length a.jobs.items = simp length-map in
-    slice_get-map (seen a.setup.n) a.jobs.items place ∙ ap (option_map (seen a.setup.n)) (slice_get_read a.jobs.items (length a.jobs.items) place job refl (omega (arith, l, m)) e)
+    let m : length (map (core_job a.setup.n) a.jobs.items) ≡ length a.jobs.items = simp length-map in
+    slice_get-map (core_job a.setup.n) a.jobs.items place ∙ ap (option_map (core_job a.setup.n)) (slice_get_read a.jobs.items (length a.jobs.items) place job refl (omega (arith, l, m)) e)
 
 own_is : (o : Option ℕ) (j : CoreJob) → option_eq eqb o (Some j.number) ≡ is_own o (Some j)
 own_is None j = refl
@@ -183,3 +183,8 @@ own_is (Some k) j = refl
 pub freed_is : (c : CoreView) (place : ℕ) (j : CoreJob) (b : Bool) → slice_get c.jobs place ≡ Some j → option_eq eqb c.append (Some j.number) ≡ b →
     (if b then None else c.append) ≡ freed c place
 freed_is c place j b e f = ap (λ (x : Bool). if x then None else c.append) (sym f ∙ (own_is c.append j ∙ ap (is_own c.append) (sym e)))
+
+-- the calls of a stripe, under another number
+pub renamed_stripe : (k o t : ℕ) (js : List ℕ) → map (λ j. Store j k t) js ≡ map (renamed k) (map (λ j. Store j o t) js)
+renamed_stripe k o t [] = refl
+renamed_stripe k o t (j ∷ js) = ap (λ (xs : List Action). Store j k t ∷ xs) (renamed_stripe k o t js)

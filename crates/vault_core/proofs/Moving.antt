@@ -21,8 +21,8 @@ use Rattle.vault_core.specs.View.{CoreJob, CoreView}
 use Rattle.vault_core.specs.Coming.{takes_older}
 use Rattle.vault_core.specs.Rest.{rest_at, rest_of}
 use Rattle.vault_core.specs.Going.{decides, decides_at, goes_opening}
-use Rattle.vault_core.specs.Parts.{seen, view_of, is_opening, is_over, IsKept, IsCore}
-use Rattle.vault_core.specs.Fed.{first_of, first_at, goes_plainly, is_gate, moved, judged}
+use Rattle.vault_core.specs.Parts.{core_job, view_of, is_opening, is_over, IsJobKept, IsCore}
+use Rattle.vault_core.specs.Fed.{first_of, first_at, goes_plainly, is_gate, stepped, judged}
 use Rattle.vault_core.proofs.Gates.{action_at, first_is}
 use Rattle.vault_core.proofs.Kept.{seen_at, other_view}
 
@@ -39,10 +39,10 @@ pub plain_some : (o : Option Action) → goes_plainly o ≡ true → (a : Action
 plain_some None h = absurd (false≢true h)
 plain_some (Some a) h = (a, refl)
 
-pub kept_at : (a : Inside) (place : ℕ) (job : Job) → IsCore a → place < length (view_of a).jobs → job ≡ get_or a.jobs.items place job → IsKept a.setup.n job
+pub kept_at : (a : Inside) (place : ℕ) (job : Job) → IsCore a → place < length (view_of a).jobs → job ≡ get_or a.jobs.items place job → IsJobKept a.setup.n job
 kept_at a place job h l e =
-    let m : length (map (seen a.setup.n) a.jobs.items) ≡ length a.jobs.items = simp length-map in
-    subst (IsKept a.setup.n) (sym e) (All-get_or (IsKept a.setup.n) a.jobs.items place job (omega (arith, l, m)) h.kept)
+    let m : length (map (core_job a.setup.n) a.jobs.items) ≡ length a.jobs.items = simp length-map in
+    subst (IsJobKept a.setup.n) (sym e) (All-get_or (IsJobKept a.setup.n) a.jobs.items place job (omega (arith, l, m)) h.kept)
 
 -- ---- an action that is no first or fourth move of an append, and no end
 
@@ -93,7 +93,7 @@ plain_at (wish.Drop name) (at.Removing object j) h = (refl, refl)
 plain_at wish.Audit (at.Removing object j) h = (refl, refl)
 plain_at wish.Repair (at.Removing object j) h = (refl, refl)
 
-pub plain_job : (n : ℕ) (job : Job) → IsKept n job → goes_plainly (slice_get (rest_of n job) 0) ≡ true → (is_over job.cursor ≡ false) × (decides job ≡ false)
+pub plain_job : (n : ℕ) (job : Job) → IsJobKept n job → goes_plainly (slice_get (rest_of n job) 0) ≡ true → (is_over job.cursor ≡ false) × (decides job ≡ false)
 plain_job n job kept h = plain_at job.wish job.cursor (ap goes_plainly (sym (first_is n job kept)) ∙ h)
 
 -- ---- the first append
@@ -110,7 +110,7 @@ call_gate w (at.Closing m) = refl
 call_gate w (at.Removing object j) = refl
 call_gate w at.Ending = refl
 
-pub opening_moves : (n : ℕ) (job : Job) → IsKept n job → goes_opening job.cursor ≡ (is_opening job.cursor && not (is_gate (slice_get (rest_of n job) 0)))
+pub opening_moves : (n : ℕ) (job : Job) → IsJobKept n job → goes_opening job.cursor ≡ (is_opening job.cursor && not (is_gate (slice_get (rest_of n job) 0)))
 opening_moves n job kept = call_gate job.wish job.cursor ∙ ap (λ (o : Option Action). is_opening job.cursor && not (is_gate o)) (sym (first_is n job kept))
 
 -- ---- a job that has made an action
@@ -118,7 +118,7 @@ opening_moves n job kept = call_gate job.wish job.cursor ∙ ap (λ (o : Option 
 pub seen_by : (n : ℕ) (old new : Job) (subject : ℕ) (rest : List Action) (opening : Bool) (sums : Sums) → new.number ≡ old.number → new.wish ≡ old.wish →
     new.pinned.items ≡ old.pinned.items → new.flagged ≡ old.flagged → new.subject ≡ subject → rest_of n new ≡ rest → is_opening new.cursor ≡ opening →
     record { counts = counted new.counts; undecided = new.undecided } ≡ sums →
-    seen n new ≡ record (seen n old) { subject = subject; rest = rest; opening = opening; sums = sums }
+    core_job n new ≡ record (core_job n old) { subject = subject; rest = rest; opening = opening; sums = sums }
 seen_by n old new subject rest opening sums a b c d e f g h = λ i. record {
   number = a i;
   wish = b i;
@@ -130,16 +130,16 @@ seen_by n old new subject rest opening sums a b c d e f g h = λ i. record {
   sums = h i;
 }
 
-pub seen_moved : (n : ℕ) (old new : Job) → IsKept n old → rest_of n new ≡ drop 1 (rest_of n old) → is_opening new.cursor ≡ goes_opening old.cursor →
-    new ≡ record old { cursor = new.cursor; left = new.left } → seen n new ≡ moved (seen n old)
+pub seen_moved : (n : ℕ) (old new : Job) → IsJobKept n old → rest_of n new ≡ drop 1 (rest_of n old) → is_opening new.cursor ≡ goes_opening old.cursor →
+    new ≡ record old { cursor = new.cursor; left = new.left } → core_job n new ≡ stepped (core_job n old)
 seen_moved n old new kept r o e = seen_by n old new old.subject _ _ _
     (ap (λ (x : Job). x.number) e) (ap (λ (x : Job). x.wish) e) (ap (λ (x : Job). x.pinned.items) e) (ap (λ (x : Job). x.flagged) e) (ap (λ (x : Job). x.subject) e)
     r (o ∙ opening_moves n old kept) (ap (λ (x : Job). record { counts = counted x.counts; undecided = x.undecided }) e)
 
 -- the job at a place, whose next action is a plain one
 pub record PlainHere (a : Inside) (place : ℕ) (job : Job) : Type 0 where
-  pub here : slice_get (view_of a).jobs place ≡ Some (seen a.setup.n job)
-  pub kept : IsKept a.setup.n job
+  pub here : slice_get (view_of a).jobs place ≡ Some (core_job a.setup.n job)
+  pub kept : IsJobKept a.setup.n job
   pub going : is_over job.cursor ≡ false
   pub undecided : decides job ≡ false
 
@@ -154,18 +154,18 @@ plain_here a c place job v h e plain =
     record { here = here; kept = kept; going = r.0; undecided = r.1 }
 
 pub set_view : (a : Inside) (c : CoreView) (v : Vec Job Global) (place : ℕ) (job before : Job) (o : Option ℕ) (f : CoreJob → CoreJob) → view_of a ≡ c →
-    v.items ≡ set a.jobs.items place job → slice_get (view_of a).jobs place ≡ Some (seen a.setup.n before) → seen a.setup.n job ≡ f (seen a.setup.n before) →
+    v.items ≡ set a.jobs.items place job → slice_get (view_of a).jobs place ≡ Some (core_job a.setup.n before) → core_job a.setup.n job ≡ f (core_job a.setup.n before) →
     (j : CoreJob) → slice_get c.jobs place ≡ Some j → view_of (record a { jobs = v; append = o }) ≡ record c { jobs = set c.jobs place (f j); append = o }
 set_view a c v place job before o f view e here s j g =
-    let same : Some (seen a.setup.n before) ≡ Some j = sym here ∙ (ap (λ (x : CoreView). slice_get x.jobs place) view ∙ g) in
-    let is : seen a.setup.n before ≡ j = cc in
-    other_view a v place job (f (seen a.setup.n before)) o e s
-    ∙ (ap (λ (x : CoreView). record x { jobs = set x.jobs place (f (seen a.setup.n before)); append = o }) view
+    let same : Some (core_job a.setup.n before) ≡ Some j = sym here ∙ (ap (λ (x : CoreView). slice_get x.jobs place) view ∙ g) in
+    let is : core_job a.setup.n before ≡ j = cc in
+    other_view a v place job (f (core_job a.setup.n before)) o e s
+    ∙ (ap (λ (x : CoreView). record x { jobs = set x.jobs place (f (core_job a.setup.n before)); append = o }) view
     ∙ ap (λ (k : CoreJob). record c { jobs = set c.jobs place (f k); append = o }) is)
 
 -- the same where the append in flight stays
 pub set_view_same : (a : Inside) (c : CoreView) (v : Vec Job Global) (place : ℕ) (job before : Job) (f : CoreJob → CoreJob) → view_of a ≡ c →
-    v.items ≡ set a.jobs.items place job → slice_get (view_of a).jobs place ≡ Some (seen a.setup.n before) → seen a.setup.n job ≡ f (seen a.setup.n before) →
+    v.items ≡ set a.jobs.items place job → slice_get (view_of a).jobs place ≡ Some (core_job a.setup.n before) → core_job a.setup.n job ≡ f (core_job a.setup.n before) →
     (j : CoreJob) → slice_get c.jobs place ≡ Some j → view_of (record a { jobs = v }) ≡ record c { jobs = set c.jobs place (f j) }
 set_view_same a c v place job before f view e here s j g =
     set_view a c v place job before a.append f view e here s j g
@@ -186,7 +186,7 @@ pub rest_judged : (n : ℕ) (job : Job) (u : ℕ) (cs : Counts) → rest_of n (r
 unfolding rest_of
 rest_judged n job u cs = judged_at n job u cs job.cursor
 
-pub kept_judged : (n : ℕ) (job : Job) (u : ℕ) (cs : Counts) → IsKept n job → cs.n ≡ n → IsPadded cs → IsKept n (record job { undecided = u; counts = cs })
+pub kept_judged : (n : ℕ) (job : Job) (u : ℕ) (cs : Counts) → IsJobKept n job → cs.n ≡ n → IsPadded cs → IsJobKept n (record job { undecided = u; counts = cs })
 kept_judged n job u cs kept e padded = record {
   stays = record {
     tasks = kept.stays.tasks;
@@ -201,12 +201,12 @@ kept_judged n job u cs kept e padded = record {
   left = kept.left ∙ ap (λ (xs : List Action). length xs + (if takes_older job.wish && nat_lt 0 (count_by ends_append xs) then n else 0)) (sym (rest_judged n job u cs));
 }
 
-pub seen_judged : (n : ℕ) (old new : Job) (u : ℕ) (cs : Counts) → IsKept n old → IsKept n (record old { undecided = u; counts = cs }) →
+pub seen_judged : (n : ℕ) (old new : Job) (u : ℕ) (cs : Counts) → IsJobKept n old → IsJobKept n (record old { undecided = u; counts = cs }) →
     rest_of n new ≡ drop 1 (rest_of n (record old { undecided = u; counts = cs })) → is_opening new.cursor ≡ goes_opening old.cursor →
     new ≡ record old { undecided = u; counts = cs; cursor = new.cursor; left = new.left } →
-    seen n new ≡ judged (seen n old) (record { counts = counted cs; undecided = u })
+    core_job n new ≡ judged (core_job n old) (record { counts = counted cs; undecided = u })
 seen_judged n old new u cs kept next r o e = seen_moved n (record old { undecided = u; counts = cs }) new next r o e
-    ∙ ap (λ (xs : List Action). record (seen n old) {
+    ∙ ap (λ (xs : List Action). record (core_job n old) {
       rest = drop 1 xs;
       opening = is_opening old.cursor && not (is_gate (slice_get xs 0));
       sums = record { counts = counted cs; undecided = u };

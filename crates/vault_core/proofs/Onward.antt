@@ -3,6 +3,8 @@ use Rattle.std.proofs.Common.{◌≡◌, ℕ, zero, suc, ◌+◌, ◌<◌, Bool,
 use Rattle.std.specs.Prelude.{Option, ◌⊎◌, ◌&&◌, not, nat_lt, slice_get, IsTrue}
 use Rattle.std.specs.List.{flat_map, range_with_len}
 use Rattle.std.proofs.lemmas.Bool.{le-ltb, false≢true}
+use Rattle.plain_facts.specs.Lists.{Each}
+use Rattle.plain_facts.proofs.Each.{each_get, each_append, each_map, each_flat}
 use Rattle.hail_codes.specs.Points.{upto}
 use Rattle.hail_columns.specs.Verdicts.{Sums, Judges}
 use Rattle.hail_columns.specs.Challenges.{challenge_of}
@@ -14,16 +16,16 @@ use Rattle.hail_machine.specs.Given.{answers_given}
 use Rattle.hail_machine.specs.States.{State, setup_in}
 use Rattle.hail_machine.specs.Audits.{JudgesRounds, JudgesFiles, HasSums}
 use Rattle.hail_machine.specs.Steps.{next_action}
-use Rattle.hail_machine.proofs.ActionLists.{Each, each_get, each_append, each_map, each_flat}
-use Rattle.sound_states.proofs.Orders.{put-list, audit-list, put_rest, drop_rest, audit_rest, next-listed, next-left}
+use Rattle.hail_machine.proofs.NextActions.{next_stands}
+use Rattle.sound_states.proofs.Orders.{put-list, audit-list, put_rest, drop_rest, audit_rest, next-left}
 use Rattle.sound_states.proofs.Gates.{drop-list}
 use Rattle.sound_states.proofs.Going.{onward, actions-onward}
 use Rattle.vault_core.specs.declared.wish.Wish.{Wish}
 use Rattle.vault_core.specs.declared.wish.Wish.TheVariants as wish
 use Rattle.vault_core.specs.View.{CoreJob}
-use Rattle.vault_core.specs.Coming.{is_ask, begins_append}
+use Rattle.vault_core.specs.Coming.{asks_next, begins_append}
 use Rattle.vault_core.specs.Carried.{IsKindOf, has_asked, opens, IsJobOf}
-use Rattle.vault_core.specs.Fed.{is_gate, moved}
+use Rattle.vault_core.specs.Fed.{is_gate, stepped}
 use Rattle.vault_core.proofs.Kept.{and_left}
 
 -- ---- the first append
@@ -104,11 +106,11 @@ module _ (s : Setup) (m : Job) (some : 0 < s.n) where
 
 -- ---- asks
 
-IsAnAsk : Action → Type 0
-IsAnAsk a = is_ask (Some a) ≡ true
+pub IsAnAsk : Action → Type 0
+IsAnAsk a = asks_next (Some a) ≡ true
 
 NoAsk : Action → Type 0
-NoAsk a = is_ask (Some a) ≡ false
+NoAsk a = asks_next (Some a) ≡ false
 
 asks_ask : (s : Setup) (m : Job) → Each IsAnAsk (ask_actions s m)
 unfolding IsAnAsk
@@ -117,7 +119,7 @@ asks_ask s m = each_flat IsAnAsk (λ (f : Pinned). flat_map (λ round. on_each_p
 
 -- behind asks comes the first move of the next append
 ask_then : (xs ys : List Action) (p j o t : ℕ) → Each IsAnAsk xs → Each NoAsk ys → slice_get (xs ++ WriteBody ∷ ys) p ≡ Some (Ask j o t) →
-    (is_ask (slice_get (xs ++ WriteBody ∷ ys) (suc p)) ≡ true) ⊎ (begins_append (slice_get (xs ++ WriteBody ∷ ys) (suc p)) ≡ true)
+    (asks_next (slice_get (xs ++ WriteBody ∷ ys) (suc p)) ≡ true) ⊎ (begins_append (slice_get (xs ++ WriteBody ∷ ys) (suc p)) ≡ true)
 unfolding IsAnAsk NoAsk
 ask_then [] ys zero j o t h n e = let f : Some WriteBody ≡ Some (Ask j o t) = e in cc
 ask_then [] ys (suc p) j o t h n e = absurd (false≢true (sym (each_get NoAsk ys p (Ask j o t) n e)))
@@ -127,28 +129,28 @@ ask_then (x ∷ xs) ys (suc p) j o t h n e = ask_then xs ys p j o t h.1 n e
 
 -- an ask of an audit stands before another ask, or before the first move of its last append
 pub ask-then : (s : Setup) (m : Job) (j o t : ℕ) → m.kind ≡ AuditJob → slice_get (actions_of s m) m.place ≡ Some (Ask j o t) →
-    (is_ask (slice_get (actions_of s m) (m.place + 1)) ≡ true) ⊎ (begins_append (slice_get (actions_of s m) (m.place + 1)) ≡ true)
+    (asks_next (slice_get (actions_of s m) (m.place + 1)) ≡ true) ⊎ (begins_append (slice_get (actions_of s m) (m.place + 1)) ≡ true)
 unfolding NoAsk
-ask-then s m j o t kind e = subst (λ (xs : List Action). (is_ask (slice_get xs (m.place + 1)) ≡ true) ⊎ (begins_append (slice_get xs (m.place + 1)) ≡ true)) (sym (audit-list s m kind))
-    (subst (λ (k : ℕ). (is_ask (slice_get (append_actions ++ audit_rest s m) k) ≡ true) ⊎ (begins_append (slice_get (append_actions ++ audit_rest s m) k) ≡ true)) (let k : suc m.place ≡ m.place + 1 = omega arith in k)
+ask-then s m j o t kind e = subst (λ (xs : List Action). (asks_next (slice_get xs (m.place + 1)) ≡ true) ⊎ (begins_append (slice_get xs (m.place + 1)) ≡ true)) (sym (audit-list s m kind))
+    (subst (λ (k : ℕ). (asks_next (slice_get (append_actions ++ audit_rest s m) k) ≡ true) ⊎ (begins_append (slice_get (append_actions ++ audit_rest s m) k) ≡ true)) (let k : suc m.place ≡ m.place + 1 = omega arith in k)
     (by m.place (ap (λ (xs : List Action). slice_get xs m.place) (sym (audit-list s m kind)) ∙ e)))
   where
     by : (p : ℕ) → slice_get (append_actions ++ audit_rest s m) p ≡ Some (Ask j o t) →
-        (is_ask (slice_get (append_actions ++ audit_rest s m) (suc p)) ≡ true) ⊎ (begins_append (slice_get (append_actions ++ audit_rest s m) (suc p)) ≡ true)
+        (asks_next (slice_get (append_actions ++ audit_rest s m) (suc p)) ≡ true) ⊎ (begins_append (slice_get (append_actions ++ audit_rest s m) (suc p)) ≡ true)
     by zero f = (let g : Some WriteBody ≡ Some (Ask j o t) = f in cc)
     by (suc zero) f = (let g : Some SyncBody ≡ Some (Ask j o t) = f in cc)
     by (suc (suc zero)) f = (let g : Some WriteGate ≡ Some (Ask j o t) = f in cc)
     by (suc (suc (suc zero))) f = (let g : Some SyncGate ≡ Some (Ask j o t) = f in cc)
     by (suc (suc (suc (suc p)))) f = ask_then (ask_actions s m) (SyncBody ∷ WriteGate ∷ SyncGate ∷ End ∷ []) p j o t (asks_ask s m) (refl, (refl, (refl, (refl, tt)))) f
 
-nothing : (xs ys : List Action) → Each IsAnAsk xs → is_ask (slice_get (xs ++ ys) 0) ≡ false → xs ≡ []
+nothing : (xs ys : List Action) → Each IsAnAsk xs → asks_next (slice_get (xs ++ ys) 0) ≡ false → xs ≡ []
 unfolding IsAnAsk
 nothing [] ys h e = refl
 nothing (x ∷ xs) ys h e = absurd (false≢true (sym e ∙ h.0))
 
 -- where no ask stands behind its first append an audit asks nothing
-pub asks-none : (s : Setup) (m : Job) → m.kind ≡ AuditJob → is_ask (slice_get (actions_of s m) 4) ≡ false → ask_actions s m ≡ []
-asks-none s m kind e = nothing (ask_actions s m) (append_actions ++ End ∷ []) (asks_ask s m) (ap (λ (xs : List Action). is_ask (slice_get xs 4)) (sym (audit-list s m kind)) ∙ e)
+pub asks-none : (s : Setup) (m : Job) → m.kind ≡ AuditJob → asks_next (slice_get (actions_of s m) 4) ≡ false → ask_actions s m ≡ []
+asks-none s m kind e = nothing (ask_actions s m) (append_actions ++ End ∷ []) (asks_ask s m) (ap (λ (xs : List Action). asks_next (slice_get xs 4)) (sym (audit-list s m kind)) ∙ e)
 
 -- an audit neither fetches nor works
 abbrev pub IsAudits : Action → Type 0
@@ -189,10 +191,10 @@ module _ (w : State) (c : CoreJob) (m : Job) (a : Action) (is : IsJobOf (setup_i
       by false e = ap (λ (x : Bool). (x && nat_lt m.place 4) && not (is_gate (Some a))) e ∙ sym (ap (λ (x : Bool). x && nat_lt (m.place + 1) 4) e)
       by true e = (let l = opens-list (setup_in w) m c.wish m.kind refl is.kind e in
           ap (λ (x : Bool). (x && nat_lt m.place 4) && not (is_gate (Some a))) e
-          ∙ (gate_step l.0 m.place a (ap (λ (xs : List Action). slice_get xs m.place) (sym l.1) ∙ next-listed w m a next on)
+          ∙ (gate_step l.0 m.place a (ap (λ (xs : List Action). slice_get xs m.place) (sym l.1) ∙ next_stands w m a next on)
           ∙ sym (ap (λ (x : Bool). x && nat_lt (m.place + 1) 4) e)))
 
-  pub on-moved : (given : List Given) → (IsTrue (has_asked (moved c)) → HasSums (setup_in w) (onward m m.subject given) c.sums) → IsJobOf (setup_in w) (moved c) (onward m m.subject given)
+  pub on-moved : (given : List Given) → (IsTrue (has_asked (stepped c)) → HasSums (setup_in w) (onward m m.subject given) c.sums) → IsJobOf (setup_in w) (stepped c) (onward m m.subject given)
   on-moved given sums = record {
     number = is.number;
     kind = is.kind;

@@ -1,11 +1,12 @@
 -- Jobs of a core and jobs of the machine, in order.
-use Rattle.std.proofs.Common.{◌≡◌, ℕ, zero, suc, ◌+◌, ◌<◌, Bool, List, [], ◌∷◌, Some, None, length, set, inl, inr, refl, ap, sym, subst, ◌∙◌, arith}
+use Rattle.std.proofs.Common.{◌≡◌, ℕ, zero, suc, ◌+◌, Bool, List, [], ◌∷◌, Some, None, length, set, inl, inr, refl, ap, sym, subst, ◌∙◌, arith}
 use Rattle.std.specs.Prelude.{Option, if◌then◌else◌, ◌==◌, slice_get, remove}
 use Rattle.std.specs.List.{AllZip}
 use Rattle.std.proofs.lemmas.Bool.{cases_Bool, eqb-true, eq-eqb, ne_eqb}
 use Rattle.hail_records.specs.Records.{Setup}
 use Rattle.hail_machine.specs.Jobs.{Job, job_of, with_job, without_job}
 use Rattle.sound_states.specs.Orders.{AreNumbered}
+use Rattle.sound_states.proofs.JobLists.{without_job-none}
 use Rattle.vault_core.specs.View.{CoreJob, job_in}
 use Rattle.vault_core.specs.Carried.{IsJobOf}
 
@@ -71,12 +72,6 @@ pair_with s (x ∷ cs) (y ∷ js) k (suc place) c j h f n is =
     subst (λ (b : Bool). AllZip (IsJobOf s) (x ∷ set cs place c) (if b then j ∷ js else y ∷ with_job js j)) (sym (ne_eqb y.number j.number (λ e. f.0 (h.0.number ∙ (e ∙ n)))))
     (h.0, pair_with s cs js k place c j h.1 f.1 n is)
 
-without_none : (js : List Job) (low next k : ℕ) → AreNumbered low js next → k < low → without_job js k ≡ js
-without_none [] low next k h l = refl
-without_none (j ∷ js) low next k h l =
-    ap (λ (b : Bool). if b then without_job js k else j ∷ without_job js k) (ne_eqb j.number k (λ e. absurd (let a = h.0 in omega arith)))
-    ∙ ap (λ (ys : List Job). j ∷ ys) (without_none js (j.number + 1) next k h.1 (let a = h.0 in omega arith))
-
 -- the end of a job: the same change in both lists
 pub pair_without : (s : Setup) (cs : List CoreJob) (js : List Job) (k place low next : ℕ) → AllZip (IsJobOf s) cs js → IsFirst cs k place → AreNumbered low js next →
     AllZip (IsJobOf s) (remove cs place) (without_job js k)
@@ -85,7 +80,7 @@ pair_without s (x ∷ cs) [] k place low next h f num = absurd h
 pair_without s (x ∷ cs) (y ∷ js) k zero low next h f num =
     let n : y.number ≡ k = sym h.0.number ∙ f in
     subst (λ (b : Bool). AllZip (IsJobOf s) cs (if b then without_job js k else y ∷ without_job js k)) (sym (eq-eqb y.number k n))
-    (subst (AllZip (IsJobOf s) cs) (sym (without_none js (y.number + 1) next k num.1 (omega (arith, n)))) h.1)
+    (subst (AllZip (IsJobOf s) cs) (sym (without_job-none js (y.number + 1) next k num.1 (omega (arith, n)))) h.1)
 pair_without s (x ∷ cs) (y ∷ js) k (suc place) low next h f num =
     subst (λ (b : Bool). AllZip (IsJobOf s) (remove (x ∷ cs) (suc place)) (if b then without_job js k else y ∷ without_job js k)) (sym (ne_eqb y.number k (λ e. f.0 (h.0.number ∙ e))))
     (h.0, pair_without s cs js k place (y.number + 1) next h.1 f.1 num.1)

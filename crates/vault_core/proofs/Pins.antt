@@ -1,14 +1,14 @@
 -- How a new job is made, piece by piece.
-use Rattle.std.proofs.Common.{◌≡◌, ℕ, zero, suc, ◌+◌, ◌-◌, ◌<◌, ◌≤◌, Bool, true, false, List, [], ◌∷◌, ◌++◌, Some, None, length, take, drop, get_or, inl, inr, refl, ap, sym, subst, ◌∙◌, arith}
+use Rattle.std.proofs.Common.{◌≡◌, ℕ, zero, suc, ◌+◌, ◌-◌, ◌<◌, ◌≤◌, Bool, true, false, List, [], ◌∷◌, ◌++◌, Some, length, take, drop, get_or, inl, inr, refl, ap, sym, subst, ◌∙◌, arith}
 use Rattle.std.specs.Prelude.{nat_lt, ◌==◌, replicate, slice_get, if◌then◌else◌}
 use Rattle.std.proofs.lemmas.Bool.{cases_Bool}
 use Rattle.std.proofs.lemmas.Bool.Decides.{nat_tests}
+use Rattle.plain_facts.proofs.Lists.{drop-get, get_or-zeros}
 use Rattle.hail_records.specs.Records.{Setup}
 use Rattle.hail_records.specs.Table.{File}
 use Rattle.hail_machine.specs.Setups.{stripes_of}
 use Rattle.record_codec.specs.declared.counts.Counts.{Counts}
 use Rattle.record_codec.specs.Entries.{counted, IsPadded}
-use Rattle.sound_states.proofs.Orders.{drop-get}
 use Rattle.vault_core.specs.declared.pinned.Pinned.{Pinned}
 use Rattle.vault_core.specs.declared.wish.Wish.{Wish}
 use Rattle.vault_core.specs.declared.wish.Wish.TheVariants as wish
@@ -23,13 +23,8 @@ use Rattle.vault_core.proofs.Rests.{rewrites_take, rewrites_skip}
 
 -- ---- flags
 
-zeros_at : (k j : ℕ) → ◌≡◌ {A = ℕ} (get_or (replicate k 0) j 0) 0
-zeros_at zero j = refl
-zeros_at (suc k) zero = refl
-zeros_at (suc k) (suc j) = zeros_at k j
-
 pub read_taken : (n k : ℕ) (xs : List ℕ) (j : ℕ) → drop n xs ≡ replicate k 0 → get_or (take n xs) j 0 ≡ get_or xs j 0
-read_taken zero k xs j e = sym (ap (λ (ys : List ℕ). get_or ys j 0) e ∙ zeros_at k j)
+read_taken zero k xs j e = sym (ap (λ (ys : List ℕ). get_or ys j 0) e ∙ get_or-zeros k j)
 read_taken (suc n) k [] j e = refl
 read_taken (suc n) k (x ∷ xs) zero e = refl
 read_taken (suc n) k (x ∷ xs) (suc j) e = read_taken n k xs j e
@@ -102,11 +97,6 @@ pub pins_step : (files : List File) (k : ℕ) (f : File) (old new : List Pinned)
     new ≡ pins_of (drop (k - 1) files)
 pins_step files k f old new l g o e = e ∙ (ap (put_pin (pin_of_file f)) (o ∙ ap (λ (m : ℕ). pins_of (drop m files)) (let m : k ≡ k - 1 + 1 = omega arith in m))
     ∙ ap pins_of (sym (drop-get files (k - 1) f (sym g))))
-
-pub get_some : (files : List File) (k : ℕ) → k < length files → None ≡ slice_get files k → ⊥
-get_some [] k l e = omega arith
-get_some (f ∷ fs) zero l e = let h : None ≡ Some f = e in cc
-get_some (f ∷ fs) (suc k) l e = get_some fs k (omega arith) e
 
 pub subject_is : (t : Kept) (v : Wish) (k : ℕ) → (is_rewriter v ≡ true → k ≡ due_number t.due) → (is_rewriter v ≡ false → k ≡ 0) → k ≡ subject_for t v
 subject_is t (wish.Put name size) k r o = o refl

@@ -17,7 +17,7 @@ use Rattle.hail_machine.specs.Refusals as refusal
 use Rattle.hail_machine.specs.Refusals.{Refusal, first_refusal}
 use Rattle.hail_machine.specs.States.{State, setup_in, file_in}
 use Rattle.hail_machine.specs.Space.{append_sizes, reserved, is_full, is_too_full, are_numbers_used_up}
-use Rattle.hail_machine.specs.Begins.{is_put_or_check, is_check, is_busy, is_listed, with_puts, names_in, names_taken, is_crowded, begin_refusal}
+use Rattle.hail_machine.specs.Begins.{is_put_or_check, is_check, is_busy, is_name_among, with_puts, names_in, names_taken, is_crowded_state, begin_refusal}
 use Rattle.sound_states.proofs.NamesTaken.{are_put, listed-taken, listed-with_puts, listed-files_of, length-names_in}
 use Rattle.sound_states.proofs.NamesTaken.{puts_name as machine_puts}
 use Rattle.vault_table.specs.Values.{Kept}
@@ -28,15 +28,15 @@ use Rattle.vault_core.specs.declared.wish.BeginFault.TheVariants as fault
 use Rattle.vault_core.specs.declared.job.Job.{Job}
 use Rattle.vault_core.specs.declared.own.Core.TheInside.{Inside}
 use Rattle.vault_core.specs.View.{CoreJob, CoreView}
-use Rattle.vault_core.specs.Parts.{seen, view_of}
+use Rattle.vault_core.specs.Parts.{core_job, view_of}
 use Rattle.vault_core.specs.Reserves.{sizes_of, reserved_of}
 use Rattle.vault_core.specs.Carried.{IsKindOf, IsJobOf, CoreIs, refusal_of}
 use Rattle.vault_core.specs.Wished.{IsShort}
-use Rattle.vault_core.specs.Refusing.{wishes_of, wishes_kept, checks, puts_or_checks, puts_name, is_taken_by, is_new, names_beside, is_taken, is_kept_out, is_busy_in, is_crowded_in, is_too_full_in, is_used_up, is_full_in, or_full, refusal_in, IsNamed}
+use Rattle.vault_core.specs.Refusing.{wishes_of, wishes_kept, checks, puts_or_checks, puts_name, is_taken_by, is_new, names_beside, is_taken, is_kept_out, is_busy_in, is_crowded_in, is_too_full_in, is_used_up, is_full_in, or_full, refusal_in, HasName}
 
 -- ---- lists of jobs, as they are kept and as they are seen
 
-pub wishes-seen : (n : ℕ) (js : List Job) → wishes_of (map (seen n) js) ≡ wishes_kept js
+pub wishes-seen : (n : ℕ) (js : List Job) → wishes_of (map (core_job n) js) ≡ wishes_kept js
 wishes-seen n [] = refl
 wishes-seen n (j ∷ js) = ap (λ (ws : List Wish). j.wish ∷ ws) (wishes-seen n js)
 
@@ -44,15 +44,15 @@ pub any-wishes : (p : Wish → Bool) (js : List Job) → list_any (λ (j : Job).
 any-wishes p [] = refl
 any-wishes p (j ∷ js) = ap (λ (b : Bool). p j.wish || b) (any-wishes p js)
 
-pub length-seen : (n : ℕ) (js : List Job) → length (map (seen n) js) ≡ length js
+pub length-seen : (n : ℕ) (js : List Job) → length (map (core_job n) js) ≡ length js
 length-seen n [] = refl
 length-seen n (j ∷ js) = ap suc (length-seen n js)
 
-pub sum-seen : (n : ℕ) (js : List Job) → sum_by (reserved_of n) (map (seen n) js) ≡ sum_by (λ (j : Job). reserved_of n (seen n j)) js
+pub sum-seen : (n : ℕ) (js : List Job) → sum_by (reserved_of n) (map (core_job n) js) ≡ sum_by (λ (j : Job). reserved_of n (core_job n j)) js
 sum-seen n [] = refl
 sum-seen n (j ∷ js) =
-    let a = sum_by-cons (reserved_of n) (seen n j) (map (seen n) js) in
-    let b = sum_by-cons (λ (i : Job). reserved_of n (seen n i)) j js in
+    let a = sum_by-cons (reserved_of n) (core_job n j) (map (core_job n) js) in
+    let b = sum_by-cons (λ (i : Job). reserved_of n (core_job n i)) j js in
     let i = sum-seen n js in
     omega (arith, a, b, i)
 
@@ -97,7 +97,7 @@ taken-not files ws wish.Repair h = refl
 pub busy : (a : Inside) (v : CoreView) (w : Wish) (b : Bool) → view_of a ≡ v → length a.jobs.items < 8 → b ≡ is_kept_out (wishes_kept a.jobs.items) w → b ≡ is_busy_in v w
 busy a v w b e l h = subst (λ (c : CoreView). b ≡ is_busy_in c w) e
     (h ∙ (ap (λ (ws : List Wish). is_kept_out ws w) (sym (wishes-seen a.setup.n a.jobs.items))
-    ∙ ap (λ (t : Bool). t || is_kept_out (wishes_of (map (seen a.setup.n) a.jobs.items)) w) (sym (few (length (map (seen a.setup.n) a.jobs.items)) (let k = length-seen a.setup.n a.jobs.items in omega (arith, k, l))))))
+    ∙ ap (λ (t : Bool). t || is_kept_out (wishes_of (map (core_job a.setup.n) a.jobs.items)) w) (sym (few (length (map (core_job a.setup.n) a.jobs.items)) (let k = length-seen a.setup.n a.jobs.items in omega (arith, k, l))))))
   where
     few : (k : ℕ) → k < 8 → nat_le 8 k ≡ false
     few k m = grind (arith, nat_tests, m)
@@ -108,8 +108,8 @@ crowded a v name taken count e h k = subst (λ (c : CoreView). (nat_le 1024 coun
     (subst (λ (ws : List Wish). (nat_le 1024 count && not taken) ≡ (nat_le most_files (length a.table.files + names_beside a.table.files ws) && not (is_taken_by a.table.files ws name)))
     (sym (wishes-seen a.setup.n a.jobs.items)) (rw (h, k) refl))
 
-room_is : (a : Inside) (w : Wish) (room size : ℕ) → room ≡ sum_by (λ (j : Job). reserved_of a.setup.n (seen a.setup.n j)) a.jobs.items → size ≡ sum (sizes_of a.setup.n w) →
-    (a.end + room + size) ≡ (a.end + sum_by (reserved_of a.setup.n) (map (seen a.setup.n) a.jobs.items) + sum (sizes_of a.setup.n w))
+room_is : (a : Inside) (w : Wish) (room size : ℕ) → room ≡ sum_by (λ (j : Job). reserved_of a.setup.n (core_job a.setup.n j)) a.jobs.items → size ≡ sum (sizes_of a.setup.n w) →
+    (a.end + room + size) ≡ (a.end + sum_by (reserved_of a.setup.n) (map (core_job a.setup.n) a.jobs.items) + sum (sizes_of a.setup.n w))
 room_is a w room size r s = let k = sum-seen a.setup.n a.jobs.items in omega (arith, k, r, s)
 
 full_cases : (c : CoreView) (w : Wish) → ((name : List ℕ) → w ≡ wish.Get name → ⊥) → is_full_in c w ≡ (is_too_full_in c w || is_used_up c.table w)
@@ -120,13 +120,13 @@ full_cases c wish.Audit h = refl
 full_cases c wish.Repair h = refl
 
 pub over : (a : Inside) (v : CoreView) (w : Wish) (room size : ℕ) → view_of a ≡ v → ((name : List ℕ) → w ≡ wish.Get name → ⊥) →
-    room ≡ sum_by (λ (j : Job). reserved_of a.setup.n (seen a.setup.n j)) a.jobs.items → size ≡ sum (sizes_of a.setup.n w) →
+    room ≡ sum_by (λ (j : Job). reserved_of a.setup.n (core_job a.setup.n j)) a.jobs.items → size ≡ sum (sizes_of a.setup.n w) →
     largest_journal < a.end + room + size → true ≡ is_full_in v w
 over a v w room size e get r s l = subst (λ (c : CoreView). true ≡ is_full_in c w) e
     (sym (full_cases (view_of a) w get ∙ ap (λ (b : Bool). b || is_used_up a.table w) (ap (nat_lt largest_journal) (sym (room_is a w room size r s)) ∙ lt-ltb largest_journal (a.end + room + size) l)))
 
 pub under : (a : Inside) (v : CoreView) (w : Wish) (room size : ℕ) (b : Bool) → view_of a ≡ v → ((name : List ℕ) → w ≡ wish.Get name → ⊥) →
-    room ≡ sum_by (λ (j : Job). reserved_of a.setup.n (seen a.setup.n j)) a.jobs.items → size ≡ sum (sizes_of a.setup.n w) →
+    room ≡ sum_by (λ (j : Job). reserved_of a.setup.n (core_job a.setup.n j)) a.jobs.items → size ≡ sum (sizes_of a.setup.n w) →
     a.end + room + size ≤ largest_journal → b ≡ is_used_up a.table w → b ≡ is_full_in v w
 under a v w room size b e get r s l h = subst (λ (c : CoreView). b ≡ is_full_in c w) e
     (h ∙ sym (full_cases (view_of a) w get ∙ ap (λ (t : Bool). t || is_used_up a.table w) (ap (nat_lt largest_journal) (sym (room_is a w room size r s)) ∙ not_over (a.end + room + size) l)))
@@ -215,17 +215,17 @@ one_if b = if b then 1 else 0
 
 -- the names that are taken, counted
 count_names : (s : Setup) (files : List File) (cs : List CoreJob) (js : List MachineJob) → AllZip (IsJobOf s) cs js →
-    ((n : List ℕ) → is_listed (names_in files) n ≡ is_some (find_file files n)) → length (with_puts (names_in files) js) ≡ names_beside files (wishes_of cs) + length files
+    ((n : List ℕ) → is_name_among (names_in files) n ≡ is_some (find_file files n)) → length (with_puts (names_in files) js) ≡ names_beside files (wishes_of cs) + length files
 count_names s files [] [] is h = let e = length-names_in files in omega (arith, e)
 count_names s files [] (j ∷ js) is h = absurd is
 count_names s files (c ∷ cs) [] is h = absurd is
 count_names s files (c ∷ cs) (j ∷ js) is h = by (count_names s files cs js is.1 h) c.wish j.kind refl refl is.0.kind
   where
-    taken : (n : List ℕ) → is_listed (with_puts (names_in files) js) n ≡ is_taken_by files (wishes_of cs) n
+    taken : (n : List ℕ) → is_name_among (with_puts (names_in files) js) n ≡ is_taken_by files (wishes_of cs) n
     taken n = listed-with_puts (names_in files) js n
         ∙ (ap (λ (b : Bool). are_put n js || b) (h n) ∙ ap (λ (b : Bool). b || is_some (find_file files n)) (sym (kinds_any (puts_name n) (machine_puts n) (puts_is n) s cs js is.1)))
 
-    one : (name : List ℕ) (b : Bool) → is_listed (with_puts (names_in files) js) name ≡ b → length (with_puts (names_in files) (record j { kind = PutJob name [] } ∷ js)) ≡ (if not b then 1 else 0) + length (with_puts (names_in files) js)
+    one : (name : List ℕ) (b : Bool) → is_name_among (with_puts (names_in files) js) name ≡ b → length (with_puts (names_in files) (record j { kind = PutJob name [] } ∷ js)) ≡ (if not b then 1 else 0) + length (with_puts (names_in files) js)
     one name true e = rw e (let k : length (with_puts (names_in files) js) ≡ 0 + length (with_puts (names_in files) js) = omega arith in k)
     one name false e = rw e (let k : suc (length (with_puts (names_in files) js)) ≡ 1 + length (with_puts (names_in files) js) = omega arith in k)
 
@@ -336,7 +336,7 @@ module _ (c : CoreView) (w : State) (is : CoreIs c w) where
   found_is : (name : List ℕ) → find_file c.table.files name ≡ file_in w name
   found_is name = ap (λ (fs : List File). find_file fs name) is.table.files ∙ find-files_of w.records name
 
-  crowded_is : (name : List ℕ) → is_crowded_in c name ≡ is_crowded w name
+  crowded_is : (name : List ℕ) → is_crowded_in c name ≡ is_crowded_state w name
   crowded_is name = both _ _ _ _ count listed
     where
       both : (p q r s : Bool) → p ≡ q → r ≡ s → (p && not r) ≡ (q && not s)
@@ -348,7 +348,7 @@ module _ (c : CoreView) (w : State) (is : CoreIs c w) where
           let b = count_names c.setup (files_of w.records) c.jobs w.jobs is.jobs (λ n. listed-files_of w.records n ∙ ap is_some (sym (find-files_of w.records n))) in
           omega (arith, a, b))
 
-      listed : is_taken c name ≡ is_listed (names_taken w) name
+      listed : is_taken c name ≡ is_name_among (names_taken w) name
       listed = ap (λ (b : Bool). b || is_some (find_file c.table.files name)) (kinds_any (puts_name name) (machine_puts name) (puts_is name) c.setup c.jobs w.jobs is.jobs)
           ∙ (ap (λ (o : Option File). are_put name w.jobs || is_some o) (found_is name) ∙ sym (listed-taken w.records w.jobs name))
 
@@ -358,7 +358,7 @@ module _ (c : CoreView) (w : State) (is : CoreIs c w) where
     | inr f ↦ f
   ]
 
-  pub refusal_is : (v : Wish) (k : Kind) → IsKindOf v k → IsNamed v → IsShort v → option_map refusal_of (refusal_in c v) ≡ begin_refusal 8 w k
+  pub refusal_is : (v : Wish) (k : Kind) → IsKindOf v k → HasName v → IsShort v → option_map refusal_of (refusal_in c v) ≡ begin_refusal 8 w k
   refusal_is (wish.Put name size) (PutJob n b) h named short = put_causes c.barred (is_busy_in c (wish.Put name size)) (is_name n) (nat_lt largest_file (length b)) (is_crowded_in c name) (is_full_in c (wish.Put name size))
       (subst (λ (m : List ℕ). is_name m ≡ true) (sym h.0) named) (not_long (length b) (let e = h.1 in omega (arith, e, short)))
       ∙ rw (is.barred, busy_is (wish.Put name size) (PutJob n b) h, ap (is_crowded_in c) (sym h.0) ∙ crowded_is n, full_is (wish.Put name size) (PutJob n b) h) refl

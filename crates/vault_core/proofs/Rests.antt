@@ -4,6 +4,7 @@ use Rattle.std.specs.Prelude.{slice_get}
 use Rattle.std.proofs.lemmas.Bool.{cases_Bool}
 use Rattle.std.proofs.lemmas.List.Elements.{All-head, All-tail}
 use Rattle.std.specs.List.{All, flat_map, range_with_len}
+use Rattle.plain_facts.proofs.Lists.{drop-get}
 use Rattle.hail_machine.specs.Actions.{Action, Store, Work, Remove, End}
 use Rattle.vault_core.specs.declared.wish.Wish.{Wish}
 use Rattle.vault_core.specs.declared.wish.Wish.TheVariants as wish
@@ -15,9 +16,9 @@ use Rattle.vault_core.specs.declared.cursor.Cursor.TheVariants as at
 use Rattle.vault_core.specs.declared.job.Task.{Task}
 use Rattle.vault_core.specs.declared.job.Job.{Job}
 use Rattle.vault_core.specs.View.{flag_at}
-use Rattle.vault_core.specs.Rest.{numbers, call_of, calls_from, rewrite_of, rewrites_from, work_of, turn_of, turns_from, tasks_of, moves_from, moves_after, closing_of, tasks_on, beyond, rest_at, rest_of}
+use Rattle.vault_core.specs.Rest.{numbers, call_of, calls_from, rewrite_of, rewrites_from, work_of, turn_of, turns_from, tasks_of, moves_from, actions_after, closing_of, tasks_on, beyond, rest_at, rest_of}
 use Rattle.vault_core.specs.Going.{aimed}
-use Rattle.vault_core.specs.Parts.{comes_to, is_caller, is_worker, is_rewriter, IsWithin, IsSet, IsAt}
+use Rattle.vault_core.specs.Parts.{comes_to, is_caller, is_worker, is_rewriter, IsWithin, IsSet, MayBeAt}
 
 pub numbers_here : (a b : ℕ) → a < b → numbers a b ≡ a ∷ numbers (a + 1) b
 numbers_here a b l = let e : b - a ≡ suc (b - (a + 1)) = omega arith in ap (range_with_len a) e
@@ -52,7 +53,7 @@ pub rest_is : (n : ℕ) (job : Job) (c : Cursor) → job.cursor ≡ c → rest_o
 unfolding rest_of
 rest_is n job c e = ap (rest_at n job) e
 
-first_of_front : (x : Action) (xs ys zs : List Action) → xs ≡ x ∷ ys → slice_get (xs ++ zs) 0 ≡ Some x
+pub first_of_front : (x : Action) (xs ys zs : List Action) → xs ≡ x ∷ ys → slice_get (xs ++ zs) 0 ≡ Some x
 first_of_front x xs ys zs e = rw e refl
 
 pub first_calling : (n : ℕ) (job : Job) (spot : Spot) (j : ℕ) → job.cursor ≡ at.Calling spot j → IsWithin n job.flagged job.cursor →
@@ -69,7 +70,7 @@ first_rewriting n job spot j e h =
     ap (λ (xs : List Action). slice_get xs 0) (rest_is n job _ e)
     ∙ first_of_front _ _ _ _ (rewrites_take j n job.flagged spot.object spot.turn w.0 w.1)
 
-first_work : (n : ℕ) (w : Wish) (fl : List Bool) (o t : ℕ) (zs : List Action) → is_worker w ≡ true → slice_get (work_of n w fl o t ++ zs) 0 ≡ Some (Work o t)
+pub first_work : (n : ℕ) (w : Wish) (fl : List Bool) (o t : ℕ) (zs : List Action) → is_worker w ≡ true → slice_get (work_of n w fl o t ++ zs) 0 ≡ Some (Work o t)
 first_work n (wish.Get name) fl o t zs h = refl
 first_work n wish.Repair fl o t zs h = refl
 first_work n (wish.Put name size) fl o t zs h = cc
@@ -118,11 +119,6 @@ get_past xs ys i e l = subst (λ (zs : List _). slice_get zs i ≡ None) e (none
     none (y ∷ zs) zero m = absurd (omega arith)
     none (y ∷ zs) (suc k) m = none zs k (omega arith)
 
-drop_here : {X : Type 0} (xs : List X) (i : ℕ) (x : X) → slice_get xs i ≡ Some x → drop i xs ≡ x ∷ drop (i + 1) xs
-drop_here [] i x e = let f : None ≡ Some x = e in cc
-drop_here (y ∷ ys) zero x e = let f : Some y ≡ Some x = e in let g : y ≡ x = cc in ap (λ z. z ∷ ys) g
-drop_here (y ∷ ys) (suc i) x e = drop_here ys i x e ∙ ap (λ (k : ℕ). x ∷ drop k (y ∷ ys)) (let k : suc (i + 1) ≡ suc i + 1 = omega arith in k)
-
 drop_past : {X : Type 0} (xs : List X) (i : ℕ) → slice_get xs i ≡ None → drop i xs ≡ []
 drop_past [] zero e = refl
 drop_past [] (suc i) e = refl
@@ -134,24 +130,24 @@ turn_joined : (n : ℕ) (w : Wish) (fl : List Bool) (o t : ℕ) (more rest : Lis
 turn_joined n w fl o t more rest = simp append_assoc
 
 pub task_here : (n : ℕ) (job : Job) (place : ℕ) (t : Task) → 0 < n → is_caller job.wish ≡ true → 0 < t.turns → slice_get job.tasks.items place ≡ Some t →
-    IsAt n job (at.Calling (record { object = t.object; turn = 0; turns = t.turns; behind = place + 1 }) 0) (tasks_on n job (drop place job.tasks.items))
+    MayBeAt n job (at.Calling (record { object = t.object; turn = 0; turns = t.turns; behind = place + 1 }) 0) (tasks_on n job (drop place job.tasks.items))
 task_here n job place t l w some e = record {
   comes = w;
   within = (l, some);
   rest = sym (
-      ap (tasks_on n job) (drop_here job.tasks.items place t e)
+      ap (tasks_on n job) (drop-get job.tasks.items place t e)
       ∙ (ap (λ (xs : List Action). (xs ++ tasks_of n job.wish job.flagged (drop (place + 1) job.tasks.items)) ++ closing_of job.wish) (turns_here 0 n job.wish job.flagged t.object t.turns some)
       ∙ (append_assoc _ (tasks_of n job.wish job.flagged (drop (place + 1) job.tasks.items)) (closing_of job.wish)
       ∙ turn_joined n job.wish job.flagged t.object 0 (turns_from 1 n job.wish job.flagged t.object t.turns) (tasks_on n job (drop (place + 1) job.tasks.items))))
       );
 }
 
-pub tasks_over : (n : ℕ) (job : Job) (place : ℕ) (c : Cursor) → slice_get job.tasks.items place ≡ None → IsAt n job c (closing_of job.wish) →
-    IsAt n job c (tasks_on n job (drop place job.tasks.items))
-tasks_over n job place c e h = subst (IsAt n job c) (sym (ap (tasks_on n job) (drop_past job.tasks.items place e))) h
+pub tasks_over : (n : ℕ) (job : Job) (place : ℕ) (c : Cursor) → slice_get job.tasks.items place ≡ None → MayBeAt n job c (closing_of job.wish) →
+    MayBeAt n job c (tasks_on n job (drop place job.tasks.items))
+tasks_over n job place c e h = subst (MayBeAt n job c) (sym (ap (tasks_on n job) (drop_past job.tasks.items place e))) h
 
 pub turn_here : (n : ℕ) (job : Job) (spot : Spot) → 0 < n → is_caller job.wish ≡ true → spot.turn + 1 < spot.turns →
-    IsAt n job (at.Calling (record spot { turn = spot.turn + 1 }) 0) (beyond n job spot)
+    MayBeAt n job (at.Calling (record spot { turn = spot.turn + 1 }) 0) (beyond n job spot)
 turn_here n job spot l w h = record {
   comes = w;
   within = (l, h);
@@ -162,8 +158,8 @@ turn_here n job spot l w h = record {
 }
 
 pub turns_over : (n : ℕ) (job : Job) (spot : Spot) (c : Cursor) → spot.turns ≤ spot.turn + 1 →
-    IsAt n job c (tasks_on n job (drop spot.behind job.tasks.items)) → IsAt n job c (beyond n job spot)
-turns_over n job spot c h is = subst (IsAt n job c)
+    MayBeAt n job c (tasks_on n job (drop spot.behind job.tasks.items)) → MayBeAt n job c (beyond n job spot)
+turns_over n job spot c h is = subst (MayBeAt n job c)
     (sym (ap (λ (xs : List Action). xs ++ tasks_on n job (drop spot.behind job.tasks.items)) (turns_none (spot.turn + 1) n job.wish job.flagged spot.object spot.turns h))) is
 
 pub all_get : {X : Type 0} (P : X → Type 0) (xs : List X) (i : ℕ) (x : X) → slice_get xs i ≡ Some x → All P xs → P x
@@ -171,11 +167,11 @@ all_get P [] i x e h = let f : None ≡ Some x = e in cc
 all_get P (y ∷ ys) zero x e h = let f : Some y ≡ Some x = e in let g : y ≡ x = cc in subst P g (All-head P y ys h)
 all_get P (y ∷ ys) (suc i) x e h = all_get P ys i x e (All-tail P y ys h)
 
-pub at_along : (n : ℕ) (job : Job) (c : Cursor) (xs ys : List Action) → xs ≡ ys → IsAt n job c xs → IsAt n job c ys
-at_along n job c xs ys e h = subst (IsAt n job c) e h
+pub at_along : (n : ℕ) (job : Job) (c : Cursor) (xs ys : List Action) → xs ≡ ys → MayBeAt n job c xs → MayBeAt n job c ys
+at_along n job c xs ys e h = subst (MayBeAt n job c) e h
 
 pub task_found : (n : ℕ) (job : Job) (place : ℕ) (t : Task) → 0 < n → IsSet n job → slice_get job.tasks.items place ≡ Some t →
-    IsAt n job (at.Calling (record { object = t.object; turn = 0; turns = t.turns; behind = place + 1 }) 0) (tasks_on n job (drop place job.tasks.items))
+    MayBeAt n job (at.Calling (record { object = t.object; turn = 0; turns = t.turns; behind = place + 1 }) 0) (tasks_on n job (drop place job.tasks.items))
 task_found n job place t l stays e = task_here n job place t l (calls job.tasks.items stays.idle e) (all_get (λ (x : Task). 0 < x.turns) job.tasks.items place t e stays.tasks) e
   where
     calls : (xs : List Task) → (is_caller job.wish ≡ false → xs ≡ []) → slice_get xs place ≡ Some t → is_caller job.wish ≡ true
@@ -186,7 +182,7 @@ task_found n job place t l stays e = task_here n job place t l (calls job.tasks.
 
 -- a job that works on no stripes goes on to the next turn
 pub no_work : (n : ℕ) (job : Job) (spot : Spot) (c : Cursor) → ((name : List ℕ) → job.wish ≡ wish.Get name → ⊥) → (job.wish ≡ wish.Repair → ⊥) →
-    IsAt n job c (beyond n job spot) → IsAt n job c (work_of n job.wish job.flagged spot.object spot.turn ++ beyond n job spot)
+    MayBeAt n job c (beyond n job spot) → MayBeAt n job c (work_of n job.wish job.flagged spot.object spot.turn ++ beyond n job spot)
 no_work n job spot c get repair h = at_along n job c _ _ (ap (λ (xs : List Action). xs ++ beyond n job spot) (sym (none job.wish get repair))) h
   where
     none : (w : Wish) → ((name : List ℕ) → w ≡ wish.Get name → ⊥) → (w ≡ wish.Repair → ⊥) → work_of n w job.flagged spot.object spot.turn ≡ []
@@ -198,7 +194,7 @@ no_work n job spot c get repair h = at_along n job c _ _ (ap (λ (xs : List Acti
 
 -- ---- what is left behind the next action
 
-moves_shift : (m : Move) (more : List Action) → drop 1 (moves_from m ++ more) ≡ moves_after m ++ more
+moves_shift : (m : Move) (more : List Action) → drop 1 (moves_from m ++ more) ≡ actions_after m ++ more
 moves_shift move.Body more = refl
 moves_shift move.BodySync more = refl
 moves_shift move.Gate more = refl
@@ -207,10 +203,10 @@ moves_shift move.GateSync more = refl
 drop_front : (x : Action) (xs ys zs : List Action) → xs ≡ x ∷ ys → drop 1 (xs ++ zs) ≡ ys ++ zs
 drop_front x xs ys zs e = ap (λ (l : List Action). drop 1 (l ++ zs)) e
 
-pub rest_opening : (n : ℕ) (job : Job) (m : Move) → job.cursor ≡ at.Opening m → drop 1 (rest_of n job) ≡ moves_after m ++ tasks_on n job job.tasks.items
+pub rest_opening : (n : ℕ) (job : Job) (m : Move) → job.cursor ≡ at.Opening m → drop 1 (rest_of n job) ≡ actions_after m ++ tasks_on n job job.tasks.items
 rest_opening n job m e = ap (drop 1) (rest_is n job _ e) ∙ moves_shift m (tasks_on n job job.tasks.items)
 
-pub rest_closing : (n : ℕ) (job : Job) (m : Move) → job.cursor ≡ at.Closing m → drop 1 (rest_of n job) ≡ moves_after m ++ End ∷ []
+pub rest_closing : (n : ℕ) (job : Job) (m : Move) → job.cursor ≡ at.Closing m → drop 1 (rest_of n job) ≡ actions_after m ++ End ∷ []
 rest_closing n job m e = ap (drop 1) (rest_is n job _ e) ∙ moves_shift m (End ∷ [])
 
 pub rest_calling : (n : ℕ) (job : Job) (spot : Spot) (j : ℕ) → job.cursor ≡ at.Calling spot j → IsWithin n job.flagged job.cursor →
@@ -245,27 +241,27 @@ rest_removing n job object j e h =
 
 -- ---- where a job is behind its next action
 
-pub opened_on : (n : ℕ) (job : Job) (m next : Move) → job.cursor ≡ at.Opening m → comes_to job.wish job.cursor ≡ true → moves_from next ≡ moves_after m →
-    IsAt n job (at.Opening next) (drop 1 (rest_of n job))
+pub opened_on : (n : ℕ) (job : Job) (m next : Move) → job.cursor ≡ at.Opening m → comes_to job.wish job.cursor ≡ true → moves_from next ≡ actions_after m →
+    MayBeAt n job (at.Opening next) (drop 1 (rest_of n job))
 opened_on n job m next e h f = record {
   comes = subst (λ (c : Cursor). comes_to job.wish c ≡ true) e h;
   within = tt;
   rest = ap (λ (xs : List Action). xs ++ tasks_on n job job.tasks.items) f ∙ sym (rest_opening n job m e);
 }
 
-pub opened : (n : ℕ) (job : Job) (m : Move) (c : Cursor) → job.cursor ≡ at.Opening m → [] ≡ moves_after m →
-    IsAt n job c (tasks_on n job job.tasks.items) → IsAt n job c (drop 1 (rest_of n job))
+pub opened : (n : ℕ) (job : Job) (m : Move) (c : Cursor) → job.cursor ≡ at.Opening m → [] ≡ actions_after m →
+    MayBeAt n job c (tasks_on n job job.tasks.items) → MayBeAt n job c (drop 1 (rest_of n job))
 opened n job m c e f h = at_along n job c _ _ (ap (λ (xs : List Action). xs ++ tasks_on n job job.tasks.items) f ∙ sym (rest_opening n job m e)) h
 
-pub closed_on : (n : ℕ) (job : Job) (m next : Move) → job.cursor ≡ at.Closing m → comes_to job.wish job.cursor ≡ true → moves_from next ≡ moves_after m →
-    IsAt n job (at.Closing next) (drop 1 (rest_of n job))
+pub closed_on : (n : ℕ) (job : Job) (m next : Move) → job.cursor ≡ at.Closing m → comes_to job.wish job.cursor ≡ true → moves_from next ≡ actions_after m →
+    MayBeAt n job (at.Closing next) (drop 1 (rest_of n job))
 closed_on n job m next e h f = record {
   comes = subst (λ (c : Cursor). comes_to job.wish c ≡ true) e h;
   within = tt;
   rest = ap (λ (xs : List Action). xs ++ End ∷ []) f ∙ sym (rest_closing n job m e);
 }
 
-pub closed : (n : ℕ) (job : Job) (m : Move) → job.cursor ≡ at.Closing m → [] ≡ moves_after m → IsAt n job at.Ending (drop 1 (rest_of n job))
+pub closed : (n : ℕ) (job : Job) (m : Move) → job.cursor ≡ at.Closing m → [] ≡ actions_after m → MayBeAt n job at.Ending (drop 1 (rest_of n job))
 closed n job m e f = record {
   comes = refl;
   within = tt;
@@ -273,7 +269,7 @@ closed n job m e f = record {
 }
 
 pub removed_on : (n : ℕ) (job : Job) (object j : ℕ) → job.cursor ≡ at.Removing object j → comes_to job.wish job.cursor ≡ true → IsWithin n job.flagged job.cursor →
-    j + 1 < n → IsAt n job (at.Removing object (j + 1)) (drop 1 (rest_of n job))
+    j + 1 < n → MayBeAt n job (at.Removing object (j + 1)) (drop 1 (rest_of n job))
 removed_on n job object j e h w l = record {
   comes = subst (λ (c : Cursor). comes_to job.wish c ≡ true) e h;
   within = l;
@@ -281,7 +277,7 @@ removed_on n job object j e h w l = record {
 }
 
 pub removed : (n : ℕ) (job : Job) (object j : ℕ) → job.cursor ≡ at.Removing object j → IsWithin n job.flagged job.cursor → n ≤ j + 1 →
-    IsAt n job at.Ending (drop 1 (rest_of n job))
+    MayBeAt n job at.Ending (drop 1 (rest_of n job))
 removed n job object j e w l = record {
   comes = refl;
   within = tt;
@@ -290,19 +286,19 @@ removed n job object j e w l = record {
 
 -- calls of no further provider
 pub called : (n : ℕ) (job : Job) (spot : Spot) (j : ℕ) (c : Cursor) → n ≤ j →
-    IsAt n job c (work_of n job.wish job.flagged spot.object spot.turn ++ beyond n job spot) →
-    IsAt n job c (calls_from j n job.wish spot.object spot.turn ++ (work_of n job.wish job.flagged spot.object spot.turn ++ beyond n job spot))
+    MayBeAt n job c (work_of n job.wish job.flagged spot.object spot.turn ++ beyond n job spot) →
+    MayBeAt n job c (calls_from j n job.wish spot.object spot.turn ++ (work_of n job.wish job.flagged spot.object spot.turn ++ beyond n job spot))
 called n job spot j c l h = at_along n job c _ _
     (ap (λ (xs : List Action). xs ++ (work_of n job.wish job.flagged spot.object spot.turn ++ beyond n job spot)) (sym (calls_none j n job.wish spot.object spot.turn l))) h
 
 -- stores on no further provider
 pub rewritten : (n : ℕ) (job : Job) (spot : Spot) (j : ℕ) (c : Cursor) → rewrites_from j n job.flagged spot.object spot.turn ≡ [] →
-    IsAt n job c (beyond n job spot) → IsAt n job c (rewrites_from j n job.flagged spot.object spot.turn ++ beyond n job spot)
+    MayBeAt n job c (beyond n job spot) → MayBeAt n job c (rewrites_from j n job.flagged spot.object spot.turn ++ beyond n job spot)
 rewritten n job spot j c e h = at_along n job c _ _ (ap (λ (xs : List Action). xs ++ beyond n job spot) (sym e)) h
 
 -- a get has no stores behind its work
 pub worked : (n : ℕ) (job : Job) (spot : Spot) (c : Cursor) → (job.wish ≡ wish.Repair → ⊥) → is_worker job.wish ≡ true →
-    IsAt n job c (beyond n job spot) → IsAt n job c (drop 1 (work_of n job.wish job.flagged spot.object spot.turn) ++ beyond n job spot)
+    MayBeAt n job c (beyond n job spot) → MayBeAt n job c (drop 1 (work_of n job.wish job.flagged spot.object spot.turn) ++ beyond n job spot)
 worked n job spot c repair works h = at_along n job c _ _ (ap (λ (xs : List Action). xs ++ beyond n job spot) (sym (none job.wish repair works))) h
   where
     none : (w : Wish) → (w ≡ wish.Repair → ⊥) → is_worker w ≡ true → drop 1 (work_of n w job.flagged spot.object spot.turn) ≡ []

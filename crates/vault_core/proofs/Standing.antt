@@ -3,6 +3,7 @@ use Rattle.std.proofs.Common.{◌≡◌, ℕ, zero, suc, ◌+◌, Bool, true, fa
 use Rattle.std.specs.Prelude.{Option, ◌⊎◌, if◌then◌else◌, ◌==◌, ◌&&◌, not, is_some, nat_lt, nat_le, slice_get, count_by}
 use Rattle.std.specs.Option.{option_map}
 use Rattle.std.proofs.lemmas.Bool.{cases_Bool, le-ltb, ne_eqb, false≢true}
+use Rattle.plain_facts.proofs.Each.{each_get, each_append, each_map, each_flat}
 use Rattle.hail_records.specs.Records.{Setup, Record, PutStart, PutDone, Drop, AuditStart, AuditDone, RepairDone}
 use Rattle.hail_records.specs.Table.{File, find_file, file_of, next_id}
 use Rattle.hail_records.proofs.FilesLaws.{find-files_of}
@@ -10,21 +11,20 @@ use Rattle.hail_machine.specs.Jobs.{Kind, PutJob, GetJob, DropJob, AuditJob, Rep
 use Rattle.hail_machine.specs.Actions.{Action, WriteBody, SyncBody, WriteGate, SyncGate, Store, Fetch, Ask, Work, Remove, End, append_actions, on_each_provider, on_each_stripe, open_actions, read_actions, remove_actions, actions_by, actions_of, actions_left, ends_append}
 use Rattle.hail_codes.specs.Points.{upto}
 use Rattle.hail_machine.specs.Setups.{stripes_of}
-use Rattle.hail_machine.proofs.ActionLists.{each_get, each_append, each_map, each_flat}
 use Rattle.hail_machine.specs.States.{State, Append, setup_in, file_in}
 use Rattle.hail_machine.specs.Appends.{Writes, is_first_append}
 use Rattle.hail_machine.specs.Refusals.{Refusal, MustReopen, Busy}
 use Rattle.hail_machine.specs.Left.{most_left, removes_older}
 use Rattle.hail_machine.specs.Steps.{is_idle_drop, next_action, holder_of}
 use Rattle.vault_table.specs.Values.{Kept, IsFoldOf, id_after}
-use Rattle.sound_states.specs.Orders.{IsInOrder}
+use Rattle.sound_states.proofs.Orders.{in_order-first}
 use Rattle.vault_core.specs.declared.action.Next.{Next}
 use Rattle.vault_core.specs.declared.action.Next.TheVariants as next
 use Rattle.vault_core.specs.declared.wish.Wish.{Wish}
 use Rattle.vault_core.specs.declared.wish.Wish.TheVariants as wish
 use Rattle.vault_core.specs.View.{CoreJob, CoreView, job_in}
-use Rattle.vault_core.specs.Coming.{Acts, Waits, IsNoJob, IsBarred, seen_action, seen_next, is_gone, is_idle, action_next, begins_append, is_move, is_ask, waits_or_acts, next_of, next_in, takes_older, most_of, left_in, written_by, entry_of_job, entry_of_found, entry_in}
-use Rattle.vault_core.specs.Carried.{IsKindOf, has_asked, opens, IsJobOf, IsFlight, CoreIs, ComesNext, IsNextOf, IsEntryOf}
+use Rattle.vault_core.specs.Coming.{Acts, Waits, IsNoJob, IsBarred, seen_action, seen_next, is_gone, is_idle, action_next, begins_append, is_move, asks_next, waits_or_acts, next_of, next_in, takes_older, most_of, left_in, written_by, entry_of_job, entry_of_found, entry_in}
+use Rattle.vault_core.specs.Carried.{IsKindOf, has_asked, opens, IsJobOf, IsCoreFlight, CoreIs, ComesNext, IsNextOf, IsEntryOf}
 use Rattle.vault_core.proofs.Pairs.{pair_some, pair_none, pair_length}
 
 pub get-drop : {X : Type 0} (i : ℕ) (xs : List X) → slice_get (drop i xs) 0 ≡ slice_get xs i
@@ -113,7 +113,7 @@ left_same c w k is = by (job_in c.jobs k) refl
 
 -- ---- the record of an append
 
-no_ask : (o : Option Action) → is_move o ≡ true → is_ask o ≡ false
+no_ask : (o : Option Action) → is_move o ≡ true → asks_next o ≡ false
 no_ask None h = refl
 no_ask (Some WriteBody) h = refl
 no_ask (Some SyncBody) h = refl
@@ -284,7 +284,7 @@ bars c k h = elim (cases_Bool c.barred) [
 
 -- ---- what comes next in the machine
 
-holder_same : (c : CoreView) (o : Option Append) (a : Action) → IsFlight c o → holder_of o a ≡ core_holder c.append a
+holder_same : (c : CoreView) (o : Option Append) (a : Action) → IsCoreFlight c o → holder_of o a ≡ core_holder c.append a
 holder_same c None a h = none a ∙ ap (λ (x : Option ℕ). core_holder x a) (sym h)
   where
     none : (x : Action) → holder_of None x ≡ core_holder None x
@@ -326,16 +326,11 @@ comes_next c w k a held is h =
       holder = holder_same c w.append a is.append ∙ h.waits;
     }
 
--- a running job has an action left
-rest_left : (moves : ℕ) (xs : List Action) → IsInOrder moves xs → (a : Action) × (slice_get xs 0 ≡ Some a)
-rest_left moves [] h = absurd h
-rest_left moves (x ∷ xs) h = (x, refl)
-
 some_next : (c : CoreView) (w : State) (k : ℕ) (j : CoreJob) → CoreIs c w → job_in c.jobs k ≡ Some j → action_next c.table j ≡ None → ⊥
 some_next c w k j is e f = elim (cases_Bool (is_idle c.table j)) [
   | inl b ↦ (let g : Some End ≡ None = sym (ap (λ (x : Bool). if x then Some End else slice_get j.rest 0) b) ∙ f in cc)
   | inr b ↦ (let p = pair_some c.setup c.jobs w.jobs k j is.jobs e in
-      let o = rest_left _ (actions_left (setup_in w) p.job) (is.sound.jobs k p.job p.runs).order in
+      let o = in_order-first _ (actions_left (setup_in w) p.job) (is.sound.jobs k p.job p.runs).order in
       let g : Some o.0 ≡ None = sym o.1 ∙ (ap (λ (xs : List Action). slice_get xs 0) (sym (p.is.rest ∙ ap (λ (s : Setup). actions_left s p.job) is.setup))
       ∙ (sym (ap (λ (x : Bool). if x then Some End else slice_get j.rest 0) b) ∙ f)) in cc)
 ]

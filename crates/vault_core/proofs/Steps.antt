@@ -3,6 +3,7 @@ use Rattle.std.proofs.Common.{◌≡◌, ℕ, zero, suc, ◌+◌, ◌<◌, ◌^�
 use Rattle.std.specs.Prelude.{Option, ◌⊎◌, if◌then◌else◌, ◌&&◌, not, slice_get, remove}
 use Rattle.std.specs.List.{AllZip}
 use Rattle.std.proofs.lemmas.Bool.{eq-eqb, ne_eqb, false≢true}
+use Rattle.std.proofs.Math.Bool.{and-false, and-true}
 use Rattle.hail_records.specs.Records.{Record, Setup, PutStart, PutDone, Drop, AuditStart, AuditDone, RepairDone, record_size}
 use Rattle.hail_records.specs.Journal.{text_size}
 use Rattle.hail_records.specs.Table.{setup_of}
@@ -27,21 +28,21 @@ use Rattle.sound_states.proofs.Going.{onward}
 use Rattle.sound_states.proofs.JobLists.{mine}
 use Rattle.sound_states.proofs.Written.{setup-providers}
 use Rattle.sound_states.proofs.Gates.{decided}
-use Rattle.sound_states.proofs.Orders.{next-listed}
 use Rattle.record_codec.specs.declared.counts.Counts.{Counts}
 use Rattle.record_codec.specs.Entries.{counted}
 use Rattle.vault_table.specs.Values.{Kept, IsFoldOf, id_after}
+use Rattle.hail_machine.proofs.NextActions.{next_stands}
 use Rattle.vault_core.specs.declared.action.Action.{Action as ActionValue}
 use Rattle.vault_core.specs.declared.action.Action.TheVariants as act
 use Rattle.vault_core.specs.declared.wish.Wish.{Wish}
 use Rattle.vault_core.specs.declared.wish.Wish.TheVariants as wish
 use Rattle.vault_core.specs.declared.reply.Reply.{Reply}
 use Rattle.vault_core.specs.View.{CoreJob, CoreView, job_in}
-use Rattle.vault_core.specs.Coming.{Acts as ActsNext, seen_action, HasReply, is_last_ask_of, is_gone, begins_append, is_idle, action_next, is_move, is_ask, is_last_ask, written_by, entry_of_job, entry_of_found, entry_in}
-use Rattle.vault_core.specs.Carried.{IsJobOf, IsFlight, CoreIs}
-use Rattle.vault_core.specs.Fed.{is_own, freed, stopped, barred_at, with_at, moved, judged, is_gate, goes_plainly, number_drawn, renamed, all_renamed, drawn, gated, HasGated}
+use Rattle.vault_core.specs.Coming.{Acts as ActsNext, seen_action, HasReply, is_last_ask_of, is_gone, begins_append, is_idle, action_next, is_move, asks_next, is_last_ask, written_by, entry_of_job, entry_of_found, entry_in}
+use Rattle.vault_core.specs.Carried.{IsJobOf, IsCoreFlight, CoreIs}
+use Rattle.vault_core.specs.Fed.{is_own, freed, stopped, barred_at, with_at, stepped, judged, is_gate, goes_plainly, number_drawn, renamed, all_renamed, drawn, gated, HasGated}
 use Rattle.vault_core.specs.declared.reply.Reply.TheVariants as reply
-use Rattle.vault_core.specs.Replies.{EndsWell, Tells}
+use Rattle.vault_core.specs.Replies.{IsEndAnswer, Tells}
 use Rattle.vault_core.proofs.Pairs.{IsFirst, pair_some, pair_with, pair_without, in_set_same, in_set_other, in_remove_other}
 use Rattle.vault_core.proofs.Standing.{acts_comes, comes_next, same_job, in_append}
 use Rattle.vault_core.proofs.Judging.{sums-on, on-judged}
@@ -109,7 +110,7 @@ pub record Stays (w new : State) : Type 0 where
 
 -- a job goes on
 set_stands : (c : CoreView) (w new : State) (k place : ℕ) (cj : CoreJob) (m : Job) (flight : Option ℕ) → CoreIs c w → IsSound 8 new → IsFirst c.jobs k place → Stays w new →
-    new.is_barred ≡ w.is_barred → new.jobs ≡ with_job w.jobs m → m.number ≡ k → IsJobOf (setup_in w) cj m → IsFlight (record (with_at c place cj) { append = flight }) new.append →
+    new.is_barred ≡ w.is_barred → new.jobs ≡ with_job w.jobs m → m.number ≡ k → IsJobOf (setup_in w) cj m → IsCoreFlight (record (with_at c place cj) { append = flight }) new.append →
     CoreIs (record (with_at c place cj) { append = flight }) new
 set_stands c w new k place cj m flight is sound first stays bar js number job fl =
     let setup : setup_in new ≡ setup_in w = setup_same new w (ap setup_of stays.records) in
@@ -128,7 +129,7 @@ set_stands c w new k place cj m flight is sound first stays bar js number job fl
 
 -- a job has ended
 remove_stands : (c : CoreView) (w new : State) (k place : ℕ) (flight : Option ℕ) (b : Bool) → CoreIs c w → IsSound 8 new → IsFirst c.jobs k place → Stays w new →
-    b ≡ new.is_barred → new.jobs ≡ without_job w.jobs k → IsFlight (record c { jobs = remove c.jobs place; append = flight; barred = b }) new.append →
+    b ≡ new.is_barred → new.jobs ≡ without_job w.jobs k → IsCoreFlight (record c { jobs = remove c.jobs place; append = flight; barred = b }) new.append →
     CoreIs (record c { jobs = remove c.jobs place; append = flight; barred = b }) new
 remove_stands c w new k place flight b is sound first stays bar js fl =
     let setup : setup_in new ≡ setup_in w = setup_same new w (ap setup_of stays.records) in
@@ -149,23 +150,23 @@ remove_stands c w new k place flight b is sound first stays bar js fl =
 
 module _ (c : CoreView) (w : State) (k place : ℕ) (cj : CoreJob) (is : CoreIs c w) (first : IsFirst c.jobs k place) (here : slice_get c.jobs place ≡ Some cj) (runs : job_in c.jobs k ≡ Some cj) (called : cj.number ≡ k) where
   -- it is not that of a job that makes another action
-  not_own : (a : Append) → IsFlight c (Some a) → is_move (action_next c.table cj) ≡ false → a.job ≡ k → ⊥
+  not_own : (a : Append) → IsCoreFlight c (Some a) → is_move (action_next c.table cj) ≡ false → a.job ≡ k → ⊥
   not_own a f still own =
       let g : entry_in c k ≡ Some a.entry = subst (λ (n : ℕ). entry_in c n ≡ Some a.entry) own f.1 in
       let h : entry_of_job c.table cj ≡ Some a.entry = sym (ap (entry_of_found c.table) runs) ∙ g in
       false≢true (sym still ∙ (in_append c.table cj a.entry h).0)
 
-  flight_on : is_move (action_next c.table cj) ≡ false → (x : CoreJob) → x.number ≡ k → IsFlight (with_at c place x) w.append
+  flight_on : is_move (action_next c.table cj) ≡ false → (x : CoreJob) → x.number ≡ k → IsCoreFlight (with_at c place x) w.append
   flight_on still x n = by w.append is.append
     where
-      by : (o : Option Append) → IsFlight c o → IsFlight (with_at c place x) o
+      by : (o : Option Append) → IsCoreFlight c o → IsCoreFlight (with_at c place x) o
       by None f = f
       by (Some a) f = (f.0, ap (entry_of_found c.table) (in_set_other c.jobs k place a.job x first n (not_own a f still)) ∙ f.1)
 
-  flight_off : is_move (action_next c.table cj) ≡ false → IsFlight (stopped c place) w.append
+  flight_off : is_move (action_next c.table cj) ≡ false → IsCoreFlight (stopped c place) w.append
   flight_off still = by w.append is.append
     where
-      by : (o : Option Append) → IsFlight c o → IsFlight (stopped c place) o
+      by : (o : Option Append) → IsCoreFlight c o → IsCoreFlight (stopped c place) o
       by None f = ap (λ (x : Option ℕ). if is_own x (slice_get c.jobs place) then None else x) f
       by (Some a) f =
           (let other = not_own a f still in (
@@ -183,12 +184,12 @@ module _ (c : CoreView) (w : State) (k place : ℕ) (cj : CoreJob) (is : CoreIs 
       ∙ ap (λ (b : Bool). if b then None else Some k) (eq-eqb k cj.number (sym called)))
 
 -- no append is in flight where one begins
-none_flies : (o : Option Append) → holder_of o WriteBody ≡ None → o ≡ None
+pub none_flies : (o : Option Append) → holder_of o WriteBody ≡ None → o ≡ None
 none_flies None h = refl
 none_flies (Some a) h = cc
 
-core_none : (c : CoreView) (o : Option Append) → IsFlight c o → o ≡ None → c.append ≡ None
-core_none c o f e = subst (IsFlight c) e f
+core_none : (c : CoreView) (o : Option Append) → IsCoreFlight c o → o ≡ None → c.append ≡ None
+core_none c o f e = subst (IsCoreFlight c) e f
 
 -- ---- a job ends, or goes on by an action that is no move of an append
 
@@ -200,43 +201,35 @@ module _ (c : CoreView) (w new : State) (k place : ℕ) (cj : CoreJob) (a : Acti
   off_arm p h e =
       remove_stands c w new k place (freed c place) c.barred o.stands o.sound o.first (record { is_open = ap (λ (s : State). s.is_open) e; records = ap (λ (s : State). s.records) e; next_job = ap (λ (s : State). s.next_job) e })
       (o.stands.barred ∙ sym (ap (λ (s : State). s.is_barred) e)) (ap (λ (s : State). s.jobs) e ∙ ap (without_job w.jobs) o.number)
-      (subst (IsFlight (stopped c place)) (sym (ap (λ (s : State). s.append) e)) (flight_off c w k place cj o.stands o.first o.here o.runs o.called (still h)))
+      (subst (IsCoreFlight (stopped c place)) (sym (ap (λ (s : State). s.append) e)) (flight_off c w k place cj o.stands o.first o.here o.runs o.called (still h)))
 
   on_arm : (p : ℕ → Provider) (x : CoreJob) (m : Job) → x.number ≡ k → m.number ≡ k → is_move (Some a) ≡ false → new ≡ record (going_on w m) { providers = p } → IsJobOf (setup_in w) x m →
       CoreIs (with_at c place x) new
   on_arm p x m n q h e job =
       set_stands c w new k place x m c.append o.stands o.sound o.first (record { is_open = ap (λ (s : State). s.is_open) e; records = ap (λ (s : State). s.records) e; next_job = ap (λ (s : State). s.next_job) e })
       (ap (λ (s : State). s.is_barred) e) (ap (λ (s : State). s.jobs) e) q job
-      (subst (IsFlight (with_at c place x)) (sym (ap (λ (s : State). s.append) e)) (flight_on c w k place cj o.stands o.first o.here o.runs o.called (still h) x n))
+      (subst (IsCoreFlight (with_at c place x)) (sym (ap (λ (s : State). s.append) e)) (flight_on c w k place cj o.stands o.first o.here o.runs o.called (still h) x n))
 
   -- the job, after an action that is not the last ask of an audit
   plain_arm : (p : ℕ → Provider) (given : List Given) → (a ≡ End → ⊥) → is_move (Some a) ≡ false → goes_plainly (Some a) ≡ true → is_last_ask cj.rest ≡ false →
-      (given ≡ o.job.given) ⊎ (o.job.kind ≡ AuditJob → is_ask (Some a) ≡ true) → new ≡ record (going_on w (onward o.job o.job.subject given)) { providers = p } → CoreIs (with_at c place (moved cj)) new
+      (given ≡ o.job.given) ⊎ (o.job.kind ≡ AuditJob → asks_next (Some a) ≡ true) → new ≡ record (going_on w (onward o.job o.job.subject given)) { providers = p } → CoreIs (with_at c place (stepped cj)) new
   plain_arm p given on h plain last gave e =
-      on_arm p (moved cj) (onward o.job o.job.subject given) o.called o.number h e
+      on_arm p (stepped cj) (onward o.job o.job.subject given) o.called o.number h e
       (on-moved w cj o.job a o.is o.next on given (sums-on w cj o.job a o.is o.next on given plain last gave))
 
   -- the append of a job ends by a fault of the disk
   bar_arm : Stays w new → new.is_barred ≡ true → new.jobs ≡ without_job w.jobs o.job.number → CoreIs (barred_at c place) new
   bar_arm stays barred js =
       remove_stands c w new k place None true o.stands o.sound o.first stays (sym barred) (js ∙ ap (without_job w.jobs) o.number)
-      (subst (IsFlight (barred_at c place)) (sym (o.sound.barred barred)) refl)
+      (subst (IsCoreFlight (barred_at c place)) (sym (o.sound.barred barred)) refl)
 
   -- it ends for want of memory
   free_arm : (c.append ≡ None) ⊎ (c.append ≡ Some k) → Stays w new → new.is_barred ≡ w.is_barred → new.jobs ≡ without_job w.jobs o.job.number → new.append ≡ None → CoreIs (stopped c place) new
   free_arm own stays bar js none =
       remove_stands c w new k place (freed c place) c.barred o.stands o.sound o.first stays (o.stands.barred ∙ sym bar) (js ∙ ap (without_job w.jobs) o.number)
-      (subst (IsFlight (stopped c place)) (sym none) (none_off c w k place cj o.stands o.first o.here o.runs o.called own))
+      (subst (IsCoreFlight (stopped c place)) (sym none) (none_off c w k place cj o.stands o.first o.here o.runs o.called own))
 
 -- ---- the moves of an append
-
-and_false : (b : Bool) → (b && false) ≡ false
-and_false true = refl
-and_false false = refl
-
-and_true : (b : Bool) → (b && true) ≡ b
-and_true true = refl
-and_true false = refl
 
 -- the action that comes next while so many moves are made
 abbrev move_after : ℕ → Action
@@ -274,19 +267,19 @@ entry_moving t x n e l o h =
     let head = comes_move n x.rest l o in
     let idle : is_idle t x ≡ false = ap (λ (a : Option Action). is_gone t x.wish && (x.opening && begins_append a)) head
     ∙ (ap (λ (b : Bool). is_gone t x.wish && (x.opening && b)) (later_move n).1
-    ∙ (ap (λ (b : Bool). is_gone t x.wish && b) (and_false x.opening) ∙ and_false (is_gone t x.wish))) in
+    ∙ (ap (λ (b : Bool). is_gone t x.wish && b) (and-false x.opening) ∙ and-false (is_gone t x.wish))) in
     let next : action_next t x ≡ Some (move_after (suc n)) = ap (λ (b : Bool). if b then Some End else slice_get x.rest 0) idle ∙ head in
     ap (λ (a : Option Action). if is_move a then written_by t x x.wish else None) next
     ∙ (ap (λ (b : Bool). if b then written_by t x x.wish else None) (later_move n).0 ∙ h)
 
 -- what it writes does not change by a move that is not the last
-written_moved : (t : Kept) (j : CoreJob) (a : Action) → slice_get j.rest 0 ≡ Some a → is_gate (Some a) ≡ false → written_by t (moved j) j.wish ≡ written_by t j j.wish
+written_moved : (t : Kept) (j : CoreJob) (a : Action) → slice_get j.rest 0 ≡ Some a → is_gate (Some a) ≡ false → written_by t (stepped j) j.wish ≡ written_by t j j.wish
 written_moved t j a h g = by j.wish
   where
-    opening : (moved j).opening ≡ j.opening
-    opening = ap (λ (o : Option Action). j.opening && not (is_gate o)) h ∙ (ap (λ (b : Bool). j.opening && not b) g ∙ and_true j.opening)
+    opening : (stepped j).opening ≡ j.opening
+    opening = ap (λ (o : Option Action). j.opening && not (is_gate o)) h ∙ (ap (λ (b : Bool). j.opening && not b) g ∙ and-true j.opening)
 
-    by : (v : Wish) → written_by t (moved j) v ≡ written_by t j v
+    by : (v : Wish) → written_by t (stepped j) v ≡ written_by t j v
     by (wish.Put name size) = ap (λ (b : Bool). Some (if b then PutStart (id_after t) name else PutDone j.subject size)) opening
     by (wish.Get name) = refl
     by (wish.Drop name) = refl
@@ -304,7 +297,7 @@ written_drawn t j xs h = by j.wish
     head n wish.Repair = ap (λ (ys : List Action). slice_get ys 0) h
 
     opening : (n : ℕ) → (drawn j n).opening ≡ j.opening
-    opening n = ap (λ (o : Option Action). j.opening && not (is_gate o)) (head n j.wish) ∙ and_true j.opening
+    opening n = ap (λ (o : Option Action). j.opening && not (is_gate o)) (head n j.wish) ∙ and-true j.opening
 
     put : (b : Bool) (name : List ℕ) (size : ℕ) → (if b then PutStart (id_after t) name else PutDone (if b then id_after t else j.subject) size) ≡ (if b then PutStart (id_after t) name else PutDone j.subject size)
     put true name size = refl
@@ -341,7 +334,7 @@ no_setup t j wish.Repair e rs h = let g : Some (RepairDone j.subject) ≡ Some e
 module _ (c : CoreView) (w new : State) (k place : ℕ) (cj : CoreJob) (a : Action) (outcome : Outcome) (o : OnMachine c w new k place cj a outcome) where
   -- a job that is at a later move of its append, after this step
   flight_moved : (x : CoreJob) (m : Job) (y : Append) (n : ℕ) (flight : Option ℕ) → n < 3 → new.append ≡ Some y → y.job ≡ k → y.moves ≡ suc n → flight ≡ Some y.job → new.jobs ≡ with_job w.jobs m → m.number ≡ k → Stays w new →
-      x.number ≡ k → IsJobOf (setup_in w) x m → written_by c.table x x.wish ≡ Some y.entry → IsFlight (record (with_at c place x) { append = flight }) new.append
+      x.number ≡ k → IsJobOf (setup_in w) x m → written_by c.table x x.wish ≡ Some y.entry → IsCoreFlight (record (with_at c place x) { append = flight }) new.append
   flight_moved x m y n flight l e own count fl js number stays called job writes =
       let setup : setup_in new ≡ setup_in w = setup_same new w (ap setup_of stays.records) in
       let before : job_of w.jobs m.number ≡ Some o.job = subst (λ (i : ℕ). job_of w.jobs i ≡ Some o.job) (sym number) o.found in
@@ -349,7 +342,7 @@ module _ (c : CoreView) (w new : State) (k place : ℕ) (cj : CoreJob) (a : Acti
       let made : moves_made new.append k ≡ suc n = ap (λ (f : Option Append). moves_made f k) e ∙ (mine y k own ∙ count) in
       let order : IsInOrder (suc n) x.rest = subst (λ (i : ℕ). IsInOrder i x.rest) made
       (subst (IsInOrder (moves_made new.append k)) (ap (λ (s : Setup). actions_left s m) setup ∙ sym job.rest) (o.sound.jobs k m found).order) in
-      subst (IsFlight (record (with_at c place x) { append = flight })) (sym e) (
+      subst (IsCoreFlight (record (with_at c place x) { append = flight })) (sym e) (
         fl,
         ap (λ (i : ℕ). entry_of_found c.table (job_in (set c.jobs place x) i)) own
             ∙ (ap (entry_of_found c.table) (in_set_same c.jobs k place x o.first called) ∙ entry_moving c.table x n y.entry l order writes),
@@ -358,21 +351,21 @@ module _ (c : CoreView) (w new : State) (k place : ℕ) (cj : CoreJob) (a : Acti
   -- what the append in flight writes
   written_now : (y : Append) → w.append ≡ Some y → y.job ≡ k → written_by c.table cj cj.wish ≡ Some y.entry
   written_now y e own =
-      let f : IsFlight c (Some y) = subst (IsFlight c) e o.stands.append in
+      let f : IsCoreFlight c (Some y) = subst (IsCoreFlight c) e o.stands.append in
       let g : entry_in c k ≡ Some y.entry = subst (λ (n : ℕ). entry_in c n ≡ Some y.entry) own f.1 in
       let h : entry_of_job c.table cj ≡ Some y.entry = sym (ap (entry_of_found c.table) o.runs) ∙ g in
       (in_append c.table cj y.entry h).1
 
   holds : (y : Append) → w.append ≡ Some y → c.append ≡ Some y.job
-  holds y e = (let f : IsFlight c (Some y) = subst (IsFlight c) e o.stands.append in f.0)
+  holds y e = (let f : IsCoreFlight c (Some y) = subst (IsCoreFlight c) e o.stands.append in f.0)
 
   -- a second or third move
   move_arm : (y z : Append) (n : ℕ) → (a ≡ End → ⊥) → is_gate (Some a) ≡ false → goes_plainly (Some a) ≡ true → is_last_ask cj.rest ≡ false → n < 3 → w.append ≡ Some y → y.job ≡ o.job.number → z.entry ≡ y.entry → z.job ≡ y.job →
-      z.moves ≡ suc n → new.append ≡ Some z → new.jobs ≡ with_job w.jobs (onward o.job o.job.subject o.job.given) → new.is_barred ≡ w.is_barred → Stays w new → CoreIs (with_at c place (moved cj)) new
+      z.moves ≡ suc n → new.append ≡ Some z → new.jobs ≡ with_job w.jobs (onward o.job o.job.subject o.job.given) → new.is_barred ≡ w.is_barred → Stays w new → CoreIs (with_at c place (stepped cj)) new
   move_arm y z n on g plain last l e own entry same count f js bar stays =
       let job = on-moved w cj o.job a o.is o.next on o.job.given (sums-on w cj o.job a o.is o.next on o.job.given plain last (inl refl)) in
-      set_stands c w new k place (moved cj) (onward o.job o.job.subject o.job.given) c.append o.stands o.sound o.first stays bar js o.number job
-      (flight_moved (moved cj) (onward o.job o.job.subject o.job.given) z n c.append l f (same ∙ (own ∙ o.number)) count (holds y e ∙ ap (λ (i : ℕ). Some i) (sym same)) js o.number stays o.called job
+      set_stands c w new k place (stepped cj) (onward o.job o.job.subject o.job.given) c.append o.stands o.sound o.first stays bar js o.number job
+      (flight_moved (stepped cj) (onward o.job o.job.subject o.job.given) z n c.append l f (same ∙ (own ∙ o.number)) count (holds y e ∙ ap (λ (i : ℕ). Some i) (sym same)) js o.number stays o.called job
       (written_moved c.table cj a (head-here w cj o.job a o.is o.next on) g ∙ (written_now y e (own ∙ o.number) ∙ ap (λ (r : Record). Some r) (sym entry))))
 
 -- the first move
@@ -415,14 +408,14 @@ gated_arm c cnew w new k place cj outcome o y at own gates faults e =
       end = (let a = ap text_size records in let b = o.stands.end in let d : text_size (y.entry ∷ w.records) ≡ text_size w.records + (1 + record_size y.entry) = refl in omega (arith, a, b, d));
       jobs = subst (AllZip (IsJobOf c.setup) (set c.jobs place (gated c.setup.n c.table c.jobs cj))) (sym (ap (λ (s : State). s.jobs) e)) back;
       next_job = o.stands.next_job ∙ sym (ap (λ (s : State). s.next_job) e);
-      append = subst (IsFlight (record c { table = cnew.table; end = c.end + (1 + record_size y.entry); jobs = set c.jobs place (gated c.setup.n c.table c.jobs cj); append = None })) (sym (ap (λ (s : State). s.append) e)) refl;
+      append = subst (IsCoreFlight (record c { table = cnew.table; end = c.end + (1 + record_size y.entry); jobs = set c.jobs place (gated c.setup.n c.table c.jobs cj); append = None })) (sym (ap (λ (s : State). s.append) e)) refl;
       barred = o.stands.barred ∙ sym (ap (λ (s : State). s.is_barred) e);
     })
 
 -- ---- what a reply tells
 
 -- an append is at no end of a job that ended well
-moves_well : (w : State) (m : Job) (a : Action) (flight : Option Append) (answer : Answer) (new : State) → EndsWell answer → Moves w m a flight (Ended answer) new → ⊥
+moves_well : (w : State) (m : Job) (a : Action) (flight : Option Append) (answer : Answer) (new : State) → IsEndAnswer answer → Moves w m a flight (Ended answer) new → ⊥
 moves_well w m a flight (Lost stripe row) new e h = absurd e
 moves_well w m a flight (ProviderFault j) new e h = absurd e
 moves_well w m a flight DiskFault new e h = absurd e
@@ -458,7 +451,7 @@ moves_well w m (Remove j object) flight answer new e h = absurd h
 moves_well w m End flight answer new e h = absurd h
 
 -- so another action than the end leaves the job running where it is done
-pub goes_well : (w : State) (m : Job) (a : Action) (answer : Answer) (new : State) → (a ≡ End → ⊥) → EndsWell answer → Acts w m a (Ended answer) new → ⊥
+pub goes_well : (w : State) (m : Job) (a : Action) (answer : Answer) (new : State) → (a ≡ End → ⊥) → IsEndAnswer answer → Acts w m a (Ended answer) new → ⊥
 goes_well w m a (Lost stripe row) new n e h = absurd e
 goes_well w m a (ProviderFault j) new n e h = absurd e
 goes_well w m a DiskFault new n e h = absurd e
@@ -513,41 +506,41 @@ ends_done c w new k place cj (Waiting h) o t = absurd t
 ends_done c w new k place cj outcome o t = absurd t
 
 -- done: any other
-more_done : (c : CoreView) (w new : State) (k place : ℕ) (cj : CoreJob) (a : Action) (o : OnMachine c w new k place cj a More) → goes_plainly (Some a) ≡ true → HasReply c k (ActsNext a) reply.Done → CoreIs (with_at c place (moved cj)) new
+more_done : (c : CoreView) (w new : State) (k place : ℕ) (cj : CoreJob) (a : Action) (o : OnMachine c w new k place cj a More) → goes_plainly (Some a) ≡ true → HasReply c k (ActsNext a) reply.Done → CoreIs (with_at c place (stepped cj)) new
 more_done c w new k place cj WriteBody o p h = absurd (false≢true p)
 more_done c w new k place cj SyncGate o p h = absurd (false≢true p)
 more_done c w new k place cj End o p h = absurd (false≢true p)
 more_done c w new k place cj SyncBody o p h = by w.append refl o.acts
   where
-    by : (f : Option Append) → w.append ≡ f → Moves w o.job SyncBody f More new → CoreIs (with_at c place (moved cj)) new
+    by : (f : Option Append) → w.append ≡ f → Moves w o.job SyncBody f More new → CoreIs (with_at c place (stepped cj)) new
     by None e g = absurd g
     by (Some y) e g = move_arm c w new k place cj SyncBody More o y (record y { moves = y.moves + 1 }) 1 (λ x. cc) refl refl
-        (ap (λ (x : Option Action). is_ask x && begins_append (slice_get cj.rest 1)) (head-here w cj o.job SyncBody o.is o.next (λ x. cc))) (omega arith) e g.0.0 refl refl
+        (ap (λ (x : Option Action). asks_next x && begins_append (slice_get cj.rest 1)) (head-here w cj o.job SyncBody o.is o.next (λ x. cc))) (omega arith) e g.0.0 refl refl
         (let m = g.0.1 in omega (arith, m)) (ap (λ (s : State). s.append) g.1.2) (ap (λ (s : State). s.jobs) g.1.2) (ap (λ (s : State). s.is_barred) g.1.2)
         (record { is_open = ap (λ (s : State). s.is_open) g.1.2; records = ap (λ (s : State). s.records) g.1.2; next_job = ap (λ (s : State). s.next_job) g.1.2 })
 more_done c w new k place cj WriteGate o p h = by w.append refl o.acts
   where
-    by : (f : Option Append) → w.append ≡ f → Moves w o.job WriteGate f More new → CoreIs (with_at c place (moved cj)) new
+    by : (f : Option Append) → w.append ≡ f → Moves w o.job WriteGate f More new → CoreIs (with_at c place (stepped cj)) new
     by None e g = absurd g
     by (Some y) e g = move_arm c w new k place cj WriteGate More o y (record y { moves = y.moves + 1 }) 2 (λ x. cc) refl refl
-        (ap (λ (x : Option Action). is_ask x && begins_append (slice_get cj.rest 1)) (head-here w cj o.job WriteGate o.is o.next (λ x. cc))) (omega arith) e g.0.0 refl refl
+        (ap (λ (x : Option Action). asks_next x && begins_append (slice_get cj.rest 1)) (head-here w cj o.job WriteGate o.is o.next (λ x. cc))) (omega arith) e g.0.0 refl refl
         (let m = g.0.1 in omega (arith, m)) (ap (λ (s : State). s.append) g.1.2) (ap (λ (s : State). s.jobs) g.1.2) (ap (λ (s : State). s.is_barred) g.1.2)
         (record { is_open = ap (λ (s : State). s.is_open) g.1.2; records = ap (λ (s : State). s.records) g.1.2; next_job = ap (λ (s : State). s.next_job) g.1.2 })
 more_done c w new k place cj (Store j object stripe) o p h = plain_arm c w new k place cj (Store j object stripe) More o (with_provider w.providers j o.acts.0) o.job.given (λ x. cc) refl refl
-    (ap (λ (x : Option Action). is_ask x && begins_append (slice_get cj.rest 1)) (head-here w cj o.job (Store j object stripe) o.is o.next (λ x. cc))) (inl refl) o.acts.2
+    (ap (λ (x : Option Action). asks_next x && begins_append (slice_get cj.rest 1)) (head-here w cj o.job (Store j object stripe) o.is o.next (λ x. cc))) (inl refl) o.acts.2
 more_done c w new k place cj (Remove j object) o p h = plain_arm c w new k place cj (Remove j object) More o (with_provider w.providers j o.acts.0) o.job.given (λ x. cc) refl refl
-    (ap (λ (x : Option Action). is_ask x && begins_append (slice_get cj.rest 1)) (head-here w cj o.job (Remove j object) o.is o.next (λ x. cc))) (inl refl) o.acts.2
+    (ap (λ (x : Option Action). asks_next x && begins_append (slice_get cj.rest 1)) (head-here w cj o.job (Remove j object) o.is o.next (λ x. cc))) (inl refl) o.acts.2
 more_done c w new k place cj (Fetch j object stripe) o p h = plain_arm c w new k place cj (Fetch j object stripe) More o (with_provider w.providers j o.acts.1.0) (Fetched j object stripe o.acts.0 ∷ o.job.given) (λ x. cc) refl refl
-    (ap (λ (x : Option Action). is_ask x && begins_append (slice_get cj.rest 1)) (head-here w cj o.job (Fetch j object stripe) o.is o.next (λ x. cc)))
-    (inr (λ kind. absurd (audit-action (setup_in w) o.job (Fetch j object stripe) kind (next-listed w o.job (Fetch j object stripe) o.next (λ x. cc))))) o.acts.1.2
+    (ap (λ (x : Option Action). asks_next x && begins_append (slice_get cj.rest 1)) (head-here w cj o.job (Fetch j object stripe) o.is o.next (λ x. cc)))
+    (inr (λ kind. absurd (audit-action (setup_in w) o.job (Fetch j object stripe) kind (next_stands w o.job (Fetch j object stripe) o.next (λ x. cc))))) o.acts.1.2
 more_done c w new k place cj (Work object stripe) o p h = plain_arm c w new k place cj (Work object stripe) More o w.providers (Worked object stripe o.acts.0 ∷ o.job.given) (λ x. cc) refl refl
-    (ap (λ (x : Option Action). is_ask x && begins_append (slice_get cj.rest 1)) (head-here w cj o.job (Work object stripe) o.is o.next (λ x. cc)))
-    (inr (λ kind. absurd (audit-action (setup_in w) o.job (Work object stripe) kind (next-listed w o.job (Work object stripe) o.next (λ x. cc))))) o.acts.2
+    (ap (λ (x : Option Action). asks_next x && begins_append (slice_get cj.rest 1)) (head-here w cj o.job (Work object stripe) o.is o.next (λ x. cc)))
+    (inr (λ kind. absurd (audit-action (setup_in w) o.job (Work object stripe) kind (next_stands w o.job (Work object stripe) o.next (λ x. cc))))) o.acts.2
 more_done c w new k place cj (Ask j object round) o p h = plain_arm c w new k place cj (Ask j object round) More o (with_provider w.providers j o.acts.1.0) (Answered j object round o.acts.0 ∷ o.job.given) (λ x. cc) refl refl
     (sym (ap is_last_ask_of o.runs) ∙ h) (inr (λ kind. refl)) o.acts.1.2
 
 pub plain_done : (c : CoreView) (w new : State) (k place : ℕ) (cj : CoreJob) (a : Action) (outcome : Outcome) (o : OnMachine c w new k place cj a outcome) → Tells k reply.Done outcome new →
-    goes_plainly (Some a) ≡ true → HasReply c k (ActsNext a) reply.Done → CoreIs (with_at c place (moved cj)) new
+    goes_plainly (Some a) ≡ true → HasReply c k (ActsNext a) reply.Done → CoreIs (with_at c place (stepped cj)) new
 plain_done c w new k place cj a More o t p h = more_done c w new k place cj a o p h
 plain_done c w new k place cj a (Ended answer) o t p h = absurd (goes_well w o.job a answer new (λ e. false≢true (ap (λ (x : Action). goes_plainly (Some x)) (sym e) ∙ p)) t o.acts)
 plain_done c w new k place cj a (Refused r) o t p h = absurd t

@@ -3,6 +3,7 @@ use Rattle.std.proofs.Common.{◌≡◌, ℕ, zero, suc, ◌+◌, ◌<◌, Bool,
 use Rattle.std.specs.Prelude.{Option, ◌⊎◌, if◌then◌else◌, ◌&&◌, not, nat_lt, slice_get, IsTrue}
 use Rattle.std.specs.List.{flat_map}
 use Rattle.std.proofs.lemmas.List.{map-append}
+use Rattle.std.proofs.Math.Bool.{and-true}
 use Rattle.hail_codes.specs.Points.{upto}
 use Rattle.hail_records.specs.Records.{Setup}
 use Rattle.hail_records.specs.Table.{next_id, next_audit}
@@ -20,12 +21,12 @@ use Rattle.vault_table.specs.Values.{Kept, IsFoldOf, id_after}
 use Rattle.vault_core.specs.declared.wish.Wish.{Wish}
 use Rattle.vault_core.specs.declared.wish.Wish.TheVariants as wish
 use Rattle.vault_core.specs.View.{CoreJob}
-use Rattle.vault_core.specs.Coming.{is_ask}
+use Rattle.vault_core.specs.Coming.{asks_next}
 use Rattle.vault_core.specs.Carried.{IsKindOf, has_asked, opens, IsJobOf}
 use Rattle.vault_core.specs.Fed.{is_gate, renamed, all_renamed, number_drawn, drawn}
-use Rattle.vault_core.proofs.Kept.{and_left}
+use Rattle.vault_core.proofs.Kept.{and_left, renamed_stripe}
 use Rattle.vault_core.proofs.Onward.{sums-same, head-here, rest-on, opening-on}
-use Rattle.vault_core.proofs.Judging.{asked_parts, asked_whole, audit_kind, and_true}
+use Rattle.vault_core.proofs.Judging.{asked_parts, asked_whole, audit_kind}
 
 -- an append that begins is left
 pub append_left : (s : Setup) (m : Job) (moves : ℕ) (more : List Action) → actions_left s m ≡ WriteBody ∷ more → IsInOrder moves (actions_left s m) → 0 < appends_left s m
@@ -60,10 +61,6 @@ number_same w t c m f is = by c.wish m.kind refl is.kind
     by v k e h = absurd h
 
 -- ---- the actions under a number
-
-renamed_stripe : (k o t : ℕ) (js : List ℕ) → map (λ j. Store j k t) js ≡ map (renamed k) (map (λ j. Store j o t) js)
-renamed_stripe k o t [] = refl
-renamed_stripe k o t (j ∷ js) = ap (λ (xs : List Action). Store j k t ∷ xs) (renamed_stripe k o t js)
 
 renamed_stripes : (n k o : ℕ) (ts : List ℕ) → flat_map (λ t. map (λ j. Store j k t) (upto n)) ts ≡ map (renamed k) (flat_map (λ t. map (λ j. Store j o t) (upto n)) ts)
 renamed_stripes n k o [] = refl
@@ -170,12 +167,12 @@ module _ (w : State) (t : Kept) (c : CoreJob) (m : Job) (moves : ℕ) (f : IsFol
       (let p = asked_parts (drawn c (number_drawn t c c.wish)) has in
       let kind = audit_kind c.wish m.kind p.audit is.kind in
       let opened : c.opening ≡ false =
-      sym (and_true c.opening) ∙ (ap (λ (o : Option Action). c.opening && not (is_gate o)) (sym head_taken) ∙ p.opened) in
+      sym (and-true c.opening) ∙ (ap (λ (o : Option Action). c.opening && not (is_gate o)) (sym head_taken) ∙ p.opened) in
       let first : is_first_append m ≡ false =
       sym (ap (λ (x : Wish). opens x && is_first_append m) p.audit) ∙ (sym is.opening ∙ opened) in
       let subject : subject_drawn w m m.kind ≡ m.subject = ap (subject_drawn w m) kind ∙ ap (λ (b : Bool). if b then next_audit w.records else m.subject) first in
       sums-same (setup_in w) m (onward m (subject_drawn w m m.kind) m.given) refl (sym subject) c.sums refl
-      (is.sums (asked_whole c p.audit opened (ap is_ask (head-here w c m WriteBody is next not_end)))))
+      (is.sums (asked_whole c p.audit opened (ap asks_next (head-here w c m WriteBody is next not_end)))))
 
   -- the job has begun its append
   pub on-drawn : IsJobOf (setup_in w) (drawn c (number_drawn t c c.wish)) (onward m (subject_drawn w m m.kind) m.given)

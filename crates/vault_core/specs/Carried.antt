@@ -5,7 +5,8 @@
 --   has_asked c            == an audit that has asked all that it asks
 --   opens wish             == a job of this wish has a first append: a put, a drop, an audit
 --   IsJobOf s c j          == a job of a core stands for a job of the machine
---   IsFlight c append      == the append in flight is that of the same job, and its record is the one that this job writes
+--   IsCoreFlight c append      == the append in flight is that of the same job, and its record is the one
+--                                 that this job writes
 --   CoreIs c w             == a core stands for a state of the machine: its vault is open
 --   refusal_of fault       == the machine's refusal
 --   begun w moment kind    == the state after a begin
@@ -35,7 +36,7 @@ use Rattle.vault_core.specs.declared.wish.Wish.TheVariants as wish
 use Rattle.vault_core.specs.declared.wish.BeginFault.{BeginFault}
 use Rattle.vault_core.specs.declared.wish.BeginFault.TheVariants as fault
 use Rattle.vault_core.specs.View.{CoreJob, CoreView, flag_at}
-use Rattle.vault_core.specs.Coming.{seen_action, is_ask, is_move, entry_in}
+use Rattle.vault_core.specs.Coming.{seen_action, asks_next, is_move, entry_in}
 
 -- the machine's kind of a wish
 abbrev pub IsKindOf : Wish → Kind → Type 0
@@ -51,13 +52,13 @@ abbrev pub pin_of : PinnedBytes → Pinned
 pin_of f = record { id = f.id; length = length f.bytes }
 
 -- an audit
-abbrev pub is_audit : Wish → Bool
-is_audit wish.Audit = true
-is_audit w = false
+abbrev pub is_audit_wish : Wish → Bool
+is_audit_wish wish.Audit = true
+is_audit_wish w = false
 
 -- an audit that has asked all that it asks
 abbrev pub has_asked : CoreJob → Bool
-has_asked c = is_audit c.wish && (not c.opening && not (is_ask (slice_get c.rest 0)))
+has_asked c = is_audit_wish c.wish && (not c.opening && not (asks_next (slice_get c.rest 0)))
 
 -- a job that has a first append: a put, a drop, an audit
 abbrev pub opens : Wish → Bool
@@ -79,9 +80,9 @@ pub record IsJobOf (s : Setup) (c : CoreJob) (j : Job) : Type 0 where
   pub sums : IsTrue (has_asked c) → HasSums s j c.sums
 
 -- the append in flight is that of the same job, and its record is the one that this job writes
-abbrev pub IsFlight : CoreView → Option Append → Type 0
-IsFlight c None = c.append ≡ None
-IsFlight c (Some a) = (c.append ≡ Some a.job) × (entry_in c a.job ≡ Some a.entry)
+abbrev pub IsCoreFlight : CoreView → Option Append → Type 0
+IsCoreFlight c None = c.append ≡ None
+IsCoreFlight c (Some a) = (c.append ≡ Some a.job) × (entry_in c a.job ≡ Some a.entry)
 
 -- a core stands for a state of the machine
 pub record CoreIs (c : CoreView) (w : State) : Type 0 where
@@ -92,7 +93,7 @@ pub record CoreIs (c : CoreView) (w : State) : Type 0 where
   pub end : c.end ≡ text_size w.records
   pub jobs : AllZip (IsJobOf c.setup) c.jobs w.jobs
   pub next_job : c.next_job ≡ w.next_job
-  pub append : IsFlight c w.append
+  pub append : IsCoreFlight c w.append
   pub barred : c.barred ≡ w.is_barred
 
 -- the machine's refusal
@@ -134,7 +135,8 @@ pub record IsWriting (w : State) (number : ℕ) (entry : Record) : Type 0 where
   pub moves : is_move (next_action w job) ≡ true
   pub writes : Writes w job job.kind entry
 
--- the record that the append of a job writes in a state of the machine; None where its next action is no move of one
+-- the record that the append of a job writes in a state of the machine; None where its next action is no
+-- move of one
 abbrev pub IsEntryOf : State → ℕ → Option Record → Type 0
 IsEntryOf w number (Some entry) = IsWriting w number entry
 IsEntryOf w number None = (job : Job) → job_of w.jobs number ≡ Some job → is_move (next_action w job) ≡ false

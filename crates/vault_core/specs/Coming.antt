@@ -1,12 +1,13 @@
 -- What comes next for a job, by what a contract sees of a core.
 --
 --   seen_action a       == the action of the machine
---   Coming, seen_next   == what comes next: an action, the job to wait for, or why none does; the same of an answer
+--   Coming, seen_next   == what comes next: an action, the job to wait for, or why none does; the same of
+--                          an answer
 --   next_in c number    == what comes next for the job of a number
 --   takes_older wish    == the job takes an older object away, where there is one
 --   most_of n j         == how many steps a job may still make at most
 --   left_in c number    == the same of the job of a number; None where there is none
---   left_of c number    == the same; 0 where there is none
+--   core_left c number    == the same; 0 where there is none
 --   entry_in c number   == the record that the job's append writes; None outside an append
 --   HasReply c number coming reply  == the reply is one that this action has
 --   TakesReply c number reply  == the reply is one that the next action has
@@ -110,15 +111,17 @@ abbrev pub left_in : CoreView → ℕ → Option ℕ
 left_in c number = option_map (most_of c.setup.n) (job_in c.jobs number)
 
 -- the same; 0 where there is none
-abbrev pub left_of : CoreView → ℕ → ℕ
-left_of c number = unwrap_or (left_in c number) 0
+abbrev pub core_left : CoreView → ℕ → ℕ
+core_left c number = unwrap_or (left_in c number) 0
 
 -- the record of a job's append, by which of its appends it is at
 abbrev pub written_by : Kept → CoreJob → Wish → Option Record
-written_by t j (wish.Put name size) = Some (if j.opening then PutStart (id_after t) name else PutDone j.subject size)
+written_by t j (wish.Put name size) =
+    Some (if j.opening then PutStart (id_after t) name else PutDone j.subject size)
 written_by t j (wish.Get name) = None
 written_by t j (wish.Drop name) = Some (Drop name)
-written_by t j wish.Audit = Some (if j.opening then AuditStart t.next_audit else AuditDone j.subject j.sums.undecided j.sums.counts)
+written_by t j wish.Audit =
+    Some (if j.opening then AuditStart t.next_audit else AuditDone j.subject j.sums.undecided j.sums.counts)
 written_by t j wish.Repair = Some (RepairDone j.subject)
 
 -- the record that a job's append writes, if it is in one
@@ -135,13 +138,13 @@ abbrev pub entry_in : CoreView → ℕ → Option Record
 entry_in c number = entry_of_found c.table (job_in c.jobs number)
 
 -- an action asks a provider
-abbrev pub is_ask : Option Action → Bool
-is_ask (Some (Ask j object round)) = true
-is_ask action = false
+abbrev pub asks_next : Option Action → Bool
+asks_next (Some (Ask j object round)) = true
+asks_next action = false
 
 -- the first of these actions is the last ask of an audit
 abbrev pub is_last_ask : List Action → Bool
-is_last_ask actions = is_ask (slice_get actions 0) && begins_append (slice_get actions 1)
+is_last_ask actions = asks_next (slice_get actions 0) && begins_append (slice_get actions 1)
 
 -- the same of the job of a number
 abbrev pub is_last_ask_of : Option CoreJob → Bool

@@ -5,14 +5,15 @@
 --   stopped c place      == the core in which the job has ended
 --   barred_at c place    == the core in which the job has ended by a disk call that failed
 --   goes_plainly action  == the action neither begins an append nor ends one, and is not the end
---   moved j              == a job that has made its next action
+--   stepped j              == a job that has made its next action
 --   with_at c place j    == the core with this job at that place
 --   judged j sums        == an audit that has made its last ask, with these sums
 --   number_drawn t j     == the number that the job's append draws, or has drawn
 --   drawn t j            == a job that has begun its append
 --   older_of t jobs j    == the object that a job takes out of effect, unless there is none or it is pinned
 --   gated n t jobs j     == a job whose append is done
---   HasGated c place new == the append of the job is done: its record is in effect, if the records before let it follow
+--   HasGated c place new == the append of the job is done: its record is in effect, if the records before
+--                           let it follow
 use Rattle.std.specs.Prelude.{◌≡◌, ℕ, ◌+◌, ◌==◌, ◌&&◌, Bool, true, false, not, List, ◌∷◌, map, drop, slice_get, slice_set, Option, None, Some, remove, if◌then◌else◌}
 use Rattle.std.specs.List.{list_any}
 use Rattle.hail_columns.specs.Verdicts.{Sums}
@@ -66,8 +67,8 @@ goes_plainly (Some End) = false
 goes_plainly (Some action) = true
 
 -- a job has made its next action
-abbrev pub moved : CoreJob → CoreJob
-moved j = record j { rest = drop 1 j.rest; opening = j.opening && not (is_gate (slice_get j.rest 0)) }
+abbrev pub stepped : CoreJob → CoreJob
+stepped j = record j { rest = drop 1 j.rest; opening = j.opening && not (is_gate (slice_get j.rest 0)) }
 
 -- a core with this job at a place
 abbrev pub with_at : CoreView → ℕ → CoreJob → CoreView
@@ -75,7 +76,7 @@ with_at c place j = record c { jobs = slice_set c.jobs place j }
 
 -- an audit has made its last ask, with these sums
 abbrev pub judged : CoreJob → Sums → CoreJob
-judged j sums = record (moved j) { sums = sums }
+judged j sums = record (stepped j) { sums = sums }
 
 -- the number that the job's append draws, or has drawn
 abbrev pub number_drawn : Kept → CoreJob → Wish → ℕ
@@ -95,11 +96,12 @@ all_renamed number w actions = actions
 
 -- a job has begun its append
 abbrev pub drawn : CoreJob → ℕ → CoreJob
-drawn j number = moved (record j { subject = number; rest = all_renamed number j.wish j.rest })
+drawn j number = stepped (record j { subject = number; rest = all_renamed number j.wish j.rest })
 
 -- a running job has pinned an object
 abbrev pub is_pinned_in : List CoreJob → ℕ → Bool
-is_pinned_in jobs object = list_any (λ (j : CoreJob). list_any (λ (file : Pinned). file.id == object) j.pinned) jobs
+is_pinned_in jobs object =
+    list_any (λ (j : CoreJob). list_any (λ (file : Pinned). file.id == object) j.pinned) jobs
 
 -- the object of a file, unless there is none or it is pinned
 abbrev pub removable_in : List CoreJob → Option File → Option ℕ
@@ -124,14 +126,16 @@ decides_now j = is_gate (slice_get j.rest 0) && is_taker j.wish j.opening
 
 -- a job whose append is done, and which takes this object away
 abbrev pub gated_by : ℕ → Option ℕ → CoreJob → CoreJob
-gated_by n older j = if decides_now j then record j { rest = removals_of n older; opening = false } else moved j
+gated_by n older j =
+    if decides_now j then record j { rest = removals_of n older; opening = false } else stepped j
 
 -- a job whose append is done
 abbrev pub gated : ℕ → Kept → List CoreJob → CoreJob → CoreJob
 gated n t jobs j = gated_by n (older_of t jobs j.wish) j
 
 -- the append of the job at a place is done, and its record in effect
-pub record HasGated (c : CoreView) (place : ℕ) (j : CoreJob) (entry : Record) (rs : List Record) (new : CoreView) : Type 0 where
+pub record HasGated (c : CoreView) (place : ℕ) (j : CoreJob) (entry : Record) (rs : List Record)
+    (new : CoreView) : Type 0 where
   pub table : IsFoldOf (entry ∷ rs) new.table
   pub others : new ≡ record c {
     table = new.table;

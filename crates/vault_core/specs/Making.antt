@@ -4,8 +4,10 @@
 --   put_pin p ps            == pinned files with one more, in ascending order of their numbers
 --   pins_of files           == all these files, in ascending order of their numbers
 --   pins_for t w            == the files that a job of this wish works on
---   targets_of w ps         == the files on whose stripes it works: a put on its own, whose number is not yet drawn
---   turns_for s w size      == how often it works on a file of so many bytes: at each stripe, or in each round where there is a stripe
+--   targets_of w ps         == the files on whose stripes it works: a put on its own, whose number is not
+--                              yet drawn
+--   turns_for s w size      == how often it works on a file of so many bytes: at each stripe, or in each
+--                              round where there is a stripe
 --   tasks_made f ps         == the tasks of files: those with something to do
 --   size_of_turn n w flags  == how many actions it has at each stripe or round
 --   other_actions n w       == how many it may have at most besides those on its files
@@ -29,7 +31,7 @@ use Rattle.vault_core.specs.declared.cursor.Cursor.TheVariants as at
 use Rattle.vault_core.specs.declared.job.Task.{Task}
 use Rattle.vault_core.specs.declared.job.Job.{Job}
 use Rattle.vault_core.specs.View.{CoreView, flag_at}
-use Rattle.vault_core.specs.Parts.{seen}
+use Rattle.vault_core.specs.Parts.{core_job}
 use Rattle.vault_core.specs.Rest.{rewrites_from}
 
 -- a file as a job works on it
@@ -71,7 +73,9 @@ turns_for s w size = stripes_of s size
 -- the tasks of files with something to do
 abbrev pub tasks_made : (ℕ → ℕ) → List Pinned → List Task
 tasks_made f [] = []
-tasks_made f (p ∷ ps) = if nat_lt 0 (f p.length) then record { object = p.id; turns = f p.length } ∷ tasks_made f ps else tasks_made f ps
+tasks_made f (p ∷ ps) =
+    if nat_lt 0 (f p.length) then record { object = p.id; turns = f p.length } ∷ tasks_made f ps
+    else tasks_made f ps
 
 -- how many actions it has at each stripe or round
 abbrev pub size_of_turn : ℕ → Wish → List Bool → ℕ
@@ -95,7 +99,8 @@ subject_for t w = 0
 -- where it begins behind a first append, if it has one
 abbrev pub cursor_on : Cursor → List Task → Cursor
 cursor_on closing [] = closing
-cursor_on closing (t ∷ ts) = at.Calling (record { object = t.object; turn = 0; turns = t.turns; behind = 1 }) 0
+cursor_on closing (t ∷ ts) =
+    at.Calling (record { object = t.object; turn = 0; turns = t.turns; behind = 1 }) 0
 
 -- where it begins
 abbrev pub cursor_first : Wish → List Task → Cursor
@@ -124,6 +129,6 @@ starts_for w = 0
 abbrev pub admitted : CoreView → Wish → Job → CoreView
 admitted c w job = record c {
   table = record c.table { spare = c.table.spare + starts_for w };
-  jobs = c.jobs ++ seen c.setup.n job ∷ [];
+  jobs = c.jobs ++ core_job c.setup.n job ∷ [];
   next_job = c.next_job + 1;
 }

@@ -1,12 +1,14 @@
 -- How a core is kept.
 --
---   seen n job       == what a contract sees of a job
+--   core_job n job       == what a contract sees of a job
 --   view_of a        == what a contract sees of a core
---   most_of n j      == how many steps a job may still make at most: a removal from each provider counts until it is decided
---   IsWithin n flagged cursor == the cursor is at a provider, and at a stripe or round that there is, and is one that a job of this wish comes to
+--   most_of n j      == how many steps a job may still make at most: a removal from each provider counts
+--                       until it is decided
+--   IsWithin n flagged cursor == the cursor is at a provider, and at a stripe or round that there is, and
+--                                is one that a job of this wish comes to
 --   IsSet n job      == what stays of a job as it is kept while it goes on
---   IsAt n job c xs  == a job may be at a cursor, and then these are the actions that it has not yet made
---   IsKept n job     == a job as it is kept
+--   MayBeAt n job c xs  == a job may be at a cursor, and then these are the actions that it has not yet made
+--   IsJobKept n job     == a job as it is kept
 --   IsCore a         == a core as it is kept
 use Rattle.std.specs.Prelude.{◌≡◌, ℕ, ◌<◌, ◌≤◌, Bool, true, false, IsTrue, List, [], length, map}
 use Rattle.std.specs.List.{All}
@@ -54,8 +56,8 @@ is_over at.Ending = true
 is_over c = false
 
 -- what a contract sees of a job
-abbrev pub seen : ℕ → Job → CoreJob
-seen n job = record {
+abbrev pub core_job : ℕ → Job → CoreJob
+core_job n job = record {
   number = job.number;
   wish = job.wish;
   pinned = job.pinned.items;
@@ -76,7 +78,7 @@ view_of a = record {
   table = a.table;
   setup = setup_kept a;
   end = a.end;
-  jobs = map (seen a.setup.n) a.jobs.items;
+  jobs = map (core_job a.setup.n) a.jobs.items;
   next_job = a.next_job;
   append = a.append;
   barred = a.barred;
@@ -146,23 +148,23 @@ pub record IsSet (n : ℕ) (job : Job) : Type 0 where
   pub padded : IsPadded job.counts
 
 -- a job may be at a cursor, and then these are the actions that it has not yet made
-pub record IsAt (n : ℕ) (job : Job) (cursor : Cursor) (actions : List Action) : Type 0 where
+pub record MayBeAt (n : ℕ) (job : Job) (cursor : Cursor) (actions : List Action) : Type 0 where
   pub comes : comes_to job.wish cursor ≡ true
   pub within : IsWithin n job.flagged cursor
   pub rest : rest_at n job cursor ≡ actions
 
 -- a job as it is kept
-pub record IsKept (n : ℕ) (job : Job) : Type 0 where
+pub record IsJobKept (n : ℕ) (job : Job) : Type 0 where
   pub stays : IsSet n job
   pub comes : comes_to job.wish job.cursor ≡ true
   pub within : IsWithin n job.flagged job.cursor
-  pub left : job.left ≡ most_of n (seen n job)
+  pub left : job.left ≡ most_of n (core_job n job)
 
--- A core as it is kept: its setup is within its limits, the journal has room for all records of its jobs, the table for
--- their PutStarts, and the jobs have ascending numbers.
+-- A core as it is kept: its setup is within its limits, the journal has room for all records of its jobs,
+-- the table for their PutStarts, and the jobs have ascending numbers.
 pub record IsCore (a : Inside) : Type 0 where
   pub set_up : IsTrue (is_setup (setup_kept a))
-  pub kept : All (IsKept a.setup.n) a.jobs.items
+  pub kept : All (IsJobKept a.setup.n) a.jobs.items
   pub few : length a.jobs.items ≤ 8
   pub begun : 9 ≤ a.end
   pub reserves : Reserves (view_of a)

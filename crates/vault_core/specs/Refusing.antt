@@ -4,10 +4,12 @@
 --   checks w, puts_or_checks w  == a wish is an audit or a repair; or one of these or a put
 --   puts_name name w        == a wish is a put of this name
 --   is_new files ws w       == a wish is a put of a name that no file has and no put among these wishes
---   names_beside files ws   == how many names the puts among these wishes have beside the names of files, each once
+--   names_beside files ws   == how many names the puts among these wishes have beside the names of files,
+--                              each once
 --   is_taken c name         == a name is in effect or that of a running put
 --   is_busy_in c w          == the running jobs leave no place for one of this wish
---   is_full_in c w          == the records of a job find no room, or its number would come too near the last one
+--   is_full_in c w          == the records of a job find no room, or its number would come too near the
+--                              last one
 --   refusal_in c w          == the first refusal of a wish
 use Rattle.std.specs.Prelude.{ℕ, ◌+◌, ◌-◌, ◌^◌, ◌&&◌, ◌||◌, Bool, true, false, not, IsTrue, List, [], ◌∷◌, length, map, sum, sum_by, Option, None, Some, is_some, nat_lt, nat_le, if◌then◌else◌}
 use Rattle.std.specs.List.{list_any}
@@ -76,19 +78,24 @@ is_busy_in c w = nat_le 8 (length c.jobs) || is_kept_out (wishes_of c.jobs) w
 
 -- no further name fits in beside those in effect and those of running puts
 abbrev pub is_crowded_in : CoreView → List ℕ → Bool
-is_crowded_in c name = nat_le most_files (length c.table.files + names_beside c.table.files (wishes_of c.jobs)) && not (is_taken c name)
+is_crowded_in c name =
+    nat_le most_files (length c.table.files + names_beside c.table.files (wishes_of c.jobs))
+    && not (is_taken c name)
 
 -- the words of a wish, or what is in effect, let no job begin
 abbrev pub word_refusal_in : CoreView → Wish → Option BeginFault
 word_refusal_in c (wish.Put name size) = if is_crowded_in c name then Some fault.TooManyFiles else None
-word_refusal_in c (wish.Get name) = if is_some (find_file c.table.files name) then None else Some fault.NoSuchName
-word_refusal_in c (wish.Drop name) = if is_some (find_file c.table.files name) then None else Some fault.NoSuchName
+word_refusal_in c (wish.Get name) =
+    if is_some (find_file c.table.files name) then None else Some fault.NoSuchName
+word_refusal_in c (wish.Drop name) =
+    if is_some (find_file c.table.files name) then None else Some fault.NoSuchName
 word_refusal_in c wish.Audit = if is_some c.table.due then Some fault.RepairDue else None
 word_refusal_in c wish.Repair = if is_some c.table.due then None else Some fault.NothingDue
 
 -- the records of a job find no room behind those of the running jobs
 abbrev pub is_too_full_in : CoreView → Wish → Bool
-is_too_full_in c w = nat_lt largest_journal (c.end + sum_by (reserved_of c.setup.n) c.jobs + sum (sizes_of c.setup.n w))
+is_too_full_in c w =
+    nat_lt largest_journal (c.end + sum_by (reserved_of c.setup.n) c.jobs + sum (sizes_of c.setup.n w))
 
 -- the number of a job would come too near the last one
 abbrev pub is_used_up : Kept → Wish → Bool
@@ -109,11 +116,12 @@ or_full None full = if full then Some fault.JournalFull else None
 -- the first refusal of a wish
 abbrev pub refusal_in : CoreView → Wish → Option BeginFault
 refusal_in c w =
-    if c.barred then Some fault.MustReopen else (if is_busy_in c w then Some fault.Busy else or_full (word_refusal_in c w) (is_full_in c w))
+    if c.barred then Some fault.MustReopen
+    else (if is_busy_in c w then Some fault.Busy else or_full (word_refusal_in c w) (is_full_in c w))
 
 -- the name of a wish is a name
-abbrev pub IsNamed : Wish → Type 0
-IsNamed (wish.Put name size) = IsTrue (is_name name)
-IsNamed (wish.Get name) = IsTrue (is_name name)
-IsNamed (wish.Drop name) = IsTrue (is_name name)
-IsNamed w = Unit {0}
+abbrev pub HasName : Wish → Type 0
+HasName (wish.Put name size) = IsTrue (is_name name)
+HasName (wish.Get name) = IsTrue (is_name name)
+HasName (wish.Drop name) = IsTrue (is_name name)
+HasName w = Unit {0}

@@ -1,9 +1,11 @@
 -- Replies to the actions of a job, and what came of them in the machine.
 --
---   EndsWell answer                == a job that ended by its End has this answer
---   Tells number reply outcome new == a reply tells what came of a step of this job: Done that it goes on or came to its end; the
---                                     others why it ended; a verdict has the sums of all that the audit heard
---   IsReplyTo c number reply outcome new  == the same, and a record that the step put in flight is the one that the core gave
+--   IsEndAnswer answer                == a job that ended by its End has this answer
+--   Tells number reply outcome new == a reply tells what came of a step of this job: Done that it goes on
+--                                     or came to its end; the others why it ended; a verdict has the sums
+--                                     of all that the audit heard
+--   IsReplyTo c number reply outcome new  == the same, and a record that the step put in flight is the one
+--                                          that the core gave
 use Rattle.std.specs.Prelude.{◌≡◌, ℕ, Some}
 use Rattle.hail_machine.specs.Jobs.{Job, job_of}
 use Rattle.hail_machine.specs.Answers.{Answer, Put, Got, Dropped, Audited, Repaired, Lost, ProviderFault, DiskFault, Memory}
@@ -17,24 +19,25 @@ use Rattle.vault_core.specs.View.{CoreView}
 use Rattle.vault_core.specs.Coming.{entry_in}
 
 -- a job that ended by its End has this answer
-abbrev pub EndsWell : Answer → Type 0
-EndsWell Put = Unit {0}
-EndsWell (Got bytes) = Unit {0}
-EndsWell Dropped = Unit {0}
-EndsWell (Audited number undecided counts) = Unit {0}
-EndsWell (Repaired number) = Unit {0}
-EndsWell answer = ⊥
+abbrev pub IsEndAnswer : Answer → Type 0
+IsEndAnswer Put = Unit {0}
+IsEndAnswer (Got bytes) = Unit {0}
+IsEndAnswer Dropped = Unit {0}
+IsEndAnswer (Audited number undecided counts) = Unit {0}
+IsEndAnswer (Repaired number) = Unit {0}
+IsEndAnswer answer = ⊥
 
 -- a reply tells what came of a step
 abbrev pub Tells : ℕ → Reply → Outcome → State → Type 0
 Tells number reply.Done More new = Unit {0}
-Tells number reply.Done (Ended answer) new = EndsWell answer
+Tells number reply.Done (Ended answer) new = IsEndAnswer answer
 Tells number reply.Failed (Ended DiskFault) new = Unit {0}
 Tells number reply.Failed (Ended (ProviderFault j)) new = Unit {0}
 Tells number reply.Memory (Ended Memory) new = Unit {0}
 Tells number (reply.Lost row) (Ended (Lost stripe lost)) new = lost ≡ row
 Tells number (reply.Verdict undecided counts) More new =
-    (job : Job) → job_of new.jobs number ≡ Some job → HasSums (setup_in new) job (record { counts = counted counts; undecided = undecided })
+    (job : Job) → job_of new.jobs number ≡ Some job
+    → HasSums (setup_in new) job (record { counts = counted counts; undecided = undecided })
 Tells number r outcome new = ⊥
 
 -- a reply tells what came of a step, and a record that the step put in flight is the one that the core gave

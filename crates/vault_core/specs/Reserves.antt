@@ -1,10 +1,13 @@
 -- What is reserved for running jobs: room in the journal, and room in the table.
 --
---   sizes_of n wish    == the sizes of the records that a job of this wish appends, in order, each with its gate, for n providers
+--   sizes_of n wish    == the sizes of the records that a job of this wish appends, in order, each with its
+--                         gate, for n providers
 --   last_size n wish   == that of the last one; 0 where there is none behind a first one
---   reserved_of n j    == the room that the records of a job still need: a record counts until its append ends
+--   reserved_of n j    == the room that the records of a job still need: a record counts until its append
+--                         ends
 --   starts_of j        == 1 for a put whose PutStart is not yet in effect
---   Reserves c         == the journal has room for the records of all jobs, and the table for all their PutStarts
+--   Reserves c         == the journal has room for the records of all jobs, and the table for all their
+--                         PutStarts
 use Rattle.std.specs.Prelude.{ℕ, ◌+◌, ◌-◌, ◌*◌, ◌≤◌, Bool, List, [], ◌∷◌, length, drop, sum, sum_by, count_by, if◌then◌else◌}
 use Rattle.hail_records.specs.Records.{largest_journal}
 use Rattle.hail_machine.specs.Actions.{ends_append}

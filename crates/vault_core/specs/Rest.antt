@@ -1,14 +1,16 @@
 -- The actions that a job has not yet made, read off where it is, for n providers.
 --
 --   numbers a b                    == the numbers from a on, below b
---   call_of wish object turn j     == what a job calls provider j for at a stripe or a round: a store, a fetch or an ask
+--   call_of wish object turn j     == what a job calls provider j for at a stripe or a round: a store, a
+--                                     fetch or an ask
 --   calls_from j ..                == the calls from provider j on
 --   rewrites_from j ..             == the stores of a repair on the flagged providers from j on
 --   work_of ..                     == the work on a stripe that was fetched, and the stores of a repair
---   turn_of, turns_from, tasks_of  == all actions at one stripe or round, at those of an object from one on, at those of all objects
+--   turn_of, turns_from, tasks_of  == all actions at one stripe or round, at those of an object from one
+--                                     on, at those of all objects
 --   closing_of wish                == the actions behind those on files: the last append, and the end
 --   moves_from at                  == the moves of an append from this one on
---   moves_after at, moves_of        == those behind it; those from one on, if there is one
+--   actions_after at, moves_of        == those behind it; those from one on, if there is one
 --   tasks_on n job tasks           == the actions from the first of these tasks on
 --   beyond n job spot              == the actions behind those at a stripe or round
 --   rest_at n job cursor           == the actions from a cursor on
@@ -81,16 +83,16 @@ moves_from move.Gate = WriteGate ∷ SyncGate ∷ []
 moves_from move.GateSync = SyncGate ∷ []
 
 -- the moves of an append behind this one
-abbrev pub moves_after : Move → List Action
-moves_after move.Body = SyncBody ∷ WriteGate ∷ SyncGate ∷ []
-moves_after move.BodySync = WriteGate ∷ SyncGate ∷ []
-moves_after move.Gate = SyncGate ∷ []
-moves_after move.GateSync = []
+abbrev pub actions_after : Move → List Action
+actions_after move.Body = SyncBody ∷ WriteGate ∷ SyncGate ∷ []
+actions_after move.BodySync = WriteGate ∷ SyncGate ∷ []
+actions_after move.Gate = SyncGate ∷ []
+actions_after move.GateSync = []
 
 -- the moves of an append from one on, if there is one
-abbrev pub moves_of : Option Move → List Action
-moves_of None = []
-moves_of (Some m) = moves_from m
+abbrev pub move_actions : Option Move → List Action
+move_actions None = []
+move_actions (Some m) = moves_from m
 
 -- the actions from the first of these tasks on
 abbrev pub tasks_on : ℕ → Job → List Task → List Action
@@ -98,13 +100,16 @@ tasks_on n job tasks = tasks_of n job.wish job.flagged tasks ++ closing_of job.w
 
 -- the actions behind those at a stripe or round
 abbrev pub beyond : ℕ → Job → Spot → List Action
-beyond n job spot = turns_from (spot.turn + 1) n job.wish job.flagged spot.object spot.turns ++ tasks_on n job (drop spot.behind job.tasks.items)
+beyond n job spot =
+    turns_from (spot.turn + 1) n job.wish job.flagged spot.object spot.turns
+    ++ tasks_on n job (drop spot.behind job.tasks.items)
 
 -- the actions from a cursor on
 abbrev pub rest_at : ℕ → Job → Cursor → List Action
 rest_at n job (at.Opening m) = moves_from m ++ tasks_on n job job.tasks.items
 rest_at n job (at.Calling spot j) =
-    calls_from j n job.wish spot.object spot.turn ++ (work_of n job.wish job.flagged spot.object spot.turn ++ beyond n job spot)
+    calls_from j n job.wish spot.object spot.turn
+    ++ (work_of n job.wish job.flagged spot.object spot.turn ++ beyond n job spot)
 rest_at n job (at.Working spot) = work_of n job.wish job.flagged spot.object spot.turn ++ beyond n job spot
 rest_at n job (at.Rewriting spot j) = rewrites_from j n job.flagged spot.object spot.turn ++ beyond n job spot
 rest_at n job (at.Closing m) = moves_from m ++ End ∷ []

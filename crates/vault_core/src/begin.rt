@@ -6,7 +6,7 @@ ghost use Rattle.hail_machine.specs.Begins.{begin_refusal};
 ghost use Rattle.vault_core.specs.declared.wish.BeginFault.TheVariants as fault;
 ghost use Rattle.vault_core.specs.Carried.{CoreIs, IsKindOf, refusal_of, begun};
 ghost use Rattle.hail_records.specs.Records.{largest_journal};
-ghost use Rattle.vault_core.specs.Parts.{seen, IsKept};
+ghost use Rattle.vault_core.specs.Parts.{core_job, IsJobKept};
 ghost use Rattle.vault_core.specs.Reserves.{reserved_of};
 ghost use Rattle.vault_core.specs.Wished.{IsShort};
 ghost use Rattle.vault_core.specs.Making.{starts_for, admitted};
@@ -24,9 +24,11 @@ impl Core {
     pub fn begin(&mut self, wish: Wish) -> Result<u32, BeginFault>
         requires number { self.old.next_job < 2 ^ 32 - 1 }
         requires size { IsShort wish }
-        ensures begun { (w : State) (kind : Kind) (moment : ℕ) → CoreIs self.old w → IsKindOf wish kind → IsSpelledKind kind →
+        ensures begun { (w : State) (kind : Kind) (moment : ℕ) → CoreIs self.old w → IsKindOf wish kind
+            → IsSpelledKind kind →
             OnOk result (CoreIs self.new (begun w moment kind)) }
-        ensures accepted { (w : State) (kind : Kind) → CoreIs self.old w → IsKindOf wish kind → OnOk result (begin_refusal 8 w kind ≡ None) }
+        ensures accepted { (w : State) (kind : Kind) → CoreIs self.old w → IsKindOf wish kind
+            → OnOk result (begin_refusal 8 w kind ≡ None) }
         ensures number { IfOk result (λ job. job ≡ self.old.next_job) }
         ensures refused { (w : State) (kind : Kind) → CoreIs self.old w → IsKindOf wish kind →
             IfErr result (λ why. why ≢ fault.Memory → begin_refusal 8 w kind ≡ Some (refusal_of why)) }
@@ -46,8 +48,9 @@ impl Core {
         requires number { self.old.next_job < 2 ^ 32 - 1 }
         requires few { length self.old.jobs < 8 }
         requires next { job.number ≡ self.old.next_job }
-        requires kept { IsKept self.old.setup.n job }
-        requires room { self.old.end + sum_by (reserved_of self.old.setup.n) self.old.jobs + reserved_of self.old.setup.n (seen self.old.setup.n job) ≤ largest_journal }
+        requires kept { IsJobKept self.old.setup.n job }
+        requires room { self.old.end + sum_by (reserved_of self.old.setup.n) self.old.jobs
+            + reserved_of self.old.setup.n (core_job self.old.setup.n job) ≤ largest_journal }
         ensures admitted { OnOk result (self.new ≡ admitted self.old job.wish job) }
         ensures number { IfOk result (λ number. number ≡ self.old.next_job) }
         ensures memory { IfErr result (λ why. why ≡ fault.Memory) }
@@ -68,7 +71,8 @@ impl Core {
 
 /// Makes room in a table for the PutStart of a put.
 fn reserve_start(table: &mut Table, wish: &Wish) -> Result<(), Memory>
-    ensures ok { OnOk result (table.new ≡ record table.old { spare = table.old.spare + starts_for wish.now }) }
+    ensures ok { OnOk result
+        (table.new ≡ record table.old { spare = table.old.spare + starts_for wish.now }) }
     ensures err { OnErr result (table.new ≡ table.old) }
 {
     match wish {

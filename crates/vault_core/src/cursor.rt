@@ -1,7 +1,7 @@
 ghost use Rattle.std.specs.Prelude.{◌≡◌, ◌∷◌};
 ghost use Rattle.vault_core.specs.Parts.{is_start};
 ghost use Rattle.vault_core.specs.Coming.{seen_action};
-ghost use Rattle.vault_core.specs.Rest.{moves_from, moves_of, moves_after};
+ghost use Rattle.vault_core.specs.Rest.{moves_from, move_actions, actions_after};
 
 use crate::action::Action;
 
@@ -17,7 +17,7 @@ pub enum Move {
 impl Move {
     /// The move as an action.
     pub fn action(self) -> Action
-        ensures { moves_from self ≡ seen_action result ∷ moves_after self }
+        ensures { moves_from self ≡ seen_action result ∷ actions_after self }
     {
         match self {
             Move::Body => Action::WriteBody,
@@ -29,7 +29,7 @@ impl Move {
 
     /// The move behind it; none behind the fourth.
     pub fn next(self) -> Option<Move>
-        ensures { moves_of result ≡ moves_after self }
+        ensures { move_actions result ≡ actions_after self }
     {
         match self {
             Move::Body => Some(Move::BodySync),

@@ -11,9 +11,9 @@ ghost use Rattle.hail_machine.specs.Machine.{Happens};
 ghost use Rattle.record_codec.specs.Entries.{counted, IsPadded};
 ghost use Rattle.vault_table.specs.Values.{IsFoldOf};
 ghost use Rattle.vault_core.specs.View.{CoreJob};
-ghost use Rattle.vault_core.specs.Coming.{TakesReply, left_of, written_by};
-ghost use Rattle.vault_core.specs.Parts.{seen};
-ghost use Rattle.vault_core.specs.Fed.{first_at, goes_plainly, stopped, barred_at, moved, with_at, judged, number_drawn, drawn, is_pinned_in, older_of, HasGated};
+ghost use Rattle.vault_core.specs.Coming.{TakesReply, core_left, written_by};
+ghost use Rattle.vault_core.specs.Parts.{core_job};
+ghost use Rattle.vault_core.specs.Fed.{first_at, goes_plainly, stopped, barred_at, stepped, with_at, judged, number_drawn, drawn, is_pinned_in, older_of, HasGated};
 ghost use Rattle.vault_core.specs.Carried.{CoreIs};
 ghost use Rattle.vault_core.specs.Replies.{IsReplyTo};
 
@@ -33,7 +33,8 @@ fn place_in(jobs: &[Job], job: u32) -> Option<usize>
 
 /// One of these jobs has pinned an object.
 fn pin(jobs: &[Job], object: u64) -> bool
-    ensures { result ≡ list_any (λ (j : JobValue). list_any (λ (file : PinnedFile). file.id == object) j.pinned.items) jobs.now }
+    ensures { result ≡ list_any (λ (j : JobValue). list_any (λ (file : PinnedFile). file.id == object)
+        j.pinned.items) jobs.now }
 {
     jobs.iter().any(|job| job.pins(object))
 }
@@ -42,9 +43,10 @@ impl Core {
     /// Goes on by what came of a job's next action. Condition: `next` gave an action, and the reply is one that it has.
     pub fn feed(&mut self, job: u32, reply: Reply)
         requires { TakesReply self.old job reply }
-        ensures step { (w new : State) (outcome : Outcome) (moment : ℕ) → CoreIs self.old w → Happens 8 moment w (Step job) outcome new →
+        ensures step { (w new : State) (outcome : Outcome) (moment : ℕ) → CoreIs self.old w
+            → Happens 8 moment w (Step job) outcome new →
             IsReplyTo self.old job reply outcome new → CoreIs self.new new }
-        ensures falls { left_of self.new job < left_of self.old job }
+        ensures falls { core_left self.new job < core_left self.old job }
         ensures setup { self.new.setup ≡ self.old.setup }
     {
         let Some(place) = self.place_of(job) else {
@@ -99,7 +101,8 @@ impl Core {
     /// The job at a place has made its next action.
     fn advance(&mut self, place: usize)
         requires { goes_plainly (first_at self.old place) ≡ true }
-        ensures { (j : CoreJob) → slice_get self.old.jobs place ≡ Some j → self.new ≡ with_at self.old place (moved j) }
+        ensures { (j : CoreJob) → slice_get self.old.jobs place ≡ Some j
+            → self.new ≡ with_at self.old place (stepped j) }
     {
         let providers = self.setup.n as u32;
         let job = &mut self.jobs[place];
@@ -112,7 +115,8 @@ impl Core {
         requires counts { counts.n ≡ self.old.setup.n }
         requires padded { IsPadded counts }
         ensures { (j : CoreJob) → slice_get self.old.jobs place ≡ Some j →
-            self.new ≡ with_at self.old place (judged j (record { counts = counted counts; undecided = undecided })) }
+            self.new ≡ with_at self.old place
+            (judged j (record { counts = counted counts; undecided = undecided })) }
     {
         let providers = self.setup.n as u32;
         let job = &mut self.jobs[place];
@@ -123,7 +127,7 @@ impl Core {
 
     /// The number that a job's append draws, or has drawn.
     fn number(&self, job: &Job) -> u64
-        ensures { result ≡ number_drawn self.now.table (seen self.now.setup.n job.now) job.now.wish }
+        ensures { result ≡ number_drawn self.now.table (core_job self.now.setup.n job.now) job.now.wish }
     {
         match job.wish {
             Wish::Put { .. } if job.is_opening() => self.table.next_id(),
@@ -136,7 +140,8 @@ impl Core {
     fn begin_append(&mut self, place: usize)
         requires { first_at self.old place ≡ Some WriteBody }
         ensures { (j : CoreJob) → slice_get self.old.jobs place ≡ Some j →
-            self.new ≡ record (with_at self.old place (drawn j (number_drawn self.old.table j j.wish))) { append = Some j.number } }
+            self.new ≡ record (with_at self.old place
+            (drawn j (number_drawn self.old.table j j.wish))) { append = Some j.number } }
     {
         let number = self.number(&self.jobs[place]);
         let providers = self.setup.n as u32;
@@ -171,10 +176,13 @@ impl Core {
     /// The append of the job at a place is done: its record is in effect.
     fn end_append(&mut self, place: usize)
         requires { first_at self.old place ≡ Some SyncGate }
-        ensures gated { (j : CoreJob) (entry : EntryData) (rs : List EntryData) → slice_get self.old.jobs place ≡ Some j →
-            written_by self.old.table j j.wish ≡ Some entry → IsFoldOf rs self.old.table → refused rs entry ≡ None →
+        ensures gated { (j : CoreJob) (entry : EntryData) (rs : List EntryData)
+            → slice_get self.old.jobs place ≡ Some j →
+            written_by self.old.table j j.wish ≡ Some entry → IsFoldOf rs self.old.table
+            → refused rs entry ≡ None →
             HasGated self.old place j entry rs self.new }
-        ensures falls { (j : CoreJob) → slice_get self.old.jobs place ≡ Some j → left_of self.new j.number < left_of self.old j.number }
+        ensures falls { (j : CoreJob) → slice_get self.old.jobs place ≡ Some j
+            → core_left self.new j.number < core_left self.old j.number }
         ensures setup { self.new.setup ≡ self.old.setup }
     {
         let Some(entry) = self.jobs[place].record(&self.table) else {

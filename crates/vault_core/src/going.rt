@@ -5,7 +5,7 @@ ghost use Rattle.hail_machine.specs.Actions.{SyncGate};
 ghost use Rattle.vault_core.specs.Coming.{is_last_ask};
 ghost use Rattle.vault_core.specs.Fed.{gated_by};
 ghost use Rattle.vault_core.specs.Rest.{rest_of, closing_of, tasks_on, beyond, calls_from, work_of, rewrites_from};
-ghost use Rattle.vault_core.specs.Parts.{IsSet, IsAt, IsKept, seen, is_opening, is_over, is_rewriter, is_worker, is_caller};
+ghost use Rattle.vault_core.specs.Parts.{IsSet, MayBeAt, IsJobKept, core_job, is_opening, is_over, is_rewriter, is_worker, is_caller};
 ghost use Rattle.vault_core.specs.Going.{aimed, decides, goes_opening, drawn_tasks, removals_of};
 
 use crate::action::Action;
@@ -18,8 +18,11 @@ fn flagged_from(flagged: &[bool; 16], from: u32, providers: u32) -> Option<u32>
     requires { providers ≤ 16 }
     ensures below { IfSome result (λ j. j < providers) }
     ensures flagged { IfSome result (λ j. flag_at flagged.now j ≡ true) }
-    ensures first { (object turn : ℕ) → IfSome result (λ j. rewrites_from from providers flagged.now object turn ≡ rewrites_from j providers flagged.now object turn) }
-    ensures none { (object turn : ℕ) → IfNone result (rewrites_from from providers flagged.now object turn ≡ []) }
+    ensures first { (object turn : ℕ)
+        → IfSome result (λ j. rewrites_from from providers flagged.now object turn
+        ≡ rewrites_from j providers flagged.now object turn) }
+    ensures none { (object turn : ℕ)
+        → IfNone result (rewrites_from from providers flagged.now object turn ≡ []) }
 {
     for j in from..providers {
         if flagged[j as usize] {
@@ -41,7 +44,7 @@ fn aim(tasks: &mut [Task], object: u64)
 impl Job {
     /// The cursor behind all files.
     fn closing(&self) -> Cursor
-        ensures at { (n : ℕ) → IsAt n self.now result (closing_of self.now.wish) }
+        ensures at { (n : ℕ) → MayBeAt n self.now result (closing_of self.now.wish) }
         ensures later { is_opening result ≡ false }
     {
         match self.wish {
@@ -52,7 +55,8 @@ impl Job {
 
     /// The cursor at the task of a place, or behind all files.
     fn task_at(&self, place: usize) -> Cursor
-        ensures at { (n : ℕ) → 0 < n → IsSet n self.now → IsAt n self.now result (tasks_on n self.now (drop place self.now.tasks.items)) }
+        ensures at { (n : ℕ) → 0 < n → IsSet n self.now
+            → MayBeAt n self.now result (tasks_on n self.now (drop place self.now.tasks.items)) }
         ensures later { is_opening result ≡ false }
     {
         match self.tasks.get(place) {
@@ -72,7 +76,8 @@ impl Job {
     /// The cursor behind a stripe or round.
     fn turn_after(&self, spot: Spot) -> Cursor
         requires { spot.turn < spot.turns }
-        ensures at { (n : ℕ) → 0 < n → IsSet n self.now → is_caller self.now.wish ≡ true → IsAt n self.now result (beyond n self.now spot) }
+        ensures at { (n : ℕ) → 0 < n → IsSet n self.now → is_caller self.now.wish ≡ true
+            → MayBeAt n self.now result (beyond n self.now spot) }
         ensures later { is_opening result ≡ false }
     {
         if spot.turn + 1 < spot.turns {
@@ -91,7 +96,8 @@ impl Job {
     fn calls_after(&self, spot: Spot) -> Cursor
         requires { spot.turn < spot.turns }
         ensures at { (n : ℕ) → 0 < n → IsSet n self.now → is_caller self.now.wish ≡ true →
-            IsAt n self.now result (work_of n self.now.wish self.now.flagged spot.object spot.turn ++ beyond n self.now spot) }
+            MayBeAt n self.now result
+            (work_of n self.now.wish self.now.flagged spot.object spot.turn ++ beyond n self.now spot) }
         ensures later { is_opening result ≡ false }
     {
         match self.wish {
@@ -107,7 +113,9 @@ impl Job {
         requires some { 0 < providers }
         requires stays { IsSet providers self.now }
         requires wish { is_rewriter self.now.wish ≡ true }
-        ensures at { IsAt providers self.now result (rewrites_from from providers self.now.flagged spot.object spot.turn ++ beyond providers self.now spot) }
+        ensures at { MayBeAt providers self.now result
+            (rewrites_from from providers self.now.flagged spot.object spot.turn
+            ++ beyond providers self.now spot) }
         ensures later { is_opening result ≡ false }
     {
         match flagged_from(&self.flagged, from, providers) {
@@ -123,7 +131,9 @@ impl Job {
         requires some { 0 < providers }
         requires stays { IsSet providers self.now }
         requires wish { is_worker self.now.wish ≡ true }
-        ensures at { IsAt providers self.now result (drop 1 (work_of providers self.now.wish self.now.flagged spot.object spot.turn) ++ beyond providers self.now spot) }
+        ensures at { MayBeAt providers self.now result
+            (drop 1 (work_of providers self.now.wish self.now.flagged spot.object spot.turn)
+            ++ beyond providers self.now spot) }
         ensures later { is_opening result ≡ false }
     {
         match self.wish {
@@ -138,8 +148,10 @@ impl Job {
         requires some { provider < providers }
         requires stays { IsSet providers self.now }
         requires wish { is_caller self.now.wish ≡ true }
-        ensures at { IsAt providers self.now result (calls_from (provider + 1) providers self.now.wish spot.object spot.turn
-            ++ (work_of providers self.now.wish self.now.flagged spot.object spot.turn ++ beyond providers self.now spot)) }
+        ensures at { MayBeAt providers self.now result
+            (calls_from (provider + 1) providers self.now.wish spot.object spot.turn
+            ++ (work_of providers self.now.wish self.now.flagged spot.object spot.turn
+            ++ beyond providers self.now spot)) }
         ensures later { is_opening result ≡ false }
     {
         if provider + 1 < providers {
@@ -155,9 +167,9 @@ impl Job {
     fn after(&self, providers: u32) -> Cursor
         requires few { providers ≤ 16 }
         requires some { 0 < providers }
-        requires kept { IsKept providers self.now }
+        requires kept { IsJobKept providers self.now }
         requires going { is_over self.now.cursor ≡ false }
-        ensures at { IsAt providers self.now result (drop 1 (rest_of providers self.now)) }
+        ensures at { MayBeAt providers self.now result (drop 1 (rest_of providers self.now)) }
         ensures opening { is_opening result ≡ goes_opening self.now.cursor }
     {
         match self.cursor {
@@ -192,7 +204,7 @@ impl Job {
     pub fn is_last_ask(&self, providers: u32) -> bool
         requires few { providers ≤ 16 }
         requires some { 0 < providers }
-        requires kept { IsKept providers self.now }
+        requires kept { IsJobKept providers self.now }
         ensures { result ≡ is_last_ask (rest_of providers self.now) }
     {
         match self.action() {
@@ -205,10 +217,10 @@ impl Job {
     pub fn advance(&mut self, providers: u32)
         requires few { providers ≤ 16 }
         requires some { 0 < providers }
-        requires kept { IsKept providers self.old }
+        requires kept { IsJobKept providers self.old }
         requires going { is_over self.old.cursor ≡ false }
         requires undecided { decides self.old ≡ false }
-        ensures kept { IsKept providers self.new }
+        ensures kept { IsJobKept providers self.new }
         ensures rest { rest_of providers self.new ≡ drop 1 (rest_of providers self.old) }
         ensures opening { is_opening self.new.cursor ≡ goes_opening self.old.cursor }
         ensures same { self.new ≡ record self.old { cursor = self.new.cursor; left = self.new.left } }
@@ -243,9 +255,9 @@ impl Job {
     /// Makes the action that decides on the removal of an older object.
     pub fn decide(&mut self, older: Option<u64>, providers: u32)
         requires some { 0 < providers }
-        requires kept { IsKept providers self.old }
+        requires kept { IsJobKept providers self.old }
         requires decides { decides self.old ≡ true }
-        ensures kept { IsKept providers self.new }
+        ensures kept { IsJobKept providers self.new }
         ensures rest { rest_of providers self.new ≡ removals_of providers older }
         ensures opening { is_opening self.new.cursor ≡ false }
         ensures same { self.new ≡ record self.old { cursor = self.new.cursor; left = self.new.left } }
@@ -269,10 +281,10 @@ impl Job {
     pub fn finish(&mut self, older: Option<u64>, providers: u32)
         requires few { providers ≤ 16 }
         requires some { 0 < providers }
-        requires kept { IsKept providers self.old }
+        requires kept { IsJobKept providers self.old }
         requires gate { slice_get (rest_of providers self.old) 0 ≡ Some SyncGate }
-        ensures kept { IsKept providers self.new }
-        ensures seen { seen providers self.new ≡ gated_by providers older (seen providers self.old) }
+        ensures kept { IsJobKept providers self.new }
+        ensures seen { core_job providers self.new ≡ gated_by providers older (core_job providers self.old) }
     {
         if self.decides() {
             self.decide(older, providers);

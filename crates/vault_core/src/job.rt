@@ -5,7 +5,7 @@ ghost use Rattle.record_codec.specs.Entries.{entry_of, IsInGrammar};
 ghost use Rattle.vault_core.specs.declared.pinned.Pinned.{Pinned as PinnedFile};
 ghost use Rattle.vault_core.specs.Coming.{seen_action, action_next, entry_of_job, written_by, is_last_ask, is_idle};
 ghost use Rattle.vault_core.specs.Rest.{call_of, rest_of};
-ghost use Rattle.vault_core.specs.Parts.{seen, IsKept, is_opening, is_unbegun, is_past};
+ghost use Rattle.vault_core.specs.Parts.{core_job, IsJobKept, is_opening, is_unbegun, is_past};
 
 use crate::action::Action;
 use crate::cursor::{Cursor, Move, Spot};
@@ -64,7 +64,8 @@ fn call(wish: &Wish, spot: &Spot, provider: u32) -> Action
 impl Job {
     /// The next of the actions that the job has not yet made.
     pub fn action(&self) -> Action
-        ensures { (n : ℕ) → IsKept n self.now → slice_get (rest_of n self.now) 0 ≡ Some (seen_action result) }
+        ensures { (n : ℕ) → IsJobKept n self.now
+            → slice_get (rest_of n self.now) 0 ≡ Some (seen_action result) }
     {
         match self.cursor {
             Cursor::Opening { at } => at.action(),
@@ -93,7 +94,7 @@ impl Job {
 
     /// A drop that has not begun its append and whose name is not in effect: only its end is left.
     fn is_idle(&self, table: &Table) -> bool
-        ensures { (n : ℕ) → result ≡ is_idle table.now (seen n self.now) }
+        ensures { (n : ℕ) → result ≡ is_idle table.now (core_job n self.now) }
     {
         match &self.wish {
             Wish::Drop { name } => table.find(name).is_none() && self.is_unbegun(),
@@ -103,7 +104,8 @@ impl Job {
 
     /// The next action of the job over a table.
     pub fn action_over(&self, table: &Table) -> Action
-        ensures { (n : ℕ) → IsKept n self.now → action_next table.now (seen n self.now) ≡ Some (seen_action result) }
+        ensures { (n : ℕ) → IsJobKept n self.now
+            → action_next table.now (core_job n self.now) ≡ Some (seen_action result) }
     {
         if self.is_idle(table) {
             return Action::End;
@@ -127,8 +129,10 @@ impl Job {
 
     /// The record of the job's first append where it is at that, and else that of its last one.
     pub fn record(&self, table: &Table) -> Option<Record>
-        ensures value { (n : ℕ) → option_map entry_of result ≡ written_by table.now (seen n self.now) self.now.wish }
-        ensures in_grammar { (n : ℕ) → 4 ≤ n → n ≤ 16 → IsKept n self.now → IfSome result (λ entry. IsInGrammar entry) }
+        ensures value { (n : ℕ) → option_map entry_of result ≡ written_by table.now (core_job n self.now)
+            self.now.wish }
+        ensures in_grammar { (n : ℕ) → 4 ≤ n → n ≤ 16 → IsJobKept n self.now
+            → IfSome result (λ entry. IsInGrammar entry) }
     {
         let opening = self.is_opening();
         match self.wish {
@@ -149,8 +153,10 @@ impl Job {
 
     /// The record that the job's append writes, if it is in one.
     pub fn entry_over(&self, table: &Table) -> Option<Record>
-        ensures value { (n : ℕ) → IsKept n self.now → option_map entry_of result ≡ entry_of_job table.now (seen n self.now) }
-        ensures in_grammar { (n : ℕ) → 4 ≤ n → n ≤ 16 → IsKept n self.now → IfSome result (λ entry. IsInGrammar entry) }
+        ensures value { (n : ℕ) → IsJobKept n self.now
+            → option_map entry_of result ≡ entry_of_job table.now (core_job n self.now) }
+        ensures in_grammar { (n : ℕ) → 4 ≤ n → n ≤ 16 → IsJobKept n self.now
+            → IfSome result (λ entry. IsInGrammar entry) }
     {
         match self.action_over(table) {
             Action::WriteBody | Action::SyncBody | Action::WriteGate | Action::SyncGate => {

@@ -13,7 +13,7 @@ ghost use Rattle.record_codec.specs.Entries.{entry_of, counted, IsInGrammar, IsP
 ghost use Rattle.vault_core.specs.View.{job_in, CoreJob};
 ghost use Rattle.vault_core.specs.Coming.{seen_next, waits_or_acts, next_in, left_in, entry_in, is_last_ask_of};
 ghost use Rattle.vault_core.specs.Reserves.{Reserves};
-ghost use Rattle.vault_core.specs.Parts.{seen, IsKept};
+ghost use Rattle.vault_core.specs.Parts.{core_job, IsJobKept};
 ghost use Rattle.vault_core.specs.Carried.{CoreIs, refusal_of, IsNextOf, IsEntryOf};
 
 use crate::action::{Action, Next};
@@ -68,7 +68,8 @@ impl Core {
     /// Why the begin of a put, a get or a drop would be refused before its words are looked at: `MustReopen` or `Busy`.
     pub fn barred(&self) -> Option<BeginFault>
         ensures { (w : State) → CoreIs self.now w → option_map refusal_of result ≡ first_refusal (
-            record { applies = w.is_barred; refusal = refusal.MustReopen } ∷ record { applies = nat_le 8 (length w.jobs); refusal = refusal.Busy } ∷ []) }
+            record { applies = w.is_barred; refusal = refusal.MustReopen }
+            ∷ record { applies = nat_le 8 (length w.jobs); refusal = refusal.Busy } ∷ []) }
     {
         if self.barred {
             return Some(BeginFault::MustReopen);
@@ -81,8 +82,8 @@ impl Core {
 
     /// The running job of a number.
     pub(crate) fn find(&self, job: u32) -> Option<&Job>
-        ensures found { option_map (λ x. seen self.now.setup.n x.now) result ≡ job_in self.now.jobs job }
-        ensures kept { IfSome result (λ x. IsKept self.now.setup.n x.now) }
+        ensures found { option_map (λ x. core_job self.now.setup.n x.now) result ≡ job_in self.now.jobs job }
+        ensures kept { IfSome result (λ x. IsJobKept self.now.setup.n x.now) }
         ensures providers { (4 ≤ self.now.setup.n) × (self.now.setup.n ≤ 16) }
         ensures reserves { Reserves self.now }
     {
@@ -130,7 +131,8 @@ impl Core {
     /// None exactly where no running job has the number.
     pub fn left(&self, job: u32) -> Option<u64>
         ensures value { result ≡ left_in self.now job }
-        ensures machine { (w : State) → CoreIs self.now w → result ≡ option_map (most_left (setup_in w)) (job_of w.jobs job) }
+        ensures machine { (w : State) → CoreIs self.now w
+            → result ≡ option_map (most_left (setup_in w)) (job_of w.jobs job) }
         ensures some { IfSome result (λ left. 0 < left) }
     {
         match self.find(job) {
@@ -191,7 +193,8 @@ impl Core {
 
     /// The files that a running job works on, in ascending order of their object numbers.
     pub fn pinned(&self, job: u32) -> Option<&[Pinned]>
-        ensures { option_map (λ x. x.now) result ≡ option_map (λ (j : CoreJob). j.pinned) (job_in self.now.jobs job) }
+        ensures { option_map (λ x. x.now) result
+            ≡ option_map (λ (j : CoreJob). j.pinned) (job_in self.now.jobs job) }
     {
         match self.find(job) {
             Some(running) => Some(&running.pinned),
@@ -201,7 +204,8 @@ impl Core {
 
     /// The undecided rounds of a running audit, and its counts; zeros until its verdict.
     pub fn sums(&self, job: u32) -> Option<(u32, Counts)>
-        ensures value { option_map (λ x. record { counts = counted x.1; undecided = x.0 }) result ≡ option_map (λ (j : CoreJob). j.sums) (job_in self.now.jobs job) }
+        ensures value { option_map (λ x. record { counts = counted x.1; undecided = x.0 }) result
+            ≡ option_map (λ (j : CoreJob). j.sums) (job_in self.now.jobs job) }
         ensures padded { IfSome result (λ x. IsPadded x.1) }
     {
         match self.find(job) {

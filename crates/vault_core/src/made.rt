@@ -10,8 +10,8 @@ ghost use Rattle.vault_core.specs.declared.pinned.Pinned.{Pinned as PinnedFile};
 ghost use Rattle.vault_core.specs.declared.job.Task.{Task as TaskData};
 ghost use Rattle.vault_core.specs.View.{flag_at};
 ghost use Rattle.vault_core.specs.Rest.{rewrites_from};
-ghost use Rattle.vault_core.specs.Parts.{IsKept, is_rewriter};
-ghost use Rattle.vault_core.specs.Refusing.{IsNamed};
+ghost use Rattle.vault_core.specs.Parts.{IsJobKept, is_rewriter};
+ghost use Rattle.vault_core.specs.Refusing.{HasName};
 ghost use Rattle.vault_core.specs.Wished.{IsShort};
 ghost use Rattle.vault_core.specs.Making.{pin_of_file, put_pin, pins_of, pins_found, pins_for, targets_of, turns_for, tasks_made, size_of_turn, other_actions, cursor_on, cursor_first, IsMade};
 
@@ -43,7 +43,8 @@ fn stripes(setup: &Setup, length: u32) -> u32
 /// The first place of a file with a larger object number.
 fn place_of(pinned: &[Pinned], id: u64) -> usize
     ensures within { result ≤ length pinned.now }
-    ensures place { (file : PinnedFile) → file.id ≡ id → insert pinned.now result file ≡ put_pin file pinned.now }
+    ensures place { (file : PinnedFile) → file.id ≡ id
+        → insert pinned.now result file ≡ put_pin file pinned.now }
 {
     for place in 0..pinned.len() {
         if id < pinned[place].id {
@@ -129,7 +130,8 @@ fn turns(setup: &Setup, wish: &Wish, length: u32) -> u32
 fn add_task(tasks: &mut Vec<Task>, setup: &Setup, wish: &Wish, file: &Pinned) -> Result<(), Memory>
     requires primary { 1 ≤ setup.now.l }
     requires known { setup.now.profile ≤ 4 }
-    ensures { (key : List ℕ) → OnOk result (tasks.new.items ≡ tasks.old.items ++ tasks_made (turns_for (with_master setup.now key) wish.now) (file.now ∷ [])) }
+    ensures { (key : List ℕ) → OnOk result (tasks.new.items ≡ tasks.old.items ++ tasks_made
+        (turns_for (with_master setup.now key) wish.now) (file.now ∷ [])) }
 {
     let turns = turns(setup, wish, file.length);
     if turns > 0 {
@@ -150,7 +152,8 @@ fn tasks_for(
 ) -> Result<Vec<Task>, Memory>
     requires primary { 1 ≤ setup.now.l }
     requires known { setup.now.profile ≤ 4 }
-    ensures { (key : List ℕ) → IfOk result (λ tasks. tasks.items ≡ tasks_made (turns_for (with_master setup.now key) wish.now) files.now) }
+    ensures { (key : List ℕ) → IfOk result (λ tasks. tasks.items ≡ tasks_made
+        (turns_for (with_master setup.now key) wish.now) files.now) }
 {
     let mut tasks = Vec::with_capacity(alloc, files.len())?;
     for file in files {
@@ -168,7 +171,8 @@ fn tasks_of(
 ) -> Result<Vec<Task>, Memory>
     requires primary { 1 ≤ setup.now.l }
     requires known { setup.now.profile ≤ 4 }
-    ensures { (key : List ℕ) → IfOk result (λ tasks. tasks.items ≡ tasks_made (turns_for (with_master setup.now key) wish.now) (targets_of wish.now pinned.now)) }
+    ensures { (key : List ℕ) → IfOk result (λ tasks. tasks.items ≡ tasks_made
+        (turns_for (with_master setup.now key) wish.now) (targets_of wish.now pinned.now)) }
 {
     match wish {
         Wish::Put { length, .. } => {
@@ -185,7 +189,8 @@ fn tasks_of(
 /// The providers whose counts are above the tolerance.
 fn flags_of(counts: &Counts, tolerance: u16) -> [bool; 16]
     requires { IsPadded counts.now }
-    ensures flags { (j : ℕ) → j < 16 → flag_at result j ≡ due_flags tolerance (Some (due_of_pair (record { 0 = 0; 1 = counts.now }))) j }
+    ensures flags { (j : ℕ) → j < 16
+        → flag_at result j ≡ due_flags tolerance (Some (due_of_pair (record { 0 = 0; 1 = counts.now }))) j }
     ensures long { length result ≡ 16 }
 {
     let mut flagged = [false; 16];
@@ -198,7 +203,8 @@ fn flags_of(counts: &Counts, tolerance: u16) -> [bool; 16]
 /// The providers that a due audit flags.
 fn flags(due: &Option<(u64, Counts)>, tolerance: u16) -> [bool; 16]
     requires { IfSome due.now (λ x. IsPadded x.1) }
-    ensures flags { (j : ℕ) → j < 16 → flag_at result j ≡ due_flags tolerance (option_map due_of_pair due.now) j }
+    ensures flags { (j : ℕ) → j < 16
+        → flag_at result j ≡ due_flags tolerance (option_map due_of_pair due.now) j }
     ensures long { length result ≡ 16 }
 {
     match due {
@@ -271,7 +277,8 @@ fn add_other(on_files: u64, others: u64) -> Option<u64>
 /// How many actions a job may have at most; none where a number can't hold it.
 fn most_actions(wish: &Wish, tasks: &[Task], flagged: &[bool; 16], providers: u8) -> Option<u64>
     requires { providers ≤ 16 }
-    ensures { IfSome result (λ most. most ≡ sum_by (λ (t : TaskData). t.turns * size_of_turn providers wish.now flagged.now) tasks.now + other_actions providers wish.now) }
+    ensures { IfSome result (λ most. most ≡ sum_by (λ (t : TaskData). t.turns * size_of_turn providers
+        wish.now flagged.now) tasks.now + other_actions providers wish.now) }
 {
     let size = turn_size(wish, flagged, providers);
     match count_turns(tasks, size) {
@@ -332,10 +339,11 @@ pub fn make_job(
     requires known { setup.now.profile ≤ 4 }
     requires some { 4 ≤ setup.now.n }
     requires few { setup.now.n ≤ 16 }
-    requires named { IsNamed wish }
+    requires named { HasName wish }
     requires short { IsShort wish }
-    ensures made { (key : List ℕ) → IfOk result (λ job. IsMade table.now (with_master setup.now key) number wish job) }
-    ensures kept { IfOk result (λ job. IsKept setup.now.n job) }
+    ensures made { (key : List ℕ) → IfOk result (λ job. IsMade table.now (with_master setup.now key) number
+        wish job) }
+    ensures kept { IfOk result (λ job. IsJobKept setup.now.n job) }
 {
     let due = table.due();
     let flagged = flags(&due, setup.tolerance);

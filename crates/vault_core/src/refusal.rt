@@ -9,9 +9,9 @@ ghost use Rattle.hail_machine.specs.Begins.{begin_refusal};
 ghost use Rattle.vault_core.specs.declared.job.Job.{Job as JobData};
 ghost use Rattle.vault_core.specs.Carried.{CoreIs, IsKindOf, refusal_of};
 ghost use Rattle.vault_core.specs.Wished.{IsShort};
-ghost use Rattle.vault_core.specs.Parts.{seen, IsKept};
+ghost use Rattle.vault_core.specs.Parts.{core_job, IsJobKept};
 ghost use Rattle.vault_core.specs.Reserves.{reserved_of};
-ghost use Rattle.vault_core.specs.Refusing.{wishes_kept, checks, puts_or_checks, puts_name, is_new, names_beside, is_busy_in, is_crowded_in, word_refusal_in, is_full_in, refusal_in, IsNamed};
+ghost use Rattle.vault_core.specs.Refusing.{wishes_kept, checks, puts_or_checks, puts_name, is_new, names_beside, is_busy_in, is_crowded_in, word_refusal_in, is_full_in, refusal_in, HasName};
 
 use crate::job::Job;
 use crate::look::MOST_JOBS;
@@ -77,7 +77,8 @@ fn some_puts(jobs: &[Job], name: &Name) -> bool
 
 /// A name is in effect, or one of these jobs puts it.
 fn is_taken(table: &Table, jobs: &[Job], name: &Name) -> bool
-    ensures { result ≡ (list_any (λ (j : JobData). puts_name name.now j.wish) jobs.now || is_some (find_file table.now.files name.now)) }
+    ensures { result ≡ (list_any (λ (j : JobData). puts_name name.now j.wish) jobs.now
+        || is_some (find_file table.now.files name.now)) }
 {
     some_puts(jobs, name) || table.find(name).is_some()
 }
@@ -109,8 +110,8 @@ fn names_beside(table: &Table, jobs: &[Job]) -> usize
 /// The room that the records of jobs still need.
 fn reserved_for(jobs: &[Job], providers: u8) -> u64
     requires few { length jobs.now ≤ 8 }
-    requires kept { All (IsKept providers) jobs.now }
-    ensures value { result ≡ sum_by (λ (j : JobData). reserved_of providers (seen providers j)) jobs.now }
+    requires kept { All (IsJobKept providers) jobs.now }
+    ensures value { result ≡ sum_by (λ (j : JobData). reserved_of providers (core_job providers j)) jobs.now }
     ensures bound { result ≤ 8360 }
 {
     let mut room = 0;
@@ -129,7 +130,7 @@ fn when(applies: bool, why: BeginFault) -> Option<BeginFault>
 
 /// The name of a wish is a name.
 fn read_name(wish: &Wish)
-    ensures { IsNamed wish.now }
+    ensures { HasName wish.now }
 {
     if let Wish::Put { name, .. } | Wish::Get { name } | Wish::Drop { name } = wish {
         let _bytes = name.as_bytes();
@@ -214,8 +215,9 @@ impl Core {
     /// The first refusal that applies to a wish, which is that of the machine.
     pub(crate) fn refusal(&self, wish: &Wish) -> Option<BeginFault>
         ensures value { result ≡ refusal_in self.now wish.now }
-        ensures named { IsNamed wish.now }
-        ensures machine { (w : State) (kind : Kind) → CoreIs self.now w → IsKindOf wish.now kind → IsShort wish.now →
+        ensures named { HasName wish.now }
+        ensures machine { (w : State) (kind : Kind) → CoreIs self.now w → IsKindOf wish.now kind
+            → IsShort wish.now →
             option_map refusal_of result ≡ begin_refusal 8 w kind }
     {
         read_name(wish);

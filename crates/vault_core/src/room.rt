@@ -1,6 +1,6 @@
 //! The room that the records of jobs take in the journal.
 ghost use Rattle.std.specs.Prelude.{◌≡◌, ◌≤◌, ◌*◌, ◌+◌, ℕ, sum};
-ghost use Rattle.vault_core.specs.Parts.{seen, IsKept};
+ghost use Rattle.vault_core.specs.Parts.{core_job, IsJobKept};
 ghost use Rattle.vault_core.specs.Reserves.{sizes_of, last_size, reserved_of};
 
 use crate::job::Job;
@@ -34,7 +34,8 @@ fn last_size(wish: &Wish, providers: u8) -> u64
 
 /// The room that the records of a running job still need: one counts until its append is done.
 pub fn reserved(job: &Job, providers: u8) -> u64
-    ensures value { IsKept providers job.now → result ≡ reserved_of providers (seen providers job.now) }
+    ensures value { IsJobKept providers job.now
+        → result ≡ reserved_of providers (core_job providers job.now) }
     ensures bound { result ≤ 1045 }
 {
     if job.is_opening() {

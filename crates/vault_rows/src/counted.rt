@@ -35,6 +35,8 @@ impl<P: Provider + Drop> Provider for Counted<P> {
 
     ghost fetches = { λ provider. P.fetches provider.inner };
 
+    ghost calls = { λ provider. P.calls provider.inner };
+
     fn store(&mut self, object: u64, stripe: u32, block: &[Symbol]) -> Result<(), StoreFault> {
         self.stores = self.stores.saturating_add(1);
         self.inner.store(object, stripe, block)

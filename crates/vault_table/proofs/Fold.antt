@@ -1,14 +1,16 @@
 -- The table goes on as the fold does.
-use Rattle.std.specs.Prelude.{◌≡◌, ◌≢◌, ℕ, zero, suc, ◌-◌, ◌==◌, ◌<◌, ◌≤◌, List, [], ◌∷◌, ◌++◌, length, Option, None, Some, if◌then◌else◌}
+use Rattle.std.specs.Prelude.{◌≡◌, ◌≢◌, ℕ, zero, suc, ◌+◌, ◌-◌, ◌==◌, ◌<◌, ◌≤◌, List, [], ◌∷◌, ◌++◌, length, Option, None, Some, nat_le, if◌then◌else◌}
 use Rattle.std.proofs.Common.{refl, sym, ap, ◌∙◌, arith, set, get_or, inl, inr}
 use Rattle.std.proofs.lemmas.Bool.{cases_lt}
 use Rattle.std.proofs.lemmas.Bool.Decides.{nat_tests}
 use Rattle.std.proofs.lemmas.List.{length-append, length-set}
-use Rattle.hail_records.specs.Records.{Setup, Record, SetUp, PutStart, PutDone, Drop, AuditStart, AuditDone, RepairDone}
-use Rattle.hail_records.specs.Table.{started_as, files_of}
-use Rattle.hail_records.specs.Acceptance.{put_done_refused, refused, refused_after, refused_first}
+use Rattle.hail_records.specs.Records.{Setup, Record, SetUp, PutStart, PutDone, Drop, AuditStart, AuditDone, RepairDone, PutDoneIn, Version, Resume, InEffect, RepairDue}
+use Rattle.hail_records.specs.Table.{started_as, files_of, setup_of, version_of}
+use Rattle.hail_records.specs.Acceptance.{AreAccepted, put_done_refused, refused, refused_after, refused_first}
 use Rattle.hail_records.proofs.FilesLaws.{find-files_of}
-use Rattle.vault_table.specs.Values.{Kept, started_from, started_at, IsFoldOf, put_done_refusal, refusal_after, refusal_before, refusal, with_record}
+use Rattle.hail_records.specs.Packed.{packed}
+use Rattle.hail_records.proofs.PackLaws.{packed_are, packed_is_idle}
+use Rattle.vault_table.specs.Values.{Kept, started_from, started_at, id_after, forgotten, IsFoldOf, put_done_refusal, refusal_after, refusal_before, refusal, with_record}
 
 -- ---- refusals
 
@@ -19,11 +21,16 @@ same-put_done t rs (Some name) e = rw (e, find-files_of rs name) refl
 same-after : (t : Kept) (rs : List Record) (r : Record) → IsFoldOf rs t → refusal_after t r ≡ refused_after rs r
 same-after t rs (SetUp s) is = refl
 same-after t rs (PutStart id name) is = rw is.id refl
-same-after t rs (PutDone id size) is = rw (is.started id) (same-put_done t rs (started_as rs id) is.files)
+same-after t rs (PutDone id size) is = rw (is.version, is.started id, same-put_done t rs (started_as rs id) is.files) refl
 same-after t rs (Drop name) is = rw (is.files, find-files_of rs name) refl
 same-after t rs (AuditStart number) is = rw (is.audit, is.due) refl
 same-after t rs (AuditDone number undecided counts) is = rw (is.running, is.setup) refl
 same-after t rs (RepairDone number) is = rw is.due refl
+same-after t rs (PutDoneIn id size profile) is = rw (is.version, is.started id, same-put_done t rs (started_as rs id) is.files) refl
+same-after t rs Version is = rw is.version refl
+same-after t rs (Resume id audit) is = rw (is.version, is.id, is.audit) refl
+same-after t rs (InEffect id size profile name) is = rw (is.version, is.started id, is.id, is.files, find-files_of rs name) refl
+same-after t rs (RepairDue number counts) is = rw (is.version, is.audit, is.due, is.setup) refl
 
 same-first : (r : Record) → refusal_before r ≡ refused_first r
 same-first (SetUp s) = refl
@@ -33,6 +40,11 @@ same-first (Drop name) = refl
 same-first (AuditStart number) = refl
 same-first (AuditDone number undecided counts) = refl
 same-first (RepairDone number) = refl
+same-first (PutDoneIn id size profile) = refl
+same-first Version = refl
+same-first (Resume id audit) = refl
+same-first (InEffect id size profile name) = refl
+same-first (RepairDue number counts) = refl
 
 pub same-refusal : (t : Kept) (rs : List Record) (r : Record) → IsFoldOf rs t → refusal t r ≡ refused rs r
 same-refusal t rs r is = grind (arith, is.setup, same-after t rs r is, same-first r)
@@ -46,10 +58,9 @@ from-push [] name (suc k) = grind (arith, nat_tests)
 from-push (s ∷ started) name zero = grind (arith, nat_tests)
 from-push (s ∷ started) name (suc k) = grind (arith, nat_tests, from-push started name k)
 
-at-push : (started : List (Option (List ℕ))) (name : List ℕ) (id : ℕ)
-    → started_at (started ++ Some name ∷ []) id ≡ (if suc (length started) == id then Some name else started_at started id)
-at-push started name zero = grind (arith, nat_tests)
-at-push started name (suc k) = grind (arith, nat_tests, from-push started name k)
+at-push : (t : Kept) (name : List ℕ) (id : ℕ)
+    → started_at (record t { started = t.started ++ Some name ∷ [] }) id ≡ (if id_after t == id then Some name else started_at t id)
+at-push t name id = grind (arith, nat_tests, from-push t.started name (id - suc t.passed))
 
 from-set : (started : List (Option (List ℕ))) (i k : ℕ) → started_from (set started i None) k ≡ (if i == k then None else started_from started k)
 from-set [] i k = grind (arith)
@@ -58,10 +69,11 @@ from-set (s ∷ started) zero (suc k) = grind (arith, nat_tests)
 from-set (s ∷ started) (suc i) zero = grind (arith, nat_tests)
 from-set (s ∷ started) (suc i) (suc k) = grind (arith, nat_tests, from-set started i k)
 
-at-set : (started : List (Option (List ℕ))) (id k : ℕ) → started_at started id ≢ None → started_at (set started (id - 1) None) k ≡ (if id == k then None else started_at started k)
-at-set started zero k some = absurd (some refl)
-at-set started (suc i) zero some = grind (arith, nat_tests)
-at-set started (suc i) (suc k) some = let p : suc i - 1 ≡ i = omega arith in rw p (grind (arith, nat_tests, from-set started i k))
+at-set : (t : Kept) (id k : ℕ) → started_at t id ≢ None → started_at (record t { started = set t.started (id - suc t.passed) None }) k ≡ (if id == k then None else started_at t k)
+at-set t id k some = elim (cases_lt t.passed id) [
+  | inl later ↦ grind (arith, nat_tests, later, from-set t.started (id - suc t.passed) (k - suc t.passed))
+  | inr not_later ↦ absurd (some (grind (arith, nat_tests, not_later)))
+]
 
 -- ---- one record more
 
@@ -77,46 +89,11 @@ has-setup t (Drop name) other p = grind (arith, p)
 has-setup t (AuditStart number) other p = grind (arith, p)
 has-setup t (AuditDone number undecided counts) other p = grind (arith, p)
 has-setup t (RepairDone number) other p = grind (arith, p)
-
-pub goes-on : (t : Kept) (rs : List Record) (r : Record) → IsFoldOf rs t → refusal t r ≡ None → IsFoldOf (r ∷ rs) (with_record t r)
-goes-on t rs (SetUp s) is p =
-    record { setup = refl; files = is.files; started = is.started; id = is.id; audit = is.audit; running = is.running; due = is.due }
-goes-on t rs (PutStart id name) is p =
-    let q = has-setup t (PutStart id name) (λ s e. cc) p in
-    let number : id ≡ suc (length t.started) = grind (arith, nat_tests, q) in
-    record {
-      setup = is.setup;
-      files = is.files;
-      started = λ k. at-push t.started name k ∙ rw (← number, is.started k) refl;
-      id = omega (arith, length-append t.started (Some name ∷ []), is.id);
-      audit = is.audit;
-      running = is.running;
-      due = is.due;
-    }
-goes-on t rs (PutDone id size) is p =
-    let q = has-setup t (PutDone id size) (λ s e. cc) p in
-    let some = put_done-some t (started_at t.started id) q in
-    record {
-      setup = is.setup;
-      files = rw (is.files, is.started id) refl;
-      started = λ k. at-set t.started id k some ∙ rw (is.started k) refl;
-      id = ap suc (length-set t.started (id - 1) None) ∙ is.id;
-      audit = is.audit;
-      running = is.running;
-      due = is.due;
-    }
-goes-on t rs (Drop name) is p =
-    record { setup = is.setup; files = rw is.files refl; started = is.started; id = is.id; audit = is.audit; running = is.running; due = is.due }
-goes-on t rs (AuditStart number) is p =
-    let q = has-setup t (AuditStart number) (λ s e. cc) p in
-    let same : number ≡ t.next_audit = grind (arith, nat_tests, q) in
-    record { setup = is.setup; files = is.files; started = is.started; id = is.id; audit = ap suc (same ∙ is.audit); running = refl; due = is.due }
-goes-on t rs (AuditDone number undecided counts) is p =
-    record { setup = is.setup; files = is.files; started = is.started; id = is.id; audit = is.audit; running = refl; due = rw (is.setup, is.due) refl }
-goes-on t rs (RepairDone number) is p =
-    record { setup = is.setup; files = is.files; started = is.started; id = is.id; audit = is.audit; running = is.running; due = refl }
-
--- ---- reading a started put
+has-setup t (PutDoneIn id size profile) other p = grind (arith, p)
+has-setup t Version other p = grind (arith, p)
+has-setup t (Resume id audit) other p = grind (arith, p)
+has-setup t (InEffect id size profile name) other p = grind (arith, p)
+has-setup t (RepairDue number counts) other p = grind (arith, p)
 
 from-found : (started : List (Option (List ℕ))) (k : ℕ) (d : Option (List ℕ)) → k < length started → started_from started k ≡ get_or started k d
 from-found [] k d lt = absurd (omega (arith, lt))
@@ -128,18 +105,123 @@ from-past [] k le = refl
 from-past (s ∷ started) zero le = absurd (omega (arith, le))
 from-past (s ∷ started) (suc k) le = from-past started k (omega (arith, le))
 
-pub at-found : (started : List (Option (List ℕ))) (id : ℕ) (d : Option (List ℕ)) → id ≢ 0 → id - 1 < length started → started_at started id ≡ get_or started (id - 1) d
-at-found started zero d some lt = absurd (some refl)
-at-found started (suc k) d some lt = let p : suc k - 1 ≡ k = omega arith in rw p (from-found started k d (omega (arith, lt)))
+none-started : (t : Kept) (k : ℕ) → t.passed + length t.started ≡ 0 → started_at t k ≡ None
+none-started t k none = grind (arith, nat_tests, from-past t.started (k - suc t.passed), none)
 
-pub at-past : (started : List (Option (List ℕ))) (id : ℕ) → id ≢ 0 → length started ≤ id - 1 → started_at started id ≡ None
-at-past started zero some le = absurd (some refl)
-at-past started (suc k) some le = from-past started k (omega (arith, le))
+pub goes-on : (t : Kept) (rs : List Record) (r : Record) → IsFoldOf rs t → refusal t r ≡ None → IsFoldOf (r ∷ rs) (with_record t r)
+goes-on t rs (SetUp s) is p =
+    record { setup = refl; version = is.version; files = is.files; started = is.started; id = is.id; audit = is.audit; running = is.running; due = is.due }
+goes-on t rs (PutStart id name) is p =
+    let q = has-setup t (PutStart id name) (λ s e. cc) p in
+    let number : id ≡ id_after t = grind (arith, nat_tests, q) in
+    record {
+      setup = is.setup;
+      version = is.version;
+      files = is.files;
+      started = λ k. at-push t name k ∙ rw (← number, is.started k) refl;
+      id = omega (arith, length-append t.started (Some name ∷ []), is.id);
+      audit = is.audit;
+      running = is.running;
+      due = is.due;
+    }
+goes-on t rs (PutDone id size) is p =
+    let q = has-setup t (PutDone id size) (λ s e. cc) p in
+    let some = put_done-some t (started_at t id) (grind (arith, q)) in
+    record {
+      setup = is.setup;
+      version = is.version;
+      files = rw (is.files, is.started id, is.setup) refl;
+      started = λ k. at-set t id k some ∙ rw (is.started k) refl;
+      id = ap (λ n. suc (t.passed + n)) (length-set t.started (id - suc t.passed) None) ∙ is.id;
+      audit = is.audit;
+      running = is.running;
+      due = is.due;
+    }
+goes-on t rs (Drop name) is p =
+    record { setup = is.setup; version = is.version; files = rw is.files refl; started = is.started; id = is.id; audit = is.audit; running = is.running; due = is.due }
+goes-on t rs (AuditStart number) is p =
+    let q = has-setup t (AuditStart number) (λ s e. cc) p in
+    let same : number ≡ t.next_audit = grind (arith, nat_tests, q) in
+    record { setup = is.setup; version = is.version; files = is.files; started = is.started; id = is.id; audit = ap suc (same ∙ is.audit); running = refl; due = is.due }
+goes-on t rs (AuditDone number undecided counts) is p =
+    record { setup = is.setup; version = is.version; files = is.files; started = is.started; id = is.id; audit = is.audit; running = refl; due = rw (is.setup, is.due) refl }
+goes-on t rs (RepairDone number) is p =
+    record { setup = is.setup; version = is.version; files = is.files; started = is.started; id = is.id; audit = is.audit; running = is.running; due = refl }
+goes-on t rs (PutDoneIn id size profile) is p =
+    let q = has-setup t (PutDoneIn id size profile) (λ s e. cc) p in
+    let some = put_done-some t (started_at t id) (grind (arith, q)) in
+    record {
+      setup = is.setup;
+      version = is.version;
+      files = rw (is.files, is.started id) refl;
+      started = λ k. at-set t id k some ∙ rw (is.started k) refl;
+      id = ap (λ n. suc (t.passed + n)) (length-set t.started (id - suc t.passed) None) ∙ is.id;
+      audit = is.audit;
+      running = is.running;
+      due = is.due;
+    }
+goes-on t rs Version is p =
+    record { setup = is.setup; version = refl; files = is.files; started = is.started; id = is.id; audit = is.audit; running = is.running; due = is.due }
+goes-on t rs (Resume id audit) is p =
+    let q = has-setup t (Resume id audit) (λ s e. cc) p in
+    let none : t.passed + length t.started ≡ 0 = grind (arith, nat_tests, q) in
+    let above : 1 ≤ id = grind (arith, nat_tests, q) in
+    record {
+      setup = is.setup;
+      version = is.version;
+      files = is.files;
+      started = λ k. grind (arith, nat_tests) ∙ (sym (none-started t k none) ∙ is.started k);
+      id = omega (arith, above);
+      audit = refl;
+      running = is.running;
+      due = is.due;
+    }
+goes-on t rs (InEffect id size profile name) is p =
+    record { setup = is.setup; version = is.version; files = rw is.files refl; started = is.started; id = is.id; audit = is.audit; running = is.running; due = is.due }
+goes-on t rs (RepairDue number counts) is p =
+    record { setup = is.setup; version = is.version; files = is.files; started = is.started; id = is.id; audit = is.audit; running = is.running; due = refl }
+
+-- ---- reading a started put
+
+pub at-found : (started : List (Option (List ℕ))) (passed id : ℕ) (d : Option (List ℕ)) → passed < id → id - passed - 1 < length started → started_from started (id - suc passed) ≡ get_or started (id - passed - 1) d
+at-found started passed id d later lt = let p : id - suc passed ≡ id - passed - 1 = omega arith in rw p (from-found started (id - passed - 1) d lt)
+
+pub at-past : (started : List (Option (List ℕ))) (passed id : ℕ) → passed < id → length started ≤ id - passed - 1 → started_from started (id - suc passed) ≡ None
+at-past started passed id later le = from-past started (id - suc passed) (omega (arith, later, le))
+
+pub later_than : (passed id : ℕ) (started : List (Option (List ℕ))) → passed < id → (if nat_le id passed then None else started_from started (id - suc passed)) ≡ started_from started (id - suc passed)
+later_than passed id started lt = grind (arith, nat_tests, lt)
 
 -- the place of a started put is inside
-pub at-inside : (started : List (Option (List ℕ))) (id : ℕ) (name : List ℕ) → started_at started id ≡ Some name → (id ≢ 0) × (id - 1 < length started)
-at-inside started zero name e = absurd cc
-at-inside started (suc k) name e = (omega arith, elim (cases_lt k (length started)) [ inl lt ↦ omega (arith, lt) | inr le ↦ absurd (none (sym (from-past started k le) ∙ e)) ])
+pub at-inside : (t : Kept) (id : ℕ) (name : List ℕ) → started_at t id ≡ Some name → (t.passed < id) × (id - t.passed - 1 < length t.started)
+at-inside t id name e = elim (cases_lt t.passed id) [
+  | inl later ↦ elim (cases_lt (id - suc t.passed) (length t.started)) [
+    | inl lt ↦ (later, omega (arith, later, lt))
+    | inr le ↦ absurd (none (sym (from-past t.started (id - suc t.passed) le) ∙ grind (arith, nat_tests, later, e)))
+  ]
+  | inr not_later ↦ absurd (none (grind (arith, nat_tests, not_later, e)))
+]
   where
     none : (None ≡ Some name) → ⊥
     none p = cc
+
+-- so it is in a table's own parts
+pub at-kept : (passed : ℕ) (started : List (Option (List ℕ))) (id : ℕ) (name : List ℕ) → (if nat_le id passed then None else started_from started (id - suc passed)) ≡ Some name → (passed < id) × (id - passed - 1 < length started)
+at-kept passed started id name e =
+    at-inside (record { setup = None; version = 1; files = []; passed = passed; started = started; next_audit = 1; running = None; due = None; spare = 0 }) id name e
+
+-- a table that has forgotten its started puts and its running audit is that of a packed journal
+pub is_packed : (t : Kept) (rs : List Record) (s : Setup) → AreAccepted rs → setup_of rs ≡ Some s → version_of rs ≡ 2 → IsFoldOf rs t → IsFoldOf (packed rs) (forgotten t)
+is_packed t rs s a set second is =
+    let alike = (packed_are rs a s set second).1 in
+    let idle = packed_is_idle rs in
+    record {
+      setup = is.setup ∙ sym alike.setup;
+      version = is.version ∙ sym alike.version;
+      files = is.files ∙ sym alike.files;
+      started = λ id. grind (arith, nat_tests) ∙ sym (idle.0 id);
+      id = omega (arith, is.id, alike.id);
+      audit = is.audit ∙ sym alike.audit;
+      running = sym idle.1;
+      due = is.due ∙ sym alike.due;
+    }

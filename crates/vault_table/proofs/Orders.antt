@@ -6,7 +6,7 @@ use Rattle.std.proofs.lemmas.Bool.Decides.{nat_tests}
 use Rattle.std.proofs.lemmas.List.{take-append-drop, get_or_at, drop_at, set_at, length-take-le}
 use Rattle.std.specs.declared.cmp.Ordering.TheVariants.{Less, Equal, Greater}
 use Rattle.hail_records.specs.Table.{File, is_name_before, is_same_name, are_ordered, find_file, with_file, without_file}
-use Rattle.hail_records.proofs.FilesLaws.{same-refl}
+use Rattle.hail_records.proofs.FilesLaws.{same-refl, same-sym}
 use Rattle.hail_records.proofs.OrderLaws.{before-trans, below-trans}
 use Rattle.vault_table.specs.Orders.{order_of, comes_after, comes_before, IsHere, IsBetween}
 
@@ -127,10 +127,6 @@ order-ended (x ∷ a) (y ∷ b) (suc i) e f = order-ended a b i (omega (arith, e
 
 -- ---- finding, putting and dropping at a place
 
-before-self : (a : List ℕ) → is_name_before a a ≡ false
-before-self [] = refl
-before-self (x ∷ a) = grind (arith, nat_tests, before-self a)
-
 before-not_after : (a b : List ℕ) → is_name_before a b ≡ true → is_name_before b a ≡ false
 before-not_after [] [] p = absurd cc
 before-not_after [] (y ∷ b) p = refl
@@ -143,19 +139,13 @@ before-not_same [] (y ∷ b) p = refl
 before-not_same (x ∷ a) [] p = absurd cc
 before-not_same (x ∷ a) (y ∷ b) p = grind (arith, nat_tests, p, before-not_same a b)
 
-same-other : (a b : List ℕ) → is_same_name a b ≡ is_same_name b a
-same-other [] [] = refl
-same-other [] (y ∷ b) = refl
-same-other (x ∷ a) [] = refl
-same-other (x ∷ a) (y ∷ b) = grind (arith, nat_tests, same-other a b)
-
 skip-find : (name : List ℕ) (front back : List File) → comes_after name front ≡ true → find_file (front ++ back) name ≡ find_file back name
 skip-find name [] back p = refl
 skip-find name (f ∷ front) back p = grind (arith, p, before-not_same f.name name, skip-find name front back)
 
 find-before : (name : List ℕ) (back : List File) → comes_before name back ≡ true → find_file back name ≡ None
 find-before name [] p = refl
-find-before name (f ∷ back) p = grind (arith, p, before-not_same name f.name, same-other f.name name, find-before name back)
+find-before name (f ∷ back) p = grind (arith, p, before-not_same name f.name, same-sym f.name name, find-before name back)
 
 skip-without : (name : List ℕ) (front back : List File) → comes_after name front ≡ true → without_file (front ++ back) name ≡ front ++ without_file back name
 skip-without name [] back p = refl
@@ -163,7 +153,7 @@ skip-without name (f ∷ front) back p = grind (arith, p, before-not_same f.name
 
 without-before : (name : List ℕ) (back : List File) → comes_before name back ≡ true → without_file back name ≡ back
 without-before name [] p = refl
-without-before name (f ∷ back) p = grind (arith, p, before-not_same name f.name, same-other f.name name, without-before name back)
+without-before name (f ∷ back) p = grind (arith, p, before-not_same name f.name, same-sym f.name name, without-before name back)
 
 skip-with : (f : File) (front back : List File) → comes_after f.name front ≡ true → with_file (front ++ back) f ≡ front ++ with_file back f
 skip-with f [] back p = refl

@@ -1,6 +1,11 @@
 -- What a table that takes a record promises of the fold.
 use Rattle.std.specs.Prelude.{◌≡◌, ℕ, ◌∷◌, List, Option, None, Result, Ok, Err, OnOk, IfErr, IsTrue, true, if◌then◌else◌, Bool, false}
-use Rattle.std.proofs.Common.{sym, ap, subst, ◌∙◌, arith}
+use Rattle.std.specs.Prelude.{[], map, ◌||◌, ◌==◌}
+use Rattle.std.specs.List.{list_any}
+use Rattle.vault_table.specs.declared.entry.Entry.{Entry}
+use Rattle.vault_table.specs.Values.{file_of_entry}
+use Rattle.hail_records.specs.Acceptance.{is_file_id}
+use Rattle.std.proofs.Common.{refl, sym, ap, subst, ◌∙◌, arith}
 use Rattle.hail_records.specs.Records.{Record}
 use Rattle.hail_records.specs.Acceptance.{refused, Refused as Reason}
 use Rattle.hail_records.specs.Table.{File, find_file, are_ordered, with_file, without_file}
@@ -8,19 +13,19 @@ use Rattle.hail_records.proofs.OrderLaws.{ordered-without, ordered-with}
 use Rattle.hail_records.proofs.FilesLaws.{find-without, same-refl}
 use Rattle.vault_table.specs.declared.entry.Refused.{Refused}
 use Rattle.vault_table.specs.Values.{Kept, IsFoldOf}
-use Rattle.vault_table.specs.Causes.{Accepts, IsCause}
+use Rattle.vault_table.specs.Causes.{Applies, IsCause}
 use Rattle.vault_table.proofs.Fold.{same-refusal, goes-on}
 
-pub fold-ok : (old new : Kept) (res : Result Unit Refused) (e r : Record) → r ≡ e → Accepts old e res new → (rs : List Record) → IsFoldOf rs old → OnOk res (IsFoldOf (r ∷ rs) new)
+pub fold-ok : (old new : Kept) (res : Result Unit Refused) (e r : Record) → r ≡ e → Applies old e res new → (rs : List Record) → IsFoldOf rs old → OnOk res (IsFoldOf (r ∷ rs) new)
 fold-ok old new (Ok x) e r is a rs fold =
     subst (λ (q : Record). IsFoldOf (q ∷ rs) new) (sym is) (subst (λ (t : Kept). IsFoldOf (e ∷ rs) t) (sym a.1) (goes-on old rs e fold a.0))
 fold-ok old new (Err why) e r is a rs fold = tt
 
-pub fold-accepted : (old new : Kept) (res : Result Unit Refused) (e r : Record) → r ≡ e → Accepts old e res new → (rs : List Record) → IsFoldOf rs old → OnOk res (refused rs r ≡ None)
+pub fold-accepted : (old new : Kept) (res : Result Unit Refused) (e r : Record) → r ≡ e → Applies old e res new → (rs : List Record) → IsFoldOf rs old → OnOk res (refused rs r ≡ None)
 fold-accepted old new (Ok x) e r is a rs fold = ap (refused rs) is ∙ sym (same-refusal old rs e fold) ∙ a.0
 fold-accepted old new (Err why) e r is a rs fold = tt
 
-pub fold-refused : (old new : Kept) (res : Result Unit Refused) (e r : Record) → r ≡ e → Accepts old e res new → (rs : List Record) → IsFoldOf rs old → IfErr res (λ why. IsCause why (refused rs r))
+pub fold-refused : (old new : Kept) (res : Result Unit Refused) (e r : Record) → r ≡ e → Applies old e res new → (rs : List Record) → IsFoldOf rs old → IfErr res (λ why. IsCause why (refused rs r))
 fold-refused old new (Ok x) e r is a rs fold = tt
 fold-refused old new (Err why) e r is a rs fold = subst (λ (o : Option Reason). IsCause why o) (same-refusal old rs e fold ∙ ap (refused rs) (sym is)) a.0
 
@@ -34,3 +39,8 @@ put-in_order fs new f false o is = ap are_ordered is ∙ o
 pub drop-in_order : (fs new : List File) (name : List ℕ) (b : Bool) → IsTrue (are_ordered fs) → new ≡ (if b then without_file fs name else fs) → IsTrue (are_ordered new)
 drop-in_order fs new name true o is = ap are_ordered is ∙ ordered-without fs name o
 drop-in_order fs new name false o is = ap are_ordered is ∙ o
+
+-- an id among files, and among what they are kept as
+pub any_mapped : (es : List Entry) (id : ℕ) → list_any (λ (e : Entry). e.id == id) es ≡ is_file_id (map file_of_entry es) id
+any_mapped [] id = refl
+any_mapped (e ∷ es) id = ap (λ b. (e.id == id) || b) (any_mapped es id)

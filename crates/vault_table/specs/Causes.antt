@@ -1,10 +1,10 @@
 -- How a table takes a record.
 use Rattle.std.specs.Prelude.{◌≡◌, ℕ, Bool, true, false, IsTrue, Option, Some, None, Result, Ok, Err}
 use Rattle.hail_records.specs.Records.{Record, PutStart}
-use Rattle.hail_records.specs.Acceptance.{Refused as Reason, NoSetup, SecondSetup, BadId, NotStarted, TooMany, NoName, BadAudit, NoRepair}
+use Rattle.hail_records.specs.Acceptance.{Refused as Reason, NoSetup, SecondSetup, BadId, NotStarted, TooMany, NoName, BadAudit, NoRepair, OldKind, OldVersion, NewVersion, BadResume, NameTwice}
 use Rattle.vault_table.specs.declared.entry.Refused.{Refused}
 use Rattle.vault_table.specs.declared.entry.Refused.TheVariants as fault
-use Rattle.vault_table.specs.Values.{Kept, refusal, with_record}
+use Rattle.vault_table.specs.Values.{Kept, started_at, put_done_refusal, refusal, with_done, with_record}
 
 -- The answer says why the record is refused. Where memory ran out the record was not refused.
 abbrev pub IsCause : Refused → Option Reason → Type 0
@@ -16,6 +16,11 @@ IsCause fault.TooMany why = why ≡ Some TooMany
 IsCause fault.NoName why = why ≡ Some NoName
 IsCause fault.BadAudit why = why ≡ Some BadAudit
 IsCause fault.NoRepair why = why ≡ Some NoRepair
+IsCause fault.OldKind why = why ≡ Some OldKind
+IsCause fault.OldVersion why = why ≡ Some OldVersion
+IsCause fault.NewVersion why = why ≡ Some NewVersion
+IsCause fault.BadResume why = why ≡ Some BadResume
+IsCause fault.NameTwice why = why ≡ Some NameTwice
 IsCause fault.Memory why = why ≡ None
 
 -- the record is a PutStart
@@ -29,6 +34,15 @@ MayWant fault.Memory r spare = IsTrue (is_put_start r) × (spare ≡ 0)
 MayWant why r spare = Unit {0}
 
 -- a table goes on by a record that it does not refuse, and else stays as it is
-abbrev pub Accepts : Kept → Record → Result Unit Refused → Kept → Type 0
-Accepts old r (Ok x) new = (refusal old r ≡ None) × (new ≡ with_record old r)
-Accepts old r (Err why) new = IsCause why (refusal old r) × (new ≡ old) × MayWant why r old.spare
+abbrev pub Applies : Kept → Record → Result Unit Refused → Kept → Type 0
+Applies old r (Ok x) new = (refusal old r ≡ None) × (new ≡ with_record old r)
+Applies old r (Err why) new = IsCause why (refusal old r) × (new ≡ old) × MayWant why r old.spare
+
+-- a put's end with this profile is taken, unless it was not started or no name fits in; the version is not
+-- looked at
+abbrev pub EndsStartedPut : Kept → ℕ → ℕ → ℕ → Result Unit Refused → Kept → Type 0
+EndsStartedPut old id size profile (Ok x) new =
+    (put_done_refusal old (started_at old id) ≡ None) × (new ≡ with_done old id size profile)
+EndsStartedPut old id size profile (Err fault.Memory) new = ⊥
+EndsStartedPut old id size profile (Err why) new =
+    IsCause why (put_done_refusal old (started_at old id)) × (new ≡ old)

@@ -2,3 +2,4 @@ pub mod Orders
 pub mod Values
 pub mod Parts
 pub mod Causes
+pub mod Examples

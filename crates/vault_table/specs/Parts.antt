@@ -1,5 +1,5 @@
 -- How a table is kept.
-use Rattle.std.specs.Prelude.{◌+◌, ◌≤◌, IsTrue, IfSome, length, map, vec_capacity}
+use Rattle.std.specs.Prelude.{suc, ◌+◌, ◌^◌, ◌<◌, ◌≤◌, IsTrue, IfSome, length, map, vec_capacity}
 use Rattle.std.specs.Option.{option_map}
 use Rattle.hail_records.specs.Table.{are_ordered}
 use Rattle.record_codec.specs.Entries.{IsPadded}
@@ -10,7 +10,9 @@ use Rattle.vault_table.specs.Values.{Kept, file_of_entry, setup_of_pair, due_of_
 abbrev pub kept_of : Inside → Kept
 kept_of a = record {
   setup = option_map setup_of_pair a.setup;
+  version = a.version;
   files = map file_of_entry a.files.items;
+  passed = a.passed;
   started = a.started.items;
   next_audit = a.next_audit;
   running = a.running;
@@ -18,9 +20,11 @@ kept_of a = record {
   spare = a.spare;
 }
 
--- The files stand in byte order of their names, with room for 1,024; started puts have the room that was reserved.
+-- The files stand in byte order of their names, with room for 1,024; started puts have the room that was
+-- reserved, and the next id is a number of eight bytes.
 pub record IsTable (a : Inside) : Type 0 where
   pub ordered : IsTrue (are_ordered (map file_of_entry a.files.items))
   pub room : 1024 ≤ vec_capacity a.files
   pub reserved : length a.started.items + a.spare ≤ vec_capacity a.started
+  pub below : suc (a.passed + length a.started.items) < 2 ^ 64
   pub padded : IfSome a.due (λ x. IsPadded x.1)

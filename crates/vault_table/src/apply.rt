@@ -1,14 +1,14 @@
-ghost use Rattle.std.specs.Prelude.{◌≡◌, ◌-◌, ◌∷◌, ℕ, List, Some, None, nat_lt, OnOk, OnErr, IfErr, IsErrOf, IsTrue, if◌then◌else◌};
-ghost use Rattle.hail_records.specs.Records.{Record as EntryData, SetUp, PutStart, PutDone, Drop, AuditStart, AuditDone, RepairDone};
-ghost use Rattle.hail_records.specs.Acceptance.{refused};
+ghost use Rattle.std.specs.Prelude.{◌≡◌, ◌-◌, ◌∷◌, ℕ, List, Some, None, nat_lt, ◌||◌, is_some, OnOk, OnErr, IfErr, IsErrOf, IsTrue, if◌then◌else◌};
+ghost use Rattle.hail_records.specs.Records.{Record as EntryData, SetUp, PutStart, PutDone, Drop, AuditStart, AuditDone, RepairDone, PutDoneIn, Version, Resume, InEffect, RepairDue};
+ghost use Rattle.hail_records.specs.Acceptance.{refused, is_file_id};
 ghost use Rattle.std.specs.List.{list_any};
-ghost use Rattle.record_codec.specs.Entries.{entry_of, with_master, counted, IsPadded, IsInGrammar};
+ghost use Rattle.record_codec.specs.Entries.{entry_of, with_master, counted, IsPadded, HasPadding};
 ghost use Rattle.vault_table.specs.declared.entry.Refused.TheVariants as fault;
-ghost use Rattle.vault_table.specs.Values.{Kept, IsFoldOf, refusal, refusal_after, with_record};
-ghost use Rattle.vault_table.specs.Causes.{Accepts, IsCause, is_put_start};
+ghost use Rattle.vault_table.specs.Values.{Kept, IsFoldOf, started_at, refusal, refusal_after, with_record};
+ghost use Rattle.vault_table.specs.Causes.{Applies, EndsStartedPut, IsCause, is_put_start};
 
 use crate::entry::{Entry, Refused};
-use crate::files::{drop_file, put_file};
+use crate::files::{drop_file, has_id, put_file};
 use crate::started::started_name;
 use crate::table::Table;
 use key_schedule::Master;
@@ -16,16 +16,20 @@ use record_codec::{Counts, Name, Record, Setup};
 
 impl Table {
     /// Goes on by a record, or says why it may not follow, and then stays as it is. Only a `PutStart` with nothing reserved
-    /// may take memory. Condition: the record is in the grammar.
+    /// may take memory. Condition: the counts of the record are padded.
     pub fn apply(&mut self, entry: &Record) -> Result<(), Refused>
-        requires { IsInGrammar entry.now }
-        ensures ok { (rs : List EntryData) → IsFoldOf rs self.old → OnOk result (IsFoldOf (entry_of entry.now ∷ rs) self.new) }
-        ensures accepted { (rs : List EntryData) → IsFoldOf rs self.old → OnOk result (refused rs (entry_of entry.now) ≡ None) }
-        ensures refused { (rs : List EntryData) → IsFoldOf rs self.old → IfErr result (λ why. IsCause why (refused rs (entry_of entry.now))) }
+        requires { HasPadding entry.now }
+        ensures ok { (rs : List EntryData) → IsFoldOf rs self.old
+            → OnOk result (IsFoldOf (entry_of entry.now ∷ rs) self.new) }
+        ensures accepted { (rs : List EntryData) → IsFoldOf rs self.old
+            → OnOk result (refused rs (entry_of entry.now) ≡ None) }
+        ensures refused { (rs : List EntryData) → IsFoldOf rs self.old
+            → IfErr result (λ why. IsCause why (refused rs (entry_of entry.now))) }
         ensures unchanged { OnErr result (self.new ≡ self.old) }
         ensures memory { IsErrOf result fault.Memory → IsTrue (is_put_start (entry_of entry.now)) }
         ensures reserved { IsErrOf result fault.Memory → self.old.spare ≡ 0 }
-        ensures spare { OnOk result (self.new.spare ≡ (if is_put_start (entry_of entry.now) then self.old.spare - 1 else self.old.spare)) }
+        ensures spare { OnOk result (self.new.spare ≡ (if is_put_start (entry_of entry.now) then
+            self.old.spare - 1 else self.old.spare)) }
     {
         match entry {
             Record::Setup { setup, master } => self.set_up(setup, master),
@@ -39,11 +43,26 @@ impl Table {
                 counts,
             } => self.audit_done(*number, *undecided, counts),
             Record::RepairDone { number } => self.repair_done(*number),
+            Record::PutDoneIn {
+                id,
+                length,
+                profile,
+            } => self.put_done_in(*id, *length, *profile),
+            Record::Version => self.raise_version(),
+            Record::Resume { id, audit } => self.resume(*id, *audit),
+            Record::File {
+                id,
+                length,
+                profile,
+                name,
+            } => self.keep_file(*id, *length, *profile, name),
+            Record::Due { number, counts } => self.keep_due(*number, counts),
         }
     }
 
+    /// Takes a setup, where there is none.
     fn set_up(&mut self, setup: &Setup, master: &[u8; 32]) -> Result<(), Refused>
-        ensures { Accepts self.old (SetUp (with_master setup.now master.now)) result self.new }
+        ensures { Applies self.old (SetUp (with_master setup.now master.now)) result self.new }
     {
         if self.setup.is_some() {
             return Err(Refused::SecondSetup);
@@ -52,8 +71,9 @@ impl Table {
         Ok(())
     }
 
+    /// Takes the start of a put under the next id.
     fn put_start(&mut self, id: u64, name: &Name) -> Result<(), Refused>
-        ensures { Accepts self.old (PutStart id name.now) result self.new }
+        ensures { Applies self.old (PutStart id name.now) result self.new }
     {
         if self.setup.is_none() {
             return Err(Refused::NoSetup);
@@ -72,26 +92,150 @@ impl Table {
         }
     }
 
-    fn put_done(&mut self, id: u64, length: u32) -> Result<(), Refused>
-        ensures { Accepts self.old (PutDone id length) result self.new }
+    /// Takes the end of a put, whatever the version.
+    fn end_put(&mut self, id: u64, size: u32, profile: u8) -> Result<(), Refused>
+        ensures { EndsStartedPut self.old id size profile result self.new }
     {
-        if self.setup.is_none() {
-            return Err(Refused::NoSetup);
-        }
-        match started_name(&self.started, id) {
+        match started_name(self.passed, &self.started, id) {
             Some(name) => {
-                if !put_file(&mut self.files, Entry { name, id, length }) {
+                let file = Entry {
+                    name,
+                    id,
+                    length: size,
+                    profile,
+                };
+                if !put_file(&mut self.files, file) {
                     return Err(Refused::TooMany);
                 }
-                self.started[(id - 1) as usize] = None;
+                self.started[(id - self.passed - 1) as usize] = None;
                 Ok(())
             }
             None => Err(Refused::NotStarted),
         }
     }
 
+    /// Takes the end of a put in the first version: its file has the setup's profile.
+    fn put_done(&mut self, id: u64, size: u32) -> Result<(), Refused>
+        ensures { Applies self.old (PutDone id size) result self.new }
+    {
+        let Some((setup, _)) = &self.setup else {
+            return Err(Refused::NoSetup);
+        };
+        let profile = setup.profile;
+        if self.version == 2 {
+            return Err(Refused::OldKind);
+        }
+        self.end_put(id, size, profile)
+    }
+
+    /// Takes the end of a put in the second version, with its profile.
+    fn put_done_in(&mut self, id: u64, size: u32, profile: u8) -> Result<(), Refused>
+        ensures { Applies self.old (PutDoneIn id size profile) result self.new }
+    {
+        if self.setup.is_none() {
+            return Err(Refused::NoSetup);
+        }
+        if self.version == 1 {
+            return Err(Refused::OldVersion);
+        }
+        self.end_put(id, size, profile)
+    }
+
+    /// Takes the version: from here on it is the second.
+    fn raise_version(&mut self) -> Result<(), Refused>
+        ensures { Applies self.old Version result self.new }
+    {
+        if self.setup.is_none() {
+            return Err(Refused::NoSetup);
+        }
+        if self.version == 2 {
+            return Err(Refused::NewVersion);
+        }
+        self.version = 2;
+        Ok(())
+    }
+
+    /// Takes the next numbers of a packed journal, where none was drawn before.
+    fn resume(&mut self, id: u64, audit: u64) -> Result<(), Refused>
+        ensures { Applies self.old (Resume id audit) result self.new }
+    {
+        if self.setup.is_none() {
+            return Err(Refused::NoSetup);
+        }
+        if self.version == 1
+            || self.next_id() != 1
+            || self.next_audit != 1
+            || id == 0
+            || audit == 0
+        {
+            return Err(Refused::BadResume);
+        }
+        self.passed = id - 1;
+        self.next_audit = audit;
+        Ok(())
+    }
+
+    /// Takes a file in effect of a packed journal: its id is drawn and not in use, and its name is new.
+    fn keep_file(&mut self, id: u64, size: u32, profile: u8, name: &Name) -> Result<(), Refused>
+        ensures { Applies self.old (InEffect id size profile name.now) result self.new }
+    {
+        if self.setup.is_none() {
+            return Err(Refused::NoSetup);
+        }
+        if self.version == 1 {
+            return Err(Refused::OldVersion);
+        }
+        if id == 0 || id >= self.next_id() || self.is_in_use(id) {
+            return Err(Refused::BadId);
+        }
+        if self.find(name).is_some() {
+            return Err(Refused::NameTwice);
+        }
+        let file = Entry {
+            name: *name,
+            id,
+            length: size,
+            profile,
+        };
+        if !put_file(&mut self.files, file) {
+            return Err(Refused::TooMany);
+        }
+        Ok(())
+    }
+
+    /// Whether an id is that of a file in effect or of a started put.
+    fn is_in_use(&self, id: u64) -> bool
+        ensures { result ≡ (is_file_id self.now.files id || is_some (started_at self.now id)) }
+    {
+        has_id(&self.files, id) || started_name(self.passed, &self.started, id).is_some()
+    }
+
+    /// Takes the due audit of a packed journal: its number is drawn, none is due, and its counts flag a provider.
+    fn keep_due(&mut self, number: u64, counts: &Counts) -> Result<(), Refused>
+        requires { IsPadded counts.now }
+        ensures { Applies self.old (RepairDue number (counted counts.now)) result self.new }
+    {
+        let Some((setup, _)) = &self.setup else {
+            return Err(Refused::NoSetup);
+        };
+        if self.version == 1 {
+            return Err(Refused::OldVersion);
+        }
+        if number == 0
+            || number >= self.next_audit
+            || self.due.is_some()
+            || counts.n != setup.n
+            || !exceeds(counts, setup.tolerance)
+        {
+            return Err(Refused::BadAudit);
+        }
+        self.due = Some((number, *counts));
+        Ok(())
+    }
+
+    /// Takes a drop of a name in effect.
     fn drop_name(&mut self, name: &Name) -> Result<(), Refused>
-        ensures { Accepts self.old (Drop name.now) result self.new }
+        ensures { Applies self.old (Drop name.now) result self.new }
     {
         if self.setup.is_none() {
             return Err(Refused::NoSetup);
@@ -102,8 +246,9 @@ impl Table {
         Ok(())
     }
 
+    /// Takes the start of an audit under the next number.
     fn audit_start(&mut self, number: u64) -> Result<(), Refused>
-        ensures { Accepts self.old (AuditStart number) result self.new }
+        ensures { Applies self.old (AuditStart number) result self.new }
     {
         if self.setup.is_none() {
             return Err(Refused::NoSetup);
@@ -116,9 +261,10 @@ impl Table {
         Ok(())
     }
 
+    /// Takes the end of the running audit; its repair is due where a count exceeds the tolerance.
     fn audit_done(&mut self, number: u64, undecided: u32, counts: &Counts) -> Result<(), Refused>
         requires { IsPadded counts.now }
-        ensures { Accepts self.old (AuditDone number undecided (counted counts.now)) result self.new }
+        ensures { Applies self.old (AuditDone number undecided (counted counts.now)) result self.new }
     {
         let Some((setup, _)) = &self.setup else {
             return Err(Refused::NoSetup);
@@ -133,8 +279,9 @@ impl Table {
         Ok(())
     }
 
+    /// Takes the end of the due repair.
     fn repair_done(&mut self, number: u64) -> Result<(), Refused>
-        ensures { Accepts self.old (RepairDone number) result self.new }
+        ensures { Applies self.old (RepairDone number) result self.new }
     {
         if self.setup.is_none() {
             return Err(Refused::NoSetup);

@@ -1,6 +1,9 @@
 ghost use Rattle.std.specs.Option.{option_map};
-ghost use Rattle.std.specs.Prelude.{◌≡◌, ◌≤◌, map, not, is_some, IsTrue, MatchResult, vec_capacity, if◌then◌else◌};
+ghost use Rattle.std.specs.Prelude.{◌≡◌, ◌==◌, ◌≤◌, map, not, is_some, IsTrue, MatchResult, vec_capacity, if◌then◌else◌};
 ghost use Rattle.hail_records.specs.Table.{are_ordered, find_file, with_file, without_file};
+ghost use Rattle.hail_records.specs.Acceptance.{is_file_id};
+ghost use Rattle.std.specs.List.{list_any};
+ghost use Rattle.vault_table.specs.declared.entry.Entry.{Entry as EntryValue};
 ghost use Rattle.vault_table.specs.Orders.{order_of, IsHere, IsBetween};
 ghost use Rattle.vault_table.specs.Values.{file_of_entry, is_full_without};
 
@@ -22,7 +25,8 @@ fn order(file: &Entry, name: &Name) -> Ordering
 /// The place of a name among files in byte order of their names, or else the place at which it would stand.
 pub fn place_of(files: &[Entry], name: &Name) -> Result<usize, usize>
     requires { IsTrue (are_ordered (map file_of_entry files.now)) }
-    ensures { MatchResult result (λ i. IsHere (map file_of_entry files.now) name.now i) (λ i. IsBetween (map file_of_entry files.now) name.now i) }
+    ensures { MatchResult result (λ i. IsHere (map file_of_entry files.now) name.now i)
+        (λ i. IsBetween (map file_of_entry files.now) name.now i) }
 {
     let mut low = 0;
     let mut high = files.len();
@@ -53,7 +57,9 @@ pub fn put_file(files: &mut Vec<Entry>, file: Entry) -> bool
     requires ordered { IsTrue (are_ordered (map file_of_entry files.old.items)) }
     requires room { 1024 ≤ vec_capacity files.old }
     ensures fits { result ≡ not (is_full_without (map file_of_entry files.old.items) file.name) }
-    ensures files { map file_of_entry files.new.items ≡ (if result then with_file (without_file (map file_of_entry files.old.items) file.name) (file_of_entry file) else map file_of_entry files.old.items) }
+    ensures files { map file_of_entry files.new.items
+        ≡ (if result then with_file (without_file (map file_of_entry files.old.items) file.name)
+        (file_of_entry file) else map file_of_entry files.old.items) }
     ensures room { 1024 ≤ vec_capacity files.new }
 {
     match place_of(files, &file.name) {
@@ -65,12 +71,28 @@ pub fn put_file(files: &mut Vec<Entry>, file: Entry) -> bool
     }
 }
 
+/// Whether an id is that of one of these entries.
+fn lists(files: &[Entry], id: u64) -> bool
+    ensures { result ≡ list_any (λ (e : EntryValue). e.id == id) files.now }
+{
+    files.iter().any(|file| file.id == id)
+}
+
+/// Whether an id is that of one of these files.
+pub fn has_id(files: &[Entry], id: u64) -> bool
+    ensures { result ≡ is_file_id (map file_of_entry files.now) id }
+{
+    lists(files, id)
+}
+
 /// Takes the file of a name out; false where there is none.
 pub fn drop_file(files: &mut Vec<Entry>, name: &Name) -> bool
     requires ordered { IsTrue (are_ordered (map file_of_entry files.old.items)) }
     requires room { 1024 ≤ vec_capacity files.old }
     ensures found { result ≡ is_some (find_file (map file_of_entry files.old.items) name.now) }
-    ensures files { map file_of_entry files.new.items ≡ (if result then without_file (map file_of_entry files.old.items) name.now else map file_of_entry files.old.items) }
+    ensures files { map file_of_entry files.new.items
+        ≡ (if result then without_file (map file_of_entry files.old.items) name.now
+        else map file_of_entry files.old.items) }
     ensures room { 1024 ≤ vec_capacity files.new }
 {
     match place_of(files, name) {

@@ -4,6 +4,7 @@
 mod apply;
 mod entry;
 mod files;
+pub mod laws;
 mod names;
 mod started;
 mod table;

@@ -2,7 +2,7 @@ ghost use Rattle.std.specs.Prelude.{◌≡◌, ◌+◌, suc, [], length, slice_g
 ghost use Rattle.std.specs.Option.{option_map};
 ghost use Rattle.hail_records.specs.Table.{find_file};
 ghost use Rattle.record_codec.specs.Entries.{IsPadded};
-ghost use Rattle.vault_table.specs.Values.{file_of_entry, due_of_pair, setup_of_pair, id_after, IsFoldOf};
+ghost use Rattle.vault_table.specs.Values.{file_of_entry, due_of_pair, setup_of_pair, id_after, forgotten, IsFoldOf};
 
 use crate::entry::Entry;
 use crate::files::{MOST_FILES, find};
@@ -12,11 +12,14 @@ use std::alloc::Global;
 use std::marker::Model;
 use stream_model::Memory;
 
-/// The fold of the records of a journal.
+/// The fold of the records of a journal. Ids up to `passed` are those of no started put; the started ones stand behind it in
+/// the order of their ids, and a put that is done leaves None there.
 #[derive(Drop)]
 pub struct Table {
     pub(crate) setup: Option<(Setup, Master)>,
+    pub(crate) version: u8,
     pub(crate) files: Vec<Entry>,
+    pub(crate) passed: u64,
     pub(crate) started: Vec<Option<Name>>,
     pub(crate) spare: usize,
     pub(crate) next_audit: u64,
@@ -45,7 +48,9 @@ impl Table {
         let files = Vec::with_capacity(alloc, MOST_FILES)?;
         Ok(Table {
             setup: None,
+            version: 1,
             files,
+            passed: 0,
             started: Vec::new(alloc),
             spare: 0,
             next_audit: 1,
@@ -105,11 +110,27 @@ impl Table {
         self.setup
     }
 
+    /// The version of the journal: 1 or 2.
+    pub fn version(&self) -> u8
+        ensures { result ≡ self.now.version }
+    {
+        self.version
+    }
+
+    /// Empties the started puts and the running audit. So the table of accepted records becomes that of a packed journal.
+    pub fn forget(&mut self)
+        ensures { self.new ≡ forgotten self.old }
+    {
+        self.passed += self.started.len() as u64;
+        self.started.clear();
+        self.running = None;
+    }
+
     /// The id that the next put takes.
     pub fn next_id(&self) -> u64
         ensures { result ≡ id_after self.now }
     {
-        self.started.len() as u64 + 1
+        self.passed + self.started.len() as u64 + 1
     }
 
     /// The number that the next audit takes.

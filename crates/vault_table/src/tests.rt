@@ -1,5 +1,5 @@
 use super::*;
-use record_codec::{Name, Record};
+use record_codec::{Counts, Name, Record};
 
 const SETUP: [u8; 41] = [
     1, 4, 1, 1, 0, 1, 1, 0, 0, 0, 0, 0, 0, 0, 0, 0, 0, 0, 0, 0, 0, 0, 0, 0, 0, 0, 0, 0, 0, 0, 0, 0,
@@ -108,4 +108,86 @@ fn a_table_is_full_at_1024_files(rt: HostRuntime) {
     assert!(rt; table.at(1024).is_none());
     assert!(rt; why(&mut table, &[4, 4, 48, 48, 55, 55]).is_none());
     assert!(rt; table.find(&name).is_none());
+}
+
+/// Why the table refuses a file of a packed journal.
+fn why_file(table: &mut Table, id: u64, name: &[u8]) -> Option<Refused> {
+    match Name::new(name) {
+        Some(name) => table
+            .apply(&Record::File {
+                id,
+                length: 3,
+                profile: 4,
+                name,
+            })
+            .err(),
+        None => Some(Refused::Memory),
+    }
+}
+
+/// Why the table refuses an end of a put with its profile.
+fn why_done_in(table: &mut Table, id: u64) -> Option<Refused> {
+    table
+        .apply(&Record::PutDoneIn {
+            id,
+            length: 5,
+            profile: 1,
+        })
+        .err()
+}
+
+/// Why the table refuses the next numbers 3 and 2.
+fn why_resume(table: &mut Table) -> Option<Refused> {
+    table.apply(&Record::Resume { id: 3, audit: 2 }).err()
+}
+
+/// Why the table refuses a due audit with one wrong round of the third of four providers.
+fn why_due(table: &mut Table) -> Option<Refused> {
+    let mut by = [0u32; 16];
+    by[2] = 1;
+    table
+        .apply(&Record::Due {
+            number: 1,
+            counts: Counts { n: 4, by },
+        })
+        .err()
+}
+
+/// What is refused in the first version, what the second takes, and the numbers that a packed journal goes on with.
+#[test]
+fn a_packed_journal_is_taken(rt: HostRuntime) {
+    let mut table = Table::new(rt.alloc()).expect(&rt, "memory");
+    assert!(rt; why(&mut table, &SETUP).is_none());
+    assert!(rt; why_resume(&mut table) == Some(Refused::BadResume));
+    assert!(rt; why_done_in(&mut table, 1) == Some(Refused::OldVersion));
+    assert!(rt; why_due(&mut table) == Some(Refused::OldVersion));
+    assert!(rt; why_file(&mut table, 1, b"a") == Some(Refused::OldVersion));
+    assert!(rt; table.apply(&Record::Version).is_ok());
+    assert!(rt; table.apply(&Record::Version).err() == Some(Refused::NewVersion));
+    assert!(rt; why_resume(&mut table).is_none());
+    assert!(rt; why_resume(&mut table) == Some(Refused::BadResume));
+    assert!(rt;
+        why(&mut table, &[3, 1, 0, 0, 0, 0, 0, 0, 0, 3, 0, 0, 0]) == Some(Refused::OldKind)
+    );
+    assert!(rt; why_file(&mut table, 3, b"a") == Some(Refused::BadId));
+    assert!(rt; why_file(&mut table, 1, b"a").is_none());
+    assert!(rt; why_file(&mut table, 1, b"b") == Some(Refused::BadId));
+    assert!(rt; why_file(&mut table, 2, b"a") == Some(Refused::NameTwice));
+    assert!(rt; why_due(&mut table).is_none());
+    assert!(rt; why_due(&mut table) == Some(Refused::BadAudit));
+    assert!(rt; table.version() == 2 && table.next_id() == 3 && table.next_audit() == 2);
+    table.forget();
+    assert!(rt; why(&mut table, &[2, 3, 0, 0, 0, 0, 0, 0, 0, 1, 99]).is_none());
+    assert!(rt; why_done_in(&mut table, 3).is_none());
+    assert!(rt; table.count() == 2 && table.next_id() == 4);
+    assert!(rt;
+        table
+            .at(0)
+            .is_some_and(|file| file.profile == 4 && file.id == 1)
+    );
+    assert!(rt;
+        table
+            .at(1)
+            .is_some_and(|file| file.profile == 1 && file.id == 3)
+    );
 }

@@ -1,9 +1,9 @@
 use Rattle.std.proofs.Common.{◌≡◌, ◌<◌, ℕ, None, get_or}
 use Rattle.hail_columns.specs.Challenges.{bare_answer}
-use Rattle.file_layout.specs.Files.{object_of}
+use Rattle.file_layout.specs.Files.{shaped_object}
 use Rattle.challenge.specs.Asked.{asked}
 use Rattle.audit_verdict.proofs.answers.bare_answers_into.Given as goal
 
 -- the answers before this one are filled in
 abbrev pub invariant-loop-j : goal.invariant-loop-j
-invariant-loop-j l = (k : ℕ) → k < l.j → get_or l.out k None ≡ bare_answer (object_of l.master.0 l.file) (asked l.challenge) k (get_or l.heard k None)
+invariant-loop-j l = (k : ℕ) → k < l.j → get_or l.out k None ≡ bare_answer (shaped_object l.master.0 l.file) (asked l.drawn.challenge) k (get_or l.heard k None)

@@ -2,18 +2,18 @@ use Rattle.std.proofs.Common.{◌∙◌, arith}
 use Rattle.std.proofs.lemmas.List.FromFn.{fill_by_all}
 use Rattle.hail_columns.specs.Keys.{point_of}
 use Rattle.hail_columns.specs.Objects.{point}
-use Rattle.file_layout.specs.Files.{object_of}
+use Rattle.file_layout.specs.Files.{shaped_object}
 use Rattle.audit_verdict.proofs.Places.{put_more}
 use Rattle.audit_verdict.proofs.answers.points_into.Goals as goal
 
 pub loop-j-preserved : goal.loop-j-preserved
 loop-j-preserved c =
     let file = c.args.file.now in
-    let o = object_of c.args.master.now.0 file in
+    let o = shaped_object c.args.master.now.0 file in
     put_more (point o) c.loop-j.out c.loop-j.j c.point.result 0 (omega arith)
     (c.point.ensures ∙ (λ i. point_of (c.from-l.ensures i) c.args.master.now.0 file.id c.loop-j.j)) c.loop-j.invariant
 
 pub returns : goal.returns
 returns c =
     let file = c.args.file.now in
-    fill_by_all (point (object_of c.args.master.now.0 file)) c.loop-j.out file.shape.n 0 (omega arith) (λ k below. c.loop-j.invariant k (omega (arith, below)))
+    fill_by_all (point (shaped_object c.args.master.now.0 file)) c.loop-j.out file.shape.n 0 (omega arith) (λ k below. c.loop-j.invariant k (omega (arith, below)))

@@ -1,8 +1,8 @@
 use Rattle.std.proofs.Common.{◌≡◌, ◌<◌, ℕ, get_or}
 use Rattle.hail_columns.specs.Objects.{point}
-use Rattle.file_layout.specs.Files.{object_of}
+use Rattle.file_layout.specs.Files.{shaped_object}
 use Rattle.audit_verdict.proofs.answers.points_into.Given as goal
 
 -- the points before this one are filled in
 abbrev pub invariant-loop-j : goal.invariant-loop-j
-invariant-loop-j l = (k : ℕ) → k < l.j → get_or l.out k 0 ≡ point (object_of l.master.0 l.file) k
+invariant-loop-j l = (k : ℕ) → k < l.j → get_or l.out k 0 ≡ point (shaped_object l.master.0 l.file) k

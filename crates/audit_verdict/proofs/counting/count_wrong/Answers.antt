@@ -1,7 +1,7 @@
 use Rattle.std.proofs.Common.{◌∙◌, ap, arith, ℕ, None, get_or, length, if◌then◌else◌, ◌+◌}
-use Rattle.std.proofs.lemmas.List.{get_or-set_other}
+use Rattle.std.proofs.lemmas.List.{get_or-set_other, get_or_default}
 use Rattle.hail_codes.specs.Polynomials.{is_seen}
-use Rattle.audit_verdict.proofs.Places.{next_count, put_more, get_or-within, counted-each}
+use Rattle.audit_verdict.proofs.Places.{next_count, put_more, counted-each}
 use Rattle.audit_verdict.proofs.counting.count_wrong.Goals as goal
 
 pub loop-j-preserved : goal.loop-j-preserved
@@ -15,8 +15,8 @@ loop-j-preserved c =
       done = put_more (λ (k : ℕ). next_count p (get_or points k 0) (get_or answers k None) (get_or counts k 0)) c.loop-j.counts j c.counted_once.result 0 (omega arith)
           (c.counted_once.ensures
           ∙ ap (λ v. if is_seen v c.index-answers-j.result then get_or c.loop-j.counts j 0 else get_or c.loop-j.counts j 0 + 1) c.value.ensures
-          ∙ (λ i. next_count p ((c.index-points-j.is ∙ get_or-within points j c.index-points-j.result 0 (omega arith)) i)
-          ((c.index-answers-j.is ∙ get_or-within answers j c.index-answers-j.result None (omega arith)) i) (c.loop-j.invariant.rest j (omega arith) i)))
+          ∙ (λ i. next_count p ((c.index-points-j.is ∙ get_or_default points j c.index-points-j.result 0 (omega arith)) i)
+          ((c.index-answers-j.is ∙ get_or_default answers j c.index-answers-j.result None (omega arith)) i) (c.loop-j.invariant.rest j (omega arith) i)))
           c.loop-j.invariant.done;
       rest = λ k above. get_or-set_other c.loop-j.counts j k c.counted_once.result 0 (λ e. omega (arith, e, above)) ∙ c.loop-j.invariant.rest k (omega (arith, above));
     }

@@ -1,14 +1,14 @@
 use Rattle.std.proofs.Common.{List, ℕ, length, subst, sym, arith}
 use Rattle.field_laws.specs.Field.{Apart}
 use Rattle.hail_columns.proofs.PointLaws.{Apart-points}
-use Rattle.file_layout.specs.Files.{object_of}
+use Rattle.file_layout.specs.Files.{shaped_object}
 use Rattle.audit_verdict.proofs.Places.{counts-grow}
 use Rattle.audit_verdict.proofs.judge.judge_round.Goals as goal
 
 pub open_row-requires-clause-apart : goal.open_row-requires-clause-apart
 open_row-requires-clause-apart c =
     let file = c.args.file.now in
-    subst (λ (xs : List ℕ). Apart xs) (sym c.points_into.ensures) (Apart-points (object_of c.args.master.now.0 file) (omega (arith, file.shape.fits.1)))
+    subst (λ (xs : List ℕ). Apart xs) (sym c.points_into.ensures) (Apart-points (shaped_object c.args.master.now.0 file) (omega (arith, file.shape.fits.1)))
 
 pub returns-in-Some-clause-counts : goal.returns-in-Some-clause-counts
 returns-in-Some-clause-counts c = λ j.

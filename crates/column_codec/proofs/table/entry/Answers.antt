@@ -1,6 +1,6 @@
-use Rattle.std.proofs.Common.{◌≡◌, ◌≢◌, ◌≤◌, ◌<◌, ℕ, ◌^◌, ◌*◌, ◌+◌, ◌-◌, ◌/◌, ◌%◌, ◌∙◌, ap, sym, arith, mod-eq_of_lt, pow_pos}
+use Rattle.std.proofs.Common.{◌≡◌, ◌≢◌, ◌≤◌, ◌<◌, ℕ, ◌^◌, ◌*◌, ◌+◌, ◌-◌, ◌%◌, ◌∙◌, ap, sym, arith, mod-eq_of_lt, pow_pos}
+use Rattle.std.proofs.lemmas.List.{get_or_default}
 use Rattle.hail_field.specs.Nim.{nim_add}
-use Rattle.column_codec.proofs.RowLemmas.{get_or-within}
 use Rattle.column_codec.proofs.TableLemmas.{product_at-zero, product_at-sum}
 use Rattle.column_codec.proofs.table.entry.Goals as goal
 
@@ -14,7 +14,7 @@ returns c =
     let bit : 1 * 2 ^ k % 18446744073709551616 ≡ 2 ^ k = ap (λ n. n % 18446744073709551616) (let e : 1 * 2 ^ k ≡ 2 ^ k = omega arith in e) ∙ mod-eq_of_lt (omega (arith, within)) in
     let differ : 2 ^ k ≢ c.args.place % 16 = λ e. c.if-bit-number.false (bit ∙ e) in
     let read = λ (p : ℕ) (before : p < c.args.place) (d : ℕ).
-    get_or-within c.args.entries.now p d 0 (omega (arith, before, c.told-entries, c.requires.place)) ∙ c.requires.before p before in
+    get_or_default c.args.entries.now p d 0 (omega (arith, before, c.told-entries, c.requires.place)) ∙ c.requires.before p before in
     let first = c.args.place - 1 * 2 ^ k % 18446744073709551616 in
     let second = c.args.place - c.args.place % 16 + 1 * 2 ^ k % 18446744073709551616 in
     let positive : 0 < 2 ^ k = pow_pos k in

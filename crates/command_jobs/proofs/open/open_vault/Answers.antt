@@ -1,5 +1,5 @@
 use Rattle.std.proofs.Common.{◌<◌, ◌≤◌, ap, arith}
-use Rattle.hail_commands.specs.Opens.{setup_at}
+use Rattle.hail_commands.specs.Opens.{setup_in_effect}
 use Rattle.record_codec.specs.declared.setup.Setup.{Setup}
 use Rattle.command_jobs.specs.Opened.{IsUnopened, unopened_of}
 use Rattle.command_jobs.proofs.Readings.{fault-seen, reads-resynced, told-by}
@@ -18,7 +18,7 @@ returns-then-handed-from-clause-refused g c =
     let o = c.in_ok-vault.ensures.opened in
     let f = fresh-vault c.opened_states.ensures.opened c.opened_states.ensures.there_is_one c.in_ok-vault.vault o.0 (g.D.Disk.holds c.args.disk.now) (g.D.Disk.holds c.start.new.disk) (g.D.Disk.faults c.start.new.disk)
     o.1 o.2 c.in_ok-vault.ensures.number in
-    let few : c.args.handed < (setup_at o.0).n =
+    let few : c.args.handed < (setup_in_effect o.0).n =
     (let e = f.providers in let l = c.if-handed-from.true in let m = c.from.ensures in let n = ap (λ (s : Setup). s.n) c.setup.ensures in omega (arith, e, l, m, n)) in
     (o.0, o.1, few)
 
@@ -30,7 +30,7 @@ returns-clause-opened g c =
     let o = c.in_ok-vault.ensures.opened in
     let f = fresh-vault c.opened_states.ensures.opened c.opened_states.ensures.there_is_one c.in_ok-vault.vault o.0 (g.D.Disk.holds c.args.disk.now) (g.D.Disk.holds c.start.new.disk) (g.D.Disk.faults c.start.new.disk)
     o.1 o.2 c.in_ok-vault.ensures.number in
-    let enough : (setup_at o.0).n ≤ c.args.handed =
+    let enough : (setup_in_effect o.0).n ≤ c.args.handed =
     (let e = f.providers in let l = c.if-handed-from.false in let m = c.from.ensures in let n = ap (λ (s : Setup). s.n) c.setup.ensures in omega (arith, e, l, m, n)) in
     (o.0, record { read = o.1; enough = enough }, f)
 

@@ -1,7 +1,7 @@
 use Rattle.std.proofs.Common.{◌+◌, length, ◌∙◌, arith}
 use Rattle.std.proofs.lemmas.List.{length-map}
 use Rattle.hail_machine.specs.Runs.{now}
-use Rattle.vault.specs.Devices.{as_seen}
+use Rattle.provider_model.specs.Seen.{provider_seen}
 use Rattle.command_jobs.proofs.Fresh.{stands-enough}
 use Rattle.command_jobs.proofs.Goings.{steps-turn, one-more, at-end, never-stops}
 use Rattle.command_jobs.proofs.run.finish.Goals as goal
@@ -11,7 +11,7 @@ step-requires g c =
     let u = c.requires.under_way in
     let way = c.loop-ended.invariant.0 u.start u.state u.kind 0 u.only u.stands in
     let few = stands-enough _ _ _ way.stands in
-    let e = length-map c.loop-ended.providers (as_seen g.P.Provider.held g.P.Provider.store_faults g.P.Provider.other_faults g.P.Provider.fetches) in
+    let e = length-map c.loop-ended.providers (provider_seen g.P.Provider) in
     omega (arith, few, e)
 
 pub loop-ended-preserved : goal.loop-ended-preserved

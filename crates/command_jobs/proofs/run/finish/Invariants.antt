@@ -2,7 +2,7 @@ use Rattle.std.proofs.Common.{◌≡◌, ℕ, map}
 use Rattle.std.specs.Prelude.{is_some}
 use Rattle.hail_machine.specs.Jobs.{Kind}
 use Rattle.hail_machine.specs.States.{State}
-use Rattle.vault.specs.Devices.{as_seen, devices}
+use Rattle.vault.specs.Devices.{devices_seen}
 use Rattle.vault.specs.Seen.{left_of}
 use Rattle.vault.specs.Stands.{Stands}
 use Rattle.command_jobs.specs.Going.{IsOnly}
@@ -11,10 +11,10 @@ use Rattle.command_jobs.proofs.run.finish.Given as goal
 
 abbrev pub invariant-loop-ended : goal.invariant-loop-ended
 invariant-loop-ended g l = ((start w : State) (kind : Kind) (moment : ℕ) → IsOnly start kind w
-    → Stands l.initial.vault (devices (g.D.Disk.holds l.initial.disk) (g.D.Disk.faults l.initial.disk) (map (as_seen g.P.Provider.held g.P.Provider.store_faults g.P.Provider.other_faults g.P.Provider.fetches) l.initial.providers)) w
+    → Stands l.initial.vault (devices_seen g.D.Disk g.P.Provider l.initial.disk l.initial.providers) w
     → OnWay start kind w moment l.vault
-    (devices (g.D.Disk.holds l.initial.disk) (g.D.Disk.faults l.initial.disk) (map (as_seen g.P.Provider.held g.P.Provider.store_faults g.P.Provider.other_faults g.P.Provider.fetches) l.initial.providers))
-    (devices (g.D.Disk.holds l.disk) (g.D.Disk.faults l.disk) (map (as_seen g.P.Provider.held g.P.Provider.store_faults g.P.Provider.other_faults g.P.Provider.fetches) l.providers)))
+    (devices_seen g.D.Disk g.P.Provider l.initial.disk l.initial.providers)
+    (devices_seen g.D.Disk g.P.Provider l.disk l.providers))
     × (is_some (g.D.Disk.holds l.disk) ≡ is_some (g.D.Disk.holds l.initial.disk))
 
 abbrev pub decreases-loop-ended : goal.decreases-loop-ended

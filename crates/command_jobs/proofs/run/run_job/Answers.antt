@@ -1,7 +1,7 @@
 use Rattle.std.proofs.Common.{◌≡◌, ◌≤◌, List, length, map, sym, ◌∙◌, arith}
 use Rattle.std.proofs.lemmas.List.{length-map}
-use Rattle.hail_commands.specs.Opens.{setup_at}
-use Rattle.vault.specs.Devices.{as_seen}
+use Rattle.hail_commands.specs.Opens.{setup_in_effect}
+use Rattle.provider_model.specs.Seen.{provider_seen}
 use Rattle.hail_records.specs.Records.{Record}
 use Rattle.command_jobs.specs.Opened.{IsFreshOver}
 use Rattle.command_jobs.specs.Kinds.{kind_of}
@@ -21,22 +21,22 @@ returns-in_err-number-clause-refused g c =
 pub finish-requires-clause-first : goal.finish-requires-clause-first
 finish-requires-clause-first g c =
     let r = c.requires.ready in
-    let seen = as_seen g.P.Provider.held g.P.Provider.store_faults g.P.Provider.other_faults g.P.Provider.fetches in
-    let few : (setup_at r.records).n ≤ length (map seen c.args.providers.now) = (let a = r.enough in let b = length-map c.args.providers.now seen in omega (arith, a, b)) in
+    let seen = provider_seen g.P.Provider in
+    let few : (setup_in_effect r.records).n ≤ length (map seen c.args.providers.now) = (let a = r.enough in let b = length-map c.args.providers.now seen in omega (arith, a, b)) in
     (under-way c.opened_states.ensures.opened c.opened_states.ensures.there_is_one c.args.vault r.records (g.D.Disk.holds c.args.disk.now) (g.D.Disk.faults c.args.disk.now) r.fresh
     c.begin.new.vault (kind_of c.args.job) c.in_ok-number.number (map seen c.args.providers.now) few c.in_ok-number.ensures).0
 
 pub finish-requires-clause-under_way : goal.finish-requires-clause-under_way
 finish-requires-clause-under_way g c =
     let r = c.requires.ready in
-    let seen = as_seen g.P.Provider.held g.P.Provider.store_faults g.P.Provider.other_faults g.P.Provider.fetches in
-    let few : (setup_at r.records).n ≤ length (map seen c.args.providers.now) = (let a = r.enough in let b = length-map c.args.providers.now seen in omega (arith, a, b)) in
+    let seen = provider_seen g.P.Provider in
+    let few : (setup_in_effect r.records).n ≤ length (map seen c.args.providers.now) = (let a = r.enough in let b = length-map c.args.providers.now seen in omega (arith, a, b)) in
     (under-way c.opened_states.ensures.opened c.opened_states.ensures.there_is_one c.args.vault r.records (g.D.Disk.holds c.args.disk.now) (g.D.Disk.faults c.args.disk.now) r.fresh
     c.begin.new.vault (kind_of c.args.job) c.in_ok-number.number (map seen c.args.providers.now) few c.in_ok-number.ensures).1
 
 pub returns-clause-ended : goal.returns-clause-ended
 returns-clause-ended g c = λ records old new fresh opened before after.
-    let seen = as_seen g.P.Provider.held g.P.Provider.store_faults g.P.Provider.other_faults g.P.Provider.fetches in
+    let seen = provider_seen g.P.Provider in
     let same : length (map seen c.finish.new.providers) ≡ length (map seen c.args.providers.now) =
     length-map c.finish.new.providers seen ∙ (c.finish.auto.providers ∙ sym (length-map c.args.providers.now seen)) in
     ends-over c.opened_states.ensures.opened c.opened_states.ensures.there_is_one c.args.vault records (g.D.Disk.holds c.args.disk.now) (g.D.Disk.faults c.args.disk.now) fresh c.told_jobs_leave.ensures

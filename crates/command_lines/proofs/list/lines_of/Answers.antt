@@ -1,7 +1,8 @@
 use Rattle.std.proofs.Common.{◌++◌, List, ℕ, sym, ap, ◌∙◌, arith}
+use Rattle.plain_facts.proofs.Lists.{get_within}
 use Rattle.hail_machine.specs.Lines.{line, then_number}
 use Rattle.vault_table.specs.Values.{file_of_entry}
-use Rattle.command_lines.proofs.ListSteps.{listed_more, listed_within}
+use Rattle.command_lines.proofs.ListSteps.{listed_more}
 use Rattle.command_lines.proofs.list.lines_of.Goals as goal
 use Rattle.command_lines.proofs.list.lines_of.Goals.{in-Some+in_ok-push_named, in_default}
 
@@ -17,5 +18,5 @@ loop-place-preserved c =
           ∙ ap (λ (name : List ℕ). text ++ line (name ++ then_number w.from.result)) w.as_bytes.ensures.value
           ∙ ap (λ (size : ℕ). text ++ line (file.name ++ then_number size)) w.from.ensures
           ∙ listed_more files text place file (sym w.in-Some.ensures) c.loop-place.invariant)
-      | in_default w ↦ absurd (listed_within files place (omega (arith, c.loop-place-test.true, c.count-place-end.ensures)) w.in_default.ensures)
+      | in_default w ↦ absurd (get_within files place (omega (arith, c.loop-place-test.true, c.count-place-end.ensures)) w.in_default.ensures)
     ]

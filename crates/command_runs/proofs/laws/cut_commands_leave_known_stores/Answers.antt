@@ -1,6 +1,9 @@
 use Rattle.std.proofs.Common.{refl, inl, inr, false, arith}
 use Rattle.hail_commands.specs.Forms.{PutUnder, DropOf}
-use Rattle.command_runs.specs.Devices.{named, byte, counts, four_records, byte_records, audited_records, to_put, put_failed, put_cut, put_torn, put_gone, kept, drop_cut, damaged, audit_cut, answers_heard, due, repair_cut, ends, ends_hearing}
+use Rattle.command_runs.specs.Devices.{named, four_records, byte_records, byte_audited_records, to_put, put_failed, put_cut, put_torn, put_gone, byte_kept, drop_cut, damaged, audit_cut, answers_heard, due, repair_cut, ends_hearing}
+use Rattle.damage_run.specs.Points.{counts}
+use Rattle.damage_run.specs.Schedule.{byte}
+use Rattle.command_laws.specs.Instances.{ends}
 use Rattle.command_runs.proofs.TornPut.{answers as torn}
 use Rattle.command_runs.proofs.CutDrop.{answers as cut_drop}
 use Rattle.command_runs.proofs.CutAudit.{answers as cut_audit}
@@ -18,13 +21,13 @@ pub returns-clause-come : goal.returns-clause-come
 returns-clause-come c = c.stores_stay_known.ensures.always (PutUnder named) four_records to_put put_torn put_cut (ends 12) torn refl put-old (record { disk = inr stopped-open; handed = refl })
 
 pub returns-clause-dropped : goal.returns-clause-dropped
-returns-clause-dropped c = c.stores_stay_known.ensures.always (DropOf named) byte_records kept drop_cut drop_cut (ends 12) cut_drop refl stored-sure (record { disk = inl refl; handed = refl })
+returns-clause-dropped c = c.stores_stay_known.ensures.always (DropOf named) byte_records byte_kept drop_cut drop_cut (ends 12) cut_drop refl stored-sure (record { disk = inl refl; handed = refl })
 
 pub returns-clause-put : goal.returns-clause-put
 returns-clause-put c = c.files_stay.ensures.put_in_effect named byte four_records (λ j. false) to_put put_torn put_cut (ends 12) torn put-old refl (record { disk = inr stopped-open; handed = refl }) cut-new.known (λ j l s. none-tell j l)
 
 pub returns-clause-repair : goal.returns-clause-repair
-returns-clause-repair c = c.files_stay.ensures.repair_in_effect named byte audited_records (record { number = 1; counts = counts }) second due repair_cut repair_cut (ends 12) cut_repair due-sure refl
+returns-clause-repair c = c.files_stay.ensures.repair_in_effect named byte byte_audited_records (record { number = 1; counts = counts }) second due repair_cut repair_cut (ends 12) cut_repair due-sure refl
     (record { disk = inl refl; handed = refl }) repair_cut-new.known due-file (cut-steady second) (omega arith) (λ j l f. three-tell j l)
 
 pub returns-clause-audit : goal.returns-clause-audit

@@ -3,7 +3,10 @@ use Rattle.hail_machine.specs.Jobs.{PutJob, AuditJob}
 use Rattle.hail_commands.specs.Forms.{PutUnder, AuditAll}
 use Rattle.hail_commands.specs.Puts.{put_records}
 use Rattle.hail_commands.specs.Audits.{audit_records}
-use Rattle.command_runs.specs.Devices.{named, byte, counts, other_name, four_records, byte_records, both_records, audited_records, to_put, stored, to_put_other, stored_other, damaged, audited, answers_heard, due, repaired, ends, ends_hearing}
+use Rattle.command_runs.specs.Devices.{named, four_records, byte_records, both_records, byte_audited_records, to_put, byte_stored, to_put_other, stored_other, damaged, byte_audited, answers_heard, due, repaired, ends_hearing}
+use Rattle.damage_run.specs.Points.{counts}
+use Rattle.damage_run.specs.Schedule.{byte}
+use Rattle.command_laws.specs.Instances.{other_name, ends}
 use Rattle.command_runs.proofs.StoredPut.{answers as put}
 use Rattle.command_runs.proofs.DoneAudit.{answers as audit}
 use Rattle.command_runs.proofs.DoneRepair.{answers as repair}
@@ -13,10 +16,10 @@ use Rattle.command_runs.proofs.Meets.{second, none-tell, three-tell, due-file, d
 use Rattle.command_runs.proofs.laws.files_stay_right.Goals as goal
 
 pub returns-clause-put : goal.returns-clause-put
-returns-clause-put c = c.files_stay.ensures.put named byte four_records (λ j. false) to_put stored (ends 0) put (inl refl) put-old.known refl (λ j l s. none-tell j l)
+returns-clause-put c = c.files_stay.ensures.put named byte four_records (λ j. false) to_put byte_stored (ends 0) put (inl refl) put-old.known refl (λ j l s. none-tell j l)
 
 pub returns-clause-audit : goal.returns-clause-audit
-returns-clause-audit c = c.files_stay.ensures.reads AuditAll named byte byte_records audited_records second damaged audited (ends_hearing 0 answers_heard) audit refl damaged-file
+returns-clause-audit c = c.files_stay.ensures.reads AuditAll named byte byte_records byte_audited_records second damaged byte_audited (ends_hearing 0 answers_heard) audit refl damaged-file
     (inr (record { kind = AuditJob; of_command = refl; own = audit_records byte_records 0 counts; are_own = (0, counts, refl); count = 2; after_is = refl }))
 
 pub returns-clause-other : goal.returns-clause-other
@@ -32,8 +35,8 @@ returns-clause-other c = c.files_stay.ensures.others (PutUnder other_name) named
     }))
 
 pub returns-clause-repair : goal.returns-clause-repair
-returns-clause-repair c = c.files_stay.ensures.repair named byte audited_records (record { number = 1; counts = counts }) second due repaired (ends 0) repair (inl refl) due-sure.known refl due-file
+returns-clause-repair c = c.files_stay.ensures.repair named byte byte_audited_records (record { number = 1; counts = counts }) second due repaired (ends 0) repair (inl refl) due-sure.known refl due-file
     (repair-steady second) (omega arith) (λ j l f. three-tell j l)
 
 pub returns-clause-heard : goal.returns-clause-heard
-returns-clause-heard c = c.audits_in_effect_count_what_they_heard.ensures byte_records 0 counts damaged audited audited (ends_hearing 0 answers_heard) audit damaged-sure (record { disk = inl refl; handed = refl }) audited-new.known
+returns-clause-heard c = c.audits_in_effect_count_what_they_heard.ensures byte_records 0 counts damaged byte_audited byte_audited (ends_hearing 0 answers_heard) audit damaged-sure (record { disk = inl refl; handed = refl }) audited-new.known

@@ -1,5 +1,6 @@
 use Rattle.std.proofs.Common.{refl, inl}
-use Rattle.command_runs.specs.Devices.{named, to_put, stored, put_failed, kept, dropped, all_lost, found_lost, due_lost, repair_lost, no_blocks, damaged, audited, answers_heard, due, repaired, repair_failed, ends, ends_at, ends_hearing}
+use Rattle.command_runs.specs.Devices.{named, to_put, byte_stored, put_failed, byte_kept, dropped, all_lost, found_lost, due_lost, repair_lost, no_blocks, damaged, byte_audited, answers_heard, due, repaired, repair_failed, ends_at, ends_hearing}
+use Rattle.command_laws.specs.Instances.{ends}
 use Rattle.command_runs.proofs.StoredPut.{answers as put}
 use Rattle.command_runs.proofs.DoneDrop.{answers as drop}
 use Rattle.command_runs.proofs.DoneAudit.{answers as audit}
@@ -11,13 +12,13 @@ use Rattle.command_runs.proofs.LostRepair.{answers as lost_repair}
 use Rattle.command_runs.proofs.laws.jobs_leave_what_is_said.Goals as goal
 
 pub returns-clause-put : goal.returns-clause-put
-returns-clause-put c = c.puts_store_the_source.ensures.done named to_put stored (ends 0) put (inl refl)
+returns-clause-put c = c.puts_store_the_source.ensures.done named to_put byte_stored (ends 0) put (inl refl)
 
 pub returns-clause-drop : goal.returns-clause-drop
-returns-clause-drop c = c.drops_take_the_file_away.ensures.done named kept dropped (ends 0) drop (inl refl)
+returns-clause-drop c = c.drops_take_the_file_away.ensures.done named byte_kept dropped (ends 0) drop (inl refl)
 
 pub returns-clause-audit : goal.returns-clause-audit
-returns-clause-audit c = c.audits_count_what_they_hear.ensures.done damaged audited (ends_hearing 0 answers_heard) audit (inl refl)
+returns-clause-audit c = c.audits_count_what_they_hear.ensures.done damaged byte_audited (ends_hearing 0 answers_heard) audit (inl refl)
 
 pub returns-clause-repair : goal.returns-clause-repair
 returns-clause-repair c = c.repairs_write_anew.ensures.done due repaired (ends 0) repair (inl refl)

@@ -1,7 +1,9 @@
 use Rattle.std.proofs.Common.{[]}
 use Rattle.hail_machine.specs.Jobs.{PutJob, GetJob, DropJob, AuditJob, RepairJob}
 use Rattle.hail_machine.specs.Answers.{Put, Got, Dropped, Audited, Repaired, Lost, ProviderFault, DiskFault, Memory}
-use Rattle.command_runs.specs.Devices.{named, byte, counts, four_records, byte_records, audited_records, repaired_records, to_put, stored, put_failed, put_cut, put_unmade, kept, dropped, mended, got, blocks_heard, all_lost, found_lost, no_blocks, damaged, audited, answers_heard, due, repaired, due_lost, repair_lost, repair_failed}
+use Rattle.command_runs.specs.Devices.{named, four_records, byte_records, byte_audited_records, byte_repaired_records, to_put, byte_stored, put_failed, put_cut, put_unmade, byte_kept, dropped, mended, got, own_blocks_heard, all_lost, found_lost, no_blocks, damaged, byte_audited, answers_heard, due, repaired, due_lost, repair_lost, repair_failed}
+use Rattle.damage_run.specs.Points.{counts}
+use Rattle.damage_run.specs.Schedule.{byte}
 use Rattle.command_runs.proofs.Stores.{put-old, stored-sure, mended-sure, robbed-old, damaged-sure, due-sure, robbed_due-old}
 use Rattle.command_runs.proofs.Somewhere.{somewhere}
 use Rattle.command_runs.proofs.StoredPut.{alone as put_alone}
@@ -18,7 +20,7 @@ use Rattle.command_runs.proofs.FailedRepair.{alone as failed_repair_alone}
 use Rattle.command_runs.proofs.laws.jobs_run_alone.Goals as goal
 
 pub returns-clause-put : goal.returns-clause-put
-returns-clause-put c = somewhere c.opened_states.ensures.opened c.opened_states.ensures.there_is_one four_records (PutJob named byte) (Put) to_put stored [] put-old put_alone
+returns-clause-put c = somewhere c.opened_states.ensures.opened c.opened_states.ensures.there_is_one four_records (PutJob named byte) (Put) to_put byte_stored [] put-old put_alone
 
 pub returns-clause-failed_put : goal.returns-clause-failed_put
 returns-clause-failed_put c = somewhere c.opened_states.ensures.opened c.opened_states.ensures.there_is_one four_records (PutJob named byte) (ProviderFault 0) to_put put_failed [] put-old failed_put_alone
@@ -30,22 +32,22 @@ pub returns-clause-unmade_put : goal.returns-clause-unmade_put
 returns-clause-unmade_put c = somewhere c.opened_states.ensures.opened c.opened_states.ensures.there_is_one four_records (PutJob named byte) (Memory) to_put put_unmade [] put-old unmade_put_alone
 
 pub returns-clause-drop : goal.returns-clause-drop
-returns-clause-drop c = somewhere c.opened_states.ensures.opened c.opened_states.ensures.there_is_one byte_records (DropJob named) (Dropped) kept dropped [] stored-sure drop_alone
+returns-clause-drop c = somewhere c.opened_states.ensures.opened c.opened_states.ensures.there_is_one byte_records (DropJob named) (Dropped) byte_kept dropped [] stored-sure drop_alone
 
 pub returns-clause-get : goal.returns-clause-get
-returns-clause-get c = somewhere c.opened_states.ensures.opened c.opened_states.ensures.there_is_one repaired_records (GetJob named) (Got byte) mended got blocks_heard mended-sure get_alone
+returns-clause-get c = somewhere c.opened_states.ensures.opened c.opened_states.ensures.there_is_one byte_repaired_records (GetJob named) (Got byte) mended got own_blocks_heard mended-sure get_alone
 
 pub returns-clause-lost_get : goal.returns-clause-lost_get
 returns-clause-lost_get c = somewhere c.opened_states.ensures.opened c.opened_states.ensures.there_is_one byte_records (GetJob named) (Lost 0 0) all_lost found_lost no_blocks robbed-old lost_get_alone
 
 pub returns-clause-audit : goal.returns-clause-audit
-returns-clause-audit c = somewhere c.opened_states.ensures.opened c.opened_states.ensures.there_is_one byte_records (AuditJob) (Audited 1 0 counts) damaged audited answers_heard damaged-sure audit_alone
+returns-clause-audit c = somewhere c.opened_states.ensures.opened c.opened_states.ensures.there_is_one byte_records (AuditJob) (Audited 1 0 counts) damaged byte_audited answers_heard damaged-sure audit_alone
 
 pub returns-clause-repair : goal.returns-clause-repair
-returns-clause-repair c = somewhere c.opened_states.ensures.opened c.opened_states.ensures.there_is_one audited_records (RepairJob) (Repaired 1) due repaired [] due-sure repair_alone
+returns-clause-repair c = somewhere c.opened_states.ensures.opened c.opened_states.ensures.there_is_one byte_audited_records (RepairJob) (Repaired 1) due repaired [] due-sure repair_alone
 
 pub returns-clause-lost_repair : goal.returns-clause-lost_repair
-returns-clause-lost_repair c = somewhere c.opened_states.ensures.opened c.opened_states.ensures.there_is_one audited_records (RepairJob) (Lost 0 0) due_lost repair_lost [] robbed_due-old lost_repair_alone
+returns-clause-lost_repair c = somewhere c.opened_states.ensures.opened c.opened_states.ensures.there_is_one byte_audited_records (RepairJob) (Lost 0 0) due_lost repair_lost [] robbed_due-old lost_repair_alone
 
 pub returns-clause-failed_repair : goal.returns-clause-failed_repair
-returns-clause-failed_repair c = somewhere c.opened_states.ensures.opened c.opened_states.ensures.there_is_one audited_records (RepairJob) (ProviderFault 2) due repair_failed [] due-sure failed_repair_alone
+returns-clause-failed_repair c = somewhere c.opened_states.ensures.opened c.opened_states.ensures.there_is_one byte_audited_records (RepairJob) (ProviderFault 2) due repair_failed [] due-sure failed_repair_alone

@@ -1,9 +1,9 @@
 use Rattle.std.proofs.Common.{◌≡◌, ◌-◌, ◌∙◌, ap, sym, List, ℕ, length, take, arith}
 use Rattle.std.proofs.lemmas.List.{length-take}
+use Rattle.field_laws.proofs.Apart.{Apart-take}
 use Rattle.hail_codes.specs.DispersalCode.{Accepts, IsOnlyAccepted}
 use Rattle.hail_poly.specs.Registers.{Registers}
 use Rattle.dispersal_code.specs.Present.{Chosen, present_points, present_symbols}
-use Rattle.dispersal_code.proofs.RowSteps.{Apart-take}
 use Rattle.dispersal_code.proofs.Erasures.{length-present, present-le, Apart-present, few_present, first_accepts, none_opens, some_opens}
 use Rattle.dispersal_code.proofs.Unique.{same_trim}
 use Rattle.dispersal_code.proofs.open.open_row.Goals as goal

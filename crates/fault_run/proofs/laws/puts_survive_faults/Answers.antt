@@ -1,4 +1,5 @@
 use Rattle.std.proofs.Common.{sym, subst}
+use Rattle.hail_records.specs.Table.{file_as}
 use Rattle.hail_machine.specs.Runs.{IsRun, now, first_moments}
 use Rattle.hail_machine.specs.Survival.{IsKept}
 use Rattle.hail_machine.specs.Examples.{set_up}
@@ -15,6 +16,8 @@ pub returns-clause-settled : goal.returns-clause-settled
 returns-clause-settled c = λ ms f h. c.done_puts_are_whole.ensures.came 8 set_up h.stop (first_moments 37 ms) 3 0 f.clean (run_to ms 37 h.stop f.run h.stopped) h.cut_settled
 
 pub returns-clause-first : goal.returns-clause-first
-returns-clause-first c = λ ms f h. subst (λ later. IsKept (now set_up later) name (record { name = name; id = 1; size = 1 })) (sym h.first_split)
-    (c.acknowledged_files_survive.ensures 8 set_up h.later (first_moments 13 ms) h.came_moment name (record { name = name; id = 1; size = 1 }) f.clean
+returns-clause-first c = λ ms f h.
+    subst (λ later. IsKept (now set_up later) name (file_as name 1 1 0)) (sym h.first_split)
+    (c.acknowledged_files_survive.ensures 8 set_up h.later (first_moments 13 ms) h.came_moment name
+    (file_as name 1 1 0) f.clean
     (subst (IsRun 8 set_up) h.first_split (first_run 8 set_up 63 ms f.run)) h.first_came h.never_out)

@@ -1,7 +1,7 @@
 use Rattle.std.proofs.Common.{◌≡◌, ◌≤◌, ◌+◌, ◌*◌, ◌/◌, ◌%◌, ◌∙◌, ℕ, List, sym, subst, arith}
 use Rattle.hail_columns.specs.Objects.{stripes}
 use Rattle.hail_columns.specs.Columns.{columns}
-use Rattle.file_layout.specs.Files.{object_of}
+use Rattle.file_layout.specs.Files.{shaped_object}
 use Rattle.hail_bench.specs.Stripes.{HoldsNear}
 use Rattle.hail_codes.specs.ServerCode.{differences}
 use Rattle.hail_bench.proofs.StripeLemmas.{holds-none, holds-more}
@@ -9,12 +9,12 @@ use Rattle.hail_bench.proofs.get.append_all.Goals as goal
 
 pub loop-i-init : goal.loop-i-init
 loop-i-init c =
-    let o = object_of c.args.keys.now.master.0 c.args.coded.now.file in
+    let o = shaped_object c.args.keys.now.master.0 c.args.coded.now.file in
     subst (λ (seen : List ℕ). HoldsNear o c.args.bytes.now 0 c.args.spoilt.liars seen) (sym c.requires.seen) (holds-none o c.args.bytes.now c.args.spoilt.liars)
 
 pub loop-i-preserved : goal.loop-i-preserved
 loop-i-preserved c =
-    let o = object_of c.args.keys.now.master.0 c.args.coded.now.file in
+    let o = shaped_object c.args.keys.now.master.0 c.args.coded.now.file in
     let i = c.loop-i.i in
     let liars = c.args.spoilt.liars in
     let own : c.make.new.block ≡ columns o c.args.bytes.now (i % o.shape.n) (i / o.shape.n) =
@@ -29,7 +29,7 @@ loop-i-preserved c =
 pub returns : goal.returns
 returns c =
     let file = c.args.coded.now.file in
-    let o = object_of c.args.keys.now.master.0 file in
+    let o = shaped_object c.args.keys.now.master.0 file in
     let whole : c.stripes.result * c.from-n.result ≡ stripes o file.length * file.shape.n =
     (λ t. c.stripes.ensures.value c.args.keys.now.master.0 t * c.from-n.ensures t) in
     let end : c.loop-i.i ≡ stripes o file.length * file.shape.n = omega (arith, whole) in

@@ -1,5 +1,5 @@
 use Rattle.std.proofs.Common.{◌≡◌, ◌<◌, ℕ, get_or}
-use Rattle.hail_bench.specs.Checksum.{number_at}
+use Rattle.hail_bench.specs.Checksum.{drawn_number}
 use Rattle.hail_bench.specs.Stripes.{byte_at}
 use Rattle.hail_bench.proofs.stripes.fill_bytes.Given as goal
 
@@ -7,5 +7,5 @@ use Rattle.hail_bench.proofs.stripes.fill_bytes.Given as goal
 abbrev pub invariant-loop-place : goal.invariant-loop-place
 invariant-loop-place l = record {
   filled : (k : ℕ) → k < l.place → get_or l.bytes k 0 ≡ byte_at k;
-  next : l.next ≡ number_at l.place;
+  next : l.next ≡ drawn_number l.place;
 }

@@ -1,5 +1,8 @@
-use Rattle.hail_records.proofs.Sizes.{length-spelling, length-text}
+use Rattle.hail_records.proofs.Sizes.{spelled-length, length-spelling, length-text}
 use Rattle.hail_records.proofs.laws.sizes.Goals as goal
+
+pub returns-clause-spelled : goal.returns-clause-spelled
+returns-clause-spelled c = spelled-length
 
 pub returns-clause-record : goal.returns-clause-record
 returns-clause-record c = length-spelling

@@ -1,7 +1,7 @@
 use Rattle.std.proofs.Common.{ap, sym, ◌∙◌, length, arith}
 use Rattle.std.specs.Vec.Iter.{into_iter_items}
 use Rattle.std.proofs.lemmas.List.{nil_from_length}
-use Rattle.schedule_text.specs.Events.{command_of, commands_of}
+use Rattle.schedule_text.specs.Events.{event_command, commands_of}
 use Rattle.trial_counts.specs.Counts.{TrialCounts}
 use Rattle.hail_replay.specs.Heard.{entries_heard}
 use Rattle.hail_replay.proofs.Course.{on-err}
@@ -24,8 +24,8 @@ pub loop-event-preserved : goal.loop-event-preserved
 loop-event-preserved g c =
     (let W = c.loop-event.invariant in
     let is = ap commands_of c.in-Some.ensures.items in (
-      count-course c.args.expected.now _ _ _ (command_of c.in-Some.event) _ _ _ _ _ _ _ _ (entries_heard c.trial_event.new.heard) is c.reserve.ensures.same W.0 W.1 c.trial_event.ensures.kept,
-      count-on c.args.expected.now _ _ _ (command_of c.in-Some.event) _ _ _ _ _ _ _ _ _ is c.reserve.ensures.same W.0 W.1 _ c.in_ok-trial_event.ensures.ok,
+      count-course c.args.expected.now _ _ _ (event_command c.in-Some.event) _ _ _ _ _ _ _ _ (entries_heard c.trial_event.new.heard) is c.reserve.ensures.same W.0 W.1 c.trial_event.ensures.kept,
+      count-on c.args.expected.now _ _ _ (event_command c.in-Some.event) _ _ _ _ _ _ _ _ _ is c.reserve.ensures.same W.0 W.1 _ c.in_ok-trial_event.ensures.ok,
       (let w = W.2 in let n = c.trial_event.ensures.counted in let m = ap length c.in-Some.ensures.items in omega (arith, w, n, m)),
     ))
 
@@ -33,7 +33,7 @@ pub returns-in_err-trial_event-clause-err : goal.returns-in_err-trial_event-clau
 returns-in_err-trial_event-clause-err g c =
     (let laws : Laws = record { sound = c.runs_are_sound.ensures; headline = c.every_run_keeps_the_headline.ensures; failures = c.failed_calls_are_counted.ensures } in
     on-err c.from_residual-in_err-trial_event.result
-    (count-wrong c.args.expected.now _ _ _ (command_of c.in-Some.event) _ _ _ _ _ _ _ _ _ (ap commands_of c.in-Some.ensures.items) c.reserve.ensures.same c.loop-event.invariant.0 c.loop-event.invariant.1
+    (count-wrong c.args.expected.now _ _ _ (event_command c.in-Some.event) _ _ _ _ _ _ _ _ _ (ap commands_of c.in-Some.ensures.items) c.reserve.ensures.same c.loop-event.invariant.0 c.loop-event.invariant.1
     laws c.in_err-trial_event.ensures.err))
 
 pub returns-clause-ok : goal.returns-clause-ok

@@ -1,22 +1,24 @@
-use Rattle.std.proofs.Common.{Option, Some, None, map, refl, sym, ap, ap₂, ◌∙◌, arith}
-use Rattle.std.specs.Prelude.{nat_lt, IsSome}
+use Rattle.std.proofs.Common.{Some, map, refl, ap₂, arith}
+use Rattle.std.specs.Prelude.{IsSome}
 use Rattle.std.proofs.lemmas.List.{length-map}
 use Rattle.hail_devices.specs.Providers.{HasPlace, with_symbol, without_block}
+use Rattle.hail_devices.proofs.Lasting.{is_some-goes}
 use Rattle.hail_machine.specs.Events.{Init, Alter, Lose, Stop, Stopped, Reopen}
 use Rattle.hail_machine.specs.Jobs.{PutJob, GetJob, DropJob, AuditJob, RepairJob}
 use Rattle.record_codec.specs.Entries.{with_master}
-use Rattle.vault.specs.Devices.{as_seen, devices}
+use Rattle.vault.specs.Devices.{devices}
+use Rattle.provider_model.specs.Seen.{provider_seen}
 use Rattle.hail_client.specs.Outcomes.{replace_outcome}
 use Rattle.transcript_lines.specs.declared.came.Came.TheVariants as came
 use Rattle.hail_replay.proofs.Same.{replaces_if}
-use Rattle.hail_replay.proofs.Arms.{init-kept, reopen-kept, stop-kept, goes-tells}
+use Rattle.hail_replay.proofs.Arms.{init-kept, reopen-kept, stop-kept}
 use Rattle.hail_replay.proofs.Behind.{once}
 use Rattle.hail_replay.proofs.Performing.{performed-as, begun, stepped, replaced, listed}
 use Rattle.hail_replay.proofs.event.perform.Goals as goal
 
 pub returns-in-Init : goal.returns-in-Init
 returns-in-Init g c =
-    let ps = map (as_seen g.P.Provider.held g.P.Provider.store_faults g.P.Provider.other_faults g.P.Provider.fetches) c.args.providers.now in
+    let ps = map (provider_seen g.P.Provider) c.args.providers.now in
     record {
       performed = performed-as _ _ _ _ _ _ _ c.in-Init.is (record {
         machine = λ start ms told R. once (Init (with_master c.in-Init.setup c.in-Init.master.0)) (Some (came.Inited c.init.result)) _ _ _ _
@@ -27,14 +29,14 @@ returns-in-Init g c =
 
 pub returns-in-Reopen : goal.returns-in-Reopen
 returns-in-Reopen g c =
-    let see = as_seen g.P.Provider.held g.P.Provider.store_faults g.P.Provider.other_faults g.P.Provider.fetches in
+    let see = provider_seen g.P.Provider in
     let ps = map see c.args.providers.now in
     let count = length-map c.args.providers.now see in
     record {
       performed = performed-as _ _ _ _ _ _ _ c.in-Reopen.is (record {
         machine = λ start ms told R. once Reopen (Some (came.Reopened c.reopen.result)) _ _ _ _
             (λ w moment T. c.reopen.ensures.machine w ps moment told count T) (λ w es T. refl) start ms R;
-        kept = reopen-kept _ _ _ _ _ _ ps _ c.reopen.result (goes-tells _ _ _ c.reopen.ensures.disk) c.reopen.ensures.cause.never_falls count
+        kept = reopen-kept _ _ _ _ _ _ ps _ c.reopen.result (is_some-goes _ _ _ c.reopen.ensures.disk) c.reopen.ensures.cause.never_falls count
             c.reopen.ensures.opens c.reopen.ensures.next_job c.reopen.ensures.opened;
       });
     }
@@ -70,7 +72,7 @@ returns-in-BeginRepair g c =
 
 pub returns-in-Step : goal.returns-in-Step
 returns-in-Step g c =
-    let see = as_seen g.P.Provider.held g.P.Provider.store_faults g.P.Provider.other_faults g.P.Provider.fetches in
+    let see = provider_seen g.P.Provider in
     record {
       performed = performed-as _ _ _ _ _ _ _ c.in-Step.is (stepped c.in-Step.job _ _ _ _ c.step.result c.requires.standing c.step.ensures.tells
           (λ w moment T. (c.step.ensures.machine w moment T).makes) c.step.ensures.heard
@@ -100,7 +102,7 @@ returns-in-Lose g c =
 
 pub returns-in-Stop : goal.returns-in-Stop
 returns-in-Stop g c =
-    let ps = map (as_seen g.P.Provider.held g.P.Provider.store_faults g.P.Provider.other_faults g.P.Provider.fetches) c.args.providers.now in
+    let ps = map (provider_seen g.P.Provider) c.args.providers.now in
     record {
       performed = performed-as _ _ _ _ _ _ _ c.in-Stop.is (record {
         machine = λ start ms told R. once (Stop c.in-Stop.picks) (Some came.Stopped) _ _ _ _

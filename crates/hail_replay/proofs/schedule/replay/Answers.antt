@@ -1,7 +1,7 @@
 use Rattle.std.proofs.Common.{ap, sym, subst, ◌∙◌, length, List, [], arith}
 use Rattle.std.specs.Vec.Iter.{into_iter_items}
 use Rattle.std.proofs.lemmas.List.{nil_from_length}
-use Rattle.schedule_text.specs.Events.{command_of, commands_of}
+use Rattle.schedule_text.specs.Events.{event_command, commands_of}
 use Rattle.hail_replay.proofs.Loops.{Laws, begin-course, go-on, go-wrong, go-short, go-home}
 use Rattle.hail_replay.proofs.schedule.replay.Goals as goal
 
@@ -18,12 +18,12 @@ returns-then-is_err-clause-runs g c =
 pub returns-then-status-ne-WRITTEN-clause-runs : goal.returns-then-status-ne-WRITTEN-clause-runs
 returns-then-status-ne-WRITTEN-clause-runs g c =
     (let laws : Laws = record { sound = c.runs_are_sound.ensures; headline = c.every_run_keeps_the_headline.ensures; failures = c.failed_calls_are_counted.ensures } in
-    go-wrong _ _ _ (command_of c.in-Some.event) _ _ _ _ _ _ _ _ _ _ _ _ _ _ _ (ap commands_of c.in-Some.ensures.items) c.reserve.ensures.same c.loop-event.invariant
+    go-wrong _ _ _ (event_command c.in-Some.event) _ _ _ _ _ _ _ _ _ _ _ _ _ _ _ (ap commands_of c.in-Some.ensures.items) c.reserve.ensures.same c.loop-event.invariant
     c.replay_event-status.ensures.kept c.replay_event-status.ensures.goes_on c.replay_event-status.ensures.count laws (λ e. (let n = c.if-status-ne-WRITTEN.true in omega (arith, n, e))))
 
 pub loop-event-preserved : goal.loop-event-preserved
 loop-event-preserved g c =
-    go-on _ _ _ (command_of c.in-Some.event) _ _ _ _ _ _ _ _ _ _ _ _ _ _ _ (ap commands_of c.in-Some.ensures.items) c.reserve.ensures.same c.loop-event.invariant
+    go-on _ _ _ (event_command c.in-Some.event) _ _ _ _ _ _ _ _ _ _ _ _ _ _ _ (ap commands_of c.in-Some.ensures.items) c.reserve.ensures.same c.loop-event.invariant
     c.replay_event-status.ensures.kept c.replay_event-status.ensures.goes_on c.replay_event-status.ensures.count (let n = c.if-status-ne-WRITTEN.false in omega (arith, n))
 
 pub returns-clause-runs : goal.returns-clause-runs

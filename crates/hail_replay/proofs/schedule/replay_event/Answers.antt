@@ -1,7 +1,7 @@
 use Rattle.std.proofs.Common.{ap, ◌++◌, List, ◌∙◌}
 use Rattle.hail_machine.specs.Heard.{Entry}
 use Rattle.hail_machine.specs.Lines.{lines_of}
-use Rattle.schedule_text.specs.Events.{command_of}
+use Rattle.schedule_text.specs.Events.{event_command}
 use Rattle.hail_replay.specs.Heard.{entries_heard}
 use Rattle.hail_replay.proofs.Course.{done-on}
 use Rattle.hail_replay.proofs.Wrote.{ends-of}
@@ -9,7 +9,7 @@ use Rattle.hail_replay.proofs.schedule.replay_event.Goals as goal
 
 pub returns-clause-goes_on : goal.returns-clause-goes_on
 returns-clause-goes_on g c = λ start base done first before told low H.
-    done-on start base (command_of c.args.event) c.perform-came.result done first _ _ before _ _ c.tell-status.result _ _ _ _ _ _ _ low c.tell-status.ensures.count H
+    done-on start base (event_command c.args.event) c.perform-came.result done first _ _ before _ _ c.tell-status.result _ _ _ _ _ _ _ low c.tell-status.ensures.count H
     (λ run ms R. c.perform-came.ensures.performed.machine run ms told R) (ap lines_of c.named-came.ensures.outcome) c.tell-status.ensures.writes
     (c.push.ensures ∙ ap (λ (x : List Entry). entries_heard c.args.heard.now ++ x) (c.heard_of.ensures ∙ c.named-came.ensures.heard))
 

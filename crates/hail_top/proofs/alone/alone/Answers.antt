@@ -1,17 +1,16 @@
 use Rattle.std.proofs.Common.{Err, length, map, refl, ap, sym}
 use Rattle.std.proofs.lemmas.List.{length-map}
-use Rattle.hail_commands.specs.Seen.{Seen}
+use Rattle.hail_commands.specs.Seen.{Seen, seen}
 use Rattle.hail_commands.specs.Commands.{begun, unstarted}
-use Rattle.vault.specs.Devices.{as_seen}
+use Rattle.provider_model.specs.Seen.{provider_seen}
 use Rattle.command_jobs.specs.declared.open.Unopened.{Unopened}
-use Rattle.hail_top.specs.Endings.{seen}
 use Rattle.hail_top.proofs.Unopened.{unopened-told}
 use Rattle.hail_top.proofs.Opened.{opened-read, no_count_falls, still}
 use Rattle.hail_top.proofs.alone.alone.Goals as goal
 
 pub returns-in-Ok-clause-answers : goal.returns-in-Ok-clause-answers
 returns-in-Ok-clause-answers g c left count =
-    let see = as_seen g.P.Provider.held g.P.Provider.store_faults g.P.Provider.other_faults g.P.Provider.fetches in
+    let see = provider_seen g.P.Provider in
     let old : Seen = seen (g.D.Disk.holds c.args.disk.now) (g.D.Disk.faults c.args.disk.now) (map see c.args.providers.now) left count (g.K.Sink.written c.args.sink.now) (g.K.Sink.faults c.args.sink.now) in
     let found = c.in-Ok.ensures.opened in
     let opened = opened-read old found.0 (length c.args.providers.now) (sym (length-map c.args.providers.now see)) found.1 in
@@ -20,7 +19,7 @@ returns-in-Ok-clause-answers g c left count =
 
 pub returns-in-Ok-clause-counts : goal.returns-in-Ok-clause-counts
 returns-in-Ok-clause-counts g c left count =
-    let see = as_seen g.P.Provider.held g.P.Provider.store_faults g.P.Provider.other_faults g.P.Provider.fetches in
+    let see = provider_seen g.P.Provider in
     let old : Seen = seen (g.D.Disk.holds c.args.disk.now) (g.D.Disk.faults c.args.disk.now) (map see c.args.providers.now) left count (g.K.Sink.written c.args.sink.now) (g.K.Sink.faults c.args.sink.now) in
     let found = c.in-Ok.ensures.opened in
     let opened = opened-read old found.0 (length c.args.providers.now) (sym (length-map c.args.providers.now see)) found.1 in
@@ -29,6 +28,6 @@ returns-in-Ok-clause-counts g c left count =
 
 pub returns-in-Err-clause-answers : goal.returns-in-Err-clause-answers
 returns-in-Err-clause-answers g c left count =
-    let see = as_seen g.P.Provider.held g.P.Provider.store_faults g.P.Provider.other_faults g.P.Provider.fetches in
+    let see = provider_seen g.P.Provider in
     unstarted (unopened-told _ _ _ c.in-Err.why (length c.args.providers.now) c.unopened.ensures (sym (length-map c.args.providers.now see)) c.in-Err.ensures.refused c.in-Err.ensures.disk
     (λ few. c.in-Err.ensures.few (ap (λ (w : Unopened). Err w) few)) (λ same. c.in-Err.ensures.cause.rose (ap (λ (w : Unopened). Err w) same)) refl refl)

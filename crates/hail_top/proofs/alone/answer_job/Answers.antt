@@ -1,6 +1,6 @@
 use Rattle.std.proofs.Common.{refl, ap, sym, ◌∙◌, map}
 use Rattle.record_codec.specs.declared.setup.Setup.{Setup}
-use Rattle.vault.specs.Devices.{as_seen}
+use Rattle.provider_model.specs.Seen.{provider_seen}
 use Rattle.hail_top.proofs.JobEnds.{ended-told, refused-over}
 use Rattle.hail_top.proofs.alone.answer_job.Goals as goal
 
@@ -13,4 +13,4 @@ pub returns-in-Err-clause-over : goal.returns-in-Err-clause-over
 returns-in-Err-clause-over g c records old left count fresh opened before was_synced sink sink_count =
     let same = c.in-Err.ensures.untouched in
     refused-over _ records old _ _ _ c.in-Err.why before was_synced (c.in-Err.ensures.refused records fresh) c.refused.ensures (ap g.D.Disk.holds same.0) (ap g.D.Disk.faults same.0)
-    (ap (map (as_seen g.P.Provider.held g.P.Provider.store_faults g.P.Provider.other_faults g.P.Provider.fetches)) same.1) (sym sink)
+    (ap (map (provider_seen g.P.Provider)) same.1) (sym sink)

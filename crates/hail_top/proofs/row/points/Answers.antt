@@ -1,5 +1,5 @@
 use Rattle.std.proofs.Common.{List, ◌++◌, ◌∷◌, ℕ, [], ap, ◌∙◌, sym}
-use Rattle.hail_top.proofs.PointSteps.{upto-more}
+use Rattle.hail_codes.proofs.Points.{upto-more}
 use Rattle.hail_top.proofs.row.points.Goals as goal
 
 pub loop-place-preserved : goal.loop-place-preserved

@@ -1,12 +1,12 @@
 use Rattle.std.proofs.Common.{map, refl}
 use Rattle.std.proofs.lemmas.List.{length-map}
-use Rattle.vault.specs.Devices.{as_seen}
+use Rattle.provider_model.specs.Seen.{provider_seen}
 use Rattle.hail_top.proofs.Answered.{answered}
 use Rattle.hail_top.proofs.top.answer.Goals as goal
 
 pub returns-in-Init-clause-answers : goal.returns-in-Init-clause-answers
 returns-in-Init-clause-answers g c =
-    let see = as_seen g.P.Provider.held g.P.Provider.store_faults g.P.Provider.other_faults g.P.Provider.fetches in
+    let see = provider_seen g.P.Provider in
     answered _ _ _ _ _ c.in-Init.is (c.set_up.ensures.answers (map see c.args.providers.now) (length-map c.args.providers.now see))
 
 pub returns-in-Put-clause-answers : goal.returns-in-Put-clause-answers
@@ -28,7 +28,7 @@ returns-in-Drop-clause-counts g c = c.alone-in-Drop.ensures.counts (g.S.Source.l
 
 pub returns-in-List-clause-answers : goal.returns-in-List-clause-answers
 returns-in-List-clause-answers g c =
-    let see = as_seen g.P.Provider.held g.P.Provider.store_faults g.P.Provider.other_faults g.P.Provider.fetches in
+    let see = provider_seen g.P.Provider in
     answered _ _ _ _ _ c.in-List.is
     (c.list.ensures.answers (map see c.args.providers.now) (g.S.Source.left c.args.source.now) (g.S.Source.faults c.args.source.now) (length-map c.args.providers.now see), (refl, refl))
 

@@ -1,7 +1,7 @@
 use Rattle.std.proofs.Common.{◌≡◌, ◌++◌, ℕ, List, [], length, take, drop, sym, ap, ◌∙◌, arith, take-append-drop, length-drop}
 use Rattle.std.specs.Prelude.{IfNone, Option, Some, None}
 use Rattle.std.proofs.lemmas.List.{append-nil}
-use Rattle.hail_wire.specs.Requests.{Request as Asking, Spells, spelling}
+use Rattle.hail_wire.specs.Requests.{Request as Asking, SpellsRequest, request_bytes}
 use Rattle.provider_wire.specs.Asking.{request_of}
 use Rattle.provider_wire.proofs.Takes.{one_front}
 use Rattle.provider_wire.proofs.loop_link.whole.Goals as goal
@@ -18,7 +18,7 @@ returns-else-size-bytes-clause-none c = λ r s.
     let bytes = c.args.bytes.now in
     let size = c.in_ok-request.size in
     let found = c.in_ok-request.ensures.found in
-    let parts : spelling (request_of c.in_ok-request.request) ++ drop size bytes ≡ spelling r ++ [] = ap (λ (l : List ℕ). l ++ drop size bytes) (sym found.bytes_are) ∙ take-append-drop size bytes ∙ s.bytes_are ∙ sym (append-nil (spelling r)) in
+    let parts : request_bytes (request_of c.in_ok-request.request) ++ drop size bytes ≡ request_bytes r ++ [] = ap (λ (l : List ℕ). l ++ drop size bytes) (sym found.bytes_are) ∙ take-append-drop size bytes ∙ s.bytes_are ∙ sym (append-nil (request_bytes r)) in
     let same = one_front (request_of c.in_ok-request.request) r (drop size bytes) [] found.is_request s.is_request parts in
     let none : length (drop size bytes) ≡ 0 = ap length same.1 in
     absurd (omega (arith, none, length-drop size bytes, c.in_ok-request.ensures.size, c.if-size-bytes.false))

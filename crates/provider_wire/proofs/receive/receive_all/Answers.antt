@@ -1,5 +1,6 @@
-use Rattle.std.proofs.Common.{◌≡◌, ◌+◌, ◌-◌, ◌≤◌, ℕ, length, take, arith, refl, length-take, length-drop, length-append}
-use Rattle.provider_wire.proofs.Windows.{read_part, part_length}
+use Rattle.std.proofs.Common.{◌≡◌, ◌-◌, ◌≤◌, length, arith, length-drop}
+use Rattle.plain_facts.proofs.Lists.{take-put_mid_behind}
+use Rattle.provider_wire.proofs.Windows.{part_length}
 use Rattle.provider_wire.proofs.Received.{advance}
 use Rattle.provider_wire.proofs.receive.receive_all.Goals as goal
 use borrow.Rule.Slice.PartMut.{put_mid}
@@ -16,6 +17,6 @@ loop-at-preserved g c =
     let same : length (put_mid at k out part) ≡ length out = part_length out part at k size (omega arith) in
     record {
       within = omega (arith, same, few, size);
-      so_far = advance _ _ _ out (put_mid at k out part) part at n c.loop-at.invariant.so_far c.in-Ok.ensures.given same (read_part out part at k n (omega arith) few);
+      so_far = advance _ _ _ out (put_mid at k out part) part at n c.loop-at.invariant.so_far c.in-Ok.ensures.given same (take-put_mid_behind out part at k n (omega arith) few);
       untold = λ e. c.receive.ensures.untold (c.loop-at.invariant.untold e);
     }

@@ -1,17 +1,17 @@
 use Rattle.std.proofs.Common.{◌≡◌, ◌≤◌, ◌<◌, ◌-◌, false, length}
-use Rattle.hail_wire.specs.Requests.{SpellsNone, is_bad}
-use Rattle.provider_wire.specs.Seen.{as_seen}
+use Rattle.hail_wire.specs.Requests.{SpellsNoRequest, is_bad_request}
+use Rattle.provider_model.specs.Seen.{provider_seen}
 use Rattle.provider_wire.proofs.Progress.{Progress}
 use Rattle.provider_wire.proofs.server.serve_all.Given as goal
 
 abbrev pub invariant-loop-count : goal.invariant-loop-count
 invariant-loop-count g l = record {
   so_far : Progress (g.S.Source.left l.initial.source) (g.S.Source.left l.source) l.taken l.window
-      (as_seen g.P.Provider.held g.P.Provider.store_faults g.P.Provider.other_faults g.P.Provider.fetches l.initial.provider)
-      (as_seen g.P.Provider.held g.P.Provider.store_faults g.P.Provider.other_faults g.P.Provider.fetches l.provider) (g.K.Sink.written l.initial.sink) (g.K.Sink.written l.sink);
+      (provider_seen g.P.Provider l.initial.provider)
+      (provider_seen g.P.Provider l.provider) (g.K.Sink.written l.initial.sink) (g.K.Sink.written l.sink);
   within : l.taken ≤ 16777216;
-  none : SpellsNone l.window;
-  fine : is_bad l.window ≡ false;
+  none : SpellsNoRequest l.window;
+  fine : is_bad_request l.window ≡ false;
   short : length l.window < 2062;
   source_count : g.S.Source.faults l.initial.source ≤ g.S.Source.faults l.source;
   sink_count : g.K.Sink.faults l.initial.sink ≤ g.K.Sink.faults l.sink;

@@ -1,10 +1,10 @@
 use Rattle.std.proofs.Common.{arith, refl}
-use Rattle.provider_wire.specs.Reading.{symbols_in}
+use Rattle.provider_wire.specs.Reading.{symbols_read}
 use Rattle.provider_wire.proofs.Symbols.{took_more}
 use Rattle.provider_wire.proofs.symbol_bytes.take_symbols.Goals as goal
 
 pub loop-k-init : goal.loop-k-init
-unfolding symbols_in
+unfolding symbols_read
 loop-k-init c = refl
 
 pub loop-k-preserved : goal.loop-k-preserved

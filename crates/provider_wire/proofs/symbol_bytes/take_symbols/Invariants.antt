@@ -1,6 +1,6 @@
 use Rattle.std.proofs.Common.{◌≡◌, take}
-use Rattle.provider_wire.specs.Reading.{symbols_in}
+use Rattle.provider_wire.specs.Reading.{symbols_read}
 use Rattle.provider_wire.proofs.symbol_bytes.take_symbols.Given as goal
 
 abbrev pub invariant-loop-k : goal.invariant-loop-k
-invariant-loop-k l = take l.k l.out ≡ symbols_in l.k l.bytes
+invariant-loop-k l = take l.k l.out ≡ symbols_read l.k l.bytes

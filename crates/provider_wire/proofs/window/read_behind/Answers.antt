@@ -1,5 +1,5 @@
-use Rattle.std.proofs.Common.{◌≡◌, ◌-◌, ℕ, ◌≤◌, length, take, drop, arith, length-take, length-drop}
-use Rattle.provider_wire.proofs.Windows.{read_part}
+use Rattle.std.proofs.Common.{◌-◌, ◌≤◌, length, take, arith, length-take}
+use Rattle.plain_facts.proofs.Lists.{take-put_mid_behind}
 use Rattle.provider_wire.proofs.window.read_behind.Goals as goal
 
 pub returns-clause-given : goal.returns-clause-given
@@ -8,4 +8,4 @@ returns-clause-given g c =
     let out = c.read.new.out in
     let n = c.in_ok-count.count in
     let few : n ≤ length out = omega (arith, c.in_ok-count.ensures.at_most, c.read.auto.out) in
-    (take n out, read_part bytes out c.args.len (c.args.end - c.args.len) n (omega arith) few, omega (arith, length-take n out, few), c.in_ok-count.ensures.given)
+    (take n out, take-put_mid_behind bytes out c.args.len (c.args.end - c.args.len) n (omega arith) few, omega (arith, length-take n out, few), c.in_ok-count.ensures.given)

@@ -4,9 +4,10 @@ use Rattle.hail_machine.specs.Examples.{set_up}
 use Rattle.hail_machine.specs.Runs.{Moment, now, first_moments}
 use Rattle.damage_run.specs.Schedule.{name}
 use Rattle.damage_run.proofs.Points.{last_of}
-use Rattle.schedule_runs.specs.Left.{left_by}
+use Rattle.fault_run.proofs.Points.{never_by_test}
+use Rattle.schedule_runs.specs.Left.{devices_left}
 use Rattle.schedule_runs.proofs.BadLine.{first-bad}
-use Rattle.schedule_runs.proofs.Going.{goes-on, never-out, keeps-file}
+use Rattle.schedule_runs.proofs.Going.{goes-on, keeps-file}
 use Rattle.schedule_runs.proofs.Stopped.{stopped_moments, is_stopped}
 use Rattle.schedule_runs.proofs.Text.{spells, fits}
 use Rattle.schedule_runs.proofs.laws.a_schedule_has_its_run.Goals as goal
@@ -29,8 +30,8 @@ returns-clause-used c = (
   is_stopped,
   λ old new end is keeps.
       keeps-file c.acknowledged_files_survive.ensures set_up after_put (first_moments 13 stopped_moments) (last_of (first_moments 14 stopped_moments)) name
-      (record { name = name; id = 1; size = 1 }) old new end is_stopped.clean (record { done = refl; started = refl; named = refl }) (never-out name after_put refl) (λ d e. cc)
-      (goes-on set_up stopped_moments (left_by (now set_up stopped_moments)) old new end
+      (record { name = name; id = 1; size = 1; profile = 0 }) old new end is_stopped.clean (record { version = 1; done = refl; profiled = refl; started = refl; named = refl }) (never_by_test name after_put refl) (λ d e. cc)
+      (goes-on set_up stopped_moments (devices_left (now set_up stopped_moments)) old new end
       (c.runs_leave_devices.ensures.each set_up stopped_moments is_stopped.clean is_stopped.run) refl is keeps),
 )
   where

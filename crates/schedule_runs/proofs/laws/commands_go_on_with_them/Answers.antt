@@ -11,14 +11,14 @@ use Rattle.damage_run.proofs.CalmRun.{outright}
 use Rattle.damage_run.proofs.Points.{last_of}
 use Rattle.fault_run.specs.Faults.{other}
 use Rattle.fault_run.proofs.Run.{moments as faults}
-use Rattle.fault_run.proofs.Points.{faulty, event_at}
-use Rattle.schedule_runs.specs.Left.{left_by}
-use Rattle.schedule_runs.proofs.Going.{goes-on, never-out, keeps-file}
+use Rattle.fault_run.proofs.Points.{faulty, event_at, never_by_test}
+use Rattle.schedule_runs.specs.Left.{devices_left}
+use Rattle.schedule_runs.proofs.Going.{goes-on, keeps-file}
 use Rattle.schedule_runs.proofs.laws.commands_go_on_with_them.Goals as goal
 
 pub returns-clause-each : goal.returns-clause-each
 returns-clause-each c = λ start ms old new end starts run is keeps.
-    goes-on start ms (left_by (now start ms)) old new end (c.runs_leave_devices.ensures.each start ms starts run) refl is keeps
+    goes-on start ms (devices_left (now start ms)) old new end (c.runs_leave_devices.ensures.each start ms starts run) refl is keeps
 
 pub returns-clause-fresh : goal.returns-clause-fresh
 returns-clause-fresh c = λ old new end is keeps. goes-on (start_of fresh []) [] fresh old new end c.runs_leave_devices.ensures.fresh refl is keeps
@@ -41,9 +41,9 @@ returns-clause-damaged c = (
   damage,
   outright,
   λ old new end is keeps.
-      keeps-file c.acknowledged_files_survive.ensures set_up after_damage (first_moments 13 damage) (last_of (first_moments 14 damage)) name (record { name = name; id = 1; size = 1 })
-      old new end outright.clean (record { done = refl; started = refl; named = refl }) (never-out name after_damage refl) (λ d e. cc)
-      (goes-on set_up damage (left_by (now set_up damage)) old new end (c.runs_leave_devices.ensures.each set_up damage outright.clean outright.run) refl is keeps),
+      keeps-file c.acknowledged_files_survive.ensures set_up after_damage (first_moments 13 damage) (last_of (first_moments 14 damage)) name (record { name = name; id = 1; size = 1; profile = 0 })
+      old new end outright.clean (record { version = 1; done = refl; profiled = refl; started = refl; named = refl }) (never_by_test name after_damage refl) (λ d e. cc)
+      (goes-on set_up damage (devices_left (now set_up damage)) old new end (c.runs_leave_devices.ensures.each set_up damage outright.clean outright.run) refl is keeps),
 )
   where
     after_damage : List Moment
@@ -54,9 +54,9 @@ returns-clause-faulty c = (
   faults,
   faulty,
   λ old new end is keeps.
-      keeps-file c.acknowledged_files_survive.ensures set_up after_faults (first_moments 37 faults) (event_at 37) other (record { name = other; id = 3; size = 0 })
-      old new end faulty.clean (record { done = refl; started = refl; named = refl }) (never-out other after_faults refl) (λ d e. cc)
-      (goes-on set_up faults (left_by (now set_up faults)) old new end (c.runs_leave_devices.ensures.each set_up faults faulty.clean faulty.run) refl is keeps),
+      keeps-file c.acknowledged_files_survive.ensures set_up after_faults (first_moments 37 faults) (event_at 37) other (record { name = other; id = 3; size = 0; profile = 0 })
+      old new end faulty.clean (record { version = 1; done = refl; profiled = refl; started = refl; named = refl }) (never_by_test other after_faults refl) (λ d e. cc)
+      (goes-on set_up faults (devices_left (now set_up faults)) old new end (c.runs_leave_devices.ensures.each set_up faults faulty.clean faulty.run) refl is keeps),
 )
   where
     after_faults : List Moment

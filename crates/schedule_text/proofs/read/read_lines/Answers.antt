@@ -1,7 +1,7 @@
 use Rattle.std.proofs.Common.{◌+◌, subst}
 use Rattle.std.specs.Option.{option_map}
 use Rattle.schedule_text.specs.Grammar.{words}
-use Rattle.schedule_text.specs.Events.{command_of, commands_of}
+use Rattle.schedule_text.specs.Events.{event_command, commands_of}
 use Rattle.schedule_text.proofs.Again.{line-none, skipped-line, spelled-line}
 use Rattle.schedule_text.proofs.Texts.{HasRead, commands_of-push, is_bad, has_skipped, has_pushed}
 use Rattle.schedule_text.proofs.read.read_lines.Goals as goal
@@ -30,5 +30,5 @@ loop-left-preserved-in_ok-push-in-Ok-Some c =
     let event = c.in-Ok-Some.event in
     let all = commands_of-push c.loop-left.events.items c.push.new.self.items event c.in_ok-push-in-Ok-Some.ensures.items in
     subst (HasRead c.args.text.now behind (c.loop-left.number + 1)) all
-    (has_pushed c.args.text.now c.in-Some.rest.now line behind c.loop-left.number (commands_of c.loop-left.events.items) (command_of event) so_far
-    c.first_line.ensures.lines c.first_line.ensures.shorter (spelled-line (words line) (command_of event) (rw c.in-Ok-Some.field-0-is at c.in-Ok-Some.ensures)))
+    (has_pushed c.args.text.now c.in-Some.rest.now line behind c.loop-left.number (commands_of c.loop-left.events.items) (event_command event) so_far
+    c.first_line.ensures.lines c.first_line.ensures.shorter (spelled-line (words line) (event_command event) (rw c.in-Ok-Some.field-0-is at c.in-Ok-Some.ensures)))

@@ -1,5 +1,5 @@
 use Rattle.std.proofs.Common.{◌∷◌}
-use Rattle.step_laws.proofs.Doubts.{run_before}
+use Rattle.hail_machine.proofs.Given.{run_part}
 use Rattle.step_laws.proofs.Wholes.{put_running, doubt_put, came_put, came_stands}
 use Rattle.step_laws.proofs.laws.done_puts_are_whole.Goals as goal
 
@@ -14,6 +14,6 @@ returns-clause-came c limit start m ms id size clean run came = came_put limit s
 
 pub returns-clause-stay : goal.returns-clause-stay
 returns-clause-stay c limit start later ms m id size clean run came =
-    (let here = run_before limit start later (m ∷ ms) run in
+    (let here = run_part limit start later (m ∷ ms) run in
     let put = came_put limit start clean m ms here id size came in
     (put.0, put.1, came_stands limit start clean m ms here later id size run put.0 put.1))

@@ -1,6 +1,6 @@
+use Rattle.plain_facts.proofs.Each.{in_contains}
 use Rattle.hail_machine.specs.Jobs.{Fetched}
 use Rattle.hail_machine.specs.Given.{block_given}
-use Rattle.step_laws.proofs.Lists.{in_contains}
 use Rattle.step_laws.proofs.MadeFacts.{facts, given_at, fetched_at}
 use Rattle.step_laws.proofs.laws.work_has_its_fetches.Goals as goal
 

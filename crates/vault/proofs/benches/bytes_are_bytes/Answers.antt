@@ -1,6 +1,6 @@
 use Rattle.std.proofs.Common.{arith}
-use Rattle.vault.proofs.Limits.{all-bytes}
+use Rattle.record_codec.proofs.Takes.{IsBytes-all}
 use Rattle.vault.proofs.benches.bytes_are_bytes.Goals as goal
 
 pub returns : goal.returns
-returns c = all-bytes c.args.bytes.now (λ i. omega (arith, c.type_inv.bytes i))
+returns c = IsBytes-all c.args.bytes.now (λ i. omega (arith, c.type_inv.bytes i))

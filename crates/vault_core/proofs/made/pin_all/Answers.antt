@@ -1,8 +1,9 @@
 use Rattle.std.proofs.Common.{◌-◌, ◌∙◌, ap, arith}
+use Rattle.plain_facts.proofs.Lists.{get_within}
 use Rattle.vault_table.specs.Values.{file_of_entry}
 use Rattle.vault_core.specs.declared.pinned.Pinned.{Pinned}
 use Rattle.vault_core.specs.Making.{put_pin}
-use Rattle.vault_core.proofs.Pins.{pins_step, get_some}
+use Rattle.vault_core.proofs.Pins.{pins_step}
 use Rattle.vault_core.proofs.made.pin_all.Goals as goal
 
 pub loop-place-preserved : goal.loop-place-preserved
@@ -13,4 +14,4 @@ loop-place-preserved c = record {
 }
 
 pub unreachable-requires : goal.unreachable-requires
-unreachable-requires c = get_some c.args.table.now.files (c.loop-place.place - 1) (omega arith) c.in-None.ensures
+unreachable-requires c = get_within c.args.table.now.files (c.loop-place.place - 1) (omega arith) c.in-None.ensures

@@ -1,14 +1,14 @@
 use Rattle.std.proofs.Common.{◌∙◌}
-use Rattle.file_layout.specs.Files.{object_of}
+use Rattle.code_points.proofs.Steps.{keep_below}
+use Rattle.file_layout.specs.Files.{shaped_object}
 use Rattle.column_codec.specs.OpenedBlocks.{opened_of}
-use Rattle.column_codec.proofs.RowLemmas.{profile_fits}
 use Rattle.column_codec.proofs.AgreementLemmas.{has-row}
 use Rattle.column_codec.proofs.keys.ObjectKeys.carry.Goals as goal
 
 pub returns-in-None-clause-carried : goal.returns-in-None-clause-carried
 returns-in-None-clause-carried c = λ place below.
     let file = c.args.self.now.file in
-    has-row (object_of c.args.self.now.master.0 file) (opened_of c.args.marks.now c.args.blocks.now file.shape.n) c.guess.new.rows place
+    has-row (shaped_object c.args.self.now.master.0 file) (opened_of c.args.marks.now c.args.blocks.now file.shape.n) c.guess.new.rows place
     (c.guess.auto.rows ∙ c.loop-left.auto.rows ∙ c.requires.rows) below
-    (profile_fits file.profile.number file.profile.size file.profile.keep file.profile.size_is file.profile.keep_is)
+    (keep_below file.profile.number file.profile.size file.profile.keep file.profile.size_is file.profile.keep_is)
     (c.in-None.ensures.none place below)

@@ -1,6 +1,6 @@
 use Rattle.std.proofs.Common.{◌≡◌, ◌<◌, ◌∙◌, ℕ}
 use Rattle.hail_columns.specs.Opened.{GivesSymbols}
-use Rattle.file_layout.specs.Files.{object_of}
+use Rattle.file_layout.specs.Files.{shaped_object}
 use Rattle.column_codec.specs.PresentBlocks.{present_blocks}
 use Rattle.column_codec.proofs.PresentLemmas.{length-present_blocks, on_true}
 use Rattle.column_codec.proofs.RowLemmas.{profile_room}
@@ -11,7 +11,7 @@ pub returns-clause-given : goal.returns-clause-given
 returns-clause-given c =
     let keys = c.args.self.now in
     let file = keys.file in
-    let o = object_of keys.master.0 file in
+    let o = shaped_object keys.master.0 file in
     let seen = present_blocks file.profile.size c.args.present.now c.args.seen.now in
     on_true _ (GivesSymbols o c.args.stripe seen c.carry.new.rows) c.carry.result
     (marked-give o c.args.stripe seen c.mark_clean-count.new.marks c.mark_clean-count.new.out

@@ -1,14 +1,14 @@
-use Rattle.std.proofs.Common.{◌≡◌, ◌+◌, ◌*◌, ◌-◌, ◌∙◌, [], ap, sym, arith, refl, take, drop, get_or, List, ℕ}
+use Rattle.std.proofs.Common.{◌≡◌, ◌-◌, ◌∙◌, [], ap, arith, refl, take, get_or, List, ℕ}
 use Rattle.std.proofs.lemmas.List.{get_or-take}
 use Rattle.std.proofs.lemmas.List.FromFn.{fill_by_all}
-use Rattle.file_layout.specs.Files.{object_of}
+use Rattle.file_layout.specs.Files.{shaped_object}
 use Rattle.column_codec.specs.Rows.{row_value}
 use Rattle.column_codec.proofs.PresentLemmas.{part-is}
-use Rattle.column_codec.proofs.RowLemmas.{profile_fits}
 use Rattle.column_codec.proofs.WeightLemmas.{sum_first, differences_at}
 use Rattle.column_codec.proofs.KeptLemmas.{kept_more, kept_whole}
 use Rattle.hail_field.specs.Nim.{nim_add}
 use Rattle.hail_codes.specs.Sums.{dot}
+use Rattle.code_points.proofs.Steps.{keep_below}
 use Rattle.column_codec.proofs.keys.ObjectKeys.kept_into.Goals as goal
 
 pub loop-j-init : goal.loop-j-init
@@ -33,12 +33,12 @@ pub returns : goal.returns
 returns c =
     let keys = c.args.self.now in
     let file = keys.file in
-    let o = object_of keys.master.0 file in
+    let o = shaped_object keys.master.0 file in
     let end : c.loop-j.j ≡ file.shape.l = omega (arith, c.loop-j-test.false, c.loop-j.auto, c.from-j-end.ensures, file.shape.fits) in
     fill_by_all (row_value o c.args.symbols.now c.args.provider) c.loop-j.kept file.profile.keep 0 (c.loop-j.auto.kept ∙ c.copy_from_slice.ensures.len ∙ c.requires.kept)
     (λ place below.
     c.loop-j.invariant place below
     ∙ ap (λ j. nim_add (get_or c.args.symbols.now place 0) (dot (get_or keys.weights c.args.provider []) (differences_at j file.profile.keep place c.args.symbols.now (get_or c.args.symbols.now place 0)))) end
     ∙ kept_whole o c.args.symbols.now (get_or keys.weights c.args.provider []) place _ c.args.provider c.requires.symbols below
-    (profile_fits file.profile.number file.profile.size file.profile.keep file.profile.size_is file.profile.keep_is) file.shape.fits.2
+    (keep_below file.profile.number file.profile.size file.profile.keep file.profile.size_is file.profile.keep_is) file.shape.fits.2
     (keys.has_weights c.args.provider c.requires.secondary c.requires.provider) (keys.points_are c.args.provider c.requires.provider))

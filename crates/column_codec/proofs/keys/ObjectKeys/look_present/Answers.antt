@@ -1,6 +1,6 @@
 use Rattle.std.proofs.Common.{arith, Some, None, get_or}
 use Rattle.hail_columns.specs.Opened.{OpensTo}
-use Rattle.file_layout.specs.Files.{object_of}
+use Rattle.file_layout.specs.Files.{shaped_object}
 use Rattle.column_codec.specs.PresentBlocks.{present_blocks}
 use Rattle.column_codec.proofs.PresentLemmas.{opens-present, part-is, on_true}
 use Rattle.column_codec.proofs.keys.ObjectKeys.look_present.Goals as goal
@@ -9,7 +9,7 @@ pub returns : goal.returns
 returns c =
     let keys = c.args.self.now in
     let size = keys.file.profile.size in
-    let o = object_of keys.master.0 keys.file in
+    let o = shaped_object keys.master.0 keys.file in
     on_true _ (OpensTo o c.args.provider c.args.stripe (get_or (present_blocks size c.args.present.now c.args.seen.now) c.args.provider None) (Some c.look_whole.new.out)) c.look_whole.result
     (opens-present o c.args.stripe size c.args.present.now c.args.seen.now _ c.args.provider (Some c.look_whole.new.out) (omega (arith, c.requires.present, c.requires.provider))
     c.if-not-present-provider.false (part-is c.args.seen.now c.args.provider _ size c.requires.out))

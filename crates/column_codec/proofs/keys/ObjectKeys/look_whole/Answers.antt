@@ -3,7 +3,7 @@ use Rattle.std.proofs.lemmas.Bool.{OnTrue_from}
 use Rattle.code_points.specs.Profile.{plain_profile}
 use Rattle.hail_codes.specs.ServerCode.{IsCodeword, Opens}
 use Rattle.hail_columns.specs.Opened.{bare}
-use Rattle.file_layout.specs.Files.{object_of}
+use Rattle.file_layout.specs.Files.{shaped_object}
 use Rattle.server_code.proofs.Checks.{codeword_opens}
 use Rattle.column_codec.proofs.keys.ObjectKeys.look_whole.Goals as goal
 
@@ -12,7 +12,7 @@ returns c =
     let keys = c.args.self.now in
     let profile = plain_profile keys.file.profile in
     let out = c.take_masks_off.new.block in
-    let o = object_of keys.master.0 keys.file in
+    let o = shaped_object keys.master.0 keys.file in
     OnTrue_from c.is_codeword.result (Opens profile (bare o c.args.provider c.args.stripe c.args.seen.now) out)
     (λ e. subst (λ (b : List ℕ). Opens profile b out) (c.take_masks_off.ensures ∙ ap (bare o c.args.provider c.args.stripe) c.copy_from_slice.ensures.after)
     (codeword_opens profile out (rw c.requires.code at (c.is_codeword.ensures.0 e))))

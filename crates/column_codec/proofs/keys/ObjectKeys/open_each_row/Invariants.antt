@@ -1,11 +1,11 @@
 use Rattle.std.proofs.Common.{◌≡◌, ◌<◌, ℕ}
-use Rattle.file_layout.specs.Files.{object_of}
+use Rattle.file_layout.specs.Files.{shaped_object}
 use Rattle.column_codec.specs.OpenedBlocks.{opened_of, HasRow}
 use Rattle.column_codec.proofs.keys.ObjectKeys.open_each_row.Given as goal
 
 -- the rows before this one stand in their places
 abbrev pub invariant-loop-place : goal.invariant-loop-place
 invariant-loop-place l = record {
-  has : (p : ℕ) → p < l.place → HasRow (object_of l.self.master.0 l.self.file) (opened_of l.marks l.blocks l.self.file.shape.n) p l.rows;
+  has : (p : ℕ) → p < l.place → HasRow (shaped_object l.self.master.0 l.self.file) (opened_of l.marks l.blocks l.self.file.shape.n) p l.rows;
   room : l.work.size ≡ l.initial.work.size;
 }

@@ -1,17 +1,16 @@
 use Rattle.std.proofs.Common.{◌≡◌, ◌<◌, ◌∙◌, arith, ap, length, None, [], get_or, refl}
-use Rattle.std.proofs.lemmas.List.{length-set}
-use Rattle.file_layout.specs.Files.{object_of}
+use Rattle.std.proofs.lemmas.List.{length-set, get_or_default}
+use Rattle.file_layout.specs.Files.{shaped_object}
 use Rattle.column_codec.specs.PresentBlocks.{present_blocks}
 use Rattle.column_codec.proofs.PresentLemmas.{length-present_blocks}
 use Rattle.column_codec.proofs.Places.{rewritten}
-use Rattle.column_codec.proofs.RowLemmas.{get_or-within}
 use Rattle.column_codec.proofs.OpenLemmas.{opened_more, all_sizes, AllOpen-each}
 use Rattle.column_codec.proofs.keys.ObjectKeys.open_present_blocks.Goals as goal
 
 pub loop-j-preserved : goal.loop-j-preserved
 loop-j-preserved c =
     let keys = c.args.self.now in
-    let o = object_of keys.master.0 keys.file in
+    let o = shaped_object keys.master.0 keys.file in
     let seen = present_blocks keys.file.profile.size c.args.present.now c.args.seen.now in
     let j = c.loop-j.j in
     let new = c.open_present_block.new.out in
@@ -19,7 +18,7 @@ loop-j-preserved c =
     let size : length new ≡ keys.file.profile.size = omega (
       arith,
       c.open_present_block.auto.out,
-      ap length (c.deref_mut.ensures.value ∙ c.block.view_is ∙ get_or-within c.loop-j.out j c.index-out-j.result [] inside),
+      ap length (c.deref_mut.ensures.value ∙ c.block.view_is ∙ get_or_default c.loop-j.out j c.index-out-j.result [] inside),
       c.loop-j.invariant.sizes j inside,
     ) in
     let len : c.block.inside.symbols.len ≡ length new = omega (arith, c.deref_mut.ensures.len, c.open_present_block.auto.out) in
@@ -36,6 +35,6 @@ loop-j-preserved c =
 pub returns-clause-opens : goal.returns-clause-opens
 returns-clause-opens c =
     let keys = c.args.self.now in
-    AllOpen-each (object_of keys.master.0 keys.file) c.args.stripe keys.file.shape.n (present_blocks keys.file.profile.size c.args.present.now c.args.seen.now) c.loop-j.marks c.loop-j.out
+    AllOpen-each (shaped_object keys.master.0 keys.file) c.args.stripe keys.file.shape.n (present_blocks keys.file.profile.size c.args.present.now c.args.seen.now) c.loop-j.marks c.loop-j.out
     (length-present_blocks keys.file.profile.size c.args.present.now c.args.seen.now ∙ c.requires.present)
     (λ k below. c.loop-j.invariant.each k (omega (arith, below)))

@@ -1,8 +1,9 @@
 use Rattle.std.proofs.Common.{ap, ◌∙◌, arith}
 use Rattle.code_points.specs.Profile.{plain_profile}
-use Rattle.server_code.specs.Any.{profile_of}
-use Rattle.file_layout.specs.Files.{object_of}
-use Rattle.column_codec.proofs.RowLemmas.{secondary-final, profile_fits}
+use Rattle.code_points.proofs.Steps.{keep_below}
+use Rattle.server_code.specs.Any.{code_profile}
+use Rattle.file_layout.specs.Files.{shaped_object}
+use Rattle.column_codec.proofs.RowLemmas.{secondary-final}
 use Rattle.column_codec.proofs.keys.ObjectKeys.secondary_column.Goals as goal
 
 pub returns : goal.returns
@@ -10,8 +11,8 @@ returns c =
     let keys = c.args.self.now in
     let file = keys.file in
     c.add_masks.ensures
-    ∙ secondary-final (object_of keys.master.0 file) c.args.symbols.now c.encode_into.new.out c.kept_into.new.kept c.args.provider c.args.stripe
-    (plain_profile (profile_of c.args.code.now)) c.requires.symbols
-    (profile_fits file.profile.number file.profile.size file.profile.keep file.profile.size_is file.profile.keep_is)
+    ∙ secondary-final (shaped_object keys.master.0 file) c.args.symbols.now c.encode_into.new.out c.kept_into.new.kept c.args.provider c.args.stripe
+    (plain_profile (code_profile c.args.code.now)) c.requires.symbols
+    (keep_below file.profile.number file.profile.size file.profile.keep file.profile.size_is file.profile.keep_is)
     c.requires.secondary (omega (arith, c.requires.provider, file.shape.fits.1))
     (ap plain_profile c.requires.code) c.encode_into.ensures c.kept_into.ensures

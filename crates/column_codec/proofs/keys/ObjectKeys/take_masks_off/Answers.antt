@@ -1,13 +1,13 @@
 use Rattle.std.proofs.Common.{◌∙◌, arith}
-use Rattle.file_layout.specs.Files.{object_of}
+use Rattle.file_layout.specs.Files.{shaped_object}
 use Rattle.column_codec.proofs.OpenLemmas.{bare-primary, bare-secondary}
 use Rattle.column_codec.proofs.keys.ObjectKeys.take_masks_off.Goals as goal
 
 pub returns-then-provider-from : goal.returns-then-provider-from
 returns-then-provider-from c =
     c.add_masks.ensures
-    ∙ bare-secondary (object_of c.args.self.now.master.0 c.args.self.now.file) c.args.provider c.args.stripe c.args.block.now (omega arith) c.requires.block
+    ∙ bare-secondary (shaped_object c.args.self.now.master.0 c.args.self.now.file) c.args.provider c.args.stripe c.args.block.now (omega arith) c.requires.block
 
 pub returns-else-provider-from : goal.returns-else-provider-from
 returns-else-provider-from c =
-    bare-primary (object_of c.args.self.now.master.0 c.args.self.now.file) c.args.provider c.args.stripe c.args.block.now (omega arith)
+    bare-primary (shaped_object c.args.self.now.master.0 c.args.self.now.file) c.args.provider c.args.stripe c.args.block.now (omega arith)

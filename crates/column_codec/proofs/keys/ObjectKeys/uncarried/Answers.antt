@@ -1,5 +1,5 @@
 use Rattle.std.proofs.Common.{◌≡◌, ◌<◌, ◌≤◌, ◌+◌, ◌-◌, ◌∙◌, ap, arith, get_or, length, ℕ, subst}
-use Rattle.file_layout.specs.Files.{object_of}
+use Rattle.file_layout.specs.Files.{shaped_object}
 use Rattle.hail_columns.specs.Columns.{row_polynomial}
 use Rattle.hail_columns.specs.Opened.{AcceptsRow}
 use Rattle.column_codec.specs.Agreement.{agreed}
@@ -14,7 +14,7 @@ pub returns-clause-none : goal.returns-clause-none
 returns-clause-none c =
     let keys = c.args.self.now in
     let file = keys.file in
-    let o = object_of keys.master.0 file in
+    let o = shaped_object keys.master.0 file in
     let counts = c.count_all.new.counts in
     none-gives ((i : ℕ) → i < length counts → file.shape.n - file.shape.b ≤ get_or counts i 0)
     ((place : ℕ) → place < file.profile.keep → AcceptsRow o (opened_of c.args.marks.now c.args.blocks.now file.shape.n) place (row_polynomial o c.args.rows.now place)) c.first_below.result

@@ -1,7 +1,7 @@
-use Rattle.std.proofs.Common.{◌≡◌, ◌*◌, ◌+◌, ◌^◌, ◌%◌, ◌<◌, ◌∙◌, ap, sym, arith, mod-eq_of_lt}
+use Rattle.std.proofs.Common.{◌≡◌, ◌*◌, ◌+◌, ◌^◌, ◌%◌, ◌<◌, ◌∙◌, ap, arith, mod-eq_of_lt}
 use Rattle.hail_field.specs.Nim.{nim_mul}
 use Rattle.std.proofs.lemmas.Nat.{mod_below}
-use Rattle.column_codec.proofs.RowLemmas.{get_or-within}
+use Rattle.std.proofs.lemmas.List.{get_or_default}
 use Rattle.column_codec.proofs.TableLemmas.{product_more, next_rest, mul-none}
 use Rattle.column_codec.proofs.table.ConstantTable.times.Goals as goal
 
@@ -20,7 +20,7 @@ loop-half-preserved c =
       sum = c.add-sum.ensures
           ∙ product_more c.self.inside.constant c.args.symbol half c.loop-half.sum rest _
           c.loop-half.invariant.sum c.loop-half.invariant.rest
-          (get_or-within c.self.inside.entries (16 * half + rest % 16) _ 0 (omega (arith, small, c.self.invariant.full))
+          (get_or_default c.self.inside.entries (16 * half + rest % 16) _ 0 (omega (arith, small, c.self.invariant.full))
           ∙ c.self.invariant.each (16 * half + rest % 16) (omega (arith, small)));
       rest = next_rest c.args.symbol rest half c.loop-half.invariant.rest;
     }

@@ -8,4 +8,4 @@ use Rattle.disk_model.proofs.memory.MemDiskDisk.write_at.Goals as goal
 
 pub returns-then-next-clause-torn : goal.returns-then-next-clause-torn
 returns-then-next-clause-torn c =
-    λ failed. subst (λ (cells : Cells). Torn c.args.at (length c.args.bytes.now) cells c.tear_at.new.self) (ap (λ (d : DiskInMemory). d.cells) c.self.view_is) (Torn-either c.args.at c.args.bytes.now c.self.inside.inner c.tear_at.new.self c.tear_at.ensures)
+    λ failed. subst (λ (cells : Cells). Torn c.args.at (length c.args.bytes.now) cells c.tear_at.new.self.cells) (ap (λ (d : DiskInMemory). d.cells) c.self.view_is) (Torn-either c.args.at c.args.bytes.now c.self.inside.inner.cells c.tear_at.new.self.cells c.tear_at.ensures.torn)

@@ -3,17 +3,18 @@ use Rattle.std.proofs.lemmas.List.{drop_all}
 use Rattle.std.proofs.lemmas.Slice.Zip.{firsts-zip}
 use Rattle.hail_devices.specs.Cells.{reads}
 use Rattle.hail_devices.proofs.Splices.{read_part, take-nil}
+use Rattle.disk_model.specs.InMemory.{SureInMemory}
 use Rattle.disk_model.proofs.sure.SureDiskDisk.read_at.Goals as goal
 
 pub returns-then-at-len-clause-bytes : goal.returns-then-at-len-clause-bytes
 returns-then-at-len-clause-bytes c =
     let d = c.self.inside in
-    let is : reads c.args.self.now ≡ d.held.items = sym (ap reads c.self.view_is) ∙ firsts-zip d.held.items d.marks.items (omega (arith, d.held.ok.0, d.marks.ok.0, c.self.invariant)) in
+    let is : reads c.args.self.now.cells ≡ d.held.items = sym (ap (λ (disk : SureInMemory). reads disk.cells) c.self.view_is) ∙ firsts-zip d.held.items d.marks.items (omega (arith, d.held.ok.0, d.marks.ok.0, c.self.invariant)) in
     let none : drop c.args.at d.held.items ≡ [] = drop_all c.args.at d.held.items (omega (arith, d.held.ok.0)) in
     rw (is, none) (take-nil (length c.args.out.now))
 
 pub returns-clause-bytes : goal.returns-clause-bytes
 returns-clause-bytes c =
     let d = c.self.inside in
-    let is : reads c.args.self.now ≡ d.held.items = sym (ap reads c.self.view_is) ∙ firsts-zip d.held.items d.marks.items (omega (arith, d.held.ok.0, d.marks.ok.0, c.self.invariant)) in
+    let is : reads c.args.self.now.cells ≡ d.held.items = sym (ap (λ (disk : SureInMemory). reads disk.cells) c.self.view_is) ∙ firsts-zip d.held.items d.marks.items (omega (arith, d.held.ok.0, d.marks.ok.0, c.self.invariant)) in
     rw is (read_part d.held.items c.args.out.now c.copy_from_slice.new.self c.args.at c.min-n.result (omega arith) (omega arith) (search rules))

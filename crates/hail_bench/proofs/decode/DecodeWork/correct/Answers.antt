@@ -2,14 +2,14 @@ use Rattle.std.proofs.Common.{◌∙◌, ap, arith}
 use Rattle.hail_codes.specs.ServerCode.{differences}
 use Rattle.hail_codes.proofs.Profiles.{size_is}
 use Rattle.code_points.specs.Profile.{plain_profile}
-use Rattle.server_code.specs.Any.{profile_of}
+use Rattle.server_code.specs.Any.{code_profile}
 use Rattle.server_code.proofs.Linear.{opened_is_one}
 use Rattle.hail_bench.proofs.Spoiling.{spoiled_opens}
 use Rattle.hail_bench.proofs.decode.DecodeWork.correct.Goals as goal
 
 pub returns-in-Some-clause-restored : goal.returns-in-Some-clause-restored
 returns-in-Some-clause-restored c =
-    let p = profile_of c.args.self.now.code in
+    let p = code_profile c.args.self.now.code in
     let opens = spoiled_opens (plain_profile p) c.spoil.new.block c.args.block.now c.args.self.now.errors c.requires.codeword
     c.spoil.ensures.length c.spoil.ensures.spoiled c.args.self.now.errors_fit in
     opened_is_one (plain_profile p) c.spoil.new.block c.decode_in.new.block c.args.block.now
@@ -21,12 +21,12 @@ returns-in-Some-clause-changed c =
 
 pub returns-in-None-clause-changed : goal.returns-in-None-clause-changed
 returns-in-None-clause-changed c =
-    let opens = spoiled_opens (plain_profile (profile_of c.args.self.now.code)) c.spoil.new.block c.args.block.now c.args.self.now.errors c.requires.codeword
+    let opens = spoiled_opens (plain_profile (code_profile c.args.self.now.code)) c.spoil.new.block c.args.block.now c.args.self.now.errors c.requires.codeword
     c.spoil.ensures.length c.spoil.ensures.spoiled c.args.self.now.errors_fit in
     absurd (c.in-None.ensures.none opens.polynomial opens.near)
 
 pub returns-in-None-clause-restored : goal.returns-in-None-clause-restored
 returns-in-None-clause-restored c =
-    let opens = spoiled_opens (plain_profile (profile_of c.args.self.now.code)) c.spoil.new.block c.args.block.now c.args.self.now.errors c.requires.codeword
+    let opens = spoiled_opens (plain_profile (code_profile c.args.self.now.code)) c.spoil.new.block c.args.block.now c.args.self.now.errors c.requires.codeword
     c.spoil.ensures.length c.spoil.ensures.spoiled c.args.self.now.errors_fit in
     absurd (c.in-None.ensures.none opens.polynomial opens.near)

@@ -1,7 +1,7 @@
 use Rattle.std.proofs.Common.{sym, subst, List, ℕ}
 use Rattle.hail_codes.specs.ServerCode.{IsCodeword}
 use Rattle.code_points.specs.Profile.{plain_profile}
-use Rattle.server_code.specs.Any.{profile_of}
+use Rattle.server_code.specs.Any.{code_profile}
 use Rattle.server_code.proofs.Linear.{codeword_is}
 use Rattle.hail_bench.specs.Blocks.{kept_symbols}
 use Rattle.hail_bench.proofs.Mixing.{length-kept_symbols}
@@ -9,6 +9,6 @@ use Rattle.hail_bench.proofs.decode.DecodeWork.correct_all.Goals as goal
 
 pub correct-changed-requires-clause-codeword : goal.correct-changed-requires-clause-codeword
 correct-changed-requires-clause-codeword c =
-    let p = profile_of c.args.self.now.code in
+    let p = code_profile c.args.self.now.code in
     subst (λ (b : List ℕ). IsCodeword (plain_profile p) b) (sym c.loop-number.invariant.block)
     (codeword_is (plain_profile p) (kept_symbols 0 p.keep) (length-kept_symbols 0 p.keep))

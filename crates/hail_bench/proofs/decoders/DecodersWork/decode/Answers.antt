@@ -4,14 +4,14 @@ use Rattle.field_laws.specs.Field.{Apart}
 use Rattle.hail_codes.proofs.Points.{Apart-range}
 use Rattle.hail_codes.proofs.Profiles.{size_is, some_kept}
 use Rattle.code_points.specs.declared.profile.Profile.{Profile}
-use Rattle.server_code.specs.Any.{profile_of}
+use Rattle.server_code.specs.Any.{code_profile}
 use Rattle.hail_bench.proofs.decoders.DecodersWork.decode.Goals as goal
 
 pub decode_gao-requires-clause-apart : goal.decode_gao-requires-clause-apart
-decode_gao-requires-clause-apart c = subst (λ (ps : List ℕ). Apart ps) (sym c.requires.points) (Apart-range 0 (profile_of c.args.self.now.code).size)
+decode_gao-requires-clause-apart c = subst (λ (ps : List ℕ). Apart ps) (sym c.requires.points) (Apart-range 0 (code_profile c.args.self.now.code).size)
 
 pub decode_gao-requires-clause-even : goal.decode_gao-requires-clause-even
-decode_gao-requires-clause-even c = ap length c.requires.points ∙ length-range_with_len 0 (profile_of c.args.self.now.code).size ∙ sym c.requires.word
+decode_gao-requires-clause-even c = ap length c.requires.points ∙ length-range_with_len 0 (code_profile c.args.self.now.code).size ∙ sym c.requires.word
 
 pub decode_gao-requires-clause-keep : goal.decode_gao-requires-clause-keep
 decode_gao-requires-clause-keep c = let p = c.profile-profile.result in omega (arith, p.keep_is, some_kept p.number)
@@ -23,13 +23,13 @@ decode_gao-requires-clause-enough c =
 
 pub decode_gao-requires-clause-room : goal.decode_gao-requires-clause-room
 decode_gao-requires-clause-room c =
-    omega (arith, ap length c.requires.points, length-range_with_len 0 (profile_of c.args.self.now.code).size, c.requires.room)
+    omega (arith, ap length c.requires.points, length-range_with_len 0 (code_profile c.args.self.now.code).size, c.requires.room)
 
 pub decode_syndromes-requires-clause-apart : goal.decode_syndromes-requires-clause-apart
-decode_syndromes-requires-clause-apart c = subst (λ (ps : List ℕ). Apart ps) (sym c.requires.points) (Apart-range 0 (profile_of c.args.self.now.code).size)
+decode_syndromes-requires-clause-apart c = subst (λ (ps : List ℕ). Apart ps) (sym c.requires.points) (Apart-range 0 (code_profile c.args.self.now.code).size)
 
 pub decode_syndromes-requires-clause-even : goal.decode_syndromes-requires-clause-even
-decode_syndromes-requires-clause-even c = ap length c.requires.points ∙ length-range_with_len 0 (profile_of c.args.self.now.code).size ∙ sym c.requires.word
+decode_syndromes-requires-clause-even c = ap length c.requires.points ∙ length-range_with_len 0 (code_profile c.args.self.now.code).size ∙ sym c.requires.word
 
 pub decode_syndromes-requires-clause-keep : goal.decode_syndromes-requires-clause-keep
 decode_syndromes-requires-clause-keep c = let p = c.profile-profile.result in omega (arith, p.keep_is, some_kept p.number)
@@ -41,4 +41,4 @@ decode_syndromes-requires-clause-enough c =
 
 pub decode_syndromes-requires-clause-room : goal.decode_syndromes-requires-clause-room
 decode_syndromes-requires-clause-room c =
-    omega (arith, ap length c.requires.points, length-range_with_len 0 (profile_of c.args.self.now.code).size, c.requires.room)
+    omega (arith, ap length c.requires.points, length-range_with_len 0 (code_profile c.args.self.now.code).size, c.requires.room)

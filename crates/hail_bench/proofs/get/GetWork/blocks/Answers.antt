@@ -1,6 +1,6 @@
 use Rattle.std.proofs.Common.{◌≡◌, ◌≤◌, ◌+◌, ◌*◌, ◌∙◌, ap, take, drop, length, subst, sym, ℕ}
 use Rattle.hail_columns.specs.Objects.{stripes}
-use Rattle.file_layout.specs.Files.{object_of}
+use Rattle.file_layout.specs.Files.{shaped_object}
 use Rattle.hail_bench.specs.declared.stripes.TheConstants.{MASTER}
 use Rattle.hail_bench.proofs.StripeLemmas.{stripe_within, length-part}
 use Rattle.hail_bench.proofs.get.GetWork.blocks.Goals as goal
@@ -11,7 +11,7 @@ part-requires c =
     let file = self.coded.file in
     let size = file.profile.size in
     subst (λ (n : ℕ). c.args.stripe * (n * size) + n * size ≤ length c.deref.result.now) (sym c.from.ensures)
-    (stripe_within c.args.stripe (stripes (object_of MASTER.0 file) file.length) file.shape.n size (length c.deref.result.now) c.requires
+    (stripe_within c.args.stripe (stripes (shaped_object MASTER.0 file) file.length) file.shape.n size (length c.deref.result.now) c.requires
     (ap length c.deref.ensures.value ∙ self.seen_are.whole))
 
 pub returns : goal.returns
@@ -24,6 +24,6 @@ returns c =
     c.part.ensures ∙ (λ i. take (c.from.ensures i * size) (drop (c.args.stripe * (c.from.ensures i * size)) (c.deref.ensures.value i))) in
     record {
       size = ap length part ∙ length-part (c.args.stripe * (n * size)) (n * size) self.seen.items
-          (stripe_within c.args.stripe (stripes (object_of MASTER.0 file) file.length) n size (length self.seen.items) c.requires self.seen_are.whole);
+          (stripe_within c.args.stripe (stripes (shaped_object MASTER.0 file) file.length) n size (length self.seen.items) c.requires self.seen_are.whole);
       part = part;
     }

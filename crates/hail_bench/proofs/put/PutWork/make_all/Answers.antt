@@ -1,7 +1,7 @@
 use Rattle.std.proofs.Common.{◌≡◌, ◌∙◌, ap, map, List, ℕ}
 use Rattle.hail_codes.specs.Points.{upto}
 use Rattle.hail_columns.specs.Columns.{columns}
-use Rattle.file_layout.specs.Files.{object_of}
+use Rattle.file_layout.specs.Files.{shaped_object}
 use Rattle.hail_bench.specs.Stripes.{file_bytes}
 use Rattle.hail_bench.proofs.StripeLemmas.{making_more}
 use Rattle.hail_bench.proofs.put.PutWork.make_all.Goals as goal
@@ -15,7 +15,7 @@ loop-stripe-preserved c =
     let bytes : c.deref.result.now ≡ file_bytes file.length = c.deref.ensures.value ∙ self.bytes_are in
     record {
       sum = c.mix_blocks-sum.ensures
-          ∙ making_more (object_of c.args.keys.now.master.0 file) (file_bytes file.length) stripe c.loop-stripe.sum c.encode_stripe.new.out c.loop-stripe.invariant.sum
-          (made ∙ ap (λ (bs : List ℕ). map (λ (j : ℕ). columns (object_of c.args.keys.now.master.0 file) bs j stripe) (upto file.shape.n)) bytes);
+          ∙ making_more (shaped_object c.args.keys.now.master.0 file) (file_bytes file.length) stripe c.loop-stripe.sum c.encode_stripe.new.out c.loop-stripe.invariant.sum
+          (made ∙ ap (λ (bs : List ℕ). map (λ (j : ℕ). columns (shaped_object c.args.keys.now.master.0 file) bs j stripe) (upto file.shape.n)) bytes);
       sizes = rw c.requires.file at c.encode_stripe.ensures.sizes;
     }

@@ -1,7 +1,8 @@
 use Rattle.std.proofs.Common.{sym, ◌∙◌}
 use Rattle.hail_client.proofs.Begun.{init-open, init-closed}
-use Rattle.hail_client.proofs.Anew.{by-told, untold, closed-standing, goes-same, left-same}
+use Rattle.hail_client.proofs.Anew.{by-told, untold, closed-standing, left-same}
 use Rattle.record_codec.specs.Entries.{with_master}
+use Rattle.hail_openings.proofs.Resyncs.{resynced-same}
 use Rattle.hail_client.proofs.client.Client.init.Goals as goal
 
 pub returns-then-is_some-clause-machine : goal.returns-then-is_some-clause-machine
@@ -14,7 +15,7 @@ returns-clause-machine g c = λ w providers moment told stands.
     (g.D.Disk.faults c.args.disk.now) (g.D.Disk.faults c.init.new.disk) providers c.init.result (sym c.is_some.ensures ∙ c.if-is_some.false) told (c.init.ensures.machine w providers moment) stands
 
 pub returns-then-is_some-clause-looked : goal.returns-then-is_some-clause-looked
-returns-then-is_some-clause-looked g c = λ unwritten. goes-same (g.D.Disk.holds c.args.disk.now)
+returns-then-is_some-clause-looked g c = λ unwritten. resynced-same (g.D.Disk.holds c.args.disk.now)
 
 pub returns-then-is_some-clause-left : goal.returns-then-is_some-clause-left
 returns-then-is_some-clause-left g c = left-same (with_master c.args.setup.now c.args.master.now.0) (g.D.Disk.holds c.args.disk.now)

@@ -5,14 +5,14 @@ use Rattle.std.proofs.lemmas.List.{length-map, map-set}
 use Rattle.std.proofs.lemmas.Option.{slice_get-get_or, slice_get-map}
 use Rattle.hail_devices.specs.Providers.{without_block}
 use Rattle.hail_machine.specs.Events.{Lose, IsSpelled}
-use Rattle.vault.specs.Devices.{as_seen}
+use Rattle.provider_model.specs.Seen.{provider_seen}
 use Rattle.hail_client.proofs.Replaced.{not-handed, handed}
 use Rattle.hail_client.proofs.client.Client.lose.Goals as goal
 
 pub returns-then-index-providers : goal.returns-then-index-providers
 returns-then-index-providers g c = record {
   machine = λ w holds faults moment stands.
-      (let seen = as_seen g.P.Provider.held g.P.Provider.store_faults g.P.Provider.other_faults g.P.Provider.fetches in
+      (let seen = provider_seen g.P.Provider in
       let spelled : IsSpelled (Lose c.args.provider c.args.object c.args.stripe) = ((let a = c.ranges.provider.fits in omega (arith, a)), (let a = c.ranges.object.fits in omega (arith, a)), (let a = c.ranges.stripe.fits in omega (arith, a))) in
       not-handed (Lose c.args.provider c.args.object c.args.stripe) w moment c.args.provider (λ blocks. IsSome (blocks c.args.object c.args.stripe)) (without_block c.args.object c.args.stripe) c.args.self.now holds faults (map seen c.args.providers.now) spelled (λ outcome new h. h)
       (let size = length-map c.args.providers.now seen in let beyond = c.if-index-providers.true in omega (arith, size, beyond)) stands);
@@ -21,7 +21,7 @@ returns-then-index-providers g c = record {
 pub returns : goal.returns
 returns g c = record {
   machine = λ w holds faults moment stands.
-      (let seen = as_seen g.P.Provider.held g.P.Provider.store_faults g.P.Provider.other_faults g.P.Provider.fetches in
+      (let seen = provider_seen g.P.Provider in
       let spelled : IsSpelled (Lose c.args.provider c.args.object c.args.stripe) = ((let a = c.ranges.provider.fits in omega (arith, a)), (let a = c.ranges.object.fits in omega (arith, a)), (let a = c.ranges.stripe.fits in omega (arith, a))) in
       handed (Lose c.args.provider c.args.object c.args.stripe) w moment c.args.provider (λ blocks. IsSome (blocks c.args.object c.args.stripe)) (without_block c.args.object c.args.stripe) c.args.self.now holds faults (map seen c.args.providers.now) _ _ _ c.lose_of.result spelled (λ outcome new h. h)
       (let size = length-map c.args.providers.now seen in let within = c.if-index-providers.false in omega (arith, size, within))

@@ -2,19 +2,19 @@ use Rattle.std.proofs.Common.{◌≡◌, List, true, length, map}
 use Rattle.std.specs.Prelude.{is_some}
 use Rattle.hail_machine.specs.Runs.{Moment}
 use Rattle.hail_machine.specs.States.{State}
-use Rattle.vault.specs.Devices.{as_seen, devices}
-use Rattle.hail_client.specs.Client.{is_open, left_of}
+use Rattle.vault.specs.Devices.{devices_seen}
+use Rattle.hail_client.specs.Client.{is_open, client_left}
 use Rattle.hail_client.specs.Stands.{IsStanding, IsReached}
 use Rattle.hail_client.proofs.Runs.{IsOnWay}
 use Rattle.hail_client.proofs.client.Client.run.Given as goal
 
 abbrev pub invariant-loop-turn : goal.invariant-loop-turn
 invariant-loop-turn g l = ((start : State) (ms : List Moment)
-    → IsReached start ms l.initial.self (devices (g.D.Disk.holds l.initial.disk) (g.D.Disk.faults l.initial.disk) (map (as_seen g.P.Provider.held g.P.Provider.store_faults g.P.Provider.other_faults g.P.Provider.fetches) l.initial.providers))
-    → IsOnWay start ms l.job l.self (devices (g.D.Disk.holds l.disk) (g.D.Disk.faults l.disk) (map (as_seen g.P.Provider.held g.P.Provider.store_faults g.P.Provider.other_faults g.P.Provider.fetches) l.providers)))
-    × (is_open l.self ≡ true → IsStanding l.self (devices (g.D.Disk.holds l.disk) (g.D.Disk.faults l.disk) (map (as_seen g.P.Provider.held g.P.Provider.store_faults g.P.Provider.other_faults g.P.Provider.fetches) l.providers)))
+    → IsReached start ms l.initial.self (devices_seen g.D.Disk g.P.Provider l.initial.disk l.initial.providers)
+    → IsOnWay start ms l.job l.self (devices_seen g.D.Disk g.P.Provider l.disk l.providers))
+    × (is_open l.self ≡ true → IsStanding l.self (devices_seen g.D.Disk g.P.Provider l.disk l.providers))
     × (length l.providers ≡ length l.initial.providers)
     × (is_some (g.D.Disk.holds l.disk) ≡ is_some (g.D.Disk.holds l.initial.disk))
 
 abbrev pub decreases-loop-turn : goal.decreases-loop-turn
-decreases-loop-turn g l = left_of l.self l.job
+decreases-loop-turn g l = client_left l.self l.job

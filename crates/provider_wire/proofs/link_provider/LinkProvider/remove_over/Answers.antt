@@ -1,5 +1,5 @@
 use Rattle.std.proofs.Common.{◌≡◌, refl, sym, ap, ◌∙◌, subst, arith, List, []}
-use Rattle.hail_wire.specs.Requests.{Remove, Spells}
+use Rattle.hail_wire.specs.Requests.{Remove, SpellsRequest}
 use Rattle.provider_wire.specs.Linked.{out_of_step}
 use Rattle.provider_wire.proofs.Outcomes.{remove_done, remove_failed, remove_steps}
 use Rattle.provider_wire.proofs.Counting.{went, lost}
@@ -10,7 +10,7 @@ returns-then-eq-clause-answered g c =
     let p = c.args.self.now in
     let q = c.request-answer.new.self in
     let e = c.request-answer.ensures in
-    let spelled = subst (λ (l : List _). Spells l (Remove c.args.object)) (sym c.as_slice.ensures) c.remove_frame-frame.ensures in
+    let spelled = subst (λ (l : List _). SpellsRequest l (Remove c.args.object)) (sym c.as_slice.ensures) c.remove_frame-frame.ensures in
     remove_done (Remove c.args.object) (g.L.Link.behind p.link) (g.L.Link.behind q.link) c.request-answer.result _ p.store_faults p.other_faults p.fetches q.store_faults q.other_faults q.fetches
     (λ b is. e.told b (Remove c.args.object) is spelled refl) e.untold c.args.object refl (sym c.eq.ensures ∙ c.if-eq.true) e.store_faults e.other_faults e.fetches
 
@@ -19,7 +19,7 @@ invariant_of-self g c =
     let p = c.args.self.now in
     let q = c.request-answer.new.self in
     let e = c.request-answer.ensures in
-    let spelled = subst (λ (l : List _). Spells l (Remove c.args.object)) (sym c.as_slice.ensures) c.remove_frame-frame.ensures in
+    let spelled = subst (λ (l : List _). SpellsRequest l (Remove c.args.object)) (sym c.as_slice.ensures) c.remove_frame-frame.ensures in
     record {
       in_step = ap (out_of_step (g.L.Link.behind q.link)) c.ne-self.ensures
           ∙ remove_steps (Remove c.args.object) (g.L.Link.behind p.link) (g.L.Link.behind q.link) c.request-answer.result _ 0 0 0 0 0 0
@@ -31,7 +31,7 @@ returns-clause-answered g c =
     let p = c.args.self.now in
     let q = c.request-answer.new.self in
     let e = c.request-answer.ensures in
-    let spelled = subst (λ (l : List _). Spells l (Remove c.args.object)) (sym c.as_slice.ensures) c.remove_frame-frame.ensures in
+    let spelled = subst (λ (l : List _). SpellsRequest l (Remove c.args.object)) (sym c.as_slice.ensures) c.remove_frame-frame.ensures in
     remove_failed (Remove c.args.object) (g.L.Link.behind p.link) (g.L.Link.behind q.link) c.request-answer.result _ p.store_faults p.other_faults p.fetches q.store_faults c.saturating_add-self.result q.fetches
     (λ b is. e.told b (Remove c.args.object) is spelled refl) e.untold c.args.object refl (sym c.eq.ensures ∙ c.if-eq.false) e.store_faults (omega (arith, c.saturating_add-self.ensures, e.other_faults)) e.fetches (omega (arith, e.other_faults))
 

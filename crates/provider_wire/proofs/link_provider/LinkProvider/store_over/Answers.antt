@@ -1,5 +1,5 @@
 use Rattle.std.proofs.Common.{◌≡◌, ◌<◌, ◌^◌, refl, sym, ap, ◌∙◌, subst, arith, List, []}
-use Rattle.hail_wire.specs.Requests.{Store, Spells}
+use Rattle.hail_wire.specs.Requests.{Store, SpellsRequest}
 use Rattle.provider_wire.specs.Linked.{out_of_step}
 use Rattle.provider_wire.proofs.Outcomes.{store_done, store_no_room, store_failed, store_steps}
 use Rattle.provider_wire.proofs.Counting.{went, lost}
@@ -11,7 +11,7 @@ returns-then-eq-clause-answered g c =
     let q = c.request-answer.new.self in
     let e = c.request-answer.ensures in
     let r = Store c.args.object c.args.stripe c.args.block.now in
-    let spelled = subst (λ (l : List _). Spells l (Store c.args.object c.args.stripe c.args.block.now)) (sym c.as_slice.ensures) c.store_frame-frame.ensures in
+    let spelled = subst (λ (l : List _). SpellsRequest l (Store c.args.object c.args.stripe c.args.block.now)) (sym c.as_slice.ensures) c.store_frame-frame.ensures in
     store_done r (g.L.Link.behind p.link) (g.L.Link.behind q.link) c.request-answer.result _ p.store_faults p.other_faults p.fetches q.store_faults q.other_faults q.fetches (λ b is. e.told b r is spelled refl) e.untold c.args.object c.args.stripe c.args.block.now refl (sym c.eq.ensures ∙ c.if-eq.true) e.store_faults e.other_faults e.fetches
 
 pub returns-then-eq-2-clause-answered : goal.returns-then-eq-2-clause-answered
@@ -20,7 +20,7 @@ returns-then-eq-2-clause-answered g c =
     let q = c.request-answer.new.self in
     let e = c.request-answer.ensures in
     let r = Store c.args.object c.args.stripe c.args.block.now in
-    let spelled = subst (λ (l : List _). Spells l (Store c.args.object c.args.stripe c.args.block.now)) (sym c.as_slice.ensures) c.store_frame-frame.ensures in
+    let spelled = subst (λ (l : List _). SpellsRequest l (Store c.args.object c.args.stripe c.args.block.now)) (sym c.as_slice.ensures) c.store_frame-frame.ensures in
     store_no_room r (g.L.Link.behind p.link) (g.L.Link.behind q.link) c.request-answer.result _ p.store_faults p.other_faults p.fetches q.store_faults q.other_faults q.fetches (λ b is. e.told b r is spelled refl) e.untold c.args.object c.args.stripe c.args.block.now refl (sym c.eq-2.ensures ∙ c.if-eq-2.true) e.store_faults e.other_faults e.fetches
 
 pub invariant_of-self : goal.invariant_of-self
@@ -29,7 +29,7 @@ invariant_of-self g c =
     let q = c.request-answer.new.self in
     let e = c.request-answer.ensures in
     let r = Store c.args.object c.args.stripe c.args.block.now in
-    let spelled = subst (λ (l : List _). Spells l (Store c.args.object c.args.stripe c.args.block.now)) (sym c.as_slice.ensures) c.store_frame-frame.ensures in
+    let spelled = subst (λ (l : List _). SpellsRequest l (Store c.args.object c.args.stripe c.args.block.now)) (sym c.as_slice.ensures) c.store_frame-frame.ensures in
     record { in_step = ap (out_of_step (g.L.Link.behind q.link)) c.ne-self.ensures ∙ store_steps r (g.L.Link.behind p.link) (g.L.Link.behind q.link) c.request-answer.result _ 0 0 0 0 0 0 (λ b is. e.told b r is spelled refl) e.untold c.args.object c.args.stripe c.args.block.now refl (sym c.eq.ensures ∙ c.if-eq.false) (sym c.eq-2.ensures ∙ c.if-eq-2.false) }
 
 pub returns-clause-answered : goal.returns-clause-answered
@@ -38,7 +38,7 @@ returns-clause-answered g c =
     let q = c.request-answer.new.self in
     let e = c.request-answer.ensures in
     let r = Store c.args.object c.args.stripe c.args.block.now in
-    let spelled = subst (λ (l : List _). Spells l (Store c.args.object c.args.stripe c.args.block.now)) (sym c.as_slice.ensures) c.store_frame-frame.ensures in
+    let spelled = subst (λ (l : List _). SpellsRequest l (Store c.args.object c.args.stripe c.args.block.now)) (sym c.as_slice.ensures) c.store_frame-frame.ensures in
     store_failed r (g.L.Link.behind p.link) (g.L.Link.behind q.link) c.request-answer.result _ p.store_faults p.other_faults p.fetches c.saturating_add-self.result q.other_faults q.fetches (λ b is. e.told b r is spelled refl) e.untold c.args.object c.args.stripe c.args.block.now refl (sym c.eq.ensures ∙ c.if-eq.false) (sym c.eq-2.ensures ∙ c.if-eq-2.false) (omega (arith, c.saturating_add-self.ensures, e.store_faults)) e.other_faults e.fetches (omega (arith, e.store_faults))
 
 pub returns-then-eq-clause-counts : goal.returns-then-eq-clause-counts

@@ -1,6 +1,7 @@
 use Rattle.std.proofs.Common.{◌≡◌, ◌+◌, ◌*◌, length, take, ap, ◌∙◌, arith, length-append}
 use Rattle.hail_columns.specs.Objects.{bytes_of_symbols}
-use Rattle.provider_wire.proofs.Symbols.{symbol_size, length-front, pushed_more}
+use Rattle.hail_columns.proofs.SymbolBytes.{length-symbol}
+use Rattle.provider_wire.proofs.Symbols.{length-front, pushed_more}
 use Rattle.provider_wire.proofs.piece.Piece.push_symbols.Goals as goal
 
 pub push-requires : goal.push-requires
@@ -10,7 +11,7 @@ push-requires c =
     let front = bytes_of_symbols (take i symbols) in
     let size : length front ≡ 16 * i = length-front symbols i (omega arith) in
     let now : length c.loop-symbol.self ≡ length c.args.self.now + length front = ap length c.loop-symbol.invariant ∙ length-append c.args.self.now front in
-    let more : length c.to_bytes.result ≡ 16 = ap length c.to_bytes.ensures ∙ symbol_size c.symbol-item.result in
+    let more : length c.to_bytes.result ≡ 16 = ap length c.to_bytes.ensures ∙ length-symbol c.symbol-item.result in
     omega (arith, size, now, more)
 
 pub loop-symbol-preserved : goal.loop-symbol-preserved

@@ -4,7 +4,7 @@ use Rattle.std.proofs.lemmas.Bool.{false≢true}
 use Rattle.std.proofs.lemmas.List.{length-map, map-set}
 use Rattle.std.proofs.lemmas.Option.{slice_get-get_or, slice_get-map}
 use Rattle.hail_records.specs.Records.{Setup}
-use Rattle.vault.specs.Devices.{as_seen}
+use Rattle.provider_model.specs.Seen.{provider_seen}
 use Rattle.vault.specs.Running.{place_in}
 use Rattle.vault.specs.declared.tasks.Running.{Running}
 use Rattle.vault.proofs.AskJoin.{put_there, ask_there, tell_there, ask_step}
@@ -21,7 +21,7 @@ returns-in_err-place-clause-machine g c = λ w moment holds faults stands.
 pub returns-then-index-providers-clause-machine : goal.returns-then-index-providers-clause-machine
 returns-then-index-providers-clause-machine g c = λ w moment holds faults stands.
     let less = provider_there c.args.self.now w holds faults c.args.job _ _ _ _ stands c.requires in
-    omega (arith, less, length-map c.args.providers.now (as_seen g.P.Provider.held g.P.Provider.store_faults g.P.Provider.other_faults g.P.Provider.fetches), c.if-index-providers.true)
+    omega (arith, less, length-map c.args.providers.now (provider_seen g.P.Provider), c.if-index-providers.true)
 
 pub returns-in_err-question-clause-machine : goal.returns-in_err-question-clause-machine
 returns-in_err-question-clause-machine g c = λ w moment holds faults stands.
@@ -46,7 +46,7 @@ returns-clause-machine g c = λ w moment holds faults stands.
     let at = ap (λ (l : List Running). place_in l c.args.job) (sym c.deref.ensures.value) ∙ sym c.in_ok-place.ensures in
     let there = item_at c.args.self.now.jobs.items c.args.job c.in_ok-place.place c.index_mut.result.now at c.index_mut.ensures.value in
     let made = c.in_ok-ask.ensures.asked in
-    let seen = as_seen g.P.Provider.held g.P.Provider.store_faults g.P.Provider.other_faults g.P.Provider.fetches in
+    let seen = provider_seen g.P.Provider in
     ask_step c.args.self.now w holds faults moment c.args.job _ _ _ _ stands c.requires c.in_ok-place.place c.index_mut.result.now at there c.in_ok-question.question c.in_ok-question.ensures.is
     _ _ _ _ (record { number = c.index_mut.result.now.number; task = c.ask.new.self }) made.0 _ c.is_last_ask-is_last.result c.in_ok-reply.reply refl made.1 made.2
     (slice_get-map seen c.args.providers.now c.args.provider ∙ ap (option_map seen) (slice_get-get_or c.args.providers.now c.args.provider c.index-providers-index.result (omega (arith, c.if-index-providers.false))))

@@ -1,13 +1,13 @@
 use Rattle.std.proofs.Common.{◌≡◌, ◌*◌, ℕ, Some, [], ap, ◌∙◌, arith}
 use Rattle.hail_columns.specs.Objects.{stripes}
-use Rattle.vault.specs.Asking.{object_put}
+use Rattle.vault.specs.Asking.{vault_object}
 use Rattle.vault.proofs.vault.Vault.question.Goals as goal
 
 pub returns-then-rows-lt1-clause-there : goal.returns-then-rows-lt1-clause-there
 returns-then-rows-lt1-clause-there c = λ p.
     let f : Some c.in_ok-length.length ≡ Some p.size = c.in_ok-length.ensures ∙ p.length_is in
     let e : p.size ≡ c.in_ok-length.length = cc in
-    absurd (omega (arith, ap (λ (m : ℕ). stripes (object_put c.args.self.now c.args.object) m * c.args.self.now.profile.size) e, p.rows, c.rows.ensures.value [], c.if-rows-lt1.true))
+    absurd (omega (arith, ap (λ (m : ℕ). stripes (vault_object c.args.self.now c.args.object) m * c.args.self.now.profile.size) e, p.rows, c.rows.ensures.value [], c.if-rows-lt1.true))
 
 pub invariant_of-result : goal.invariant_of-result
 invariant_of-result c = record {

@@ -1,12 +1,12 @@
 use Rattle.std.proofs.Common.{List, ℕ, sym, subst, arith}
 use Rattle.std.specs.Prelude.{IfSome}
+use Rattle.hail_records.proofs.Standing.{text_size-least}
 use Rattle.hail_openings.specs.Journals.{journal_read}
 use Rattle.vault.specs.Causes.{IsStartFault}
 use Rattle.vault.specs.declared.fault.StartFault.{StartFault}
 use Rattle.vault.proofs.Answers.{ok-still, err-still, err-from}
 use Rattle.vault.proofs.Opened.{IsLookedAt, short_fault, fold_fault, fresh_fault, setup-limits, read, carries, stands}
 use Rattle.vault.proofs.vault.Vault.start.Goals as goal
-use Rattle.vault.proofs.Texts.{least_size}
 
 pub returns-in_default-clause-refused : goal.returns-in_default-clause-refused
 returns-in_default-clause-refused g c =
@@ -30,7 +30,7 @@ pub open_fresh-requires-clause-least : goal.open_fresh-requires-clause-least
 open_fresh-requires-clause-least g c =
     let folded = c.in_ok-table.ensures.ok in
     let end = folded.1.end_is in
-    omega (arith, end, least_size folded.0)
+    omega (arith, end, text_size-least folded.0)
 
 pub returns-clause-opened : goal.returns-clause-opened
 returns-clause-opened g c =

@@ -3,7 +3,7 @@ use Rattle.std.specs.Option.{option_map}
 use Rattle.std.proofs.lemmas.Bool.{false≢true}
 use Rattle.std.proofs.lemmas.List.{length-map, map-set}
 use Rattle.std.proofs.lemmas.Option.{slice_get-get_or, slice_get-map}
-use Rattle.vault.specs.Devices.{as_seen}
+use Rattle.provider_model.specs.Seen.{provider_seen}
 use Rattle.vault.specs.Running.{place_in}
 use Rattle.vault.specs.declared.tasks.Running.{Running}
 use Rattle.vault.proofs.JobPlaces.{item_at}
@@ -19,7 +19,7 @@ returns-in_err-place-clause-machine g c = λ w moment holds faults stands.
 pub returns-then-index-providers-clause-machine : goal.returns-then-index-providers-clause-machine
 returns-then-index-providers-clause-machine g c = λ w moment holds faults stands.
     let less = provider_there c.args.self.now w holds faults moment c.args.job _ _ _ _ stands c.requires in
-    omega (arith, less, length-map c.args.providers.now (as_seen g.P.Provider.held g.P.Provider.store_faults g.P.Provider.other_faults g.P.Provider.fetches), c.if-index-providers.true)
+    omega (arith, less, length-map c.args.providers.now (provider_seen g.P.Provider), c.if-index-providers.true)
 
 pub returns-in_err-store-clause-machine : goal.returns-in_err-store-clause-machine
 returns-in_err-store-clause-machine g c = λ w moment holds faults stands.
@@ -31,7 +31,7 @@ pub returns-in-Ok-clause-machine : goal.returns-in-Ok-clause-machine
 returns-in-Ok-clause-machine g c = λ w moment holds faults stands.
     let at = ap (λ (l : List Running). place_in l c.args.job) (sym c.deref.ensures.value) ∙ sym c.in_ok-place.ensures in
     let there = item_at c.args.self.now.jobs.items c.args.job c.in_ok-place.place c.index_mut.result.now at c.index_mut.ensures.value in
-    let seen = as_seen g.P.Provider.held g.P.Provider.store_faults g.P.Provider.other_faults g.P.Provider.fetches in
+    let seen = provider_seen g.P.Provider in
     store_step c.args.self.now w holds faults moment c.args.job _ _ _ _ stands c.requires c.in_ok-place.place c.index_mut.result.now at there
     (record { number = c.index_mut.result.now.number; task = c.store.new.self }) refl c.in_ok-store.ensures.keeps _ _ _
     (slice_get-map seen c.args.providers.now c.args.provider ∙ ap (option_map seen) (slice_get-get_or c.args.providers.now c.args.provider c.index-providers-index.result (omega (arith, c.if-index-providers.false))))
@@ -42,7 +42,7 @@ pub returns-in-Err-Failed-clause-machine : goal.returns-in-Err-Failed-clause-mac
 returns-in-Err-Failed-clause-machine g c = λ w moment holds faults stands.
     let at = ap (λ (l : List Running). place_in l c.args.job) (sym c.deref.ensures.value) ∙ sym c.in_ok-place.ensures in
     let there = item_at c.args.self.now.jobs.items c.args.job c.in_ok-place.place c.index_mut.result.now at c.index_mut.ensures.value in
-    let seen = as_seen g.P.Provider.held g.P.Provider.store_faults g.P.Provider.other_faults g.P.Provider.fetches in
+    let seen = provider_seen g.P.Provider in
     failed_step c.args.self.now w holds faults moment c.args.job _ _ _ _ stands c.requires c.in_ok-place.place c.index_mut.result.now at there
     (record { number = c.index_mut.result.now.number; task = c.store.new.self }) refl c.in_ok-store.ensures.keeps _ _ _
     (slice_get-map seen c.args.providers.now c.args.provider ∙ ap (option_map seen) (slice_get-get_or c.args.providers.now c.args.provider c.index-providers-index.result (omega (arith, c.if-index-providers.false))))
@@ -54,7 +54,7 @@ pub returns-in-Err-Memory-clause-machine : goal.returns-in-Err-Memory-clause-mac
 returns-in-Err-Memory-clause-machine g c = λ w moment holds faults stands.
     let at = ap (λ (l : List Running). place_in l c.args.job) (sym c.deref.ensures.value) ∙ sym c.in_ok-place.ensures in
     let there = item_at c.args.self.now.jobs.items c.args.job c.in_ok-place.place c.index_mut.result.now at c.index_mut.ensures.value in
-    let seen = as_seen g.P.Provider.held g.P.Provider.store_faults g.P.Provider.other_faults g.P.Provider.fetches in
+    let seen = provider_seen g.P.Provider in
     no_memory_step c.args.self.now w holds faults moment c.args.job _ _ _ _ stands c.requires c.in_ok-place.place c.index_mut.result.now at there
     (record { number = c.index_mut.result.now.number; task = c.store.new.self }) refl c.in_ok-store.ensures.keeps _ _ _
     (slice_get-map seen c.args.providers.now c.args.provider ∙ ap (option_map seen) (slice_get-get_or c.args.providers.now c.args.provider c.index-providers-index.result (omega (arith, c.if-index-providers.false))))

@@ -3,10 +3,11 @@ use Rattle.std.specs.Prelude.{sum_by}
 use Rattle.hail_records.specs.Records.{largest_journal}
 use Rattle.vault_core.specs.declared.job.Job.{Job}
 use Rattle.vault_core.specs.View.{CoreView}
-use Rattle.vault_core.specs.Parts.{seen, IsKept}
+use Rattle.vault_core.specs.Parts.{core_job, IsJobKept}
 use Rattle.vault_core.specs.Reserves.{reserved_of}
-use Rattle.vault_core.proofs.Admitted.{admitted-core, admitted-view, on_ok, fewer-than}
+use Rattle.vault_core.proofs.Admitted.{admitted-core, admitted-view, fewer-than}
 use Rattle.vault_core.proofs.own.Core.admit.Goals as goal
+use Rattle.vault_core.proofs.Gating.{on_ok}
 
 pub invariant_of-self-2 : goal.invariant_of-self-2
 invariant_of-self-2 c = admitted-core c.self.inside c.args.job c.reserve_start.new.table c.push_reserved.new.self 0
@@ -14,9 +15,9 @@ invariant_of-self-2 c = admitted-core c.self.inside c.args.job c.reserve_start.n
     (c.push_reserved.ensures.items ∙ ap (λ (js : List Job). js ++ c.args.job ∷ []) c.reserve.ensures.items)
     c.self.invariant
     (subst (λ (v : CoreView). c.args.job.number ≡ v.next_job) (sym c.self.view_is) c.requires.next)
-    (subst (λ (v : CoreView). IsKept v.setup.n c.args.job) (sym c.self.view_is) c.requires.kept)
+    (subst (λ (v : CoreView). IsJobKept v.setup.n c.args.job) (sym c.self.view_is) c.requires.kept)
     (fewer-than c.self.inside.setup.n c.self.inside.jobs.items (subst (λ (v : CoreView). length v.jobs < 8) (sym c.self.view_is) c.requires.few))
-    (subst (λ (v : CoreView). v.end + sum_by (reserved_of v.setup.n) v.jobs + reserved_of v.setup.n (seen v.setup.n c.args.job) ≤ largest_journal) (sym c.self.view_is) c.requires.room)
+    (subst (λ (v : CoreView). v.end + sum_by (reserved_of v.setup.n) v.jobs + reserved_of v.setup.n (core_job v.setup.n c.args.job) ≤ largest_journal) (sym c.self.view_is) c.requires.room)
 
 pub returns-clause-admitted : goal.returns-clause-admitted
 returns-clause-admitted c = admitted-view c.self.inside c.args.job c.reserve_start.new.table c.push_reserved.new.self 0

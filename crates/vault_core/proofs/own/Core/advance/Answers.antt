@@ -1,7 +1,7 @@
 use Rattle.std.proofs.Common.{refl}
 use Rattle.std.specs.Vec.{with_item}
-use Rattle.vault_core.specs.Parts.{seen}
-use Rattle.vault_core.specs.Fed.{moved}
+use Rattle.vault_core.specs.Parts.{core_job}
+use Rattle.vault_core.specs.Fed.{stepped}
 use Rattle.vault_core.proofs.Kept.{other_core, moved_room, moved_starts}
 use Rattle.vault_core.proofs.Moving.{plain_here, seen_moved, set_view_same}
 use Rattle.vault_core.proofs.own.Core.advance.Goals as goal
@@ -18,12 +18,12 @@ pub invariant_of-self : goal.invariant_of-self
 invariant_of-self c =
     let here = plain_here c.self.inside c.args.self.now c.args.place c.index_mut-job.result.now c.self.view_is c.self.invariant c.index_mut-job.ensures.value c.requires in
     let s = seen_moved c.self.inside.setup.n c.index_mut-job.result.now c.advance.new.self here.kept c.advance.ensures.rest c.advance.ensures.opening c.advance.ensures.same in
-    let j = seen c.self.inside.setup.n c.index_mut-job.result.now in
-    other_core c.self.inside (with_item c.self.inside.jobs c.args.place c.advance.new.self) c.args.place c.advance.new.self j (moved j) c.self.inside.append refl s here.here refl c.advance.ensures.kept (moved_room c.self.inside.setup.n j) (moved_starts j)
+    let j = core_job c.self.inside.setup.n c.index_mut-job.result.now in
+    other_core c.self.inside (with_item c.self.inside.jobs c.args.place c.advance.new.self) c.args.place c.advance.new.self j (stepped j) c.self.inside.append refl s here.here refl c.advance.ensures.kept (moved_room c.self.inside.setup.n j) (moved_starts j)
     c.self.invariant
 
 pub returns : goal.returns
 returns c =
     let here = plain_here c.self.inside c.args.self.now c.args.place c.index_mut-job.result.now c.self.view_is c.self.invariant c.index_mut-job.ensures.value c.requires in
     let s = seen_moved c.self.inside.setup.n c.index_mut-job.result.now c.advance.new.self here.kept c.advance.ensures.rest c.advance.ensures.opening c.advance.ensures.same in
-    set_view_same c.self.inside c.args.self.now (with_item c.self.inside.jobs c.args.place c.advance.new.self) c.args.place c.advance.new.self c.index_mut-job.result.now moved c.self.view_is refl here.here s
+    set_view_same c.self.inside c.args.self.now (with_item c.self.inside.jobs c.args.place c.advance.new.self) c.args.place c.advance.new.self c.index_mut-job.result.now stepped c.self.view_is refl here.here s

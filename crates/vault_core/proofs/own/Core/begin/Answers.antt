@@ -5,25 +5,26 @@ use Rattle.hail_records.specs.Records.{is_setup, largest_journal}
 use Rattle.hail_machine.specs.Begins.{begin_refusal}
 use Rattle.vault_core.specs.declared.wish.Wish.{Wish}
 use Rattle.vault_core.specs.View.{CoreView}
-use Rattle.vault_core.specs.Parts.{seen}
+use Rattle.vault_core.specs.Parts.{core_job}
 use Rattle.vault_core.specs.Reserves.{Reserves, reserved_of}
 use Rattle.vault_core.specs.Carried.{CoreIs, refusal_of, begun}
 use Rattle.vault_core.specs.Making.{admitted, IsMade}
-use Rattle.vault_core.proofs.Admitted.{core-begun, made-room, room-left, on_ok_then, limits}
+use Rattle.vault_core.proofs.Admitted.{core-begun, made-room, room-left, on_ok_then}
 use Rattle.vault_core.proofs.own.Core.begin.Goals as goal
+use Rattle.vault_core.proofs.Gating.{providers}
 
 pub admit-requires-clause-room : goal.admit-requires-clause-room
 admit-requires-clause-room c =
     let made = subst (λ (v : CoreView). IsMade v.table v.setup v.next_job c.args.wish c.in-Ok.job) c.self.view_is (c.in-Ok.ensures.made c.self.inside.master.0) in
     let e = made-room c.args.self.now.table c.args.self.now.setup c.args.self.now.next_job c.args.wish c.in-Ok.job made in
     let l = room-left c.args.self.now c.args.wish (subst Reserves c.self.view_is c.self.invariant.reserves) (sym c.in_default.is ∙ c.refusal.ensures.value) in
-    let whole : c.args.self.now.end + sum_by (reserved_of c.args.self.now.setup.n) c.args.self.now.jobs + reserved_of c.args.self.now.setup.n (seen c.args.self.now.setup.n c.in-Ok.job) ≤ largest_journal = omega (arith, e, l) in
+    let whole : c.args.self.now.end + sum_by (reserved_of c.args.self.now.setup.n) c.args.self.now.jobs + reserved_of c.args.self.now.setup.n (core_job c.args.self.now.setup.n c.in-Ok.job) ≤ largest_journal = omega (arith, e, l) in
     whole
 
 pub returns-in-Ok-clause-begun : goal.returns-in-Ok-clause-begun
 returns-in-Ok-clause-begun c = λ w kind moment is of spelled.
     let made = subst (λ (v : CoreView). IsMade v.table v.setup v.next_job c.args.wish c.in-Ok.job) c.self.view_is (c.in-Ok.ensures.made c.self.inside.master.0) in
-    let bounds = limits c.args.self.now.setup (subst (λ (v : CoreView). IsTrue (is_setup v.setup)) c.self.view_is c.self.invariant.set_up) in
+    let bounds = providers c.args.self.now.setup (subst (λ (v : CoreView). IsTrue (is_setup v.setup)) c.self.view_is c.self.invariant.set_up) in
     let allowed : begin_refusal 8 w kind ≡ None = sym (c.refusal.ensures.machine w kind is of c.requires.size) ∙ ap (option_map refusal_of) c.in_default.is in
     on_ok_then c.admit.result _ _ (λ (e : c.admit.new.self ≡ admitted c.args.self.now c.in-Ok.job.wish c.in-Ok.job).
     subst (λ (v : CoreView). CoreIs v (begun w moment kind)) (sym (e ∙ ap (λ (v : Wish). admitted c.args.self.now v c.in-Ok.job) made.wish))

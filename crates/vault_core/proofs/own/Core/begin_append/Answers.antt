@@ -1,6 +1,6 @@
 use Rattle.std.proofs.Common.{Some, refl}
 use Rattle.std.specs.Vec.{with_item}
-use Rattle.vault_core.specs.Parts.{seen}
+use Rattle.vault_core.specs.Parts.{core_job}
 use Rattle.vault_core.specs.Fed.{drawn}
 use Rattle.vault_core.proofs.Kept.{other_core}
 use Rattle.vault_core.proofs.Drawing.{start_here, mid_kept, mid_going, mid_undecided, seen_drawn, drawn_room, drawn_starts, begun_view}
@@ -24,7 +24,7 @@ advance-requires-clause-undecided c =
 pub invariant_of-self : goal.invariant_of-self
 invariant_of-self c =
     let here = start_here c.self.inside c.args.self.now c.args.place c.index_mut-job.result.now c.self.view_is c.self.invariant c.index_mut-job.ensures.value c.requires in
-    let j = seen c.self.inside.setup.n c.index_mut-job.result.now in
+    let j = core_job c.self.inside.setup.n c.index_mut-job.result.now in
     let s = seen_drawn c.self.inside.setup.n c.index_mut-job.result.now c.draw.new.self c.number-number.result here.kept here.starts c.draw.ensures.subject c.draw.ensures.tasks c.draw.ensures.same
     c.advance.new.self c.advance.ensures.rest c.advance.ensures.opening c.advance.ensures.same in
     other_core c.self.inside (with_item c.self.inside.jobs c.args.place c.advance.new.self) c.args.place c.advance.new.self j (drawn j c.number-number.result)

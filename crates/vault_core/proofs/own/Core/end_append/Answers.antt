@@ -4,6 +4,7 @@ use Rattle.hail_records.specs.Acceptance.{refused}
 use Rattle.vault_table.specs.Values.{IsFoldOf}
 use Rattle.std.specs.Vec.{with_item}
 use Rattle.record_codec.specs.Entries.{entry_of}
+use Rattle.record_codec.proofs.Values.{has_spelling}
 use Rattle.vault_core.specs.View.{CoreView}
 use Rattle.vault_core.specs.Parts.{setup_kept}
 use Rattle.vault_core.proofs.Gating.{gate_here, providers, not_refused, start_spare, gated_core, has_gated, same_entry, on_ok, place_len}
@@ -14,7 +15,7 @@ pub apply-requires : goal.apply-requires
 apply-requires c =
     let here = gate_here c.self.inside c.args.self.now c.args.place c.index.result.now c.self.view_is c.self.invariant c.index.ensures c.requires in
     let n = providers (setup_kept c.self.inside) c.self.invariant.set_up in
-    c.in-Some.ensures.in_grammar c.self.inside.setup.n n.0 n.1 here.kept
+    (c.in-Some.ensures.in_grammar c.self.inside.setup.n n.0 n.1 here.kept).padded
 
 pub bar-requires : goal.bar-requires
 bar-requires c = (gate_here c.self.inside c.args.self.now c.args.place c.index.result.now c.self.view_is c.self.invariant c.index.ensures c.requires).within
@@ -33,7 +34,7 @@ pub size-requires : goal.size-requires
 size-requires c =
     let here = gate_here c.self.inside c.args.self.now c.args.place c.index.result.now c.self.view_is c.self.invariant c.index.ensures c.requires in
     let n = providers (setup_kept c.self.inside) c.self.invariant.set_up in
-    c.in-Some.ensures.in_grammar c.self.inside.setup.n n.0 n.1 here.kept
+    has_spelling _ (c.in-Some.ensures.in_grammar c.self.inside.setup.n n.0 n.1 here.kept)
 
 pub index_mut-job-requires : goal.index_mut-job-requires
 index_mut-job-requires c = let l = place_len c.self.inside c.args.place (gate_here c.self.inside c.args.self.now c.args.place c.index.result.now c.self.view_is c.self.invariant c.index.ensures c.requires).within in search rules

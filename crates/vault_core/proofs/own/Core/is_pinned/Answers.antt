@@ -4,7 +4,7 @@ use Rattle.std.specs.List.{list_any}
 use Rattle.vault_core.specs.declared.pinned.Pinned.{Pinned}
 use Rattle.vault_core.specs.declared.job.Job.{Job}
 use Rattle.vault_core.specs.View.{CoreJob, CoreView}
-use Rattle.vault_core.specs.Parts.{seen}
+use Rattle.vault_core.specs.Parts.{core_job}
 use Rattle.vault_core.specs.Fed.{is_pinned_in}
 use Rattle.vault_core.proofs.Places.{any-map}
 use Rattle.vault_core.proofs.own.Core.is_pinned.Goals as goal
@@ -12,5 +12,5 @@ use Rattle.vault_core.proofs.own.Core.is_pinned.Goals as goal
 pub returns : goal.returns
 returns c = c.pin.ensures
     ∙ (ap (list_any (λ (j : Job). list_any (λ (file : Pinned). file.id == c.args.object) j.pinned.items)) c.deref.ensures.value
-    ∙ (any-map (seen c.self.inside.setup.n) (λ (j : CoreJob). list_any (λ (file : Pinned). file.id == c.args.object) j.pinned) c.self.inside.jobs.items
+    ∙ (any-map (core_job c.self.inside.setup.n) (λ (j : CoreJob). list_any (λ (file : Pinned). file.id == c.args.object) j.pinned) c.self.inside.jobs.items
     ∙ ap (λ (x : CoreView). is_pinned_in x.jobs c.args.object) c.self.view_is))

@@ -2,7 +2,7 @@ use Rattle.std.proofs.Common.{◌∙◌, ap, sym, refl}
 use Rattle.std.specs.Vec.{with_item}
 use Rattle.record_codec.specs.Entries.{counted}
 use Rattle.vault_core.specs.View.{CoreView, CoreJob}
-use Rattle.vault_core.specs.Parts.{seen}
+use Rattle.vault_core.specs.Parts.{core_job}
 use Rattle.vault_core.specs.Fed.{judged}
 use Rattle.vault_core.proofs.Kept.{other_core, moved_room, moved_starts}
 use Rattle.vault_core.proofs.Moving.{plain_here, kept_judged, seen_judged, set_view_same}
@@ -29,7 +29,7 @@ invariant_of-self c =
     (c.requires.counts ∙ sym (ap (λ (x : CoreView). x.setup.n) c.self.view_is)) c.requires.padded in
     let s = seen_judged c.self.inside.setup.n c.index_mut-job.result.now c.advance.new.self c.args.undecided c.args.counts here.kept next c.advance.ensures.rest c.advance.ensures.opening
     c.advance.ensures.same in
-    let j = seen c.self.inside.setup.n c.index_mut-job.result.now in
+    let j = core_job c.self.inside.setup.n c.index_mut-job.result.now in
     other_core c.self.inside (with_item c.self.inside.jobs c.args.place c.advance.new.self) c.args.place c.advance.new.self j _ c.self.inside.append refl s here.here refl c.advance.ensures.kept
     (moved_room c.self.inside.setup.n j) (moved_starts j) c.self.invariant
 

@@ -20,3 +20,18 @@ returns-in-Drop-clause-accepted c = fold-accepted _ _ _ _ (entry_of c.args.entry
 
 pub returns-in-Drop-clause-refused : goal.returns-in-Drop-clause-refused
 returns-in-Drop-clause-refused c = fold-refused _ _ _ _ (entry_of c.args.entry.now) (ap entry_of c.in-Drop.is) c.drop_name.ensures
+
+pub returns-in-PutDoneIn-clause-ok : goal.returns-in-PutDoneIn-clause-ok
+returns-in-PutDoneIn-clause-ok c = fold-ok _ _ _ _ (entry_of c.args.entry.now) (ap entry_of c.in-PutDoneIn.is) c.put_done_in.ensures
+
+pub returns-in-PutDoneIn-clause-accepted : goal.returns-in-PutDoneIn-clause-accepted
+returns-in-PutDoneIn-clause-accepted c = fold-accepted _ _ _ _ (entry_of c.args.entry.now) (ap entry_of c.in-PutDoneIn.is) c.put_done_in.ensures
+
+pub returns-in-PutDoneIn-clause-refused : goal.returns-in-PutDoneIn-clause-refused
+returns-in-PutDoneIn-clause-refused c = fold-refused _ _ _ _ (entry_of c.args.entry.now) (ap entry_of c.in-PutDoneIn.is) c.put_done_in.ensures
+
+pub returns-in-File-clause-accepted : goal.returns-in-File-clause-accepted
+returns-in-File-clause-accepted c = fold-accepted _ _ _ _ (entry_of c.args.entry.now) (ap entry_of c.in-File.is) c.keep_file.ensures
+
+pub returns-in-File-clause-refused : goal.returns-in-File-clause-refused
+returns-in-File-clause-refused c = fold-refused _ _ _ _ (entry_of c.args.entry.now) (ap entry_of c.in-File.is) c.keep_file.ensures

@@ -1,9 +1,0 @@
-use Rattle.hail_machine.specs.Jobs.{DropJob}
-use Rattle.command_laws.proofs.Runs.{job-ends}
-use Rattle.command_laws.proofs.Drops.{drop-leaves}
-use Rattle.command_laws.proofs.Refused.{drop-has}
-use Rattle.command_laws.proofs.files.drops_leave.Goals as goal
-
-pub returns : goal.returns
-returns c w new moment name answer heard O spelled r =
-    (let f = drop-has 8 w name r.begins.1 in drop-leaves w new name answer heard O (job-ends w new moment (DropJob name) answer heard O spelled r) f.0 f.1)

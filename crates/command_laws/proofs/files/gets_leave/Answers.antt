@@ -1,7 +1,0 @@
-use Rattle.hail_machine.specs.Jobs.{GetJob}
-use Rattle.command_laws.proofs.Runs.{job-ends}
-use Rattle.command_laws.proofs.Gets.{all-leaves}
-use Rattle.command_laws.proofs.files.gets_leave.Goals as goal
-
-pub returns : goal.returns
-returns c w new moment name answer heard O spelled r = all-leaves w new name answer heard O (job-ends w new moment (GetJob name) answer heard O spelled r)

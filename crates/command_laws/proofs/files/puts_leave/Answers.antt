@@ -1,7 +1,0 @@
-use Rattle.hail_machine.specs.Jobs.{PutJob}
-use Rattle.command_laws.proofs.Runs.{job-ends}
-use Rattle.command_laws.proofs.Puts.{put-leaves}
-use Rattle.command_laws.proofs.files.puts_leave.Goals as goal
-
-pub returns : goal.returns
-returns c w new moment name bytes answer heard O spelled r = put-leaves w new name bytes answer heard O (job-ends w new moment (PutJob name bytes) answer heard O spelled r)

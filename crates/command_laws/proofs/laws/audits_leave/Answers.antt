@@ -1,5 +1,0 @@
-use Rattle.command_laws.proofs.Audits.{audits-leave}
-use Rattle.command_laws.proofs.laws.audits_leave.Goals as goal
-
-pub returns : goal.returns
-returns c = audits-leave

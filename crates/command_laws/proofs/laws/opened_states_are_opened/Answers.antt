@@ -1,5 +1,0 @@
-use Rattle.command_laws.proofs.Runs.{opened-over}
-use Rattle.command_laws.proofs.laws.opened_states_are_opened.Goals as goal
-
-pub returns : goal.returns
-returns c = opened-over

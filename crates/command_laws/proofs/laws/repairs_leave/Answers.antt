@@ -1,5 +1,0 @@
-use Rattle.command_laws.proofs.Repairs.{repairs-leave}
-use Rattle.command_laws.proofs.laws.repairs_leave.Goals as goal
-
-pub returns : goal.returns
-returns c = repairs-leave

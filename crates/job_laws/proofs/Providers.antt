@@ -1,0 +1,102 @@
+-- What actions that were made did to one provider.
+use Rattle.std.proofs.Common.{◌≡◌, ℕ, zero, suc, ◌+◌, ◌<◌, ◌≤◌, ◌==◌, ◌⊎◌, List, [], ◌∷◌, map, Option, ap, sym, subst, ◌∙◌, inl, inr, arith}
+use Rattle.std.specs.List.{range_with_len}
+use Rattle.std.proofs.lemmas.Bool.{cases_Bool, eqb-true}
+use Rattle.plain_facts.specs.Lists.{Each}
+use Rattle.hail_columns.specs.Challenges.{honest_answer}
+use Rattle.hail_devices.specs.Providers.{Provider}
+use Rattle.hail_devices.specs.ProviderCalls.{Stores, Fetches, Asks, Removes}
+use Rattle.hail_machine.specs.Jobs.{Given, Fetched, Answered}
+use Rattle.hail_machine.specs.Setups.{object_of}
+use Rattle.hail_machine.specs.Actions.{Action, WriteBody, SyncBody, WriteGate, SyncGate, Store, Fetch, Ask, Work, Remove, End}
+use Rattle.hail_machine.proofs.JobLists.{cond_true, cond_false}
+use Rattle.lone_laws.specs.Made.{With, block_stored, challenge_made, CallsOne, Did, Made}
+
+-- what an action did to the provider that it called, if that is the one of this number
+abbrev pub Called : With → Action → List Given → List Given → ℕ → Provider → Provider → Type 0
+Called x (Store j object stripe) given now i p q = (i ≡ j) × Stores object stripe (block_stored x x.kind given j object stripe) p q × (now ≡ given)
+Called x (Fetch j object stripe) given now i p q =
+    (i ≡ j) × ((block : Option (List ℕ)) × Fetches (object_of x.setup object).profile.size object stripe p block q × (now ≡ Fetched j object stripe block ∷ given))
+Called x (Ask j object round) given now i p q =
+    (i ≡ j) × ((symbol : Option ℕ) × Asks (honest_answer (challenge_made x object round)) object p symbol q × (now ≡ Answered j object round symbol ∷ given))
+Called x (Remove j object) given now i p q = (i ≡ j) × Removes object p q × (now ≡ given)
+Called x action given now i p q = ⊥
+
+pub calls-at : (old : ℕ → Provider) (j : ℕ) (call : Provider → Provider → Type 0) (new : ℕ → Provider) (i : ℕ) → CallsOne old j call new → (new i ≡ old i) ⊎ ((i ≡ j) × call (old i) (new i))
+calls-at old j call new i (p, made, is) = elim (cases_Bool (i == j)) [
+  | inl t ↦ (let e = eqb-true i j t in let q : new i ≡ p = ap (λ f. f i) is ∙ cond_true (i == j) p (old i) t in
+      inr (e, subst (λ z. call (old i) z) (sym q) (subst (λ k. call (old k) p) (sym e) made)))
+  | inr f ↦ inl (ap (λ g. g i) is ∙ cond_false (i == j) p (old i) f)
+]
+
+pub did-at : (x : With) (a : Action) (old new : ℕ → Provider) (given now : List Given) (i : ℕ) → Did x a old new given now → (new i ≡ old i) ⊎ Called x a given now i (old i) (new i)
+did-at x (Store j o s) old new given now i (called, is) = elim (calls-at old j (Stores o s (block_stored x x.kind given j o s)) new i called) [ inl e ↦ inl e | inr c ↦ inr (c.0, c.1, is) ]
+did-at x (Fetch j o s) old new given now i (block, called, is) = elim (calls-at old j (λ p q. Fetches (object_of x.setup o).profile.size o s p block q) new i called) [ inl e ↦ inl e | inr c ↦ inr (c.0, (block, c.1, is)) ]
+did-at x (Ask j o r) old new given now i (symbol, called, is) = elim (calls-at old j (λ p q. Asks (honest_answer (challenge_made x o r)) o p symbol q) new i called) [ inl e ↦ inl e | inr c ↦ inr (c.0, (symbol, c.1, is)) ]
+did-at x (Work o s) old new given now i (symbols, gives, still, is) = inl (ap (λ f. f i) still)
+did-at x (Remove j o) old new given now i (called, is) = elim (calls-at old j (Removes o) new i called) [ inl e ↦ inl e | inr c ↦ inr (c.0, c.1, is) ]
+did-at x WriteBody old new given now i (still, is) = inl (ap (λ f. f i) still)
+did-at x SyncBody old new given now i (still, is) = inl (ap (λ f. f i) still)
+did-at x WriteGate old new given now i (still, is) = inl (ap (λ f. f i) still)
+did-at x SyncGate old new given now i (still, is) = inl (ap (λ f. f i) still)
+did-at x End old new given now i (still, is) = inl (ap (λ f. f i) still)
+
+-- what each of these calls keeps, all of them keep
+pub made-keeps : (x : With) (i : ℕ) (R : Provider → Provider → Type 0) (P : Action → Type 0) → ((p : Provider) → R p p) → ((p q r : Provider) → R p q → R q r → R p r) →
+    ((a : Action) (given now : List Given) (p q : Provider) → P a → Called x a given now i p q → R p q) → (actions : List Action) (old new : ℕ → Provider) (given now : List Given) → Each P actions → Made x actions old new given now → R (old i) (new i)
+made-keeps x i R P same more step [] old new given now e m = subst (λ f. R (old i) (f i)) (sym m.0) (same (old i))
+made-keeps x i R P same more step (a ∷ actions) old new given now e (mid, so_far, did, rest) =
+    more (old i) (mid i) (new i)
+    (elim (did-at x a old mid given so_far i did) [ inl s ↦ subst (R (old i)) (sym s) (same (old i)) | inr c ↦ step a given so_far (old i) (mid i) e.0 c ])
+    (made-keeps x i R P same more step actions mid new so_far now e.1 rest)
+
+-- ---- what calls keep
+
+-- no count of faults falls
+abbrev pub Rises : Provider → Provider → Type 0
+Rises p q = (p.store_faults ≤ q.store_faults) × (p.other_faults ≤ q.other_faults)
+
+pub rises-same : (p : Provider) → Rises p p
+rises-same p = (omega arith, omega arith)
+
+pub rises-more : (p q r : Provider) → Rises p q → Rises q r → Rises p r
+rises-more p q r a b = ((let c = a.0 in let d = b.0 in omega (arith, c, d)), (let c = a.1 in let d = b.1 in omega (arith, c, d)))
+
+pub called-rises : (x : With) (a : Action) (given now : List Given) (i : ℕ) (p q : Provider) → Called x a given now i p q → Rises p q
+called-rises x (Store j o s) given now i p q (e, c, is) = (c.counts.store_faults, (let f = c.counts.other_faults in omega (arith, f)))
+called-rises x (Fetch j o s) given now i p q (e, (block, c, is)) = ((let f = c.counts.store_faults in omega (arith, f)), c.counts.other_faults)
+called-rises x (Ask j o r) given now i p q (e, (symbol, c, is)) = ((let f = c.counts.store_faults in omega (arith, f)), c.counts.other_faults)
+called-rises x (Remove j o) given now i p q (e, inl c, is) = ((let f = c.counts.store_faults in omega (arith, f)), c.counts.other_faults)
+called-rises x (Remove j o) given now i p q (e, inr c, is) = ((let f = c.counts.store_faults in omega (arith, f)), c.counts.other_faults)
+called-rises x (Work o s) given now i p q h = absurd h
+called-rises x WriteBody given now i p q h = absurd h
+called-rises x SyncBody given now i p q h = absurd h
+called-rises x WriteGate given now i p q h = absurd h
+called-rises x SyncGate given now i p q h = absurd h
+called-rises x End given now i p q h = absurd h
+
+-- an action that calls no provider from this number on
+abbrev pub IsBelow : ℕ → Action → Type 0
+IsBelow n (Store j object stripe) = j < n
+IsBelow n (Fetch j object stripe) = j < n
+IsBelow n (Ask j object round) = j < n
+IsBelow n (Remove j object) = j < n
+IsBelow n action = Unit {0}
+
+pub called-below : (x : With) (n : ℕ) (a : Action) (given now : List Given) (i : ℕ) (p q : Provider) → IsBelow n a → n ≤ i → Called x a given now i p q → ⊥
+called-below x n (Store j o s) given now i p q b l (e, c, is) = omega (arith, b, l, e)
+called-below x n (Fetch j o s) given now i p q b l (e, c) = omega (arith, b, l, e)
+called-below x n (Ask j o r) given now i p q b l (e, c) = omega (arith, b, l, e)
+called-below x n (Remove j o) given now i p q b l (e, c, is) = omega (arith, b, l, e)
+called-below x n (Work o s) given now i p q b l h = h
+called-below x n WriteBody given now i p q b l h = h
+called-below x n SyncBody given now i p q b l h = h
+called-below x n WriteGate given now i p q b l h = h
+called-below x n SyncGate given now i p q b l h = h
+called-below x n End given now i p q b l h = h
+
+-- ---- parts of lists
+
+pub each-upto : (P : Action → Type 0) (f : ℕ → Action) (a n : ℕ) → ((k : ℕ) → k < a + n → P (f k)) → Each P (map f (range_with_len a n))
+each-upto P f a zero h = tt
+each-upto P f a (suc n) h = (h a (omega arith), each-upto P f (a + 1) n (λ k l. h k (omega (arith, l))))

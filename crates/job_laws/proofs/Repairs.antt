@@ -1,0 +1,544 @@
+-- What a repair leaves whose job was the only one.
+use Rattle.std.proofs.Common.{◌≡◌, ℕ, zero, suc, ◌+◌, ◌-◌, ◌<◌, ◌≤◌, ◌==◌, ◌⊎◌, Bool, true, false, List, [], ◌∷◌, ◌++◌, length, take, drop, Option, None, Some, refl, ap, sym, subst, ◌∙◌, inl, inr, arith, All, Contains}
+use Rattle.std.specs.Prelude.{slice_get, IfSome}
+use Rattle.std.specs.Option.{option_map}
+use Rattle.std.specs.List.{flat_map}
+use Rattle.std.proofs.lemmas.Bool.{eq-eqb, false≢true}
+use Rattle.std.proofs.lemmas.List.{append_assoc, append-nil}
+use Rattle.plain_facts.specs.Lists.{Each, In}
+use Rattle.plain_facts.proofs.Each.{each_get, each_append, each_map, each_mono, each_take, in_contains}
+use Rattle.plain_facts.proofs.Lists.{drop-get}
+use Rattle.hail_codes.specs.Points.{upto}
+use Rattle.hail_columns.specs.Opened.{LosesRow}
+use Rattle.hail_devices.specs.Faults.{Rose}
+use Rattle.hail_devices.specs.Providers.{Held, Provider}
+use Rattle.hail_devices.specs.ProviderCalls.{FailsToStore, FindsNoMemory, StoreCounts}
+use Rattle.hail_devices.specs.Told.{Goes}
+use Rattle.hail_devices.proofs.Lasting.{rose-before}
+use Rattle.hail_records.specs.Records.{Setup, Record, RepairDone}
+use Rattle.hail_records.specs.Table.{File, Due, files_of, due_of}
+use Rattle.hail_machine.specs.Jobs.{RepairJob, Given, Job}
+use Rattle.hail_machine.specs.Setups.{object_of}
+use Rattle.hail_machine.specs.Actions.{Action, WriteBody, SyncBody, WriteGate, SyncGate, Store, Fetch, Ask, Work, Remove, End, append_actions, open_actions, rewrite_actions, repair_actions, actions_of, appends_left}
+use Rattle.hail_machine.specs.Answers as answer
+use Rattle.hail_machine.specs.Answers.{Answer}
+use Rattle.hail_machine.specs.Begins.{due_number, due_flags}
+use Rattle.hail_machine.specs.Events.{Ended}
+use Rattle.hail_machine.specs.Given.{block_given, blocks_given, symbols_given}
+use Rattle.hail_machine.specs.Heard.{Entry, heard_by_kind}
+use Rattle.hail_machine.specs.States.{State, Doubt, setup_in, object_in, with_provider, ended}
+use Rattle.hail_machine.specs.Appends.{Moves}
+use Rattle.hail_machine.specs.Steps.{next_action, holder_of, Acts, Ends as EndsAs}
+use Rattle.hail_machine.proofs.ActionLists.{split_get}
+use Rattle.hail_machine.proofs.JobLists.{cond_true}
+use Rattle.hail_machine.proofs.Numbers.{next_by, next_is_by}
+use Rattle.hail_machine.proofs.RecordFacts.{listed_file}
+use Rattle.hail_machine.proofs.NextActions.{next_stands}
+use Rattle.hail_commands.specs.JobRuns.{RunsJob}
+use Rattle.hail_commands.specs.Jobs.{Leaves}
+use Rattle.hail_commands.specs.Ran.{Ran, ran_from, setup_at_begin, EachHeldGoes, IsWhole, IsCut}
+use Rattle.hail_commands.specs.Repairs.{Place, places, Gave, held_at, IsTruth, GivesPlace, RewrittenOn, PartlyRewrittenOn, IfFlagged, flags, RewritesAll, RewritesPart, RewritesSome, LosesAtPlace, RepairGives}
+use Rattle.hail_commands.specs.Truthful.{IsTruthful}
+use Rattle.sound_states.specs.Orders.{moves_made, moves_before, IsInOrder, AreAscending}
+use Rattle.sound_states.proofs.Begun.{begun-repair}
+use Rattle.sound_states.proofs.Events.{moves-next}
+use Rattle.sound_states.proofs.Orders.{appends_in, appends-cons}
+use Rattle.sound_states.proofs.Records.{is_some-at}
+use Rattle.lone_laws.specs.Made.{With, Made}
+use Rattle.hail_openings.specs.Opened.{IsOpenAtRest}
+use Rattle.lone_laws.specs.Walked.{RecordsAre, with_job_of, Walked}
+use Rattle.lone_laws.proofs.Prefixes.{repair-list, audit-within}
+use Rattle.lone_laws.proofs.Walk.{Wrote, wrote, runs, left-start}
+use Rattle.job_laws.proofs.Runs.{Ends, job-ends}
+use Rattle.job_laws.proofs.Providers.{Called, calls-at, made-keeps}
+use Rattle.job_laws.proofs.Lasts.{InDoubt, Faults, move-faults, NoRoom, move-memory, none-moving}
+use Rattle.job_laws.proofs.Truth.{made-rises}
+use Rattle.job_laws.proofs.Leaving.{counts-rise, others-stay}
+use Rattle.job_laws.proofs.Audits.{move-answers}
+use Rattle.job_laws.proofs.Questions.{each-in, all-each}
+use Rattle.job_laws.proofs.Heard.{IsNot}
+use Rattle.job_laws.proofs.Rewritten.{IsNoneOf, IsBefore, AreOrdered, IsRepairing, column_at, after, after-either, after-none, after-some, Told, made-told, works-opened}
+use Rattle.job_laws.proofs.Places.{fetches_at, actions_at, IsAt, at-place, repairs-places, AreApart, all-apart, ordered-places, Cut, cut-at}
+use Rattle.job_laws.proofs.PlaceFacts.{FetchesAll, OpensAll, opens-fetches, opens-done, fetches-done, told-places, lacks-places, gives-places, work-cut, store-cut, IsStoreOf, in-left, in-right, stores-of, stores-all, stores-wider, stored-at, no-stores}
+
+ordered-take : (xs : List Action) (p : ℕ) → AreOrdered xs → AreOrdered (take p xs)
+ordered-take xs zero o = tt
+ordered-take [] (suc p) o = tt
+ordered-take (x ∷ xs) (suc p) o = (before-take x o.0, ordered-take xs p o.1)
+  where
+    before-take : (x : Action) → IsBefore x xs → IsBefore x (take p xs)
+    before-take (Fetch j o s) h = each_take (IsNot (Fetch j o s)) xs p h
+    before-take (Work o s) h = each_take (IsNoneOf o s) xs p h
+    before-take (Store j o s) h = each_take (IsNoneOf o s) xs p h
+    before-take (Ask j o r) h = tt
+    before-take (Remove j o) h = tt
+    before-take WriteBody h = tt
+    before-take SyncBody h = tt
+    before-take WriteGate h = tt
+    before-take SyncGate h = tt
+    before-take End h = tt
+
+-- what a repair may do at a place
+at-repairs : (p : Place) (a : Action) → IsAt p a → IsRepairing a
+at-repairs p (Fetch j o s) h = tt
+at-repairs p (Work o s) h = tt
+at-repairs p (Store j o s) h = tt
+at-repairs p (Ask j o r) h = absurd h
+at-repairs p (Remove j o) h = absurd h
+at-repairs p WriteBody h = absurd h
+at-repairs p SyncBody h = absurd h
+at-repairs p WriteGate h = absurd h
+at-repairs p SyncGate h = absurd h
+at-repairs p End h = absurd h
+
+module _ (start : State) (O : IsOpenAtRest start 1) (w : State) (job : Job) (W : Walked start RepairJob w job) where
+  abbrev s : Setup
+  s = setup_in start
+
+  abbrev x : With
+  x = with_job_of start RepairJob job
+
+  abbrev tail : List Action
+  tail = append_actions ++ End ∷ []
+
+  abbrev all : List Place
+  all = places s (files_of start.records)
+
+  abbrev acts : List Action
+  acts = take job.place (actions_of s job)
+
+  sizes : Each (λ (f : File). length (start.bytes f.id) ≡ f.size) (files_of start.records)
+  sizes = each-in (λ (f : File). length (start.bytes f.id) ≡ f.size) (files_of start.records) (λ f i. (O.rest.files f.name f (listed_file start.records f i)).1)
+
+  list-is : actions_of s job ≡ flat_map (actions_at s job) all ++ tail
+  list-is = repair-list s job W.kind_is ∙ ap (λ xs. xs ++ tail) (repairs-places s start job (files_of start.records) W.pinned sizes)
+
+  places-apart : AreApart all
+  places-apart = all-apart s start (files_of start.records) (subst (AreAscending 0) W.pinned (W.sound.jobs job.number job (runs start O RepairJob w job W)).ascending)
+
+  ordered-acts : AreOrdered acts
+  ordered-acts = ordered-take (actions_of s job) job.place (subst AreOrdered (sym list-is) (ordered-places s job all tail places-apart (tt, (tt, (tt, (tt, (tt, tt))))) (λ o t. tt, (λ o t. tt, (λ o t. tt, (λ o t. tt, (λ o t. tt, tt)))))))
+
+  repairing-places : (ps : List Place) → Each IsRepairing (flat_map (actions_at s job) ps)
+  repairing-places [] = tt
+  repairing-places (p ∷ ps) = each_append IsRepairing (actions_at s job p) (flat_map (actions_at s job) ps) (each_mono (IsAt p) IsRepairing (actions_at s job p) (λ a h. at-repairs p a h) (at-place s job p)) (repairing-places ps)
+
+  repairing-acts : Each IsRepairing acts
+  repairing-acts = each_take IsRepairing (actions_of s job) job.place (subst (Each IsRepairing) (sym list-is) (each_append IsRepairing (flat_map (actions_at s job) all) tail (repairing-places all) (tt, (tt, (tt, (tt, (tt, tt)))))))
+
+  made-acts : Made x acts start.providers w.providers [] job.given
+  made-acts = W.made
+
+  -- where the next action stands
+  cut-next : (action : Action) → slice_get (actions_of s job) job.place ≡ Some action → Cut (actions_at s job) all tail job.place action
+  cut-next action h = cut-at (actions_at s job) all tail job.place action (ap (λ xs. slice_get xs job.place) (sym list-is) ∙ h)
+
+  acts-are : (front : List Action) → take job.place (flat_map (actions_at s job) all ++ tail) ≡ front → acts ≡ front
+  acts-are front e = ap (take job.place) list-is ∙ e
+
+  -- one that doesn't tell what it holds goes on so
+  untold : (j : ℕ) → (start.providers j).held ≡ None → (w.providers j).held ≡ None
+  untold j = made-keeps x j (λ p q. p.held ≡ None → q.held ≡ None) IsRepairing (λ p e. e) (λ p q r a b e. b (a e)) step acts start.providers w.providers [] job.given repairing-acts made-acts
+    where
+      step : (a : Action) (given now : List Given) (p q : Provider) → IsRepairing a → Called x a given now j p q → p.held ≡ None → q.held ≡ None
+      step (Fetch k o t) given now p q u (e, (block, c, is)) h = c.held ∙ h
+      step (Store k o t) given now p q u (e, c, is) h = c.held ∙ ap (option_map _) h
+      step (Ask k o r) given now p q u c h = absurd u
+      step (Remove k o) given now p q u c h = absurd u
+      step (Work o t) given now p q u c h = absurd c
+      step WriteBody given now p q u c h = absurd c
+      step SyncBody given now p q u c h = absurd c
+      step WriteGate given now p q u c h = absurd c
+      step SyncGate given now p q u c h = absurd c
+      step End given now p q u c h = absurd c
+
+  -- ---- what its actions gave and left, in the words of the command
+
+  module _ (new : State) (heard : List Entry) (held-same : (j : ℕ) → (new.providers j).held ≡ (w.providers j).held) (count-same : (j : ℕ) → (new.providers j).other_faults ≡ (w.providers j).other_faults)
+      (due : Due) (is-due : due_of start.records ≡ Some due) where
+    abbrev ran : Ran
+    ran = ran_from start new heard
+
+    abbrev gave : Gave
+    gave j p = block_given job.given p.object p.stripe j
+
+    abbrev symbols : Place → List ℕ
+    symbols p = symbols_given job.given p.object p.stripe
+
+    -- the flagged providers are those of the due audit
+    flagged-is : (j : ℕ) → job.flagged j ≡ flags ran due j
+    unfolding setup_in
+    flagged-is j = ap (λ (f : ℕ → Bool). f j) W.flagged ∙ ap (λ (d : Option Due). due_flags (setup_in start).tolerance d j) is-due
+
+    told : (j : ℕ) (held : Held) → (start.providers j).held ≡ Some held → Told x refl job.given j held held acts (start.providers j) (w.providers j)
+    told j held e = made-told x refl job.given j held acts start.providers w.providers repairing-acts ordered-acts made-acts e
+
+    truth : (ps : List Place) → FetchesAll s ps acts → IsTruth ran gave ps
+    unfolding setup_in
+    truth ps f = λ j below. by_held j below (start.providers j).held refl
+      where
+        tells : (j : ℕ) → j < s.n → (held : Held) → (start.providers j).held ≡ Some held → IsTruthful (gave j) (held_at ran held) ps (start.providers j).other_faults (new.providers j).other_faults
+        tells j below held e =
+            (let t = told j held e in record {
+              each = all-each (λ p. (gave j p ≡ held_at ran held p) ⊎ (gave j p ≡ None)) ps (told-places x refl job.given j held below ps acts f t.told);
+              few = λ l. (let same = count-same j in let c = t.count (omega (arith, l, same)) in let m = lacks-places x refl job.given j held below ps acts f in omega (arith, c, m, same));
+            })
+
+        by_held : (j : ℕ) → j < s.n → (h : Option Held) → (start.providers j).held ≡ h → IfSome h (λ held. IsTruthful (gave j) (held_at ran held) ps (start.providers j).other_faults (new.providers j).other_faults)
+        by_held j below None e = tt
+        by_held j below (Some held) e = tells j below held e
+
+    opened : (ps : List Place) → OpensAll s ps acts → All (GivesPlace ran gave symbols) ps
+    unfolding setup_in
+    opened ps o = all-each (GivesPlace ran gave symbols) ps (gives-places x job.given ps acts o (works-opened x acts start.providers w.providers [] job.given ordered-acts made-acts))
+
+    -- what a provider holds now
+    now-held : (j : ℕ) (held : Held) → (start.providers j).held ≡ Some held → (new.providers j).held ≡ Some (after x job.given j acts held)
+    now-held j held e = held-same j ∙ (told j held e).held_is
+
+    goes-by : (change : ℕ → Held → Held → Type 0) → ((j : ℕ) (held : Held) → j < s.n → change j held (after x job.given j acts held)) → (j : ℕ) → j < s.n → Goes (change j) (start.providers j).held (new.providers j).held
+    goes-by change f j below = by_held (start.providers j).held refl
+      where
+        by_held : (h : Option Held) → (start.providers j).held ≡ h → Goes (change j) h (new.providers j).held
+        by_held None e = subst (Goes (change j) None) (sym (held-same j ∙ untold j e)) tt
+        by_held (Some held) e = subst (Goes (change j) (Some held)) (sym (now-held j held e)) (f j held below)
+
+    same-unflagged : (ps : List Place) → Each (IsStoreOf job s.n ps) acts → (j : ℕ) (held : Held) → job.flagged j ≡ false → (o t : ℕ) → after x job.given j acts held o t ≡ held o t
+    same-unflagged ps st j held f o t = after-none x job.given j acts held o t (no-stores job s.n ps j o t acts (λ h. false≢true (sym f ∙ h.0)) st)
+
+    same-elsewhere : (ps : List Place) → Each (IsStoreOf job s.n ps) acts → (j : ℕ) (held : Held) (p : Place) → (Contains ps p → ⊥) → after x job.given j acts held p.object p.stripe ≡ held p.object p.stripe
+    same-elsewhere ps st j held p n = after-none x job.given j acts held p.object p.stripe (no-stores job s.n ps j p.object p.stripe acts (λ h. n (in_contains ps p h.1)) st)
+
+    -- some places are rewritten
+    rewritten-part : (ps : List Place) → Each (IsStoreOf job s.n ps) acts → EachHeldGoes ran (λ j. IfFlagged (flags ran due j) (PartlyRewrittenOn (setup_at_begin ran) symbols ps j))
+    unfolding setup_in
+    rewritten-part ps st = goes-by (λ j. IfFlagged (flags ran due j) (PartlyRewrittenOn (setup_at_begin ran) symbols ps j))
+        (λ j held below. by_flag j held (flags ran due j) (flagged-is j))
+      where
+        each-place : (j : ℕ) (held : Held) (qs : List Place) → Each (λ (p : Place). (after x job.given j acts held p.object p.stripe ≡ held p.object p.stripe) ⊎ (after x job.given j acts held p.object p.stripe ≡ Some (column_at x job.given j p.object p.stripe))) qs
+        each-place j held [] = tt
+        each-place j held (p ∷ qs) = (after-either x job.given j acts held p.object p.stripe, each-place j held qs)
+
+        by_flag : (j : ℕ) (held : Held) (b : Bool) → job.flagged j ≡ b → IfFlagged b (PartlyRewrittenOn (setup_at_begin ran) symbols ps j) held (after x job.given j acts held)
+        by_flag j held true f = record {
+          stored = all-each (λ (p : Place). (after x job.given j acts held p.object p.stripe ≡ held p.object p.stripe) ⊎ (after x job.given j acts held p.object p.stripe ≡ Some (column_at x job.given j p.object p.stripe))) ps (each-place j held ps);
+          others = λ p n. same-elsewhere ps st j held p n;
+        }
+        by_flag j held false f = λ o t. same-unflagged ps st j held f o t
+
+    part : (done rest : List Place) → all ≡ done ++ rest → OpensAll s done acts → Each (IsStoreOf job s.n done) acts → RewritesPart ran due done rest gave symbols
+    unfolding setup_in
+    part done rest parts o st = record {
+      parts = parts;
+      truth = truth done (opens-fetches s done acts o);
+      gives = opened done o;
+      held = rewritten-part done st;
+    }
+
+    some-part : (done rest : List Place) → all ≡ done ++ rest → OpensAll s done acts → Each (IsStoreOf job s.n done) acts → RewritesSome ran due
+    some-part done rest parts o st = record { done = done; rest = rest; gave = gave; symbols = symbols; part = part done rest parts o st }
+
+    -- all places are rewritten
+    all-part : (behind : List Action) → acts ≡ flat_map (actions_at s job) all ++ behind → Each (IsStoreOf job s.n all) behind → RewritesAll ran due
+    unfolding setup_in
+    all-part behind e b = record {
+      gave = gave;
+      symbols = symbols;
+      truth = truth all (opens-fetches s all acts opens);
+      gives = opened all opens;
+      held = goes-by (λ j. IfFlagged (flags ran due j) (RewrittenOn (setup_at_begin ran) symbols all j)) (λ j held below. by_flag j held below (flags ran due j) (flagged-is j));
+    }
+      where
+        opens : OpensAll s all acts
+        opens = subst (OpensAll s all) (sym e) (subst (λ ps. OpensAll s ps (flat_map (actions_at s job) all ++ behind)) (append-nil all) (opens-done s job all [] behind tt))
+
+        st : Each (IsStoreOf job s.n all) acts
+        st = subst (Each (IsStoreOf job s.n all)) (sym e) (each_append (IsStoreOf job s.n all) (flat_map (actions_at s job) all) behind (stores-all s job all) b)
+
+        by_flag : (j : ℕ) (held : Held) → j < s.n → (b : Bool) → job.flagged j ≡ b → IfFlagged b (RewrittenOn (setup_at_begin ran) symbols all j) held (after x job.given j acts held)
+        by_flag j held below true f = record {
+          stored = all-each (λ (p : Place). after x job.given j acts held p.object p.stripe ≡ Some (column_at x job.given j p.object p.stripe)) all
+              (each-in (λ (p : Place). after x job.given j acts held p.object p.stripe ≡ Some (column_at x job.given j p.object p.stripe)) all
+              (λ p i. after-some x job.given j acts held p.object p.stripe (subst (In (Store j p.object p.stripe)) (sym e) (in-left (Store j p.object p.stripe) (flat_map (actions_at s job) all) behind (stored-at s job j all p below f i)))));
+          others = λ p n. same-elsewhere all st j held p n;
+        }
+        by_flag j held below false f = λ o t. same-unflagged all st j held f o t
+
+  -- ---- the record of the repair
+
+  unwritten : 0 < appends_left (setup_in w) job → w.records ≡ start.records
+  unwritten left = by_records w.records refl W.records
+    where
+      same : appends_left (setup_in start) job ≡ appends_left (setup_in w) job
+      same = left-start start O RepairJob w job W (appends_left (setup_in w) job) refl
+
+      by_records : (rs : List Record) → w.records ≡ rs → RecordsAre start RepairJob job rs → w.records ≡ start.records
+      by_records rs e (RecordsAre.none l is) = e ∙ is
+      by_records rs e (RecordsAre.one l is) = absurd (omega (arith, l, same, left))
+      by_records rs e (RecordsAre.two entry l sec is) = absurd (omega (arith, l))
+
+  -- before the append it is left
+  places-left : (a : Action) → slice_get (actions_of s job) job.place ≡ Some a → (p : Place) → IsAt p a → 0 < appends_left (setup_in w) job
+  places-left a h p at = subst (λ (t : Setup). 0 < appends_left t job) (sym W.setup) (subst (λ xs. 0 < appends_in (drop job.place xs)) (sym (repair-list s job W.kind_is))
+      (elim (split_get (repair_actions s job) tail job.place a (ap (λ xs. slice_get xs job.place) (sym (repair-list s job W.kind_is)) ∙ h)) [
+        | inl l ↦ audit-within (repair_actions s job) job.place l.0
+        | inr r ↦ absurd (each_get (λ y. IsAt p y → ⊥) tail (job.place - length (repair_actions s job)) a ((λ u. u), ((λ u. u), ((λ u. u), ((λ u. u), ((λ u. u), tt))))) r.1 at)
+      ]))
+
+-- ---- all ends of a repair
+
+-- no store, and no work
+abbrev IsNoStore : Action → Type 0
+IsNoStore (Store j o t) = ⊥
+IsNoStore action = Unit {0}
+
+abbrev IsNoWork : Action → Type 0
+IsNoWork (Work o t) = ⊥
+IsNoWork action = Unit {0}
+
+module _ (start new : State) (how : Answer) (heard : List Entry) (O : IsOpenAtRest start 1) (E : Ends start RepairJob how heard new) (due : Due) (is-due : due_of start.records ≡ Some due) where
+  abbrev Gives : Answer → Type 0
+  Gives a = RepairGives (ran_from start new heard) due a
+
+  abbrev sx : Setup
+  sx = setup_in start
+
+  subject-is : E.job.subject ≡ due.number
+  subject-is = E.walked.subject ∙ ap due_number is-due
+
+  listed : (action : Action) → E.action ≡ action → (action ≡ End → ⊥) → slice_get (actions_of sx E.job) E.job.place ≡ Some action
+  listed action at n = subst (λ (t : Setup). slice_get (actions_of t E.job) E.job.place ≡ Some action) E.walked.setup (next_stands E.before E.job action (E.next ∙ ap Some at) n)
+
+  -- a move, or the end, stands behind all places
+  behind-all : (action : Action) → slice_get (actions_of sx E.job) E.job.place ≡ Some action → ((p : Place) → IsAt p action → ⊥) →
+      (q : ℕ) × (take E.job.place (actions_of sx E.job) ≡ flat_map (actions_at sx E.job) (places sx (files_of start.records)) ++ take q (append_actions ++ End ∷ []))
+  behind-all action h n = elim (cut-next start O E.before E.job E.walked action h) [
+    | Cut.inside done place rest q parts at front ↦ absurd (n place (each_get (IsAt place) (actions_at sx E.job place) q action (at-place sx E.job place) at))
+    | Cut.behind q at front ↦ (q, acts-are start O E.before E.job E.walked (flat_map (actions_at sx E.job) (places sx (files_of start.records)) ++ take q (append_actions ++ End ∷ [])) front)
+  ]
+
+  quiet-tail : (q : ℕ) → Each (IsStoreOf E.job sx.n (places sx (files_of start.records))) (take q (append_actions ++ End ∷ []))
+  quiet-tail q = each_take (IsStoreOf E.job sx.n (places sx (files_of start.records))) (append_actions ++ End ∷ []) q (tt, (tt, (tt, (tt, (tt, tt)))))
+
+  module _ (held-same : (j : ℕ) → (new.providers j).held ≡ (E.before.providers j).held) (count-same : (j : ℕ) → (new.providers j).other_faults ≡ (E.before.providers j).other_faults) where
+    -- at a move or the end all places are rewritten, so some of them are
+    all-some : (action : Action) → slice_get (actions_of sx E.job) E.job.place ≡ Some action → ((p : Place) → IsAt p action → ⊥) → RewritesSome (ran_from start new heard) due
+    all-some action h n =
+        (let b = behind-all action h n in
+        let ps = places sx (files_of start.records) in
+        some-part start O E.before E.job E.walked new heard held-same count-same due is-due ps [] (sym (append-nil ps))
+        (subst (OpensAll sx ps) (sym b.1) (subst (λ qs. OpensAll sx qs (flat_map (actions_at sx E.job) ps ++ take b.0 (append_actions ++ End ∷ []))) (append-nil ps) (opens-done sx E.job ps [] (take b.0 (append_actions ++ End ∷ [])) tt)))
+        (subst (Each (IsStoreOf E.job sx.n ps)) (sym b.1) (each_append (IsStoreOf E.job sx.n ps) (flat_map (actions_at sx E.job) ps) (take b.0 (append_actions ++ End ∷ [])) (stores-all sx E.job ps) (quiet-tail b.0))))
+
+    -- at a store the place is open, and some of its blocks may be stored
+    store-some : (j o t : ℕ) → slice_get (actions_of sx E.job) E.job.place ≡ Some (Store j o t) → RewritesSome (ran_from start new heard) due
+    store-some j o t h = elim (cut-next start O E.before E.job E.walked (Store j o t) h) [
+      | Cut.behind q at front ↦ absurd (each_get IsNoStore (append_actions ++ End ∷ []) q (Store j o t) (tt, (tt, (tt, (tt, (tt, tt))))) at)
+      | Cut.inside done place rest q parts at front ↦
+          (let c = store-cut sx E.job place q j o t at in
+          let here : List Action = open_actions sx place.object place.stripe ++ take c.0 (rewrite_actions sx E.job place.object place.stripe) in
+          let is : take E.job.place (actions_of sx E.job) ≡ flat_map (actions_at sx E.job) done ++ here =
+          acts-are start O E.before E.job E.walked (flat_map (actions_at sx E.job) done ++ take q (actions_at sx E.job place)) front ∙ ap (λ l. flat_map (actions_at sx E.job) done ++ l) c.1 in
+          some-part start O E.before E.job E.walked new heard held-same count-same due is-due (done ++ place ∷ []) rest (parts ∙ sym (append_assoc done (place ∷ []) rest))
+          (subst (OpensAll sx (done ++ place ∷ [])) (sym is) (opens-done sx E.job done (place ∷ []) here (take c.0 (rewrite_actions sx E.job place.object place.stripe), [], sym (append-nil here), tt)))
+          (subst (Each (IsStoreOf E.job sx.n (done ++ place ∷ []))) (sym is) (each_append (IsStoreOf E.job sx.n (done ++ place ∷ [])) (flat_map (actions_at sx E.job) done) here
+          (stores-wider E.job sx.n done (done ++ place ∷ []) (flat_map (actions_at sx E.job) done) (λ p i. in-left p done (place ∷ []) i) (stores-all sx E.job done))
+          (stores-wider E.job sx.n (place ∷ []) (done ++ place ∷ []) here (λ p i. in-right p done (place ∷ []) i) (subst (Each (IsStoreOf E.job sx.n (place ∷ []))) c.1 (each_take (IsStoreOf E.job sx.n (place ∷ [])) (actions_at sx E.job place) q (stores-of sx E.job place)))))))
+    ]
+
+    -- at a work all blocks of the place were fetched
+    lost-at : (o t row : ℕ) → slice_get (actions_of sx E.job) E.job.place ≡ Some (Work o t) → LosesRow (object_in E.before o) t (blocks_given E.job.given (setup_in E.before).n o t) row → LosesAtPlace (ran_from start new heard) due t row
+    unfolding setup_in
+    lost-at o t row h loses = elim (cut-next start O E.before E.job E.walked (Work o t) h) [
+      | Cut.behind q at front ↦ absurd (each_get IsNoWork (append_actions ++ End ∷ []) q (Work o t) (tt, (tt, (tt, (tt, (tt, tt))))) at)
+      | Cut.inside done place rest q parts at front ↦
+          (let c = work-cut sx E.job place q o t at in
+          let is : take E.job.place (actions_of sx E.job) ≡ flat_map (actions_at sx E.job) done ++ fetches_at sx place =
+          acts-are start O E.before E.job E.walked (flat_map (actions_at sx E.job) done ++ take q (actions_at sx E.job place)) front ∙ ap (λ l. flat_map (actions_at sx E.job) done ++ l) c.0 in
+          record {
+            done = done;
+            place = place;
+            rest = rest;
+            gave = λ j p. block_given E.job.given p.object p.stripe j;
+            symbols = λ p. symbols_given E.job.given p.object p.stripe;
+            part = part start O E.before E.job E.walked new heard held-same count-same due is-due done (place ∷ rest) parts
+                (subst (OpensAll sx done) (sym is) (subst (λ ps. OpensAll sx ps (flat_map (actions_at sx E.job) done ++ fetches_at sx place)) (append-nil done) (opens-done sx E.job done [] (fetches_at sx place) tt)))
+                (subst (Each (IsStoreOf E.job sx.n done)) (sym is) (each_append (IsStoreOf E.job sx.n done) (flat_map (actions_at sx E.job) done) (fetches_at sx place) (stores-all sx E.job done)
+                (each_map (IsStoreOf E.job sx.n done) (λ j. Fetch j place.object place.stripe) (upto sx.n) (λ j. tt))));
+            truth = truth start O E.before E.job E.walked new heard held-same count-same due is-due (done ++ place ∷ [])
+                (subst (FetchesAll sx (done ++ place ∷ [])) (sym is) (fetches-done sx E.job done (place ∷ []) (fetches_at sx place) ([], [], sym (append-nil (fetches_at sx place ++ []) ∙ append-nil (fetches_at sx place)), tt)));
+            stripe_is = sym c.2;
+            loses = subst (λ m. LosesRow (object_of sx place.object) t (blocks_given E.job.given sx.n place.object m) row) c.2 (subst (λ n. LosesRow (object_of sx n) t (blocks_given E.job.given sx.n n t) row) c.1 (subst (λ (u : Setup). LosesRow (object_of u o) t (blocks_given E.job.given u.n o t) row) E.walked.setup loses));
+          })
+    ]
+
+  -- ---- by the last action
+
+  -- where a provider was called last, what it holds and its other count are as before
+  called-held : (k : ℕ) (p : Provider) → (p.held ≡ (E.before.providers k).held) × StoreCounts (E.before.providers k) p → new.providers ≡ with_provider E.before.providers k p →
+      (j : ℕ) → ((new.providers j).held ≡ (E.before.providers j).held) × ((new.providers j).other_faults ≡ (E.before.providers j).other_faults)
+  called-held k p c is j = elim (calls-at E.before.providers k (λ p q. (q.held ≡ p.held) × StoreCounts p q) new.providers j (p, c, is)) [
+    | inl e ↦ (ap (λ (z : Provider). z.held) e, ap (λ (z : Provider). z.other_faults) e)
+    | inr d ↦ (d.1.0, d.1.1.other_faults)
+  ]
+
+  same-held : new.providers ≡ E.before.providers → (j : ℕ) → (new.providers j).held ≡ (E.before.providers j).held
+  same-held e j = ap (λ (f : ℕ → Provider). (f j).held) e
+
+  same-count : new.providers ≡ E.before.providers → (j : ℕ) → (new.providers j).other_faults ≡ (E.before.providers j).other_faults
+  same-count e j = ap (λ (f : ℕ → Provider). (f j).other_faults) e
+
+  -- nothing is in doubt between appends
+  sure : (action : Action) → E.action ≡ action → moves_before action ≡ 0 → E.before.doubt ≡ None
+  sure action at none = (none-moving start O RepairJob E.before E.job E.walked
+      (moves-next E.before E.job action (moves_made E.before.append E.job.number) (E.next ∙ ap Some at) (E.walked.sound.jobs E.job.number E.job (runs start O RepairJob E.before E.job E.walked)).order ∙ none)).1
+
+  none-done : (new.records ≡ E.before.records) → 0 < appends_left (setup_in E.before) E.job → new.records ≡ start.records
+  none-done e left = e ∙ unwritten start O E.before E.job E.walked left
+
+  -- a store is one of a flagged provider, at a place
+  store-flagged : (j o t : ℕ) → slice_get (actions_of sx E.job) E.job.place ≡ Some (Store j o t) → (place : Place) × (j < sx.n) × (E.job.flagged j ≡ true) × IsAt place (Store j o t)
+  store-flagged j o t h = elim (cut-next start O E.before E.job E.walked (Store j o t) h) [
+    | Cut.behind q at front ↦ absurd (each_get IsNoStore (append_actions ++ End ∷ []) q (Store j o t) (tt, (tt, (tt, (tt, (tt, tt))))) at)
+    | Cut.inside done place rest q parts at front ↦
+        (let u = each_get (IsStoreOf E.job sx.n (place ∷ [])) (actions_at sx E.job place) q (Store j o t) (stores-of sx E.job place) at in
+        (place, u.0, u.1, each_get (IsAt place) (actions_at sx E.job place) q (Store j o t) (at-place sx E.job place) at))
+  ]
+
+  store-rose : (j : ℕ) (p : Provider) → Rose (E.before.providers j).store_faults p.store_faults → (E.before.providers j).store_faults ≤ p.store_faults → new.providers ≡ with_provider E.before.providers j p →
+      Rose (start.providers j).store_faults (new.providers j).store_faults
+  store-rose j p rose low e =
+      (let now : new.providers j ≡ p = ap (λ (f : ℕ → Provider). f j) e ∙ cond_true (j == j) p (E.before.providers j) (eq-eqb j j refl) in
+      let up = (made-rises (with_job_of start RepairJob E.job) (take E.job.place (actions_of sx E.job)) start.providers E.before.providers [] E.job.given j E.walked.made).0 in
+      subst (λ (q : Provider). Rose (start.providers j).store_faults q.store_faults) (sym now) (rose-before (start.providers j).store_faults (E.before.providers j).store_faults p.store_faults up low rose))
+
+  -- a store failed
+  store-fails : (j o t : ℕ) → E.action ≡ Store j o t → (p : Provider) → FailsToStore (E.before.providers j) p → new ≡ record (ended E.before E.job) { providers = with_provider E.before.providers j p } → Gives (answer.ProviderFault j)
+  unfolding setup_in
+  store-fails j o t at p failed is =
+      (let h = listed (Store j o t) at (λ e. cc) in
+      let e : new.providers ≡ with_provider E.before.providers j p = ap (λ (v : State). v.providers) is in
+      let kept = called-held j p (failed.held, failed.counts) e in
+      let cut = store-flagged j o t h in
+      let left = places-left start O E.before E.job E.walked (Store j o t) h cut.0 cut.3 in (
+        cut.1,
+        sym (flagged-is start O E.before E.job E.walked new heard (λ k. (kept k).0) (λ k. (kept k).1) due is-due j) ∙ cut.2,
+        store-rose j p failed.cause failed.counts.store_faults e,
+        record { after = none-done (ap (λ (v : State). v.records) is) left; sure = ap (option_map (λ (d : Doubt). d.entry)) (ap (λ (v : State). v.doubt) is ∙ sure (Store j o t) at refl) },
+        store-some (λ k. (kept k).0) (λ k. (kept k).1) j o t h,
+      ))
+
+  -- a cut before the one record
+  cut-none : new.records ≡ start.records → new.doubt ≡ None → IsCut (ran_from start new heard) (RepairDone due.number ∷ [])
+  cut-none e d = record { done = []; next = RepairDone due.number; rest = []; parts = refl; after = e; sure = ap (option_map (λ (z : Doubt). z.entry)) d }
+
+  store-memory : (j o t : ℕ) → E.action ≡ Store j o t → (p : Provider) → FindsNoMemory (E.before.providers j) p → new ≡ record (ended E.before E.job) { providers = with_provider E.before.providers j p } → Gives answer.Memory
+  store-memory j o t at p failed is =
+      (let h = listed (Store j o t) at (λ e. cc) in
+      let kept = called-held j p (failed.held, failed.counts) (ap (λ (v : State). v.providers) is) in
+      let cut = store-flagged j o t h in
+      let left = places-left start O E.before E.job E.walked (Store j o t) h cut.0 cut.3 in
+      (cut-none (none-done (ap (λ (v : State). v.records) is) left) (ap (λ (v : State). v.doubt) is ∙ sure (Store j o t) at refl), store-some (λ k. (kept k).0) (λ k. (kept k).1) j o t h))
+
+  -- a row was lost
+  work-loses : (o t row : ℕ) → E.action ≡ Work o t → LosesRow (object_in E.before o) t (blocks_given E.job.given (setup_in E.before).n o t) row → new ≡ ended E.before E.job → Gives (answer.Lost t row)
+  work-loses o t row at loses is =
+      (let h = listed (Work o t) at (λ e. cc) in
+      let e : new.providers ≡ E.before.providers = ap (λ (v : State). v.providers) is in
+      let lost = lost-at (same-held e) (same-count e) o t row h loses in
+      let left = places-left start O E.before E.job E.walked (Work o t) h (record { object = o; stripe = t }) (refl, refl) in
+      (record { after = none-done (ap (λ (v : State). v.records) is) left; sure = ap (option_map (λ (d : Doubt). d.entry)) (ap (λ (v : State). v.doubt) is ∙ sure (Work o t) at refl) }, lost))
+
+  -- a move failed
+  moved : (action : Action) → E.action ≡ action → holder_of E.before.append action ≡ None → (action ≡ End → ⊥) → ((p : Place) → IsAt p action → ⊥) → Moves E.before E.job action E.before.append (Ended how) new → Gives how
+  moved action at free not_end n h = elim (move-answers E.before E.job new action E.before.append how h) [
+    | inl e ↦ subst Gives (sym e) (faulted (move-faults start O RepairJob E.before E.job E.walked action E.before.append new refl (E.next ∙ ap Some at) (subst (λ a. Moves E.before E.job action E.before.append (Ended a) new) e h)))
+    | inr e ↦ subst Gives (sym e) (no-room (move-memory start O RepairJob E.before E.job E.walked action E.before.append new refl free (E.next ∙ ap Some at) (subst (λ a. Moves E.before E.job action E.before.append (Ended a) new) e h)))
+  ]
+    where
+      some : new.providers ≡ E.before.providers → RewritesSome (ran_from start new heard) due
+      some e = all-some (same-held e) (same-count e) action (listed action at not_end) n
+
+      whole : new.providers ≡ E.before.providers → RewritesAll (ran_from start new heard) due
+      whole e = (let b = behind-all action (listed action at not_end) n in
+          all-part start O E.before E.job E.walked new heard (same-held e) (same-count e) due is-due (take b.0 (append_actions ++ End ∷ [])) b.1 (quiet-tail b.0))
+
+      faulted : Faults start O RepairJob E.before E.job E.walked new → Gives answer.DiskFault
+      faulted F = (
+        rose-before start.disk_faults E.before.disk_faults new.disk_faults E.walked.disk F.low F.rose,
+        record { done = []; next = RepairDone due.number; rest = []; parts = refl; after = none-done F.records F.left; doubt = in-doubt F.doubt },
+        whole F.providers,
+      )
+        where
+          in-doubt : InDoubt start O RepairJob E.before E.job E.walked new.doubt → (option_map (λ (d : Doubt). d.entry) new.doubt ≡ None) ⊎ (option_map (λ (d : Doubt). d.entry) new.doubt ≡ Some (RepairDone due.number))
+          in-doubt (inl none) = inl (ap (option_map (λ (d : Doubt). d.entry)) none)
+          in-doubt (inr (d, in_doubt, writes)) = elim (wrote start O RepairJob E.before E.job E.walked d.entry F.left writes) [
+            | Wrote.first l is entry ↦ inr (ap (option_map (λ (z : Doubt). z.entry)) in_doubt ∙ ap Some (entry ∙ ap RepairDone (ap due_number is-due)))
+            | Wrote.second l is sec ↦ absurd sec
+          ]
+
+      no-room : NoRoom start O RepairJob E.before E.job E.walked new → Gives answer.Memory
+      no-room N = (cut-none (none-done N.records N.left) N.doubt, some N.providers)
+
+  -- the repair came to its end
+  at-end : E.action ≡ End → (new.records ≡ E.before.records) → new.doubt ≡ E.before.doubt → new.providers ≡ E.before.providers →
+      IsWhole (ran_from start new heard) (RepairDone due.number ∷ []) × RewritesAll (ran_from start new heard) due
+  at-end at records doubt providers =
+      (let next : next_action E.before E.job ≡ Some End = E.next ∙ ap Some at in
+      let here : slice_get (actions_of (setup_in E.before) E.job) E.job.place ≡ Some End =
+      ap (λ xs. slice_get xs E.job.place) (repair-list (setup_in E.before) E.job E.walked.kind_is) ∙ (sym (next_is_by E.before E.job ∙ ap (λ kd. next_by E.before E.job kd E.job.place) E.walked.kind_is) ∙ next) in
+      let left = drop-get (actions_of (setup_in E.before) E.job) E.job.place End here in
+      let o : IsInOrder (moves_made E.before.append E.job.number) (End ∷ drop (E.job.place + 1) (actions_of (setup_in E.before) E.job)) =
+      subst (IsInOrder (moves_made E.before.append E.job.number)) left (E.walked.sound.jobs E.job.number E.job (runs start O RepairJob E.before E.job E.walked)).order in
+      let none : appends_left (setup_in E.before) E.job ≡ 0 = ap appends_in (left ∙ ap (λ xs. End ∷ xs) o.1) ∙ appends-cons End [] in
+      let b = behind-all End (subst (λ (t : Setup). slice_get (actions_of t E.job) E.job.place ≡ Some End) E.walked.setup here) (λ p u. u) in (
+        record { after = records ∙ by_records E.before.records refl E.walked.records (left-start start O RepairJob E.before E.job E.walked 0 none); sure = ap (option_map (λ (d : Doubt). d.entry)) (doubt ∙ sure End at refl) },
+        all-part start O E.before E.job E.walked new heard (same-held providers) (same-count providers) due is-due (take b.0 (append_actions ++ End ∷ [])) b.1 (quiet-tail b.0),
+      ))
+    where
+      by_records : (rs : List Record) → E.before.records ≡ rs → RecordsAre start RepairJob E.job rs → appends_left (setup_in start) E.job ≡ 0 → E.before.records ≡ RepairDone due.number ∷ start.records
+      by_records rs e (RecordsAre.none l is) none = absurd (omega (arith, l, none))
+      by_records rs e (RecordsAre.one l is) none = e ∙ (is ∙ ap (λ n. RepairDone n ∷ start.records) (ap due_number is-due))
+      by_records rs e (RecordsAre.two entry l sec is) none = absurd (omega (arith, l, none))
+
+  ended-by : (a : Answer) → E.action ≡ End → EndsAs E.before E.job RepairJob a → new ≡ ended E.before E.job → Gives a
+  ended-by (answer.Repaired number) at so is = (let e = at-end at (ap (λ (v : State). v.records) is) (ap (λ (v : State). v.doubt) is) (ap (λ (v : State). v.providers) is) in (so ∙ subject-is, e.0, e.1))
+  ended-by a at so is = absurd so
+
+  by-store : (j o t : ℕ) (a : Answer) → E.action ≡ Store j o t → Acts E.before E.job (Store j o t) (Ended a) new → Gives a
+  by-store j o t (answer.ProviderFault k) at (same, (p, failed, is)) = subst (λ n. Gives (answer.ProviderFault n)) (sym same) (store-fails j o t at p failed is)
+  by-store j o t answer.Memory at (p, failed, is) = store-memory j o t at p failed is
+  by-store j o t a at h = absurd h
+
+  by-work : (o t : ℕ) (a : Answer) → E.action ≡ Work o t → Acts E.before E.job (Work o t) (Ended a) new → Gives a
+  by-work o t (answer.Lost u row) at (same, loses, is) = subst (λ n. Gives (answer.Lost n row)) (sym same) (work-loses o t row at loses is)
+  by-work o t a at h = absurd h
+
+  by-action : (action : Action) → E.action ≡ action → holder_of E.before.append action ≡ None → Acts E.before E.job action (Ended how) new → Gives how
+  by-action End at free (so, is) = ended-by how at (subst (λ kd. EndsAs E.before E.job kd how) E.walked.kind_is so) is
+  by-action WriteBody at free h = moved WriteBody at free (λ e. cc) (λ p u. u) h
+  by-action SyncBody at free h = moved SyncBody at free (λ e. cc) (λ p u. u) h
+  by-action WriteGate at free h = moved WriteGate at free (λ e. cc) (λ p u. u) h
+  by-action SyncGate at free h = moved SyncGate at free (λ e. cc) (λ p u. u) h
+  by-action (Store j o t) at free h = by-store j o t how at h
+  by-action (Work o t) at free h = by-work o t how at h
+  by-action (Fetch j o t) at free h = absurd h
+  by-action (Ask j o r) at free h = absurd h
+  by-action (Remove j o) at free h = absurd h
+
+  pub repair-gives : Gives how
+  repair-gives = by-action E.action refl E.free E.acts
+
+  pub repair-silent : heard ≡ []
+  repair-silent = E.heard_is ∙ ap (heard_by_kind E.job) E.walked.kind_is
+
+pub repairs-leave : (start new : State) (moment : ℕ) (how : Answer) (heard : List Entry) → IsOpenAtRest start 1 → RunsJob start moment RepairJob how heard new → Leaves (ran_from start new heard) RepairJob how
+unfolding setup_in
+repairs-leave start new moment how heard O r =
+    (let E = job-ends start new moment RepairJob how heard O tt r in
+    let due = is_some-at (due_of start.records) (begun-repair 8 start RepairJob r.begins.1 refl) in
+    record {
+      by_kind = (record { due = due.0; is_due = due.1; gives = repair-gives start new how heard O E due.0 due.1 }, repair-silent start new how heard O E due.0 due.1);
+      counts = counts-rise start new RepairJob how heard O E;
+      others = others-stay start new RepairJob how heard O E;
+    })

@@ -1,0 +1,75 @@
+-- The job of a command walks to its last step.
+use Rattle.std.proofs.Common.{◌≡◌, ℕ, ◌+◌, ◌≤◌, true, List, [], ◌∷◌, length, Some, None, ap, sym, subst, ◌∙◌}
+use Rattle.std.specs.Prelude.{is_some, IsTrue}
+use Rattle.std.specs.List.{list_all}
+use Rattle.hail_machine.specs.Jobs.{Kind, Job}
+use Rattle.hail_machine.specs.Actions.{Action}
+use Rattle.hail_machine.specs.Answers.{Answer}
+use Rattle.hail_machine.specs.Events.{Ended, IsSpelledKind}
+use Rattle.hail_machine.specs.States.{State, setup_in}
+use Rattle.hail_devices.specs.Providers.{Provider}
+use Rattle.hail_records.specs.Records.{Record, is_in_grammar, largest_journal}
+use Rattle.hail_records.specs.Journal.{text_size}
+use Rattle.hail_records.specs.Table.{setup_of, file_of}
+use Rattle.hail_records.specs.Acceptance.{AreAccepted}
+use Rattle.hail_commands.specs.Opens.{setup_in_effect}
+use Rattle.hail_machine.specs.Begins.{new_job}
+use Rattle.hail_machine.specs.Steps.{next_action, holder_of, Acts}
+use Rattle.hail_machine.specs.Runs.{Moment, now}
+use Rattle.hail_machine.specs.Heard.{Entry, heard_by}
+use Rattle.hail_openings.specs.Opened.{IsOpenedOver, IsOpenAtRest}
+use Rattle.hail_commands.specs.JobRuns.{AreSteps, GoesOnTo, RunsJob}
+use Rattle.lone_laws.specs.Walked.{Walked}
+use Rattle.lone_laws.proofs.Walk.{walk-begin, walk-step, walk-last, found}
+
+-- the last step of a job, and the state and the job before it
+pub record Ends (start : State) (kind : Kind) (answer : Answer) (heard : List Entry) (new : State) : Type 0 where
+  pub before : State
+  pub job : Job
+  pub walked : Walked start kind before job
+  pub heard_is : heard ≡ heard_by (Some job)
+  pub action : Action
+  pub next : next_action before job ≡ Some action
+  pub free : holder_of before.append action ≡ None
+  pub acts : Acts before job action (Ended answer) new
+
+pub walk-steps : (start w : State) (kind : Kind) (job : Job) (moment : ℕ) (ms : List Moment) → IsOpenAtRest start 1 → Walked start kind w job → AreSteps w moment 1 ms → (next : Job) × Walked start kind (now w ms) next
+walk-steps start w kind job moment [] O W h = (job, W)
+walk-steps start w kind job moment (m ∷ ms) O W (event, outcome, happens, rest) =
+    (let r = walk-steps start w kind job moment ms O W rest in walk-step start O kind (now w ms) r.0 r.1 (moment + length ms) m.state happens)
+
+pub job-ends : (start new : State) (moment : ℕ) (kind : Kind) (answer : Answer) (heard : List Entry) → IsOpenAtRest start 1 → IsSpelledKind kind → RunsJob start moment kind answer heard new → Ends start kind answer heard new
+job-ends start new moment kind answer heard O spelled r =
+    (let b = walk-begin moment r.job start r.begun kind O spelled r.begins in
+    let g : GoesOnTo r.begun (moment + 1) 1 answer heard new = subst (λ n. GoesOnTo r.begun (moment + 1) n answer heard new) b.0 r.goes_on in
+    let last = walk-steps start r.begun kind (new_job start moment kind) (moment + 1) g.steps O b.1 g.are_steps in
+    let a = walk-last start O kind (now r.begun g.steps) last.0 last.1 ((moment + 1) + length g.steps) new answer g.ends in
+    record {
+      before = now r.begun g.steps;
+      job = last.0;
+      walked = last.1;
+      heard_is = g.heard_is ∙ ap heard_by (found start O kind (now r.begun g.steps) last.0 last.1);
+      action = a.0;
+      next = a.1;
+      free = a.2;
+      acts = a.3;
+    })
+
+-- a state opened over good records
+pub opened-over : (w : State) (records : List Record) (faults : ℕ) (providers : List Provider) → IsOpenedOver w records faults providers → AreAccepted records → IsTrue (list_all is_in_grammar records) →
+    text_size records ≤ largest_journal → is_some (setup_of records) ≡ true → (setup_in_effect records).n ≤ length providers → IsOpenAtRest w 1
+unfolding setup_in
+opened-over w records faults providers o accepted spelled room up enough = record {
+  rest = record {
+    idle = (o.jobs, o.append, o.unbarred);
+    undoubted = o.doubt;
+    accepted = subst AreAccepted (sym o.records) accepted;
+    in_grammar = subst (λ rs. IsTrue (list_all is_in_grammar rs)) (sym o.records) spelled;
+    room = subst (λ rs. text_size rs ≤ largest_journal) (sym o.records) room;
+    files = λ name file h. o.bytes name file (ap (λ rs. file_of rs name) (sym o.records) ∙ h);
+    set_up = λ e. ap (λ rs. is_some (setup_of rs)) o.records ∙ up;
+    handed = λ e. subst (λ rs. (setup_in_effect rs).n ≤ w.handed) (sym o.records) (subst (λ n. (setup_in_effect records).n ≤ n) (sym o.handed.count) enough);
+  };
+  opened = o.is_open;
+  next = o.next_job;
+}

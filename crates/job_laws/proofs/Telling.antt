@@ -1,0 +1,247 @@
+-- From the run of a job, as a command tells it, to what it leaves.
+use Rattle.hail_records.proofs.FilesLaws.{same-refl}
+use Rattle.std.proofs.Common.{◌≡◌, ℕ, zero, suc, ◌<◌, ◌≤◌, ◌==◌, ◌&&◌, ◌⊎◌, true, false, cond, List, [], ◌∷◌, length, replicate, Option, None, Some, refl, ap, sym, subst, ◌∙◌, inl, inr, arith}
+use Rattle.std.specs.Prelude.{slice_get, is_some, IsSomeAnd}
+use Rattle.std.specs.Option.{option_map}
+use Rattle.std.proofs.lemmas.Bool.{cases_Bool, cases_lt, eq-eqb, eqb-true, and_parts, and_from, false≢true}
+use Rattle.std.proofs.lemmas.List.{length-replicate}
+use Rattle.hail_devices.specs.Cells.{Cells}
+use Rattle.hail_devices.specs.Images.{EachImage}
+use Rattle.hail_devices.specs.Providers.{Provider}
+use Rattle.hail_records.specs.Records.{Record, SetUp, PutStart, PutDone, Drop, AuditStart, AuditDone, RepairDone, PutDoneIn, Version, Resume, InEffect, RepairDue}
+use Rattle.hail_records.specs.Table.{File, file_as, profile_in, file_of, started_as, is_start_of, is_same_name, setup_of}
+use Rattle.hail_records.specs.Acceptance.{AreAccepted}
+use Rattle.hail_records.specs.Journal.{StandsFor, StandsOrIsEmpty}
+use Rattle.hail_machine.specs.Jobs.{Kind, PutJob, GetJob, DropJob, AuditJob, RepairJob}
+use Rattle.hail_machine.specs.Answers.{Answer}
+use Rattle.hail_machine.specs.Events.{IsSpelledKind}
+use Rattle.hail_machine.specs.Heard.{Entry}
+use Rattle.hail_machine.specs.States.{State, Doubt}
+use Rattle.hail_machine.specs.Stands.{StandsWithDoubt}
+use Rattle.hail_machine.proofs.JobLists.{cond_true, cond_false, same_value}
+use Rattle.hail_machine.proofs.Given.{zeros-bytes}
+use Rattle.hail_commands.specs.Seen.{Seen, nobody, provider_at}
+use Rattle.hail_commands.specs.Opens as opens
+use Rattle.hail_commands.specs.Ran.{ran_from, ran_alone}
+use Rattle.hail_openings.specs.Opened.{IsOpenedOver, IsOpenAtRest}
+use Rattle.hail_commands.specs.JobRuns.{RunsJob}
+use Rattle.hail_commands.specs.Jobs.{Leaves, LeftAlone, RanAlone, RunsAlone}
+use Rattle.sound_states.proofs.Records.{none-set_up, sound-accepted, start-named}
+use Rattle.job_laws.proofs.Runs.{job-ends, opened-over}
+use Rattle.job_laws.proofs.Audits.{audits-leave}
+use Rattle.job_laws.proofs.Repairs.{repairs-leave}
+use Rattle.job_laws.proofs.Gets.{all-leaves}
+use Rattle.job_laws.proofs.Puts.{put-leaves}
+use Rattle.job_laws.proofs.Drops.{drop-leaves}
+use Rattle.job_laws.proofs.Refused.{drop-has}
+
+-- ---- a state that was opened over records that a start read
+
+pub over-opened : (w : State) (old : Seen) (records : List Record) (faults : ℕ) → opens.IsOpened old records → IsOpenedOver w records faults old.providers → IsOpenAtRest w 1
+over-opened w old records faults R V = opened-over w records faults old.providers V R.read.accepted R.read.in_grammar R.read.room has_setup R.enough
+  where
+    has_setup : is_some (setup_of records) ≡ true
+    has_setup = elim (cases_Bool (is_some (setup_of records))) [
+      | inl t ↦ t
+      | inr f ↦ absurd (R.read.some (none-set_up records R.read.accepted f))
+    ]
+
+-- ---- there is such a state
+
+-- the size of the file that was brought in under a number
+abbrev size_put : List Record → ℕ → ℕ
+size_put [] id = 0
+size_put (PutDone k size ∷ rs) id = cond ((k == id) && is_some (started_as rs k)) size (size_put rs id)
+size_put (PutDoneIn k size profile ∷ rs) id =
+    cond ((k == id) && is_some (started_as rs k)) size (size_put rs id)
+size_put (InEffect k size profile kept ∷ rs) id = cond (k == id) size (size_put rs id)
+size_put (SetUp s ∷ rs) id = size_put rs id
+size_put (PutStart k name ∷ rs) id = size_put rs id
+size_put (Drop name ∷ rs) id = size_put rs id
+size_put (AuditStart number ∷ rs) id = size_put rs id
+size_put (AuditDone number undecided counts ∷ rs) id = size_put rs id
+size_put (RepairDone number ∷ rs) id = size_put rs id
+size_put (Version ∷ rs) id = size_put rs id
+size_put (Resume next audit ∷ rs) id = size_put rs id
+size_put (RepairDue number counts ∷ rs) id = size_put rs id
+
+-- the size under the number of a put's end, over what it was before
+abbrev put_over : List Record → ℕ → ℕ → ℕ → ℕ
+put_over rs k size id = cond ((k == id) && is_some (started_as rs k)) size (size_put rs id)
+
+-- a file that a put's end brought in, or that was there before
+size-put : (rs : List Record) → AreAccepted rs → (k size profile : ℕ) (name : List ℕ) (f : File) →
+    (file_of rs name ≡ Some f → size_put rs f.id ≡ f.size) →
+    cond (is_start_of name (started_as rs k)) (Some (file_as name k size profile)) (file_of rs name) ≡ Some f →
+    put_over rs k size f.id ≡ f.size
+size-put rs a k size profile name f older h =
+    let new : File = file_as name k size profile in
+    elim (cases_Bool (is_start_of name (started_as rs k))) [
+      | inl t ↦ (let same : new ≡ f = same_value _ new f
+          (cond_true (is_start_of name (started_as rs k)) (Some new) (file_of rs name) t) h in
+          subst (λ (z : File). put_over rs k size z.id ≡ z.size) same
+          (cond_true ((k == k) && is_some (started_as rs k)) size (size_put rs k) (and_from (k == k)
+          (is_some (started_as rs k)) (eq-eqb k k refl) (ap is_some (start-named name (started_as rs k) t)))))
+      | inr n ↦ (let before : file_of rs name ≡ Some f =
+          sym (cond_false (is_start_of name (started_as rs k)) (Some new) (file_of rs name) n) ∙ h in
+          cond_false ((k == f.id) && is_some (started_as rs k)) size (size_put rs f.id) (other before) ∙ older before)
+    ]
+  where
+    other : file_of rs name ≡ Some f → ((k == f.id) && is_some (started_as rs k)) ≡ false
+    other before = elim (cases_Bool ((k == f.id) && is_some (started_as rs k))) [
+      | inl t ↦ absurd (let p = and_parts (k == f.id) (is_some (started_as rs k)) t in
+          let none : started_as rs k ≡ None = ap (started_as rs) (eqb-true k f.id p.0)
+          ∙ ((sound-accepted rs a).file name f before).1 in
+          false≢true (sym (ap is_some none) ∙ p.1))
+      | inr n ↦ n
+    ]
+
+-- a file that a packed journal keeps, or that was there before
+size-kept : (rs : List Record) (k size profile : ℕ) (kept name : List ℕ) (f : File) →
+    AreAccepted (InEffect k size profile kept ∷ rs) → (file_of rs name ≡ Some f → size_put rs f.id ≡ f.size) →
+    file_of (InEffect k size profile kept ∷ rs) name ≡ Some f →
+    size_put (InEffect k size profile kept ∷ rs) f.id ≡ f.size
+size-kept rs k size profile kept name f a older h =
+    let new : File = file_as name k size profile in
+    elim (cases_Bool (is_same_name kept name)) [
+      | inl t ↦ (let same : new ≡ f = same_value _ new f
+          (cond_true (is_same_name kept name) (Some new) (file_of rs name) t) h in
+          subst (λ (z : File). cond (k == z.id) size (size_put rs z.id) ≡ z.size) same
+          (cond_true (k == k) size (size_put rs k) (eq-eqb k k refl)))
+      | inr n ↦ cond_false (k == f.id) size (size_put rs f.id) (other n)
+          ∙ older (sym (cond_false (is_same_name kept name) (Some new) (file_of rs name) n) ∙ h)
+    ]
+  where
+    own : file_of (InEffect k size profile kept ∷ rs) kept ≡ Some (file_as kept k size profile)
+    own = cond_true (is_same_name kept kept) (Some (file_as kept k size profile)) (file_of rs kept)
+        (same-refl kept)
+
+    other : is_same_name kept name ≡ false → (k == f.id) ≡ false
+    other n = elim (cases_Bool (k == f.id)) [
+      | inl t ↦ absurd (let sound = sound-accepted (InEffect k size profile kept ∷ rs) a in
+          let same : kept ≡ name =
+          sound.one_name kept name (file_as kept k size profile) f own h (eqb-true k f.id t) in
+          false≢true (sym n ∙ (ap (is_same_name kept) (sym same) ∙ same-refl kept)))
+      | inr o ↦ o
+    ]
+
+size-file : (rs : List Record) → AreAccepted rs → (name : List ℕ) (f : File) → file_of rs name ≡ Some f →
+    size_put rs f.id ≡ f.size
+size-file [] a name f h = absurd (let e : None ≡ Some f = h in cc)
+size-file (PutDone k size ∷ rs) a name f h =
+    size-put rs a.1 k size (profile_in (setup_of rs)) name f (λ e. size-file rs a.1 name f e) h
+size-file (PutDoneIn k size profile ∷ rs) a name f h =
+    size-put rs a.1 k size profile name f (λ e. size-file rs a.1 name f e) h
+size-file (InEffect k size profile kept ∷ rs) a name f h =
+    size-kept rs k size profile kept name f a (λ e. size-file rs a.1 name f e) h
+size-file (Drop dropped ∷ rs) a name f h = elim (cases_Bool (is_same_name dropped name)) [
+  | inl t ↦ absurd (let e : None ≡ Some f = sym (cond_true (is_same_name dropped name) None (file_of rs name) t) ∙ h in cc)
+  | inr n ↦ size-file rs a.1 name f (sym (cond_false (is_same_name dropped name) None (file_of rs name) n) ∙ h)
+]
+size-file (SetUp s ∷ rs) a name f h = size-file rs a.1 name f h
+size-file (PutStart k n ∷ rs) a name f h = size-file rs a.1 name f h
+size-file (AuditStart number ∷ rs) a name f h = size-file rs a.1 name f h
+size-file (AuditDone number undecided counts ∷ rs) a name f h = size-file rs a.1 name f h
+size-file (RepairDone number ∷ rs) a name f h = size-file rs a.1 name f h
+size-file (Version ∷ rs) a name f h = size-file rs a.1 name f h
+size-file (Resume next audit ∷ rs) a name f h = size-file rs a.1 name f h
+size-file (RepairDue number counts ∷ rs) a name f h = size-file rs a.1 name f h
+
+-- the state with zeros for the bytes of its files
+abbrev pub opened_state : List Record → ℕ → List Provider → State
+opened_state records faults providers = record {
+  records = records;
+  bytes = λ id. replicate (size_put records id) 0;
+  audits = λ number. 0;
+  jobs = [];
+  next_job = 1;
+  append = None;
+  doubt = None;
+  providers = provider_at providers;
+  handed = length providers;
+  disk_faults = faults;
+  is_open = true;
+  is_barred = false;
+}
+
+get-provider : (ps : List Provider) (j : ℕ) → j < length ps → slice_get ps j ≡ Some (provider_at ps j)
+get-provider [] j l = absurd (omega (arith, l))
+get-provider (p ∷ ps) zero l = refl
+get-provider (p ∷ ps) (suc j) l = get-provider ps j (omega (arith, l))
+
+get-none : (ps : List Provider) (j : ℕ) → length ps ≤ j → provider_at ps j ≡ nobody
+get-none [] j l = refl
+get-none (p ∷ ps) zero l = absurd (omega (arith, l))
+get-none (p ∷ ps) (suc j) l = get-none ps j (omega (arith, l))
+
+pub state-over : (records : List Record) (faults : ℕ) (providers : List Provider) → AreAccepted records → IsOpenedOver (opened_state records faults providers) records faults providers
+state-over records faults providers accepted = record {
+  records = refl;
+  jobs = refl;
+  next_job = refl;
+  append = refl;
+  doubt = refl;
+  is_open = refl;
+  unbarred = refl;
+  bytes = λ name file h. (zeros-bytes (size_put records file.id), length-replicate (size_put records file.id) 0 ∙ size-file records accepted name file h);
+  faults_are = refl;
+  handed = record { count = refl; each = get-provider providers };
+}
+
+-- ---- what is left of the run
+
+module _ (records : List Record) (kind : Kind) (answer : Answer) (old new : Seen) (heard : List Entry) (law : (w last : State) (moment : ℕ) → IsOpenAtRest w 1 → RunsJob w moment kind answer heard last → Leaves (ran_from w last heard) kind answer)
+    (R : opens.IsOpened old records) (same : length new.providers ≡ length old.providers) (A : RunsAlone records kind answer old new heard) where
+  abbrev w : State
+  w = opened_state records A.faults old.providers
+
+  over : IsOpenedOver w records A.faults old.providers
+  over = state-over records A.faults old.providers R.read.accepted
+
+  ran : RanAlone records kind answer old new heard A.faults w 1
+  ran = A.ran w 1 over
+
+  left-by : Leaves (ran_from w ran.last heard) kind answer
+  left-by = law w ran.last 1 (over-opened w old records A.faults R over) ran.runs
+
+  provider-is : (j : ℕ) → ran.last.providers j ≡ provider_at new.providers j
+  provider-is j = elim (cases_lt j (length new.providers)) [
+    | inl l ↦ (let e : Some (ran.last.providers j) ≡ Some (provider_at new.providers j) = sym (ran.handed.each j l) ∙ get-provider new.providers j l in
+        let f : ran.last.providers j ≡ provider_at new.providers j = cc in f)
+    | inr l ↦ left-by.others j (let e = R.enough in omega (arith, e, l, same)) ∙ (get-none old.providers j (omega (arith, l, same)) ∙ sym (get-none new.providers j l))
+  ]
+
+  abbrev entry_in : Doubt → Record
+  entry_in d = d.entry
+
+  image-stands : (image : List ℕ) → StandsOrIsEmpty image ran.last.records ⊎ StandsWithDoubt ran.last image →
+      StandsOrIsEmpty image ran.last.records ⊎ IsSomeAnd (option_map (λ (d : Doubt). d.entry) ran.last.doubt) (λ entry. StandsFor image (entry ∷ ran.last.records))
+  image-stands image (inl h) = inl h
+  image-stands image (inr h) = inr (subst (λ (d : Option Doubt). IsSomeAnd (option_map (λ (d : Doubt). d.entry) d) (λ entry. StandsFor image (entry ∷ ran.last.records))) (sym h.in_doubt) h.stands)
+
+  images-stand : (told : Option Cells) → EachImage told (λ image. StandsOrIsEmpty image ran.last.records ⊎ StandsWithDoubt ran.last image) →
+      EachImage told (λ image. StandsOrIsEmpty image ran.last.records ⊎ IsSomeAnd (option_map (λ (d : Doubt). d.entry) ran.last.doubt) (λ entry. StandsFor image (entry ∷ ran.last.records)))
+  images-stand None h = tt
+  images-stand (Some cells) h = λ image is. image-stands image (h image is)
+
+  pub left-alone : LeftAlone records kind answer old new heard
+  left-alone = record {
+    faults = A.faults;
+    before = A.before;
+    after = ran.last.records;
+    doubt = option_map (λ (d : Doubt). d.entry) ran.last.doubt;
+    leaves = subst (λ n. Leaves (record (ran_alone records old new heard A.faults ran.last.records (option_map (λ (d : Doubt). d.entry) ran.last.doubt)) { disk_after = n }) kind answer) ran.faults_are
+        (subst (λ (f : ℕ → Provider). Leaves (record (ran_from w ran.last heard) { new = f }) kind answer) (λ i j. provider-is j i) left-by);
+    images = images-stand new.disk ran.images;
+    past_text = ran.past_text;
+  }
+
+-- ---- each kind of job
+
+pub jobs-leave : (kind : Kind) (w last : State) (moment : ℕ) (answer : Answer) (heard : List Entry) → IsSpelledKind kind → IsOpenAtRest w 1 → RunsJob w moment kind answer heard last → Leaves (ran_from w last heard) kind answer
+jobs-leave (PutJob name bytes) w last moment answer heard spelled O r = put-leaves w last name bytes answer heard O (job-ends w last moment (PutJob name bytes) answer heard O spelled r)
+jobs-leave (GetJob name) w last moment answer heard spelled O r = all-leaves w last name answer heard O (job-ends w last moment (GetJob name) answer heard O spelled r)
+jobs-leave (DropJob name) w last moment answer heard spelled O r =
+    (let f = drop-has 8 w name r.begins.1 in drop-leaves w last name answer heard O (job-ends w last moment (DropJob name) answer heard O spelled r) f.0 f.1)
+jobs-leave AuditJob w last moment answer heard spelled O r = audits-leave w last moment answer heard O r
+jobs-leave RepairJob w last moment answer heard spelled O r = repairs-leave w last moment answer heard O r

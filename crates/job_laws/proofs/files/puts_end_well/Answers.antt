@@ -1,0 +1,12 @@
+use Rattle.hail_machine.specs.Jobs.{PutJob}
+use Rattle.hail_machine.specs.States.{setup_in}
+use Rattle.hail_commands.specs.Ran.{ran_from}
+use Rattle.job_laws.proofs.Runs.{job-ends}
+use Rattle.job_laws.proofs.Puts.{put-leaves}
+use Rattle.job_laws.proofs.Complete.{put-end}
+use Rattle.job_laws.proofs.files.puts_end_well.Goals as goal
+
+pub returns : goal.returns
+unfolding setup_in
+returns c w new moment name bytes answer heard O spelled r disk stores =
+    put-end (ran_from w new heard) name bytes answer (put-leaves w new name bytes answer heard O (job-ends w new moment (PutJob name bytes) answer heard O spelled r)).by_kind.0 disk stores

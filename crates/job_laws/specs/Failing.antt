@@ -1,0 +1,49 @@
+-- Providers that do harm to a get.
+--
+--   has_risen before now      == a count rose, or it stands at its last value
+--   is_bad_for o bytes j old new  == provider j, seen so at the begin and at the end, held a wrong block of
+--                                an object of these bytes at the begin, or its count of failed calls rose;
+--                                so is one that does not tell what it holds
+--   is_bad x id bytes j       == the same of a provider of a run
+--   bad_count x id bytes      == how many providers of the setup are so in a run
+--   bad_seen records old new id bytes  == how many providers of the setup are so, as the devices are seen
+use Rattle.std.specs.Prelude.{ℕ, ◌||◌, Bool, true, List, Option, None, Some, nat_lt, nat_le}
+use Rattle.hail_codes.specs.Points.{upto}
+use Rattle.hail_columns.specs.Objects.{Object}
+use Rattle.hail_columns.specs.Columns.{is_wrong}
+use Rattle.hail_columns.specs.Forgeries.{count_of}
+use Rattle.hail_devices.specs.Faults.{last_count}
+use Rattle.hail_devices.specs.Providers.{Held, Provider}
+use Rattle.hail_records.specs.Records.{Record}
+use Rattle.hail_machine.specs.Setups.{object_of}
+use Rattle.hail_commands.specs.Seen.{Seen, provider_at}
+use Rattle.hail_commands.specs.Opens.{setup_in_effect}
+use Rattle.hail_commands.specs.Ran.{Ran, setup_at_begin}
+
+-- a count rose, or it stands at its last value
+abbrev pub has_risen : ℕ → ℕ → Bool
+has_risen before now = nat_lt before now || nat_le last_count now
+
+-- a provider with this content is wrong, or failed
+abbrev pub is_bad_with : Object → List ℕ → ℕ → Provider → Provider → Option Held → Bool
+is_bad_with o bytes j old new None = true
+is_bad_with o bytes j old new (Some held) =
+    is_wrong o bytes j (held o.id) || has_risen old.other_faults new.other_faults
+
+-- a provider that is seen so is wrong for an object of these bytes, or failed
+abbrev pub is_bad_for : Object → List ℕ → ℕ → Provider → Provider → Bool
+is_bad_for o bytes j old new = is_bad_with o bytes j old new old.held
+
+-- a provider is wrong for an object of these bytes, or failed in the run
+abbrev pub is_bad : Ran → ℕ → List ℕ → ℕ → Bool
+is_bad x id bytes j = is_bad_for (object_of (setup_at_begin x) id) bytes j (x.old j) (x.new j)
+
+-- how many providers of the setup are so
+abbrev pub bad_count : Ran → ℕ → List ℕ → ℕ
+bad_count x id bytes = count_of (is_bad x id bytes) (upto (setup_at_begin x).n)
+
+-- how many providers of the setup are so, as the devices are seen
+abbrev pub bad_seen : List Record → Seen → Seen → ℕ → List ℕ → ℕ
+bad_seen records old new id bytes =
+    count_of (λ j. is_bad_for (object_of (setup_in_effect records) id) bytes j (provider_at old.providers j)
+    (provider_at new.providers j)) (upto (setup_in_effect records).n)

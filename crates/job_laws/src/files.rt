@@ -1,0 +1,98 @@
+//! What gets, puts and drops leave that run alone, and when jobs end well, from a state whose vault was just opened.
+ghost use Rattle.std.specs.Prelude.{◌≡◌, ◌⊎◌, ℕ, ◌+◌, ◌<◌, ◌≤◌, List, length, Some};
+ghost use Rattle.hail_devices.specs.Faults.{Rose};
+ghost use Rattle.hail_records.specs.Table.{File};
+ghost use Rattle.hail_machine.specs.Jobs.{PutJob, GetJob, DropJob, AuditJob, RepairJob};
+ghost use Rattle.hail_machine.specs.Answers.{Answer, Put, Got, Dropped, Audited, Repaired, Memory};
+ghost use Rattle.hail_machine.specs.Events.{IsSpelledKind, AreBytes};
+ghost use Rattle.hail_machine.specs.States.{State, setup_in, object_in, file_in};
+ghost use Rattle.hail_machine.specs.Heard.{Entry, HoldsForgery};
+ghost use Rattle.hail_commands.specs.Ran.{ran_from};
+ghost use Rattle.hail_commands.specs.JobRuns.{RunsJob};
+ghost use Rattle.hail_commands.specs.Jobs.{Leaves};
+ghost use Rattle.hail_openings.specs.Opened.{IsOpenAtRest};
+ghost use Rattle.job_laws.specs.Failing.{bad_count};
+
+/// What a get leaves, however it ends: it gives what it heard, and changes nothing.
+pub fn gets_leave()
+    ensures { (w new : State) (moment : ℕ) (name : List ℕ) (answer : Answer) (heard : List Entry)
+        → IsOpenAtRest w 1 → IsSpelledKind (GetJob name) →
+        RunsJob w moment (GetJob name) answer heard new → Leaves (ran_from w new heard) (GetJob name) answer }
+{}
+
+/// What a put leaves, however it ends: the file on every provider, or a part of it under a number that is not used again.
+pub fn puts_leave()
+    ensures { (w new : State) (moment : ℕ) (name bytes : List ℕ) (answer : Answer) (heard : List Entry)
+        → IsOpenAtRest w 1 → IsSpelledKind (PutJob name bytes) →
+        RunsJob w moment (PutJob name bytes) answer heard new
+        → Leaves (ran_from w new heard) (PutJob name bytes) answer }
+{}
+
+/// What a drop leaves, however it ends: the file on no provider, but for blocks that stay where a count of faults rose.
+pub fn drops_leave()
+    ensures { (w new : State) (moment : ℕ) (name : List ℕ) (answer : Answer) (heard : List Entry)
+        → IsOpenAtRest w 1 → IsSpelledKind (DropJob name) →
+        RunsJob w moment (DropJob name) answer heard new
+        → Leaves (ran_from w new heard) (DropJob name) answer }
+{}
+
+/// What follows for a get from how many providers are wrong for the file, or failed, as the run began and went.
+pub fn few_bad_providers_give_file()
+    ensures complete { (w new : State) (moment : ℕ) (name bytes : List ℕ) (answer : Answer)
+        (heard : List Entry) (file : File) → IsOpenAtRest w 1 →
+        IsSpelledKind (GetJob name) → RunsJob w moment (GetJob name) answer heard new
+        → file_in w name ≡ Some file → AreBytes bytes →
+        length bytes ≡ file.size → bad_count (ran_from w new heard) file.id bytes ≤ (setup_in w).b
+        → answer ≡ Got bytes }
+    ensures right { (w new : State) (moment : ℕ) (name bytes got : List ℕ) (heard : List Entry)
+        (file : File) → IsOpenAtRest w 1 →
+        IsSpelledKind (GetJob name) → RunsJob w moment (GetJob name) (Got got) heard new
+        → file_in w name ≡ Some file → AreBytes bytes →
+        length bytes ≡ file.size → bad_count (ran_from w new heard) file.id bytes ≤ (setup_in w).b + 1
+        → got ≡ bytes }
+    ensures forged { (w new : State) (moment : ℕ) (name bytes got : List ℕ) (heard : List Entry)
+        (file : File) → IsOpenAtRest w 1 →
+        IsSpelledKind (GetJob name) → RunsJob w moment (GetJob name) (Got got) heard new
+        → file_in w name ≡ Some file → AreBytes bytes →
+        length bytes ≡ file.size → (got ≡ bytes) ⊎ HoldsForgery (object_in w file.id) bytes 1 heard }
+{}
+
+/// A put stores the file, or found no memory, unless a count of faults rose: the disk's, or that of a provider's stores.
+pub fn puts_end_well()
+    ensures { (w new : State) (moment : ℕ) (name bytes : List ℕ) (answer : Answer) (heard : List Entry)
+        → IsOpenAtRest w 1 → IsSpelledKind (PutJob name bytes) →
+        RunsJob w moment (PutJob name bytes) answer heard new → (Rose w.disk_faults new.disk_faults → ⊥) →
+        ((j : ℕ) → j < (setup_in w).n → Rose (w.providers j).store_faults (new.providers j).store_faults
+        → ⊥) →
+        (answer ≡ Put) ⊎ (answer ≡ Memory) }
+{}
+
+/// A drop takes the file away, or found no memory, unless the disk's count of faults rose.
+pub fn drops_end_well()
+    ensures { (w new : State) (moment : ℕ) (name : List ℕ) (answer : Answer) (heard : List Entry)
+        → IsOpenAtRest w 1 → IsSpelledKind (DropJob name) →
+        RunsJob w moment (DropJob name) answer heard new → (Rose w.disk_faults new.disk_faults → ⊥)
+        → (answer ≡ Dropped) ⊎ (answer ≡ Memory) }
+{}
+
+/// An audit gives its sums, or found no memory, unless the disk's count of faults rose, whatever providers do.
+pub fn audits_end_well()
+    ensures { (w new : State) (moment : ℕ) (answer : Answer) (heard : List Entry) → IsOpenAtRest w 1
+        → RunsJob w moment AuditJob answer heard new →
+        (Rose w.disk_faults new.disk_faults → ⊥)
+        → ((number undecided : ℕ) × (counts : List ℕ) × (answer ≡ Audited number undecided counts))
+        ⊎ (answer ≡ Memory) }
+{}
+
+/// A repair writes the flagged providers anew, or found no memory, where for each file in effect at most b providers are wrong for its
+/// bytes or failed, unless a count of faults rose: the disk's, or that of a provider's stores.
+pub fn repairs_end_well()
+    ensures { (w new : State) (moment : ℕ) (answer : Answer) (heard : List Entry) (bytes : ℕ → List ℕ)
+        → IsOpenAtRest w 1 → RunsJob w moment RepairJob answer heard new →
+        (Rose w.disk_faults new.disk_faults → ⊥) →
+        ((j : ℕ) → j < (setup_in w).n → Rose (w.providers j).store_faults (new.providers j).store_faults
+        → ⊥) →
+        ((name : List ℕ) (file : File) → file_in w name ≡ Some file → (length (bytes file.id) ≡ file.size) ×
+        (bad_count (ran_from w new heard) file.id (bytes file.id) ≤ (setup_in w).b)) →
+        ((number : ℕ) × (answer ≡ Repaired number)) ⊎ (answer ≡ Memory) }
+{}

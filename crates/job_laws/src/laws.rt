@@ -1,0 +1,49 @@
+//! What a job leaves that runs alone, from a state whose vault was just opened.
+ghost use Rattle.std.specs.Prelude.{◌≡◌, ℕ, ◌≤◌, true, IsTrue, List, length, is_some};
+ghost use Rattle.std.specs.List.{list_all};
+ghost use Rattle.hail_devices.specs.Providers.{Provider};
+ghost use Rattle.hail_records.specs.Records.{Record, is_in_grammar, largest_journal};
+ghost use Rattle.hail_records.specs.Journal.{text_size};
+ghost use Rattle.hail_records.specs.Table.{setup_of};
+ghost use Rattle.hail_records.specs.Acceptance.{AreAccepted};
+ghost use Rattle.hail_machine.specs.Jobs.{Kind, AuditJob, RepairJob};
+ghost use Rattle.hail_machine.specs.Answers.{Answer};
+ghost use Rattle.hail_machine.specs.Events.{IsSpelledKind};
+ghost use Rattle.hail_machine.specs.States.{State};
+ghost use Rattle.hail_machine.specs.Heard.{Entry};
+ghost use Rattle.hail_commands.specs.Opens.{setup_in_effect};
+ghost use Rattle.hail_commands.specs.Ran.{ran_from};
+ghost use Rattle.hail_openings.specs.Opened.{IsOpenedOver, IsOpenAtRest};
+ghost use Rattle.hail_commands.specs.JobRuns.{RunsJob};
+ghost use Rattle.hail_commands.specs.Jobs.{Leaves};
+
+/// A state that was opened over records that a journal may hold and the fold accepts, with a setup and enough providers, is one whose
+/// vault was just opened.
+pub fn opened_states_are_opened()
+    ensures { (w : State) (records : List Record) (faults : ℕ) (providers : List Provider)
+        → IsOpenedOver w records faults providers →
+        AreAccepted records → IsTrue (list_all is_in_grammar records) → text_size records ≤ largest_journal →
+        is_some (setup_of records) ≡ true → (setup_in_effect records).n ≤ length providers
+        → IsOpenAtRest w 1 }
+{}
+
+/// What an audit leaves, however it ends.
+pub fn audits_leave()
+    ensures { (w new : State) (moment : ℕ) (answer : Answer) (heard : List Entry) → IsOpenAtRest w 1
+        → RunsJob w moment AuditJob answer heard new →
+        Leaves (ran_from w new heard) AuditJob answer }
+{}
+
+/// What a repair leaves, however it ends.
+pub fn repairs_leave()
+    ensures { (w new : State) (moment : ℕ) (answer : Answer) (heard : List Entry) → IsOpenAtRest w 1
+        → RunsJob w moment RepairJob answer heard new →
+        Leaves (ran_from w new heard) RepairJob answer }
+{}
+
+/// What a job of any kind leaves, however it ends.
+pub fn jobs_leave()
+    ensures { (w new : State) (moment : ℕ) (kind : Kind) (answer : Answer) (heard : List Entry)
+        → IsOpenAtRest w 1 → IsSpelledKind kind →
+        RunsJob w moment kind answer heard new → Leaves (ran_from w new heard) kind answer }
+{}

@@ -1,0 +1,18 @@
+use Rattle.std.proofs.Common.{suc, sym, subst, arith}
+use Rattle.hail_records.specs.Journal.{text}
+use Rattle.hail_records.specs.Areas.{A, StandsActive}
+use Rattle.hail_records.specs.Examples.{four_set_up}
+use Rattle.hail_records.proofs.AreaLaws.{old_is_active}
+use Rattle.hail_records.proofs.TwoAreas.{first-stands}
+use Rattle.hail_devices.proofs.Lasting.{reads-firm}
+use Rattle.journal_core.proofs.FirmCells.{all-firm}
+use Rattle.journal_core.proofs.laws.firm_text_is_firm.Goals as goal
+
+pub returns-clause-active : goal.returns-clause-active
+returns-clause-active c = subst (λ bytes. StandsActive bytes A four_set_up) (sym (reads-firm (text four_set_up))) (old_is_active (text four_set_up) four_set_up first-stands)
+
+pub returns-clause-front : goal.returns-clause-front
+returns-clause-front c = all-firm (text four_set_up) 0 8
+
+pub returns-clause-text : goal.returns-clause-text
+returns-clause-text c = λ k below. all-firm (text four_set_up) 8 (suc k) k (omega arith)

@@ -1,0 +1,18 @@
+-- Plain facts on options and on tests.
+use Rattle.std.proofs.Common.{◌≡◌, Bool, true, false, cond, ◌⊎◌, Option, Some, None, refl, sym, ◌∙◌, inl, inr}
+use Rattle.std.specs.Prelude.{is_some}
+use Rattle.std.specs.Option.{option_map}
+
+-- what is some value is not none
+pub some-not-none : {X : Type 0} (o : Option X) (x : X) → o ≡ Some x → o ≡ None → ⊥
+some-not-none o x a b = let e : None ≡ Some x = sym b ∙ a in cc
+
+-- a function of a value makes it neither come nor go
+pub is_some-option_map : {A B : Type 0} (f : A → B) (o : Option A) → is_some (option_map f o) ≡ is_some o
+is_some-option_map f None = refl
+is_some-option_map f (Some x) = refl
+
+-- which way a test went
+pub cond-cases : {A : Type 0} (b : Bool) (x y z : A) → cond b x y ≡ z → ((b ≡ true) × (x ≡ z)) ⊎ ((b ≡ false) × (y ≡ z))
+cond-cases true x y z e = inl (refl, e)
+cond-cases false x y z e = inr (refl, e)

@@ -1,0 +1,15 @@
+use Rattle.std.proofs.Common.{◌≡◌, ◌∙◌, ap, sym, Vec, Global}
+use Rattle.hail_columns.specs.Objects.{Object, symbols_in}
+use Rattle.hail_field.specs.declared.symbol.Symbol.{Symbol}
+use Rattle.vault.proofs.tasks.PutTask.store.Goals as goal
+
+-- the symbols of a stripe do not depend on the number of the object
+pub invariant_of-self : goal.invariant_of-self
+invariant_of-self g c =
+    let gathered = c.gather.new.self in
+    record {
+      gathered = λ x is.
+          ap (λ (rows : Vec Symbol Global). rows.items) c.store.ensures.rows
+          ∙ gathered.gathered x is
+          ∙ ap (λ (o : Object). symbols_in o gathered.bytes x) (sym c.store.ensures.object);
+    }
