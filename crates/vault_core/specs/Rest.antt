@@ -10,7 +10,7 @@
 --                                     on, at those of all objects
 --   closing_of wish                == the actions behind those on files: the last append, and the end
 --   moves_from at                  == the moves of an append from this one on
---   actions_after at, moves_of        == those behind it; those from one on, if there is one
+--   actions_after at, move_actions    == those behind it; those from one on, if there is one
 --   tasks_on n job tasks           == the actions from the first of these tasks on
 --   beyond n job spot              == the actions behind those at a stripe or round
 --   rest_at n job cursor           == the actions from a cursor on
