@@ -1,5 +1,5 @@
 -- Blocks that are absent take nothing from accepted rows: only wrong ones that are there could forge one.
-use Rattle.std.proofs.Common.{◌≡◌, ℕ, suc, ◌+◌, ◌-◌, ◌*◌, ◌<◌, ◌≤◌, ◌&&◌, true, false, List, [], length, drop, map, get_or, Some, None, refl, ap, sym, ◌∙◌, inl, inr, arith, get_or-take, get_or-drop}
+use Rattle.std.proofs.Common.{◌≡◌, ℕ, suc, ◌+◌, ◌*◌, ◌<◌, ◌≤◌, ◌&&◌, true, List, length, drop, map, get_or, Some, None, refl, ap, sym, ◌∙◌, inl, inr, arith, get_or-take, get_or-drop}
 use Rattle.std.specs.Prelude.{is_some, slice_index}
 use Rattle.std.proofs.lemmas.Bool.{and_parts, and_from, false≢true}
 use Rattle.std.proofs.Math.Nat.{mul-le-mul_right}

@@ -1,18 +1,19 @@
 -- Failed calls are at most as many as the counts rose.
-use Rattle.std.proofs.Common.{◌≡◌, ℕ, suc, ◌≤◌, ◌==◌, true, false, List, [], ◌∷◌, ◌++◌, length, Option, Some, None, refl, ap, sym, subst, ◌∙◌, inl, inr, arith}
+use Rattle.std.proofs.Common.{◌≡◌, ℕ, zero, suc, ◌≤◌, ◌==◌, Bool, true, false, List, [], ◌∷◌, ◌++◌, length, Option, Some, None, refl, ap, sym, subst, ◌∙◌, inl, inr, arith}
 use Rattle.std.proofs.lemmas.Bool.{cases_lt, eq-eqb}
 use Rattle.hail_devices.specs.Faults.{Rose, last_count}
 use Rattle.hail_devices.specs.Providers.{Provider}
 use Rattle.hail_devices.specs.ProviderCalls.{Removes}
-use Rattle.hail_machine.specs.Jobs.{Kind, PutJob, GetJob, DropJob, AuditJob, RepairJob, Job, Fetched, Answered, job_of, advanced, advanced_with}
-use Rattle.hail_machine.specs.Actions.{Action, WriteBody, SyncBody, WriteGate, SyncGate, Store, Fetch, Ask, Remove, End}
+use Rattle.hail_machine.specs.Jobs.{Kind, PutJob, GetJob, DropJob, AuditJob, RepairJob, UpgradeJob, Job, Fetched, Answered, job_of, advanced, advanced_with}
+use Rattle.hail_machine.specs.Actions.{Action, WriteBody, SyncBody, WriteGate, SyncGate, Store, Fetch, Ask, Work, Remove, End}
 use Rattle.hail_machine.specs.Refusals as refusal
 use Rattle.hail_machine.specs.Answers as answer
 use Rattle.hail_machine.specs.Answers.{Answer}
 use Rattle.hail_machine.specs.Events.{Event, Init, Step, Reopen, Outcome, Ready, Refused, Opened, Begun, More, Waiting, Ended, Replaced, NothingHeld, Stopped, Listed, Closed, Continued}
-use Rattle.hail_machine.specs.States.{State, Append, with_provider, going_on}
+use Rattle.hail_machine.specs.States.{State, Append, Scrub, Pack, Alone, Scrubbing, Packing, with_provider, going_on}
 use Rattle.hail_machine.specs.Appends.{Moves}
-use Rattle.hail_machine.specs.Steps.{next_action, holder_of, Ends, FetchStep, AskStep, Acts, ActsOrWaits, StepsOn, StepsJob, StepsOpen, Steps}
+use Rattle.hail_machine.specs.Steps.{next_action, holder_of, Ends, FetchStep, AskStep, Acts, ActsOrWaits, StepsOn, StepsJob, StepsMine, StepsOne, StepsOpen, Steps}
+use Rattle.hail_machine.specs.Alone.{number_alone, Scrubs, StepsScrub, Packs, StepsAlone}
 use Rattle.hail_machine.specs.Openings.{InitsBy, Inits, Reopens}
 use Rattle.hail_machine.specs.Machine.{Happens}
 use Rattle.hail_machine.specs.Runs.{Moment, now, IsRun}
@@ -27,9 +28,10 @@ pub made_acts : (limit moment : ℕ) (old : State) (m : Moment) (job : Job) (act
 made_acts limit moment old m job action makes h = waits (holder_of old.append action) makes.unheld
     (subst (λ (a : Option Action). StepsOn old job a m.outcome m.state) makes.next
     (subst (λ (o : Option Job). StepsJob old o m.outcome m.state) makes.runs
+    (subst (λ (x : Option Alone). StepsOne old job.number x m.outcome m.state) makes.none_alone
     (subst (λ b. StepsOpen old job.number b m.outcome m.state) makes.unbarred
     (subst (λ b. Steps old job.number b m.outcome m.state) makes.is_open
-    (subst (λ (e : Event). Happens limit moment old e m.outcome m.state) makes.event h)))))
+    (subst (λ (e : Event). Happens limit moment old e m.outcome m.state) makes.event h))))))
   where
     waits : (holder : Option ℕ) → holder ≡ None → ActsOrWaits old job action holder m.outcome m.state → Acts old job action m.outcome m.state
     waits None is g = g
@@ -47,6 +49,7 @@ module _ (old : State) where
   ends_fault job (DropJob name) h = h
   ends_fault job AuditJob h = h
   ends_fault job RepairJob h = h
+  ends_fault job UpgradeJob h = h
 
   ends_store : (job : Job) (kind : Kind) (k : ℕ) → Ends old job kind (answer.ProviderFault k) → ⊥
   ends_store job (PutJob name bytes) k h = h
@@ -54,6 +57,7 @@ module _ (old : State) where
   ends_store job (DropJob name) k h = h
   ends_store job AuditJob k h = h
   ends_store job RepairJob k h = h
+  ends_store job UpgradeJob k h = h
 
   module _ (job : Job) where
     disk_moves : (action : Action) (flight : Option Append) (new : State) → Moves old job action flight (Ended answer.DiskFault) new → Rose old.disk_faults new.disk_faults
@@ -102,9 +106,42 @@ module _ (old : State) where
   disk_job None new h = absurd h
   disk_job (Some job) new h = disk_on job (next_action old job) new h
 
+  disk_packs : (pack : Pack) (moves : ℕ) (new : State) → Packs old pack moves (Ended answer.DiskFault) new → Rose old.disk_faults new.disk_faults
+  disk_packs pack zero new (faults, low, rose, is) = subst (Rose old.disk_faults) (sym (ap (λ (w : State). w.disk_faults) is)) rose
+  disk_packs pack (suc zero) new (faults, low, rose, is) = subst (Rose old.disk_faults) (sym (ap (λ (w : State). w.disk_faults) is)) rose
+  disk_packs pack (suc (suc zero)) new (faults, low, rose, is) = subst (Rose old.disk_faults) (sym (ap (λ (w : State). w.disk_faults) is)) rose
+  disk_packs pack (suc (suc (suc zero))) new (faults, low, rose, is) = subst (Rose old.disk_faults) (sym (ap (λ (w : State). w.disk_faults) is)) rose
+  disk_packs pack (suc (suc (suc (suc zero)))) new h = absurd h
+  disk_packs pack (suc (suc (suc (suc (suc moves))))) new h = absurd h
+
+  disk_scrubs : (scrub : Scrub) (todo : List Action) (new : State) → StepsScrub old scrub todo (Ended answer.DiskFault) new → ⊥
+  disk_scrubs scrub [] new h = h
+  disk_scrubs scrub (Fetch j o s ∷ rest) new h = h
+  disk_scrubs scrub (Work o s ∷ rest) new h = h
+  disk_scrubs scrub (Store j o s ∷ rest) new h = h
+  disk_scrubs scrub (End ∷ rest) new h = h
+  disk_scrubs scrub (WriteBody ∷ rest) new h = h
+  disk_scrubs scrub (SyncBody ∷ rest) new h = h
+  disk_scrubs scrub (WriteGate ∷ rest) new h = h
+  disk_scrubs scrub (SyncGate ∷ rest) new h = h
+  disk_scrubs scrub (Ask j o round ∷ rest) new h = h
+  disk_scrubs scrub (Remove j o ∷ rest) new h = h
+
+  disk_alone : (x : Alone) (new : State) → StepsAlone old x (Ended answer.DiskFault) new → Rose old.disk_faults new.disk_faults
+  disk_alone (Scrubbing scrub) new h = absurd (disk_scrubs scrub scrub.todo new h)
+  disk_alone (Packing pack) new h = disk_packs pack pack.moves new h
+
+  disk_mine : (number : ℕ) (x : Alone) (mine : Bool) (new : State) → StepsMine old number x mine (Ended answer.DiskFault) new → Rose old.disk_faults new.disk_faults
+  disk_mine number x true new h = disk_alone x new h
+  disk_mine number x false new h = disk_job (job_of old.jobs number) new h
+
+  disk_one : (number : ℕ) (alone : Option Alone) (new : State) → StepsOne old number alone (Ended answer.DiskFault) new → Rose old.disk_faults new.disk_faults
+  disk_one number None new h = disk_job (job_of old.jobs number) new h
+  disk_one number (Some x) new h = disk_mine number x (number_alone x == number) new h
+
   disk_open : (number : ℕ) (is_barred : _) (new : State) → StepsOpen old number is_barred (Ended answer.DiskFault) new → Rose old.disk_faults new.disk_faults
   disk_open number true new h = absurd h
-  disk_open number false new h = disk_job (job_of old.jobs number) new h
+  disk_open number false new h = disk_one number old.alone new h
 
   disk_steps : (number : ℕ) (is_open : _) (new : State) → Steps old number is_open (Ended answer.DiskFault) new → Rose old.disk_faults new.disk_faults
   disk_steps number false new h = absurd h
@@ -114,9 +151,39 @@ module _ (old : State) where
   store_job None k new h = absurd h
   store_job (Some job) k new h = store_on job (next_action old job) k new h
 
+  store_scrubs : (scrub : Scrub) (action : Action) (rest : List Action) (k : ℕ) (new : State) → Scrubs old scrub action rest (Ended (answer.ProviderFault k)) new → Rose (old.providers k).store_faults (new.providers k).store_faults
+  store_scrubs scrub (Store j o s) rest k new (k_is, (p, call, is)) = subst (λ n. Rose (old.providers n).store_faults (new.providers n).store_faults) (sym k_is)
+      (subst (λ (w : State). Rose (old.providers j).store_faults (w.providers j).store_faults) (sym is)
+      (subst (λ (x : Provider). Rose (old.providers j).store_faults x.store_faults) (sym (at_one j p)) call.cause))
+  store_scrubs scrub action rest k new h = absurd h
+
+  store_todo : (scrub : Scrub) (todo : List Action) (k : ℕ) (new : State) → StepsScrub old scrub todo (Ended (answer.ProviderFault k)) new → Rose (old.providers k).store_faults (new.providers k).store_faults
+  store_todo scrub [] k new h = absurd h
+  store_todo scrub (action ∷ rest) k new h = store_scrubs scrub action rest k new h
+
+  store_packs : (pack : Pack) (moves k : ℕ) (new : State) → Packs old pack moves (Ended (answer.ProviderFault k)) new → ⊥
+  store_packs pack zero k new h = h
+  store_packs pack (suc zero) k new h = h
+  store_packs pack (suc (suc zero)) k new h = h
+  store_packs pack (suc (suc (suc zero))) k new h = h
+  store_packs pack (suc (suc (suc (suc zero)))) k new h = h
+  store_packs pack (suc (suc (suc (suc (suc moves))))) k new h = h
+
+  store_alone : (x : Alone) (k : ℕ) (new : State) → StepsAlone old x (Ended (answer.ProviderFault k)) new → Rose (old.providers k).store_faults (new.providers k).store_faults
+  store_alone (Scrubbing scrub) k new h = store_todo scrub scrub.todo k new h
+  store_alone (Packing pack) k new h = absurd (store_packs pack pack.moves k new h)
+
+  store_mine : (number : ℕ) (x : Alone) (mine : Bool) (k : ℕ) (new : State) → StepsMine old number x mine (Ended (answer.ProviderFault k)) new → Rose (old.providers k).store_faults (new.providers k).store_faults
+  store_mine number x true k new h = store_alone x k new h
+  store_mine number x false k new h = store_job (job_of old.jobs number) k new h
+
+  store_one : (number : ℕ) (alone : Option Alone) (k : ℕ) (new : State) → StepsOne old number alone (Ended (answer.ProviderFault k)) new → Rose (old.providers k).store_faults (new.providers k).store_faults
+  store_one number None k new h = store_job (job_of old.jobs number) k new h
+  store_one number (Some x) k new h = store_mine number x (number_alone x == number) k new h
+
   store_open : (number : ℕ) (is_barred : _) (k : ℕ) (new : State) → StepsOpen old number is_barred (Ended (answer.ProviderFault k)) new → Rose (old.providers k).store_faults (new.providers k).store_faults
   store_open number true k new h = absurd h
-  store_open number false k new h = store_job (job_of old.jobs number) k new h
+  store_open number false k new h = store_one number old.alone k new h
 
   store_steps : (number : ℕ) (is_open : _) (k : ℕ) (new : State) → Steps old number is_open (Ended (answer.ProviderFault k)) new → Rose (old.providers k).store_faults (new.providers k).store_faults
   store_steps number false k new h = absurd h

@@ -7,8 +7,8 @@ use Rattle.hail_machine.specs.Jobs.{Job, Fetched, job_of, advanced_with}
 use Rattle.hail_machine.specs.Actions.{Action, Fetch}
 use Rattle.hail_machine.specs.Answers.{Answer}
 use Rattle.hail_machine.specs.Events.{Event, Outcome, Ready, Refused, Opened, Begun, More, Waiting, Ended, Replaced, NothingHeld, Stopped, Listed, Closed, Continued}
-use Rattle.hail_machine.specs.States.{State}
-use Rattle.hail_machine.specs.Steps.{next_action, holder_of, Acts, ActsOrWaits, StepsOn, StepsJob, StepsOpen, Steps, FetchStep}
+use Rattle.hail_machine.specs.States.{State, Alone}
+use Rattle.hail_machine.specs.Steps.{next_action, holder_of, Acts, ActsOrWaits, StepsOn, StepsJob, StepsOne, StepsOpen, Steps, FetchStep}
 use Rattle.hail_machine.specs.Machine.{Happens}
 use Rattle.hail_machine.specs.Runs.{Moment, now, IsRun}
 use Rattle.hail_machine.specs.Deeds.{Makes}
@@ -52,16 +52,17 @@ module _ (old : State) (job : Job) (j object stripe : ℕ) where
       StepsOn old job (next_action old job) r new → GaveFetched old new job j object stripe
   on r new runs next_is free h = waits (holder_of old.append (Fetch j object stripe)) free r new runs (subst (λ (a : Option Action). StepsOn old job a r new) next_is h)
 
-  step_gave : (r : Outcome) (new : State) → old.is_open ≡ true → old.is_barred ≡ false → job_of old.jobs job.number ≡ Some job → next_action old job ≡ Some (Fetch j object stripe) →
+  step_gave : (r : Outcome) (new : State) → old.is_open ≡ true → old.is_barred ≡ false → old.alone ≡ None → job_of old.jobs job.number ≡ Some job → next_action old job ≡ Some (Fetch j object stripe) →
       holder_of old.append (Fetch j object stripe) ≡ None → Steps old job.number old.is_open r new → GaveFetched old new job j object stripe
-  step_gave r new is_open unbarred runs next_is free h =
+  step_gave r new is_open unbarred none_alone runs next_is free h =
       on r new runs next_is free
       (subst (λ (o : Option Job). StepsJob old o r new) runs
+      (subst (λ (x : Option Alone). StepsOne old job.number x r new) none_alone
       (subst (λ b. StepsOpen old job.number b r new) unbarred
-      (subst (λ b. Steps old job.number b r new) is_open h)))
+      (subst (λ b. Steps old job.number b r new) is_open h))))
 
 pub gave_fetched : (limit : ℕ) (start : State) (m : Moment) (ms : List Moment) (job : Job) (j object stripe : ℕ) → IsRun limit start (m ∷ ms) → Makes (now start ms) m job (Fetch j object stripe) →
     GaveFetched (now start ms) m.state job j object stripe
 gave_fetched limit start m ms job j object stripe run makes =
-    step_gave (now start ms) job j object stripe m.outcome m.state makes.is_open makes.unbarred makes.runs makes.next makes.unheld
+    step_gave (now start ms) job j object stripe m.outcome m.state makes.is_open makes.unbarred makes.none_alone makes.runs makes.next makes.unheld
     (subst (λ (e : Event). Happens limit (length ms) (now start ms) e m.outcome m.state) makes.event run.1)

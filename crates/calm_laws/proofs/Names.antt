@@ -3,19 +3,20 @@ use Rattle.std.proofs.Common.{◌≡◌, ℕ, ◌==◌, Bool, true, false, cond,
 use Rattle.std.specs.Prelude.{IsTrue, not, is_some}
 use Rattle.std.proofs.lemmas.Bool.{cases_Bool, false≢true}
 use Rattle.hail_records.specs.Records.{Record, SetUp, PutStart, PutDone, Drop, AuditStart, AuditDone, RepairDone, PutDoneIn, Version, Resume, InEffect, RepairDue, is_name}
-use Rattle.hail_records.specs.Table.{File, started_as, is_start_of, is_same_name, file_of, next_id}
+use Rattle.hail_records.specs.Table.{File, version_of, started_as, is_start_of, is_same_name, file_of, next_id}
 use Rattle.hail_records.proofs.FilesLaws.{same-eq}
-use Rattle.hail_machine.specs.Jobs.{Kind, PutJob, GetJob, DropJob, AuditJob, RepairJob, Job, job_of}
+use Rattle.hail_machine.specs.Jobs.{Kind, PutJob, GetJob, DropJob, AuditJob, RepairJob, UpgradeJob, Job, job_of}
 use Rattle.hail_machine.specs.Refusals as refusal
 use Rattle.hail_machine.specs.Refusals.{Refusal}
 use Rattle.hail_machine.specs.Events.{Event, Begin, Outcome, Refused}
 use Rattle.hail_machine.specs.States.{State, Append, Doubt, AreFirst, IsStart, file_in}
-use Rattle.hail_machine.specs.Begins.{is_busy, begin_refusal, Begins}
-use Rattle.hail_machine.specs.Appends.{Writes, is_first_append}
+use Rattle.hail_machine.specs.Begins.{is_busy, refusal_of_begin, begin_refusal, Begins}
+use Rattle.hail_machine.specs.Appends.{Writes, done_record, is_first_append}
 use Rattle.hail_machine.specs.Machine.{Happens}
 use Rattle.hail_machine.specs.Runs.{Moment, now, IsRun}
 use Rattle.hail_machine.specs.Halves.{IsGetRefusal}
 use Rattle.hail_machine.proofs.JobLists.{cond_true, cond_false, same_value, found_none}
+use Rattle.hail_machine.proofs.Done.{by_version}
 use Rattle.hail_machine.proofs.Changes.{Job_is, Append_is, Records_is, Doubt_is, Changes}
 use Rattle.hail_machine.proofs.Events.{changes}
 use Rattle.hail_machine.proofs.Numbers.{objects}
@@ -97,8 +98,9 @@ file_named (RepairDue number counts ∷ rs) name file named h = file_named rs na
 
 writes_named : (w : State) (job : Job) (kind : Kind) (entry : Record) → IsNamedJob kind → Writes w job kind entry → IsNamed entry
 writes_named w job (PutJob name bytes) entry named h = elim (cases_Bool (is_first_append job)) [
-  | inl t ↦ subst IsNamed (sym (h ∙ cond_true (is_first_append job) (PutStart (next_id w.records) name) (PutDone job.subject (length bytes)) t)) named
-  | inr f ↦ subst IsNamed (sym (h ∙ cond_false (is_first_append job) (PutStart (next_id w.records) name) (PutDone job.subject (length bytes)) f)) tt
+  | inl t ↦ subst IsNamed (sym (h ∙ cond_true (is_first_append job) (PutStart (next_id w.records) name) (done_record (version_of w.records) job.subject (length bytes) job.profile) t)) named
+  | inr f ↦ subst IsNamed (sym (h ∙ cond_false (is_first_append job) (PutStart (next_id w.records) name) (done_record (version_of w.records) job.subject (length bytes) job.profile) f))
+      (by_version (version_of w.records) job.subject (length bytes) job.profile IsNamed tt tt)
 ]
 writes_named w job (GetJob name) entry named h = absurd h
 writes_named w job (DropJob name) entry named h = subst IsNamed (sym h) tt
@@ -107,24 +109,26 @@ writes_named w job AuditJob entry named h = elim (cases_Bool (is_first_append jo
   | inr f ↦ (let g = rw f at h in subst IsNamed (sym g.2) tt)
 ]
 writes_named w job RepairJob entry named h = subst IsNamed (sym h) tt
+writes_named w job UpgradeJob entry named h = subst IsNamed (sym h) tt
 
 -- a refusal that comes is not the none of a begin
 some_none : {X : Type 0} (o : Option X) (x : X) → o ≡ None → o ≡ Some x → ⊥
 some_none o x a b = (let e : None ≡ Some x = sym a ∙ b in cc)
 
 -- a begun put has a name
-begun_named : (limit : ℕ) (w : State) (kind : Kind) → begin_refusal limit w kind ≡ None → IsNamedJob kind
-begun_named limit w (PutJob name bytes) h = go w.is_barred (is_busy limit w (PutJob name bytes)) (is_name name) _ h
+begun_named : (limit : ℕ) (w : State) (kind : Kind) (wish : Option ℕ) → refusal_of_begin limit w kind wish ≡ None → IsNamedJob kind
+begun_named limit w (PutJob name bytes) wish h = go w.is_barred (is_busy limit w (PutJob name bytes)) (is_name name) _ h
   where
     go : (barred busy ok : Bool) (rest : Option Refusal) → cond barred (Some refusal.MustReopen) (cond busy (Some refusal.Busy) (cond (not ok) (Some refusal.BadName) rest)) ≡ None → ok ≡ true
     go true busy ok rest e = absurd (some_none _ refusal.MustReopen e refl)
     go false true ok rest e = absurd (some_none _ refusal.Busy e refl)
     go false false false rest e = absurd (some_none _ refusal.BadName e refl)
     go false false true rest e = refl
-begun_named limit w (GetJob name) h = tt
-begun_named limit w (DropJob name) h = tt
-begun_named limit w AuditJob h = tt
-begun_named limit w RepairJob h = tt
+begun_named limit w (GetJob name) wish h = tt
+begun_named limit w (DropJob name) wish h = tt
+begun_named limit w AuditJob wish h = tt
+begun_named limit w RepairJob wish h = tt
+begun_named limit w UpgradeJob wish h = tt
 
 record Facts (w : State) : Type 0 where
   records : AreNamed w.records
@@ -143,7 +147,7 @@ step_facts limit moment old e r new F X = record {
   ];
   jobs = λ k j h. elim (X.job k j h) [
     | Job_is.kept x grown ↦ F.jobs k j x
-    | Job_is.begun kind is k_is allowed rec ↦ subst (λ (z : Job). IsNamedJob z.kind) (sym is) (begun_named limit old kind allowed)
+    | Job_is.begun kind wish is k_is allowed rec ↦ subst (λ (z : Job). IsNamedJob z.kind) (sym is) (begun_named limit old kind wish allowed)
     | Job_is.plain x action runs next_is is_plain goes rec st ↦ subst IsNamedJob (sym goes.kind) (F.jobs k x runs)
     | Job_is.drew x runs next_is free is rec ↦ subst (λ (z : Job). IsNamedJob z.kind) (sym is) (F.jobs k x runs)
     | Job_is.finished x a runs next_is flight mine is rec free ↦ subst (λ (z : Job). IsNamedJob z.kind) (sym is) (F.jobs k x runs)

@@ -1,5 +1,5 @@
 -- Counts of devices never fall, and a provider that tells what it holds goes on telling.
-use Rattle.std.proofs.Common.{◌≡◌, ℕ, ◌≤◌, ◌==◌, Bool, true, false, List, [], ◌∷◌, length, Option, Some, None, refl, ap, sym, subst, inl, inr, arith}
+use Rattle.std.proofs.Common.{◌≡◌, ℕ, zero, suc, ◌≤◌, ◌==◌, Bool, true, false, List, [], ◌∷◌, length, Option, Some, None, refl, ap, sym, subst, inl, inr, arith}
 use Rattle.std.specs.Prelude.{IsSome, nat_lt}
 use Rattle.std.specs.Option.{option_map}
 use Rattle.std.proofs.lemmas.Bool.{cases_Bool, eqb-true, false≢true}
@@ -7,16 +7,18 @@ use Rattle.hail_records.specs.Records.{Setup, is_setup}
 use Rattle.hail_devices.specs.Told.{Goes}
 use Rattle.hail_devices.specs.Providers.{Held, Provider, LosesPart, with_block, without_object, with_symbol, without_block, HasPlace}
 use Rattle.hail_devices.specs.ProviderCalls.{Stores, FailsToStore, FindsNoMemory, Fetches, Asks, Removes, Replaces}
-use Rattle.hail_machine.specs.Jobs.{Kind, Job, Fetched, Answered, job_of, advanced, advanced_with}
+use Rattle.hail_machine.specs.Jobs.{Kind, PutJob, Job, Fetched, Answered, job_of, advanced, advanced_with}
 use Rattle.hail_machine.specs.Actions.{Action, WriteBody, SyncBody, WriteGate, SyncGate, Store, Fetch, Ask, Work, Remove, End}
 use Rattle.hail_machine.specs.Refusals as refusal
+use Rattle.hail_machine.specs.Refusals.{Refusal}
 use Rattle.hail_machine.specs.Answers as answer
-use Rattle.hail_machine.specs.Events.{Event, Init, Begin, Step, Alter, Lose, Stop, Reopen, Names, Continue, Outcome, Ready, Refused, Opened, Begun, More, Waiting, Ended, Replaced, NothingHeld, Stopped, Listed, Closed, Continued}
-use Rattle.hail_machine.specs.States.{State, Append, with_provider, going_on, ended, given_up, Settles}
-use Rattle.hail_machine.specs.Begins.{Begins}
+use Rattle.hail_machine.specs.Events.{Event, Init, Begin, BeginAt, BeginScrub, BeginPack, Step, Alter, Lose, Stop, Reopen, Names, Continue, Outcome, Ready, Refused, Opened, Begun, More, Waiting, Ended, Replaced, NothingHeld, Stopped, Listed, Closed, Continued}
+use Rattle.hail_machine.specs.States.{State, Append, Scrub, Pack, Alone, Scrubbing, Packing, with_provider, going_on, ended, Settles}
+use Rattle.hail_machine.specs.Begins.{BeginsAt}
 use Rattle.hail_machine.specs.Appends.{Moves}
-use Rattle.hail_machine.specs.Steps.{next_action, holder_of, Acts, ActsOrWaits, StepsOn, StepsJob, StepsOpen, Steps}
-use Rattle.hail_machine.specs.Openings.{Stops, Reopens, InitsClosed, InitsBy, Inits, Continues}
+use Rattle.hail_machine.specs.Steps.{next_action, holder_of, Acts, ActsOrWaits, StepsOn, StepsJob, StepsMine, StepsOne, StepsOpen, Steps}
+use Rattle.hail_machine.specs.Alone.{number_alone, scrubbing, unalone, Scrubs, StepsScrub, Packs, StepsAlone, BeginsAlone}
+use Rattle.hail_machine.specs.Openings.{reread, Stops, Reopens, InitsClosed, InitsBy, Inits, Continues}
 use Rattle.hail_machine.specs.Replacements.{ReplacesAt, ReplacesIf}
 use Rattle.hail_machine.specs.Machine.{Lists, Happens}
 use Rattle.hail_machine.specs.Runs.{Moment, now, IsRun}
@@ -143,9 +145,56 @@ module _ (old : State) where
   steps_job (Some job) r new h = steps_on job (next_action old job) r new h
   steps_job None r new h = absurd h
 
+  scrubs : (scrub : Scrub) (action : Action) (rest : List Action) (r : Outcome) (new : State) → Scrubs old scrub action rest r new → AllOnward old new
+  scrubs scrub (Fetch j o s) rest More new (block, (p, call, is)) =
+      called j p (scrubbing old (record scrub { todo = rest; given = Fetched j o s block ∷ scrub.given })) new (fetched (old.providers j) p _ o s block call) refl is
+  scrubs scrub (Work o s) rest More new (symbols, gives, is) = quiet _ new is refl (omega arith)
+  scrubs scrub (Work o s) rest (Ended (answer.Lost t row)) new (t_is, lost, is) = quiet _ new is refl (omega arith)
+  scrubs scrub (Store j o s) rest More new (p, call, is) = called j p (scrubbing old (record scrub { todo = rest })) new (stored (old.providers j) p o s _ call) refl is
+  scrubs scrub (Store j o s) rest (Ended (answer.ProviderFault k)) new (k_is, (p, call, is)) = called j p (unalone old) new (store_failed (old.providers j) p call) refl is
+  scrubs scrub (Store j o s) rest (Ended answer.Memory) new (p, call, is) = called j p (unalone old) new (no_memory (old.providers j) p call) refl is
+  scrubs scrub End rest (Ended (answer.Scrubbed stripes symbols blocks)) new (a, b, c, is) = quiet _ new is refl (omega arith)
+  scrubs scrub action rest r new h = absurd h
+
+  steps_scrub : (scrub : Scrub) (todo : List Action) (r : Outcome) (new : State) → StepsScrub old scrub todo r new → AllOnward old new
+  steps_scrub scrub [] r new h = absurd h
+  steps_scrub scrub (action ∷ rest) r new h = scrubs scrub action rest r new h
+
+  packs : (pack : Pack) (made : ℕ) (r : Outcome) (new : State) → Packs old pack made r new → AllOnward old new
+  packs pack zero More new (faults, low, is) = quiet _ new is refl low
+  packs pack zero (Ended answer.DiskFault) new (faults, low, rose, is) = quiet _ new is refl low
+  packs pack zero (Ended answer.Memory) new (faults, low, is) = quiet _ new is refl low
+  packs pack (suc zero) More new (faults, low, is) = quiet _ new is refl low
+  packs pack (suc zero) (Ended answer.DiskFault) new (faults, low, rose, is) = quiet _ new is refl low
+  packs pack (suc (suc zero)) More new (faults, low, is) = quiet _ new is refl low
+  packs pack (suc (suc zero)) (Ended answer.DiskFault) new (faults, low, rose, is) = quiet _ new is refl low
+  packs pack (suc (suc zero)) (Ended answer.Memory) new (faults, low, is) = quiet _ new is refl low
+  packs pack (suc (suc (suc zero))) More new (faults, low, is) = quiet _ new is refl low
+  packs pack (suc (suc (suc zero))) (Ended answer.DiskFault) new (faults, low, rose, is) = quiet _ new is refl low
+  packs pack (suc (suc (suc (suc zero)))) (Ended (answer.Packed before after)) new (b, a, is) = quiet _ new is refl (omega arith)
+  packs pack made r new h = absurd h
+
+  steps_alone : (x : Alone) (r : Outcome) (new : State) → StepsAlone old x r new → AllOnward old new
+  steps_alone (Scrubbing scrub) r new h = steps_scrub scrub scrub.todo r new h
+  steps_alone (Packing pack) r new h = packs pack pack.moves r new h
+
+  steps_mine : (number : ℕ) (x : Alone) (mine : Bool) (r : Outcome) (new : State) → StepsMine old number x mine r new → AllOnward old new
+  steps_mine number x true r new h = steps_alone x r new h
+  steps_mine number x false r new h = steps_job (job_of old.jobs number) r new h
+
+  steps_one : (number : ℕ) (alone : Option Alone) (r : Outcome) (new : State) → StepsOne old number alone r new → AllOnward old new
+  steps_one number None r new h = steps_job (job_of old.jobs number) r new h
+  steps_one number (Some x) r new h = steps_mine number x (number_alone x == number) r new h
+
+  begins_alone : (why : Option Refusal) (x : Alone) (r : Outcome) (new : State) → BeginsAlone old why x r new → AllOnward old new
+  begins_alone why x Closed new h = unchanged new h.1
+  begins_alone why x (Refused refused) new h = unchanged new h.2
+  begins_alone why x (Begun job) new h = quiet _ new h.3 refl (omega arith)
+  begins_alone why x r new h = absurd h
+
   steps_open : (number : ℕ) (is_barred : Bool) (r : Outcome) (new : State) → StepsOpen old number is_barred r new → AllOnward old new
   steps_open number true (Refused refusal.MustReopen) new h = unchanged new h
-  steps_open number false r new h = steps_job (job_of old.jobs number) r new h
+  steps_open number false r new h = steps_one number old.alone r new h
   steps_open number true r new h = absurd h
 
   steps : (number : ℕ) (is_open : Bool) (r : Outcome) (new : State) → Steps old number is_open r new → AllOnward old new
@@ -153,24 +202,24 @@ module _ (old : State) where
   steps number true r new h = steps_open number old.is_barred r new h
   steps number false r new h = absurd h
 
-  begins : (limit moment : ℕ) (kind : Kind) (r : Outcome) (new : State) → Begins limit moment old kind r new → AllOnward old new
-  begins limit moment kind Closed new h = unchanged new h.1
-  begins limit moment kind (Refused why) new h = unchanged new h.2
-  begins limit moment kind (Begun job) new h = quiet _ new h.3 refl (omega arith)
-  begins limit moment kind r new h = absurd h
+  begins : (limit moment : ℕ) (kind : Kind) (profile : Option ℕ) (r : Outcome) (new : State) → BeginsAt limit moment old kind profile r new → AllOnward old new
+  begins limit moment kind profile Closed new h = unchanged new h.1
+  begins limit moment kind profile (Refused why) new h = unchanged new h.2
+  begins limit moment kind profile (Begun job) new h = quiet _ new h.3 refl (omega arith)
+  begins limit moment kind profile r new h = absurd h
 
   settled : (left mid : State) → Settles left mid → (mid.providers ≡ left.providers) × (mid.disk_faults ≡ left.disk_faults)
   settled left mid (inl is) = (ap (λ (w : State). w.providers) is, ap (λ (w : State). w.disk_faults) is)
   settled left mid (inr (d, at, is)) = (ap (λ (w : State). w.providers) is, ap (λ (w : State). w.disk_faults) is)
 
   stops : (r : Outcome) (new : State) → Stops old r new → AllOnward old new
-  stops Stopped new h = (let s = settled (given_up old) new h in quiet new new refl s.0 (let e = s.1 in omega (arith, e)))
+  stops Stopped new (journal, area, holds, h) = (let s = settled (reread old journal area) new h in quiet new new refl s.0 (let e = s.1 in omega (arith, e)))
   stops r new h = absurd h
 
   reopens : (r : Outcome) (new : State) → Reopens old r new → AllOnward old new
-  reopens Opened new (mid, s, up, enough, (faults, low, is)) = quiet _ new is (settled (given_up old) mid s).0 low
-  reopens (Refused refusal.NotSetUp) new (mid, s, none, (faults, low, is)) = quiet _ new is (settled (given_up old) mid s).0 low
-  reopens (Refused refusal.TooFewProviders) new (mid, s, up, few, (faults, low, is)) = quiet _ new is (settled (given_up old) mid s).0 low
+  reopens Opened new (mid, (journal, area, holds, s), up, enough, (faults, low, is)) = quiet _ new is (settled (reread old journal area) mid s).0 low
+  reopens (Refused refusal.NotSetUp) new (mid, (journal, area, holds, s), none, (faults, low, is)) = quiet _ new is (settled (reread old journal area) mid s).0 low
+  reopens (Refused refusal.TooFewProviders) new (mid, (journal, area, holds, s), up, few, (faults, low, is)) = quiet _ new is (settled (reread old journal area) mid s).0 low
   reopens (Refused refusal.DiskFault) new (faults, low, rose, is) = quiet _ new is refl low
   reopens (Refused refusal.Memory) new (faults, low, is) = quiet _ new is refl low
   reopens r new h = absurd h
@@ -214,7 +263,10 @@ module _ (old : State) where
 
   pub onward : (limit moment : ℕ) (e : Event) (r : Outcome) (new : State) → Happens limit moment old e r new → AllOnward old new
   onward limit moment (Init s) r new h = inits s old.is_open r new h
-  onward limit moment (Begin kind) r new h = begins limit moment kind r new h
+  onward limit moment (Begin kind) r new h = begins limit moment kind None r new h
+  onward limit moment (BeginAt profile name bytes) r new h = begins limit moment (PutJob name bytes) (Some profile) r new h
+  onward limit moment BeginScrub r new h = begins_alone _ _ r new h
+  onward limit moment BeginPack r new h = begins_alone _ _ r new h
   onward limit moment (Step number) r new h = steps number old.is_open r new h
   onward limit moment (Alter j object stripe place symbol) r new h =
       replaces_if (nat_lt j old.handed) j (λ held. HasPlace (held object stripe) place) (with_symbol object stripe place symbol) r new h

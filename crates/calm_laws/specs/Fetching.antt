@@ -6,11 +6,11 @@
 use Rattle.std.specs.Prelude.{◌≡◌, ◌⊎◌, ℕ, List, Option, Some}
 use Rattle.hail_devices.specs.ProviderCalls.{FetchGives, FailsToGive}
 use Rattle.hail_machine.specs.Jobs.{Job, Fetched, job_of, advanced_with}
-use Rattle.hail_machine.specs.States.{State, object_in}
+use Rattle.hail_machine.specs.States.{State, worked_object}
 
 -- a fetch gave a job a block or none
 pub record GaveFetched (old new : State) (job : Job) (j object stripe : ℕ) : Type 0 where
   pub block : Option (List ℕ)
   pub goes_on : job_of new.jobs job.number ≡ Some (advanced_with job (Fetched j object stripe block))
-  pub gives : FetchGives (object_in old object).profile.size object stripe (old.providers j).held block
-      ⊎ FailsToGive (old.providers j) block (new.providers j)
+  pub gives : FetchGives (worked_object old job object).profile.size object stripe (old.providers j).held
+      block ⊎ FailsToGive (old.providers j) block (new.providers j)

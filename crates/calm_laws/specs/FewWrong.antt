@@ -12,7 +12,7 @@ use Rattle.hail_columns.specs.Columns.{is_wrong_block}
 use Rattle.hail_columns.specs.Forgeries.{count_of}
 use Rattle.hail_records.specs.Table.{File}
 use Rattle.hail_machine.specs.Jobs.{Job}
-use Rattle.hail_machine.specs.States.{State, setup_in, object_in, file_object}
+use Rattle.hail_machine.specs.States.{State, setup_in, file_object}
 use Rattle.hail_machine.specs.Given.{block_given}
 
 -- a block of a provider is there and is wrong

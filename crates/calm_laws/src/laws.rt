@@ -14,14 +14,14 @@ ghost use Rattle.hail_machine.specs.Jobs.{GetJob, Pinned, Fetched, Job, job_of};
 ghost use Rattle.hail_machine.specs.Refusals.{Refusal};
 ghost use Rattle.hail_machine.specs.Answers.{Answer, Got, Lost};
 ghost use Rattle.hail_machine.specs.Events.{Begin, Step, Refused, Ended};
-ghost use Rattle.hail_machine.specs.States.{State, IsStart, object_in, file_object, file_in};
+ghost use Rattle.hail_machine.specs.States.{State, IsStart, file_object, file_in};
 ghost use Rattle.hail_machine.specs.Runs.{Moment, IsRun, now, first_moments};
 ghost use Rattle.hail_machine.specs.Failures.{Count, count_in, HasFailures, RoseBy};
 ghost use Rattle.hail_machine.specs.Halves.{IsGetRefusal, AllTell};
 ghost use Rattle.calm_laws.specs.FewWrong.{is_wrong_seen, IsFewWrong};
 ghost use Rattle.hail_machine.specs.Actions.{Fetch};
 ghost use Rattle.hail_machine.specs.Deeds.{Makes};
-ghost use Rattle.calm_laws.specs.Stays.{Stays};
+ghost use Rattle.calm_laws.specs.Stays.{IsScrubbed, Stays};
 ghost use Rattle.calm_laws.specs.Fetching.{GaveFetched};
 ghost use Rattle.calm_laws.specs.Origins.{CameOf};
 
@@ -74,12 +74,13 @@ pub fn few_wrong_blocks_give_file()
 
 /// What a provider tells of a block of a file in effect, or of a file that a running get, audit or repair works on, changes in an event
 /// only by a replacement of that provider, or by a store with which a running repair rewrites the block: no put stores under the
-/// file's number, and no job that takes an object away takes this one.
+/// file's number, and no job that takes an object away takes this one. While no job runs, a scrub may store the block of a file in
+/// effect that it opened.
 pub fn kept_blocks_stay()
     ensures in_effect { (limit : ℕ) (start : State) (m : Moment) (ms : List Moment) (name : List ℕ)
         (file : File) (j stripe : ℕ) →
         IsStart start → IsRun limit start (m ∷ ms) → file_in (now start ms) name ≡ Some file
-        → Stays (now start ms) m j file.id stripe }
+        → Stays (now start ms) m j file.id stripe ⊎ IsScrubbed (now start ms) m j file.id stripe }
     ensures worked_on { (limit : ℕ) (start : State) (m : Moment) (ms : List Moment) (number : ℕ) (job : Job)
         (file : Pinned) (j stripe : ℕ) →
         IsStart start → IsRun limit start (m ∷ ms) → job_of (now start ms).jobs number ≡ Some job
@@ -100,7 +101,8 @@ pub fn counts_never_fall()
 {}
 
 /// A device's failed calls are at most as many as its count rose, in any part of a run: of the disk the events that ended in its fault, of
-/// a provider the stores that ended so, and the fetches, asks and removals that gave or left something else than those that go well.
+/// a provider the stores that ended so, and the fetches, asks and removals of jobs that gave or left something else than those that go
+/// well.
 pub fn failed_calls_are_counted()
     ensures { (limit : ℕ) (start : State) (later ms : List Moment) (count : Count) (n : ℕ)
         → IsRun limit start (later ++ ms) →
@@ -147,5 +149,6 @@ pub fn given_blocks_were_held()
     ensures { (limit : ℕ) (start : State) (ms : List Moment) (number : ℕ) (job : Job) (j object stripe : ℕ)
         (block : Option (List ℕ)) →
         IsStart start → IsRun limit start ms → job_of (now start ms).jobs number ≡ Some job →
-        Contains job.given (Fetched j object stripe block) → CameOf start ms job.begun j object stripe block }
+        Contains job.given (Fetched j object stripe block)
+        → CameOf start ms job.begun job.pinned j object stripe block }
 {}

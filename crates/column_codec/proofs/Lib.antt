@@ -5,6 +5,7 @@ mod OpenLemmas
 pub mod PresentLemmas
 mod TableLemmas
 mod KeptLemmas
+mod Windows
 mod AgreementLemmas
 mod Choices
 mod Openings

@@ -1,5 +1,6 @@
 use crate::block::Block;
 use crate::keys::ObjectKeys;
+use crate::masks::MasksAtHand;
 use crate::trust::Trust;
 use hail_field::Symbol;
 use hail_poly::Work;
@@ -21,6 +22,7 @@ impl ObjectKeys {
         stripe: u32,
         provider: usize,
         seen: &[Symbol],
+        masks: &mut MasksAtHand,
         out: &mut [Symbol],
     ) -> bool
         requires provider { provider < self.now.file.shape.n }
@@ -31,7 +33,7 @@ impl ObjectKeys {
             (Some seen.now) (Some out.new)) }
     {
         out.copy_from_slice(seen);
-        self.take_masks_off(stripe, provider, out);
+        self.take_masks_off(stripe, provider, masks, out);
         code.is_codeword(out)
     }
 
@@ -45,6 +47,7 @@ impl ObjectKeys {
         present: &[bool],
         mark: bool,
         wanted: bool,
+        masks: &mut MasksAtHand,
         out: &mut [Symbol],
     ) -> bool
         requires provider { provider < self.now.file.shape.n }
@@ -67,7 +70,14 @@ impl ObjectKeys {
         }
         let size = out.len();
         let start = provider * size;
-        self.look_whole(code, stripe, provider, &seen[start..start + size], out)
+        self.look_whole(
+            code,
+            stripe,
+            provider,
+            &seen[start..start + size],
+            masks,
+            out,
+        )
     }
 
     /// Marks blocks of some providers that are codewords as they were seen, until there are `most` of them, and tells how many
@@ -81,6 +91,7 @@ impl ObjectKeys {
         wanted: &[bool; 16],
         most: u8,
         marks: &mut [bool; 16],
+        masks: &mut MasksAtHand,
         out: &mut [Block],
     ) -> u8
         requires code { code_profile code.now ≡ self.now.file.profile }
@@ -107,6 +118,7 @@ impl ObjectKeys {
                 present,
                 marks[j],
                 wanted[j] && count < most,
+                masks,
                 &mut block.symbols,
             );
             count += u8::from(marks[j]);
@@ -127,6 +139,7 @@ impl ObjectKeys {
         more: u8,
         marks: &mut [bool; 16],
         trust: &mut Trust,
+        masks: &mut MasksAtHand,
         rows: &mut [Symbol],
         scratch: &mut [Block],
         work: &mut Work,
@@ -149,7 +162,9 @@ impl ObjectKeys {
             (present_blocks self.now.file.profile.size present.now seen.now) marks.new scratch.new }
         ensures room { work.new.size ≡ work.old.size }
     {
-        let count = self.mark_clean(code, stripe, seen, present, wanted, most, marks, scratch);
+        let count = self.mark_clean(
+            code, stripe, seen, present, wanted, most, marks, masks, scratch,
+        );
         if count < self.file.shape.n - self.file.shape.b {
             return false;
         }
@@ -166,6 +181,7 @@ impl ObjectKeys {
         seen: &[Symbol],
         present: &[bool],
         trust: &mut Trust,
+        masks: &mut MasksAtHand,
         rows: &mut [Symbol],
         scratch: &mut [Block],
         work: &mut Work,
@@ -188,14 +204,15 @@ impl ObjectKeys {
         let (enough, first) = (shape.n - shape.b, *trust.trusted());
         let mut marks = [false; 16];
         if self.carry_marked(
-            code, stripe, seen, present, &first, enough, 0, &mut marks, trust, rows, scratch, work,
+            code, stripe, seen, present, &first, enough, 0, &mut marks, trust, masks, rows,
+            scratch, work,
         ) {
             return true;
         }
         let all = [true; 16];
         self.carry_marked(
-            code, stripe, seen, present, &all, shape.n, shape.b, &mut marks, trust, rows, scratch,
-            work,
+            code, stripe, seen, present, &all, shape.n, shape.b, &mut marks, trust, masks, rows,
+            scratch, work,
         )
     }
 }

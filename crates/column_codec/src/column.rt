@@ -1,5 +1,6 @@
 use crate::gather::add_each;
 use crate::keys::ObjectKeys;
+use crate::masks::{MasksAtHand, ROWS};
 use hail_field::Symbol;
 use mask_tag::mask_block;
 use server_code::AnyCode;
@@ -11,17 +12,55 @@ impl ObjectKeys {
     ghost use Rattle.file_layout.specs.Files.{shaped_object};
     ghost use Rattle.server_code.specs.Any.{code_profile};
 
-    /// Adds a provider's masks to a block of a stripe, which also takes them off.
-    pub fn add_masks(&self, stripe: u32, provider: usize, block: &mut [Symbol])
+    /// Adds a provider's masks to a block of at most sixteen symbols, from those at hand.
+    fn add_short(&self, stripe: u32, provider: usize, masks: &mut MasksAtHand, block: &mut [Symbol])
+        requires provider { provider < self.now.file.shape.n }
+        requires block { length block.old ≤ 16 }
+        ensures { block.new ≡ masked (shaped_object self.now.master.0 self.now.file) provider
+            (stripe * length block.old) block.old }
+    {
+        let mut buffer = [Symbol::ZERO; 16];
+        let size = block.len();
+        masks.fill(
+            provider,
+            &self.mask_keys[provider],
+            stripe,
+            &mut buffer[..size],
+        );
+        add_each(block, &buffer[..size]);
+    }
+
+    /// Adds a provider's masks to a block of whatever size, from a generator of its own.
+    fn add_long(&self, stripe: u32, provider: usize, block: &mut [Symbol])
         requires provider { provider < self.now.file.shape.n }
         requires block { length block.old ≤ 128 }
         ensures { block.new ≡ masked (shaped_object self.now.master.0 self.now.file) provider
             (stripe * length block.old) block.old }
     {
-        let mut masks = [Symbol::ZERO; 128];
+        let mut buffer = [Symbol::ZERO; 128];
         let size = block.len();
-        mask_block(&self.mask_keys[provider], stripe, &mut masks[..size]);
-        add_each(block, &masks[..size]);
+        mask_block(&self.mask_keys[provider], stripe, &mut buffer[..size]);
+        add_each(block, &buffer[..size]);
+    }
+
+    /// Adds a provider's masks to a block of a stripe, which also takes them off.
+    pub fn add_masks(
+        &self,
+        stripe: u32,
+        provider: usize,
+        masks: &mut MasksAtHand,
+        block: &mut [Symbol],
+    )
+        requires provider { provider < self.now.file.shape.n }
+        requires block { length block.old ≤ 128 }
+        ensures { block.new ≡ masked (shaped_object self.now.master.0 self.now.file) provider
+            (stripe * length block.old) block.old }
+    {
+        if block.len() < ROWS {
+            self.add_short(stripe, provider, masks, block);
+        } else {
+            self.add_long(stripe, provider, block);
+        }
     }
 
     /// The block of a primary provider: the codeword of the symbols that it keeps.
@@ -53,6 +92,7 @@ impl ObjectKeys {
         stripe: u32,
         symbols: &[Symbol],
         provider: usize,
+        masks: &mut MasksAtHand,
         out: &mut [Symbol],
     )
         requires secondary { self.now.file.shape.l ≤ provider }
@@ -68,7 +108,7 @@ impl ObjectKeys {
         let kept = &mut buffer[..keep];
         self.kept_into(symbols, provider, kept);
         code.encode_into(kept, out);
-        self.add_masks(stripe, provider, out);
+        self.add_masks(stripe, provider, masks, out);
     }
 
     /// Fills `out` with one provider's block of a stripe with these symbols, which lie in layout order.
@@ -78,6 +118,7 @@ impl ObjectKeys {
         stripe: u32,
         symbols: &[Symbol],
         provider: usize,
+        masks: &mut MasksAtHand,
         out: &mut [Symbol],
     )
         requires provider { provider < self.now.file.shape.n }
@@ -90,7 +131,7 @@ impl ObjectKeys {
         if provider < usize::from(self.file.shape.l) {
             self.primary_column(code, stripe, symbols, provider, out);
         } else {
-            self.secondary_column(code, stripe, symbols, provider, out);
+            self.secondary_column(code, stripe, symbols, provider, masks, out);
         }
     }
 }

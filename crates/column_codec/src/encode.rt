@@ -8,6 +8,7 @@ ghost use Rattle.server_code.specs.Any.{code_profile};
 use crate::block::Block;
 use crate::gather::stripe_symbols_into;
 use crate::keys::ObjectKeys;
+use crate::masks::MasksAtHand;
 use file_layout::FileShape;
 use hail_field::Symbol;
 use hail_poly::Work;
@@ -25,7 +26,14 @@ impl ObjectKeys {
     }
 
     /// Fills each provider's block of a stripe with these symbols.
-    fn columns_into(&self, code: &AnyCode, stripe: u32, symbols: &[Symbol], out: &mut [Block])
+    fn columns_into(
+        &self,
+        code: &AnyCode,
+        stripe: u32,
+        symbols: &[Symbol],
+        masks: &mut MasksAtHand,
+        out: &mut [Block],
+    )
         requires symbols { length symbols.now ≡ self.now.file.shape.l * self.now.file.profile.keep }
         requires code { code_profile code.now ≡ self.now.file.profile }
         requires out { length out.old ≡ self.now.file.shape.n }
@@ -36,14 +44,21 @@ impl ObjectKeys {
     {
         for j in 0..out.len() {
             let block = &mut out[j];
-            self.column_into(code, stripe, symbols, j, &mut block.symbols);
+            self.column_into(code, stripe, symbols, j, masks, &mut block.symbols);
         }
     }
 
     /// Fills the blocks of all providers of a stripe of a file of these bytes, with masks. They keep their sizes, so
     /// the next stripe can be made in them.
     #[tactic(auto, using(crate::proofs::Places::stripe_small, crate::proofs::RowLemmas::profile_small))]
-    pub fn encode_stripe(&self, code: &AnyCode, stripe: u32, bytes: &[u8], out: &mut [Block])
+    pub fn encode_stripe(
+        &self,
+        code: &AnyCode,
+        stripe: u32,
+        bytes: &[u8],
+        masks: &mut MasksAtHand,
+        out: &mut [Block],
+    )
         requires code { code_profile code.now ≡ self.now.file.profile }
         requires out { length out.old ≡ self.now.file.shape.n }
         requires blocks { All (λ block. length block ≡ self.now.file.profile.size) out.old }
@@ -56,7 +71,7 @@ impl ObjectKeys {
         let mut buffer = [Symbol::ZERO; 1248];
         let symbols = &mut buffer[..count];
         self.symbols_into(stripe, bytes, symbols);
-        self.columns_into(code, stripe, symbols, out);
+        self.columns_into(code, stripe, symbols, masks, out);
     }
 }
 
@@ -82,7 +97,7 @@ pub fn encode_stripe(
 {
     let _ = work;
     let keys = ObjectKeys::new(master, file);
-    keys.encode_stripe(code, stripe, bytes, out);
+    keys.encode_stripe(code, stripe, bytes, &mut MasksAtHand::new(), out);
 }
 
 /// Fills `out` with one provider's block of the stripe whose symbols are `rows`, in layout order. It takes no memory.
@@ -110,5 +125,12 @@ pub fn column_block(
     let _ = scratch;
     let _ = work;
     let keys = ObjectKeys::new(master, file);
-    keys.column_into(code, stripe, rows, provider as usize, out);
+    keys.column_into(
+        code,
+        stripe,
+        rows,
+        provider as usize,
+        &mut MasksAtHand::new(),
+        out,
+    );
 }

@@ -1,5 +1,6 @@
 use crate::Block;
 use crate::keys::ObjectKeys;
+use crate::masks::MasksAtHand;
 use hail_field::Symbol;
 use hail_poly::Work;
 use server_code::AnyCode;
@@ -12,13 +13,19 @@ impl ObjectKeys {
     ghost use Rattle.server_code.specs.Any.{code_profile};
 
     /// Takes a provider's masks off a block of a stripe, which a primary one has none of.
-    pub(crate) fn take_masks_off(&self, stripe: u32, provider: usize, block: &mut [Symbol])
+    pub(crate) fn take_masks_off(
+        &self,
+        stripe: u32,
+        provider: usize,
+        masks: &mut MasksAtHand,
+        block: &mut [Symbol],
+    )
         requires provider { provider < self.now.file.shape.n }
         requires block { length block.old ≡ self.now.file.profile.size }
         ensures { block.new ≡ bare (shaped_object self.now.master.0 self.now.file) provider stripe block.old }
     {
         if provider >= usize::from(self.file.shape.l) {
-            self.add_masks(stripe, provider, block);
+            self.add_masks(stripe, provider, masks, block);
         }
     }
 
@@ -29,6 +36,7 @@ impl ObjectKeys {
         stripe: u32,
         provider: usize,
         seen: &[Symbol],
+        masks: &mut MasksAtHand,
         out: &mut [Symbol],
         work: &mut Work,
     ) -> bool
@@ -44,7 +52,7 @@ impl ObjectKeys {
         ensures room { work.new.size ≡ work.old.size }
     {
         out.copy_from_slice(seen);
-        self.take_masks_off(stripe, provider, out);
+        self.take_masks_off(stripe, provider, masks, out);
         match code.decode_in(out, work) {
             Some(_) => true,
             None => false,
@@ -58,6 +66,7 @@ impl ObjectKeys {
         stripe: u32,
         provider: usize,
         seen: &[Symbol],
+        masks: &mut MasksAtHand,
         out: &mut [Symbol],
         work: &mut Work,
     ) -> bool
@@ -72,7 +81,7 @@ impl ObjectKeys {
         ensures room { work.new.size ≡ work.old.size }
     {
         if seen.len() == out.len() {
-            self.open_whole(code, stripe, provider, seen, out, work)
+            self.open_whole(code, stripe, provider, seen, masks, out, work)
         } else {
             false
         }
@@ -85,6 +94,7 @@ impl ObjectKeys {
         stripe: u32,
         provider: usize,
         seen: &Option<Block>,
+        masks: &mut MasksAtHand,
         out: &mut [Symbol],
         work: &mut Work,
     ) -> bool
@@ -99,7 +109,15 @@ impl ObjectKeys {
         ensures room { work.new.size ≡ work.old.size }
     {
         match seen {
-            Some(block) => self.open_sized(code, stripe, provider, block.symbols(), out, work),
+            Some(block) => self.open_sized(
+                code,
+                stripe,
+                provider,
+                block.symbols(),
+                masks,
+                out,
+                work,
+            ),
             None => false,
         }
     }

@@ -9,6 +9,7 @@ ghost use Rattle.column_codec.specs.OpenedBlocks.{opened_at, opened_of, HasRow, 
 
 use crate::block::Block;
 use crate::keys::ObjectKeys;
+use crate::masks::MasksAtHand;
 use crate::trust::{Trust, without};
 use dispersal_code::open_row;
 use file_layout::FileShape;
@@ -78,6 +79,7 @@ impl ObjectKeys {
         code: &AnyCode,
         stripe: u32,
         seen: &[Option<Block>],
+        masks: &mut MasksAtHand,
         out: &mut [Block],
         work: &mut Work,
     ) -> [bool; 16]
@@ -95,7 +97,7 @@ impl ObjectKeys {
         let mut marks = [false; 16];
         for j in 0..out.len() {
             let block = &mut out[j];
-            marks[j] = self.open_block(code, stripe, j, &seen[j], &mut block.symbols, work);
+            marks[j] = self.open_block(code, stripe, j, &seen[j], masks, &mut block.symbols, work);
         }
         marks
     }
@@ -285,7 +287,7 @@ impl ObjectKeys {
         ensures blocks { All (λ block. length block ≡ self.now.file.profile.size) scratch.new }
         ensures room { work.new.size ≡ work.old.size }
     {
-        let marks = self.open_blocks(code, stripe, seen, scratch, work);
+        let marks = self.open_blocks(code, stripe, seen, &mut MasksAtHand::new(), scratch, work);
         self.open_rows(stripe, &marks, scratch, &mut Trust::new(), rows, work)
     }
 }

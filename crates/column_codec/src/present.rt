@@ -1,5 +1,6 @@
 use crate::block::Block;
 use crate::keys::ObjectKeys;
+use crate::masks::MasksAtHand;
 use crate::opening::RowLost;
 use crate::trust::Trust;
 use hail_field::Symbol;
@@ -23,6 +24,7 @@ impl ObjectKeys {
         provider: usize,
         seen: &[Symbol],
         present: &[bool],
+        masks: &mut MasksAtHand,
         out: &mut [Symbol],
         work: &mut Work,
     ) -> bool
@@ -50,6 +52,7 @@ impl ObjectKeys {
             stripe,
             provider,
             &seen[start..start + size],
+            masks,
             out,
             work,
         )
@@ -62,6 +65,7 @@ impl ObjectKeys {
         stripe: u32,
         seen: &[Symbol],
         present: &[bool],
+        masks: &mut MasksAtHand,
         out: &mut [Block],
         work: &mut Work,
     ) -> [bool; 16]
@@ -87,6 +91,7 @@ impl ObjectKeys {
                 j,
                 seen,
                 present,
+                masks,
                 &mut block.symbols,
                 work,
             );
@@ -127,6 +132,7 @@ impl ObjectKeys {
             seen,
             present,
             &mut Trust::new(),
+            &mut MasksAtHand::new(),
             rows,
             scratch,
             work,
@@ -141,6 +147,7 @@ impl ObjectKeys {
         seen: &[Symbol],
         present: &[bool],
         trust: &mut Trust,
+        masks: &mut MasksAtHand,
         rows: &mut [Symbol],
         scratch: &mut [Block],
         work: &mut Work,
@@ -160,10 +167,12 @@ impl ObjectKeys {
         ensures blocks { All (λ block. length block ≡ self.now.file.profile.size) scratch.new }
         ensures room { work.new.size ≡ work.old.size }
     {
-        if self.carry_clean(code, stripe, seen, present, trust, rows, scratch, work) {
+        if self.carry_clean(
+            code, stripe, seen, present, trust, masks, rows, scratch, work,
+        ) {
             return Ok(());
         }
-        let marks = self.open_present_blocks(code, stripe, seen, present, scratch, work);
+        let marks = self.open_present_blocks(code, stripe, seen, present, masks, scratch, work);
         self.open_rows(stripe, &marks, scratch, trust, rows, work)
     }
 }

@@ -171,9 +171,10 @@ fn blocks_of_one_list_open_with_one_absent(rt: HostRuntime) {
     let mut rows = [Symbol::ZERO; 2];
     keys.symbols_into(1, &[1; 33], &mut rows);
     let mut seen = [Symbol::ZERO; 24];
+    let mut masks = MasksAtHand::new();
     for j in 1..4 {
         let mut block = [Symbol::ZERO; 6];
-        keys.column_into(&code, 1, &rows, j, &mut block);
+        keys.column_into(&code, 1, &rows, j, &mut masks, &mut block);
         for place in 0..6 {
             seen[6 * j + place] = block[place];
         }
@@ -217,7 +218,14 @@ fn given(
     if !lies {
         keys.symbols_into(0, &[1; 64], &mut rows);
     }
-    keys.column_into(&code, 0, &rows, provider, &mut block);
+    keys.column_into(
+        &code,
+        0,
+        &rows,
+        provider,
+        &mut MasksAtHand::new(),
+        &mut block,
+    );
     block
 }
 
@@ -255,6 +263,7 @@ fn opens_beside(rt: &impl Abort, alloc: Global, liars: [bool; 7], err: bool) -> 
         zeros(rt, alloc, 6),
     ];
     let mut trust = Trust::new();
+    let mut masks = MasksAtHand::new();
     let mut rows = [Symbol::ZERO; 4];
     let mut again = [Symbol::ZERO; 4];
     let first = keys.open_trusting(
@@ -263,6 +272,7 @@ fn opens_beside(rt: &impl Abort, alloc: Global, liars: [bool; 7], err: bool) -> 
         &seen,
         &[true; 7],
         &mut trust,
+        &mut masks,
         &mut rows,
         &mut scratch,
         &mut work,
@@ -273,6 +283,7 @@ fn opens_beside(rt: &impl Abort, alloc: Global, liars: [bool; 7], err: bool) -> 
         &seen,
         &[true; 7],
         &mut trust,
+        &mut masks,
         &mut again,
         &mut scratch,
         &mut work,

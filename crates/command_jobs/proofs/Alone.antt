@@ -29,7 +29,7 @@ use Rattle.vault_core.specs.declared.wish.BeginFault.TheVariants as begin_fault
 use Rattle.vault_core.specs.Carried.{refusal_of}
 use Rattle.vault.specs.declared.turn.Ended.{Ended}
 use Rattle.vault.specs.declared.vault.Vault.{Vault}
-use Rattle.vault.specs.Devices.{Devices, devices}
+use Rattle.vault_open.specs.Devices.{Devices, devices}
 use Rattle.vault.specs.Outcomes.{machine_answer}
 use Rattle.vault.specs.Stands.{Stands, MakesBegin}
 use Rattle.command_jobs.specs.Opened.{IsFreshOver}
@@ -66,6 +66,9 @@ past-before kind (answer.Lost stripe row) before after a b c e h = h ∙ past-of
 past-before kind (answer.ProviderFault j) before after a b c e h = h ∙ past-of after a b e
 past-before kind answer.DiskFault before after a b c e h = behind-before kind before after a b c e h
 past-before kind answer.Memory before after a b c e h = behind-before kind before after a b c e h
+past-before kind answer.Upgraded before after a b c e h = h ∙ past-of after a b e
+past-before kind (answer.Scrubbed stripes symbols blocks) before after a b c e h = h ∙ past-of after a b e
+past-before kind (answer.Packed length_before length_after) before after a b c e h = h ∙ past-of after a b e
 
 -- ---- the begin
 
@@ -94,7 +97,7 @@ has-begun w moment kind number old new d O stands begins =
       spelled = s;
       first = b.0;
       only = record { opened = O; job = new_job w moment kind; walked = b.1 };
-      unrefused = sym (refusal-of w kind O.rest.idle.0 O.rest.idle.2) ∙ M.begins.1;
+      unrefused = sym (refusal-of w kind O.rest.idle.0 O.rest.idle.3 O.rest.idle.2 O.rest.whole) ∙ M.begins.1;
     })
 
 -- ---- over a vault that was just opened
@@ -140,7 +143,7 @@ module _ (law : OpensAll) (there : ThereIsOne) (v : Vault) (records : List Recor
       let O = x.1.opened in
       let M = refuses x.0 (devices holds faults ps) 1 x.1.stands in
       elim M.begins.1 [
-        | inl e ↦ inr (subst (λ rs. commands.refusal_over rs kind ≡ Some (refusal_of why)) x.1.over.records (sym (refusal-of x.0 kind O.rest.idle.0 O.rest.idle.2) ∙ e))
+        | inl e ↦ inr (subst (λ rs. commands.refusal_over rs kind ≡ Some (refusal_of why)) x.1.over.records (sym (refusal-of x.0 kind O.rest.idle.0 O.rest.idle.3 O.rest.idle.2 O.rest.whole) ∙ e))
         | inr e ↦ inl (memory-is why e)
       ])
 

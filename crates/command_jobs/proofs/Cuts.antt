@@ -4,13 +4,13 @@ use Rattle.std.proofs.lemmas.List.{length-replicate}
 use Rattle.hail_columns.specs.Verdicts.{Sums}
 use Rattle.hail_records.specs.Records.{Setup, Record, PutStart, PutDone, AuditStart, AuditDone}
 use Rattle.hail_records.specs.Table.{next_id, next_audit}
-use Rattle.hail_machine.specs.Jobs.{Kind, PutJob, GetJob, DropJob, AuditJob, RepairJob, Job, job_of}
+use Rattle.hail_machine.specs.Jobs.{Kind, PutJob, GetJob, DropJob, AuditJob, RepairJob, UpgradeJob, Job, job_of}
 use Rattle.hail_machine.specs.Actions.{Action, WriteBody, SyncBody, WriteGate, SyncGate, Store, Fetch, Ask, Work, Remove, End, actions_left, appends_left}
 use Rattle.hail_machine.specs.Answers as answer
 use Rattle.hail_machine.specs.Audits.{HasSums}
 use Rattle.hail_machine.specs.Events.{Step, Ended}
 use Rattle.hail_machine.specs.States.{State, Append, setup_in}
-use Rattle.hail_machine.specs.Appends.{Writes, Moves}
+use Rattle.hail_machine.specs.Appends.{done_record, Writes, Moves}
 use Rattle.hail_machine.specs.Steps.{next_action, Acts}
 use Rattle.hail_machine.specs.Machine.{Happens}
 use Rattle.hail_machine.proofs.JobLists.{same_value}
@@ -20,6 +20,7 @@ use Rattle.sound_states.specs.Orders.{moves_made, moves_before}
 use Rattle.sound_states.proofs.Events.{moves-next}
 use Rattle.sound_states.proofs.Given.{holder}
 use Rattle.sound_states.proofs.Orders.{appends-order}
+use Rattle.sound_states.proofs.Records.{version-first}
 use Rattle.sound_states.proofs.Written.{body-left, small-sums}
 use Rattle.hail_openings.specs.Opened.{IsOpenAtRest}
 use Rattle.lone_laws.specs.Walked.{first_record, IsSecondRecord, Walked}
@@ -101,6 +102,7 @@ module _ (start : State) (O : IsOpenAtRest start 1) (kind : Kind) (w : State) (j
     record { done = []; rest = AuditDone (next_audit start.records) 0 (replicate (setup_in_effect start.records).n 0) ∷ []; parts = ap (λ (r : Record). r ∷ AuditDone (next_audit start.records) 0 (replicate (setup_in_effect start.records).n 0) ∷ []) (sym is); after_is = same },
   )
   next-first entry RepairJob e h same is = record { done = []; rest = []; parts = ap (λ (r : Record). r ∷ []) (sym is); after_is = same }
+  next-first entry UpgradeJob e h same is = record { done = []; rest = []; parts = ap (λ (r : Record). r ∷ []) (sym is); after_is = same }
 
   setup-at : setup_in start ≡ setup_in_effect start.records
   unfolding setup_in
@@ -112,7 +114,9 @@ module _ (start : State) (O : IsOpenAtRest start 1) (kind : Kind) (w : State) (j
       a ∙ ap (λ (s : Setup). s.n) (W.setup ∙ setup-at))
 
   next-second : (entry : Record) (kd : Kind) → w.records ≡ first_record start kd ∷ start.records → IsSecondRecord start job kd entry → IsNext kd start.records w.records entry
-  next-second entry (PutJob name bytes) same is = record { done = PutStart (next_id start.records) name ∷ []; rest = []; parts = ap (λ (r : Record). PutStart (next_id start.records) name ∷ r ∷ []) (sym is); after_is = same }
+  next-second entry (PutJob name bytes) same is =
+      (let first = ap (λ n. done_record n (next_id start.records) (length bytes) job.profile) (version-first start.records O.rest.in_grammar) in
+      record { done = PutStart (next_id start.records) name ∷ []; rest = []; parts = ap (λ (r : Record). PutStart (next_id start.records) name ∷ r ∷ []) (sym (is ∙ first)); after_is = same })
   next-second entry (GetJob name) same is = absurd is
   next-second entry (DropJob name) same is = absurd is
   next-second entry AuditJob same is =
@@ -123,6 +127,7 @@ module _ (start : State) (O : IsOpenAtRest start 1) (kind : Kind) (w : State) (j
         record { done = AuditStart (next_audit start.records) ∷ []; rest = []; parts = ap (λ (r : Record). AuditStart (next_audit start.records) ∷ r ∷ []) (sym is.2); after_is = same },
       ))
   next-second entry RepairJob same is = absurd is
+  next-second entry UpgradeJob same is = absurd is
 
   next-wrote : (entry : Record) → Writes w job kind entry → Wrote start O kind w job W entry → IsNext kind start.records w.records entry
   next-wrote entry h (Wrote.first left same is) = next-first entry kind refl h same is

@@ -14,7 +14,7 @@ use Rattle.hail_openings.specs.Opened.{IsOpenedOver, IsOpenAtRest, IsJustOpened}
 use Rattle.record_codec.specs.Entries.{with_master}
 use Rattle.vault_table.specs.Values.{IsFoldOf}
 use Rattle.vault.specs.declared.vault.Vault.{Vault}
-use Rattle.vault.specs.Devices.{Devices, devices}
+use Rattle.vault_open.specs.Devices.{Devices, devices}
 use Rattle.vault.specs.Seen.{vault_setup, master_of, table_of, next_job_of, provider_count}
 use Rattle.vault.specs.Stands.{Stands}
 use Rattle.command_jobs.specs.Opened.{AreRecords, IsFreshOver}

@@ -25,7 +25,8 @@ use Rattle.vault.specs.declared.turn.Ended.{Ended as EndedJob}
 use Rattle.vault.specs.declared.turn.Turn.{Turn}
 use Rattle.vault.specs.declared.turn.Turn.TheVariants as turn
 use Rattle.vault.specs.declared.vault.Vault.{Vault}
-use Rattle.vault.specs.Devices.{Devices, records_in_flight, IsSameBeyond}
+use Rattle.vault_open.specs.Devices.{Devices}
+use Rattle.vault.specs.Devices.{records_in_flight, IsSameBeyond}
 use Rattle.vault.specs.Outcomes.{machine_answer, outcome_of}
 use Rattle.vault.specs.Stands.{Stands, MakesStep}
 use Rattle.command_jobs.specs.Going.{IsOnly, GoesToEnd}
@@ -76,6 +77,9 @@ same-past kind (answer.Lost stripe row) before after a b h d m = h (λ e. cc) (�
 same-past kind (answer.ProviderFault j) before after a b h d m = h (λ e. cc) (λ e. cc)
 same-past kind answer.DiskFault before after a b h d m = d refl
 same-past kind answer.Memory before after a b h d m = m refl
+same-past kind answer.Upgraded before after a b h d m = h (λ e. cc) (λ e. cc)
+same-past kind (answer.Scrubbed stripes symbols blocks) before after a b h d m = h (λ e. cc) (λ e. cc)
+same-past kind (answer.Packed length_before length_after) before after a b h d m = h (λ e. cc) (λ e. cc)
 
 -- the record in flight, if one is
 abbrev flying : Option Append → Option Record

@@ -8,9 +8,9 @@ use Rattle.hail_devices.specs.Told.{Goes}
 use Rattle.hail_devices.proofs.Lasting.{reads-firm}
 use Rattle.hail_records.specs.Records.{Record}
 use Rattle.hail_openings.specs.Journals.{journal_read, IsRead, IsResynced}
-use Rattle.vault.specs.declared.fault.StartFault.{StartFault}
-use Rattle.vault.specs.declared.fault.StartFault.TheVariants as start_fault
-use Rattle.vault.specs.Causes.{IsStartFault}
+use Rattle.vault_open.specs.declared.fault.StartFault.{StartFault}
+use Rattle.vault_open.specs.declared.fault.StartFault.TheVariants as start_fault
+use Rattle.vault_open.specs.Causes.{IsStartFault}
 use Rattle.command_jobs.specs.Opened.{AreRecords, unopened_of, IsUnopened}
 
 pub read-records : (told : Option Cells) (rs : List Record) → IsRead told rs → AreRecords rs

@@ -21,7 +21,7 @@ use Rattle.vault_core.specs.declared.wish.BeginFault.{BeginFault}
 use Rattle.vault_core.specs.declared.wish.BeginFault.TheVariants as begin_fault
 use Rattle.vault_core.specs.Carried.{refusal_of}
 use Rattle.vault.specs.declared.turn.Ended.{Ended}
-use Rattle.vault.specs.Devices.{Devices}
+use Rattle.vault_open.specs.Devices.{Devices}
 use Rattle.vault.specs.Outcomes.{machine_answer}
 
 -- what was seen before a vault was opened, which may sync the disk and count faults of it

@@ -16,7 +16,7 @@ use Rattle.hail_openings.specs.Opened.{IsOpenAtRest}
 use Rattle.lone_laws.specs.Walked.{Walked}
 use Rattle.vault.specs.declared.turn.Ended.{Ended}
 use Rattle.vault.specs.declared.vault.Vault.{Vault}
-use Rattle.vault.specs.Devices.{Devices}
+use Rattle.vault_open.specs.Devices.{Devices}
 use Rattle.vault.specs.Outcomes.{machine_answer}
 use Rattle.vault.specs.Stands.{Stands}
 

@@ -21,10 +21,10 @@ use Rattle.hail_machine.specs.States.{State}
 use Rattle.hail_openings.specs.Journals.{journal_read, IsRead, IsBadStart}
 use Rattle.hail_commands.specs.Opens.{setup_in_effect}
 use Rattle.vault_table.specs.Values.{IsFoldOf}
-use Rattle.vault.specs.declared.fault.StartFault.{StartFault}
-use Rattle.vault.specs.declared.fault.StartFault.TheVariants as start_fault
+use Rattle.vault_open.specs.declared.fault.StartFault.{StartFault}
+use Rattle.vault_open.specs.declared.fault.StartFault.TheVariants as start_fault
 use Rattle.vault.specs.declared.vault.Vault.{Vault}
-use Rattle.vault.specs.Devices.{devices}
+use Rattle.vault_open.specs.Devices.{devices}
 use Rattle.vault.specs.Seen.{vault_setup, table_of, next_job_of, provider_count}
 use Rattle.vault.specs.Stands.{Stands}
 use Rattle.hail_openings.specs.Opened.{IsJustOpened}

@@ -8,22 +8,22 @@ use Rattle.hail_field.specs.Shape.{IsShape}
 use Rattle.hail_codes.specs.Points.{upto}
 use Rattle.hail_columns.specs.Objects.{Object, stripes, symbols_in}
 use Rattle.hail_columns.specs.Columns.{is_wrong_block, is_wrong, columns, column_of_symbols}
-use Rattle.hail_columns.specs.Opened.{block_at}
+use Rattle.hail_columns.specs.Opened.{block_at, GivesSymbols}
 use Rattle.hail_columns.specs.Verdicts.{is_flagged}
 use Rattle.column_laws.proofs.Counts.{count_of-within}
 use Rattle.column_laws.proofs.RightRows.{symbols-right}
-use Rattle.hail_devices.specs.Providers.{Held}
+use Rattle.hail_devices.specs.Providers.{Held, sized}
 use Rattle.hail_devices.specs.Told.{Goes}
 use Rattle.hail_records.specs.Records.{Record}
 use Rattle.hail_records.specs.Table.{File, Due, file_of, files_of, find_file, due_of, is_same_name}
 use Rattle.hail_records.proofs.FilesLaws.{find-files_of}
-use Rattle.hail_machine.specs.Setups.{object_of, stripes_of}
+use Rattle.hail_machine.specs.Setups.{stripes_of, profiled}
 use Rattle.hail_machine.specs.Jobs.{RepairJob}
 use Rattle.hail_machine.proofs.JobLists.{cond_true, cond_false, same_value}
 use Rattle.hail_commands.specs.Seen.{Seen, Ending}
 use Rattle.hail_commands.specs.Opens.{setup_in_effect}
 use Rattle.hail_commands.specs.Audits.{with_number, files_by_number}
-use Rattle.hail_commands.specs.Ran.{Ran, setup_at_begin}
+use Rattle.hail_commands.specs.Ran.{Ran, setup_at_begin, object_at_begin, stripes_at_begin, object_numbered}
 use Rattle.hail_commands.specs.Repairs.{Place, places_of, blocks_at, held_at, flags, IfFlagged, GivesPlace, RewrittenOn, RewritesAll}
 use Rattle.hail_commands.specs.Truthful.{missing, IsTruthful}
 use Rattle.hail_commands.specs.Commands.{AnswersAlone}
@@ -33,6 +33,8 @@ use Rattle.job_laws.proofs.Complete.{block_at-map, wrong-sized, not-wrong-each, 
 use Rattle.command_laws.proofs.Known.{known-once}
 use Rattle.command_laws.proofs.GetEnds.{shape-at}
 use Rattle.command_laws.proofs.JobEnds.{repair-done}
+use Rattle.hail_records.specs.Acceptance.{AreAccepted}
+use Rattle.job_laws.proofs.Plain.{numbered-file}
 
 -- ---- elements of lists
 
@@ -115,22 +117,29 @@ held-in given held xs z before now T calm i =
 -- ---- a place of a file
 
 module _ (x : Ran) (shape : IsShape (setup_at_begin x).n (setup_at_begin x).l (setup_at_begin x).b) (due : Due) (W : RewritesAll x due) (name : List ℕ) (file : File) (bytes : List ℕ)
-    (in_effect : file_of x.records name ≡ Some file) (size : length bytes ≡ file.size) (few : bad_count x file.id bytes ≤ (setup_at_begin x).b) (stripe : ℕ) (within : stripe < stripes_of (setup_at_begin x) file.size) where
+    (in_effect : file_of x.records name ≡ Some file) (size : length bytes ≡ file.size) (few : bad_count x file bytes ≤ (setup_at_begin x).b) (accepted : AreAccepted x.records) (stripe : ℕ) (within : stripe < stripes_at_begin x file) where
   abbrev o : Object
-  o = object_of (setup_at_begin x) file.id
+  o = object_at_begin x file
 
   abbrev place : Place
   place = record { object = file.id; stripe = stripe }
 
   asked : In place (places_of x)
-  asked = in-flat (λ (f : File). map (λ t. record { object = f.id; stripe = t }) (upto (stripes_of (setup_at_begin x) f.size))) (files_by_number (files_of x.records)) file place
+  asked = in-flat (λ (f : File). map (λ t. record { object = f.id; stripe = t }) (upto (stripes_of (profiled (setup_at_begin x) f.profile) f.size))) (files_by_number (files_of x.records)) file place
       (in-by_number (files_of x.records) file (find-in (files_of x.records) name file (find-files_of x.records name ∙ in_effect)))
-      (in-range (λ t. record { object = file.id; stripe = t }) 0 (stripes_of (setup_at_begin x) file.size) stripe (omega arith) (omega (arith, within)))
+      (in-range (λ t. record { object = file.id; stripe = t }) 0 (stripes_at_begin x file) stripe (omega arith) (omega (arith, within)))
 
   inside : stripe < stripes o (length bytes)
-  inside = subst (λ n. stripe < stripes_of (setup_at_begin x) n) (sym size) within
+  inside = subst (λ n. stripe < stripes_of (profiled (setup_at_begin x) file.profile) n) (sym size) within
 
-  good-given : (j : ℕ) → j < (setup_at_begin x).n → is_bad x file.id bytes j ≡ false → is_wrong_block o bytes j stripe (block_at (blocks_at x W.gave place) j) ≡ false
+  listed : In file (files_of x.records)
+  listed = find-in (files_of x.records) name file (find-files_of x.records name ∙ in_effect)
+
+  -- the object of its number is its own
+  own : object_numbered x file.id ≡ o
+  own = numbered-file x accepted file listed
+
+  good-given : (j : ℕ) → j < (setup_at_begin x).n → is_bad x file bytes j ≡ false → is_wrong_block o bytes j stripe (block_at (blocks_at x W.gave place) j) ≡ false
   good-given j below good = by_held (x.old j).held good (W.truth j below)
     where
       by_held : (h : Option Held) → is_bad_with o bytes j (x.old j) (x.new j) h ≡ false →
@@ -140,25 +149,27 @@ module _ (x : Ran) (shape : IsShape (setup_at_begin x).n (setup_at_begin x).l (s
       by_held (Some held) g T =
           (let p = or_parts (is_wrong o bytes j (held file.id)) (has_risen (x.old j).other_faults (x.new j).other_faults) g in
           let same = held-in (W.gave j) (held_at x held) (places_of x) place (x.old j).other_faults (x.new j).other_faults T p.1 asked in
-          ap (is_wrong_block o bytes j stripe) (block_at-map (λ i. W.gave i place) (setup_at_begin x).n j below ∙ same)
+          ap (is_wrong_block o bytes j stripe) (block_at-map (λ i. W.gave i place) (setup_at_begin x).n j below ∙ (same ∙ ap (λ (z : Object). sized z.profile.size (held file.id stripe)) own))
           ∙ (wrong-sized o bytes j stripe (held file.id stripe) ∙ not-wrong-each o bytes j (held file.id) p.0 stripe inside))
 
-  bad-given : (j : ℕ) → j < 0 + (setup_at_begin x).n → is_wrong_block o bytes j stripe (block_at (blocks_at x W.gave place) j) ≡ true → is_bad x file.id bytes j ≡ true
-  bad-given j below wrong = elim (cases_Bool (is_bad x file.id bytes j)) [
+  bad-given : (j : ℕ) → j < 0 + (setup_at_begin x).n → is_wrong_block o bytes j stripe (block_at (blocks_at x W.gave place) j) ≡ true → is_bad x file bytes j ≡ true
+  bad-given j below wrong = elim (cases_Bool (is_bad x file bytes j)) [
     | inl y ↦ y
     | inr n ↦ absurd (false≢true (sym (good-given j (omega (arith, below)) n) ∙ wrong))
   ]
 
   right-symbols : W.symbols place ≡ symbols_in o bytes stripe
   right-symbols =
-      (let fewer = count_of-within (λ j. is_wrong_block o bytes j stripe (block_at (blocks_at x W.gave place) j)) (is_bad x file.id bytes) 0 (setup_at_begin x).n bad-given in
-      symbols-right o bytes (setup_at_begin x).profile stripe (blocks_at x W.gave place) (W.symbols place) refl shape (omega (arith, fewer, few)) (all-in (GivesPlace x W.gave W.symbols) (places_of x) place W.gives asked))
+      (let fewer = count_of-within (λ j. is_wrong_block o bytes j stripe (block_at (blocks_at x W.gave place) j)) (is_bad x file bytes) 0 (setup_at_begin x).n bad-given in
+      symbols-right o bytes file.profile stripe (blocks_at x W.gave place) (W.symbols place) refl shape (omega (arith, fewer, few))
+      (subst (λ (z : Object). GivesSymbols z stripe (blocks_at x W.gave place) (W.symbols place)) own (all-in (GivesPlace x W.gave W.symbols) (places_of x) place W.gives asked)))
 
-  goes : (flag : Bool) (j : ℕ) (old new : Option Held) → flag ≡ true → Goes (IfFlagged flag (RewrittenOn (setup_at_begin x) W.symbols (places_of x) j)) old new →
+  goes : (flag : Bool) (j : ℕ) (old new : Option Held) → flag ≡ true → Goes (IfFlagged flag (RewrittenOn (object_numbered x) W.symbols (places_of x) j)) old new →
       IfSome new (λ held. held file.id stripe ≡ Some (columns o bytes j stripe))
   goes flag j old None flagged h = tt
   goes flag j None (Some held) flagged h = absurd h
-  goes true j (Some before) (Some held) flagged h = all-in (λ p. held p.object p.stripe ≡ Some (column_of_symbols (object_of (setup_at_begin x) p.object) (W.symbols p) j p.stripe)) (places_of x) place h.stored asked ∙ ap (λ s. Some (column_of_symbols o s j stripe)) right-symbols
+  goes true j (Some before) (Some held) flagged h = all-in (λ p. held p.object p.stripe ≡ Some (column_of_symbols (object_numbered x p.object) (W.symbols p) j p.stripe)) (places_of x) place h.stored asked
+      ∙ (ap (λ (z : Object). Some (column_of_symbols z (W.symbols place) j stripe)) own ∙ ap (λ s. Some (column_of_symbols o s j stripe)) right-symbols)
   goes false j (Some before) (Some held) flagged h = absurd (false≢true flagged)
 
   pub holds-right : (j : ℕ) → j < (setup_at_begin x).n → flags x due j ≡ true → IfSome (x.new j).held (λ held. held file.id stripe ≡ Some (columns o bytes j stripe))
@@ -167,17 +178,17 @@ module _ (x : Ran) (shape : IsShape (setup_at_begin x).n (setup_at_begin x).l (s
 -- ---- the repair of a command
 
 pub repair-right : (name bytes : List ℕ) (records : List Record) (file : File) (due : Due) (j : ℕ) (old new : Seen) (end : Ending) → AnswersAlone RepairJob old new end → IsKnown old records → IsDone end →
-    due_of records ≡ Some due → file_of records name ≡ Some file → length bytes ≡ file.size → bad_seen records old new file.id bytes ≤ (setup_in_effect records).b → j < (setup_in_effect records).n →
+    due_of records ≡ Some due → file_of records name ≡ Some file → length bytes ≡ file.size → bad_seen records old new file bytes ≤ (setup_in_effect records).b → j < (setup_in_effect records).n →
     is_flagged (setup_in_effect records).tolerance due.counts j ≡ true → HoldsFile records new bytes file j
 repair-right name bytes records file due j old new end A K done is_due in_effect size few below flagged =
     (let R = repair-done old new end A done in
     let same : R.records ≡ records = known-once old records R.records K R.opened.read in
-    subst (λ rs. due_of rs ≡ Some due → file_of rs name ≡ Some file → bad_seen rs old new file.id bytes ≤ (setup_in_effect rs).b → j < (setup_in_effect rs).n →
+    subst (λ rs. due_of rs ≡ Some due → file_of rs name ≡ Some file → bad_seen rs old new file bytes ≤ (setup_in_effect rs).b → j < (setup_in_effect rs).n →
     is_flagged (setup_in_effect rs).tolerance due.counts j ≡ true → HoldsFile rs new bytes file j) same (by-records R) is_due in_effect few below flagged)
   where
-    by-records : (R : IsRepaired old new end) → due_of R.records ≡ Some due → file_of R.records name ≡ Some file → bad_seen R.records old new file.id bytes ≤ (setup_in_effect R.records).b → j < (setup_in_effect R.records).n →
+    by-records : (R : IsRepaired old new end) → due_of R.records ≡ Some due → file_of R.records name ≡ Some file → bad_seen R.records old new file bytes ≤ (setup_in_effect R.records).b → j < (setup_in_effect R.records).n →
         is_flagged (setup_in_effect R.records).tolerance due.counts j ≡ true → HoldsFile R.records new bytes file j
     by-records R is in_effect few below flagged stripe within =
         (let due_is : R.due ≡ due = same_value (due_of R.records) R.due due R.is_due is in
-        holds-right (ran_to (after_repair R.records R.due) R.records old new end.heard) (shape-at old R.records R.opened) R.due R.rewritten name file bytes in_effect size few stripe within j below
+        holds-right (ran_to (after_repair R.records R.due) R.records old new end.heard) (shape-at old R.records R.opened) R.due R.rewritten name file bytes in_effect size few R.opened.read.accepted stripe within j below
         (subst (λ (d : Due). is_flagged (setup_in_effect R.records).tolerance d.counts j ≡ true) (sym due_is) flagged))

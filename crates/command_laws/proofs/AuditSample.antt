@@ -130,10 +130,10 @@ module _ (w : State) (n : ℕ) (H : AreHanded idle_providers (formed w)) where
     runs = record {
       begun = s0;
       job = 1;
-      begins = (refl, refusal-of v AuditJob refl refl, refl, refl);
+      begins = (refl, refusal-of v AuditJob refl refl refl (record { journal = refl; area = refl; unswitched = refl }), refl, refl);
       goes_on = record { steps = steps; are_steps = steps-are; ends = nine 0; heard_is = refl };
     };
-    images = λ image is. inl (inl (audited-sure.images image is));
+    images = λ image is. inl (inl (refl, audited-sure.images image is));
     faults_are = refl;
     handed = record { count = H.count; each = H.each };
     past_text = refl;
@@ -151,7 +151,7 @@ pub audit : Answers AuditAll (store set_up_records) audited_store (ends 0)
 audit = (
   AnswersAlone.begun set_up_records set_up-sure.known.opened (AnswersJob.ended (Audited 1 0 no_counts) refl audit-alone
       (left-alone set_up_records AuditJob (Audited 1 0 no_counts) (store set_up_records) audited_store []
-      (λ w last n O r. jobs-leave AuditJob w last n (Audited 1 0 no_counts) [] tt O r) set_up-sure.known.opened refl audit-alone)
+      tt (λ w last n O r. jobs-leave AuditJob w last n (Audited 1 0 no_counts) [] tt O r) set_up-sure.known.opened refl audit-alone)
       (record { written = inl (refl, refl); place = refl })),
   (refl, refl),
 )

@@ -1,5 +1,5 @@
 -- Stops and replacements between commands go on with a run, and so do commands one after the other.
-use Rattle.std.proofs.Common.{◌≡◌, ◌≢◌, ℕ, ◌<◌, ◌==◌, ◌⊎◌, Bool, true, false, List, [], ◌∷◌, ◌++◌, length, Option, None, Some, refl, ap, sym, subst, ◌∙◌, inl, inr, arith, append_assoc}
+use Rattle.std.proofs.Common.{◌≡◌, ℕ, ◌<◌, ◌==◌, Bool, true, false, List, [], ◌∷◌, ◌++◌, length, Option, None, Some, refl, ap, sym, subst, ◌∙◌, inl, inr, arith, append_assoc}
 use Rattle.std.specs.Prelude.{is_some, nat_lt, slice_get, slice_set, IsSome}
 use Rattle.std.proofs.lemmas.Bool.{cases_Bool, false≢true, eq-eqb, eqb-true, lt-ltb}
 use Rattle.std.proofs.lemmas.List.{length-set}
@@ -12,13 +12,13 @@ use Rattle.hail_devices.specs.ProviderCalls.{Replaces}
 use Rattle.hail_devices.specs.Told.{Goes}
 use Rattle.hail_devices.proofs.Lasting.{image-firm, each_image-mono}
 use Rattle.hail_records.specs.Records.{Record}
-use Rattle.hail_records.specs.Journal.{StandsFor, StandsOrIsEmpty}
+use Rattle.hail_records.specs.Journal.{StandsFor}
 use Rattle.hail_machine.specs.Events.{Event, Alter, Lose, Stop, Outcome, Replaced, NothingHeld, Stopped as HasStopped}
 use Rattle.hail_machine.specs.Machine.{Happens}
 use Rattle.hail_machine.specs.Replacements.{ReplacesIf}
 use Rattle.hail_machine.specs.Runs.{Moment, now, IsRun}
-use Rattle.hail_machine.specs.Stands.{StandsWithDoubt, StandsForState}
-use Rattle.hail_machine.specs.States.{State, given_up, with_provider}
+use Rattle.hail_machine.specs.Stands.{StandsForState}
+use Rattle.hail_machine.specs.States.{State, with_provider}
 use Rattle.hail_machine.proofs.JobLists.{cond_true, cond_false}
 use Rattle.sound_states.specs.Sound.{IsSound}
 use Rattle.sound_states.proofs.Resting.{rest-sound}
@@ -27,6 +27,7 @@ use Rattle.hail_openings.specs.Opened.{AreHanded}
 use Rattle.command_laws.specs.After.{IsSure}
 use Rattle.command_laws.specs.Pieces.{IsStore, IsCall, moment, ReplacesHeld, AreReplaced, IsLater, AreBetween, Call, last_seen, IsChain, AreCalls}
 use Rattle.job_laws.proofs.Telling.{opened_state, state-over, over-opened}
+use Rattle.command_laws.proofs.Knowing.{StandsInState}
 use Rattle.command_laws.proofs.GoingOn.{now-more, run-sound, settled, settled-by, command-on}
 
 -- ---- lists with an element replaced
@@ -112,9 +113,10 @@ store-replaced w s next j q S sound disk faults handed = record {
   handed = handed;
 }
   where
-    again : (image : List ℕ) → StandsOrIsEmpty image w.records ⊎ StandsWithDoubt w image → StandsOrIsEmpty image w.records ⊎ StandsWithDoubt (replaced_in w j q) image
+    again : (image : List ℕ) → StandsInState w image → StandsInState (replaced_in w j q) image
     again image (inl h) = inl h
-    again image (inr D) = inr (record { doubt = D.doubt; in_doubt = D.in_doubt; stands = D.stands })
+    again image (inr (inl D)) = inr (inl (record { doubt = D.doubt; in_doubt = D.in_doubt; stands = D.stands }))
+    again image (inr (inr X)) = inr (inr (record { switching = X.switching; stands = X.stands }))
 
 store-same : (w : State) (s next : Seen) → IsStore w s → next.disk ≡ s.disk → next.disk_faults ≡ s.disk_faults → next.providers ≡ s.providers → IsStore w next
 store-same w s next S disk faults providers = record {
@@ -157,17 +159,17 @@ pub later-on : (start : State) (ms : List Moment) (new next : Seen) → IsRun 8 
 later-on start ms new next R S L = elim L.disk [
   | inl same ↦ replaced-on start L.events ms new next R S same L.faults L.replaced
   | inr stopped ↦ (let w : State = now start ms in
-      let c = stopped-at new.disk next.disk (λ image. StandsOrIsEmpty image w.records ⊎ StandsWithDoubt w image) S.tells S.images stopped in
+      let c = stopped-at new.disk next.disk (StandsInState w) S.tells S.images stopped in
       let f = settled-by w S.sound S.set_up c.0 c.2 in
       let v : State = settled w f.0 in
       let m : Moment = moment (Stop []) HasStopped v in
-      let run : IsRun 8 start (m ∷ ms) = (refl, f.1.settles (given_up w) refl refl, R) in
+      let run : IsRun 8 start (m ∷ ms) = (refl, f.1.settles w refl refl refl refl, R) in
       let mid : Seen = record new { disk = next.disk } in
       let stood : IsStore v mid = record {
         sound = run-sound start (m ∷ []) ms S.sound run;
         set_up = f.1.up;
         tells = ap is_some c.1;
-        images = subst (λ d. StandsForState d v) (sym c.1) (λ image of. inl (inl (subst (λ bytes. StandsFor bytes f.0) (sym (image-firm c.0 image of)) f.1.good.stands)));
+        images = subst (λ d. StandsForState d v) (sym c.1) (λ image of. inl (inl (refl, subst (λ bytes. StandsFor bytes f.0) (sym (image-firm c.0 image of)) f.1.good.stands)));
         faults_are = S.faults_are;
         handed = record { count = S.handed.count; each = S.handed.each };
       } in
@@ -210,7 +212,7 @@ sure-store s records K =
         sound = rest-sound 8 w O.rest;
         set_up = O.rest.set_up refl;
         tells = K.known.tells;
-        images = each_image-mono s.disk _ _ (λ image stands. inl (inl stands)) K.images;
+        images = each_image-mono s.disk _ _ (λ image stands. inl (inl (refl, stands))) K.images;
         faults_are = refl;
         handed = V.handed;
       },

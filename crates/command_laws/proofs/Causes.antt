@@ -5,7 +5,7 @@ use Rattle.std.proofs.lemmas.Bool.{false≢true}
 use Rattle.hail_devices.specs.Faults.{Rose}
 use Rattle.hail_devices.proofs.Lasting.{rose-before}
 use Rattle.hail_records.specs.Records.{Record}
-use Rattle.hail_machine.specs.Jobs.{Kind, PutJob, GetJob, DropJob, AuditJob, RepairJob}
+use Rattle.hail_machine.specs.Jobs.{Kind, PutJob, GetJob, DropJob, AuditJob, RepairJob, UpgradeJob}
 use Rattle.hail_machine.specs.Answers as answer
 use Rattle.hail_machine.specs.Answers.{Answer}
 use Rattle.hail_machine.specs.Refusals as refusal
@@ -103,6 +103,10 @@ module _ (old new : Seen) (end : Ending) where
   refused-none refusal.NotSetUp = refl
   refused-none refusal.TooFewProviders = refl
   refused-none refusal.NoSuchJob = refl
+  refused-none refusal.BadProfile = refl
+  refused-none refusal.OldVersion = refl
+  refused-none refusal.NewVersion = refl
+  refused-none refusal.PackTooLong = refl
 
   -- what a job left that ended in a fault
   disk-by : (x : Ran) (kind : Kind) → LeavesBy x kind answer.DiskFault → Rose x.disk_before x.disk_after
@@ -111,6 +115,7 @@ module _ (old new : Seen) (end : Ending) where
   disk-by x (DropJob name) L = L.0.0
   disk-by x AuditJob L = L.gives.0
   disk-by x RepairJob L = L.0.gives.0
+  disk-by x UpgradeJob L = L.0.0
 
   provider-by : (x : Ran) (kind : Kind) (j : ℕ) → LeavesBy x kind (answer.ProviderFault j) → Rose (x.old j).store_faults (x.new j).store_faults
   provider-by x (PutJob name bytes) j L = L.0.1
@@ -118,6 +123,7 @@ module _ (old new : Seen) (end : Ending) where
   provider-by x (DropJob name) j L = absurd L.0
   provider-by x AuditJob j L = absurd L.gives
   provider-by x RepairJob j L = L.0.gives.2
+  provider-by x UpgradeJob j L = absurd L.0
 
   ended-causes : (kind : Kind) (records : List Record) (text : List ℕ) (how : Answer) → LeftAlone records kind how old new end.heard → EndsByAnswer text how old new end → FaultsHaveCauses old new end
   ended-causes kind records text (answer.Lost stripe row) left by = none-rose 4 refl by.status_is
@@ -132,6 +138,9 @@ module _ (old new : Seen) (end : Ending) where
   ended-causes kind records text answer.Dropped left by = written-causes text by.written
   ended-causes kind records text (answer.Audited number undecided counts) left by = written-causes text by.written
   ended-causes kind records text (answer.Repaired number) left by = written-causes text by.written
+  ended-causes kind records text answer.Upgraded left by = written-causes text by.written
+  ended-causes kind records text (answer.Scrubbed stripes symbols blocks) left by = written-causes text by.written
+  ended-causes kind records text (answer.Packed before after) left by = written-causes text by.written
 
   job-causes : (kind : Kind) (records : List Record) → AnswersJob kind records old new end → FaultsHaveCauses old new end
   job-causes kind records (AnswersJob.refused why is synced r) = none-rose (status_of why) (refused-none why) r.status_is

@@ -26,7 +26,7 @@ use Rattle.hail_commands.specs.Jobs.{IsTold}
 use Rattle.hail_commands.specs.Inits.{AnswersInit, setup_with}
 use Rattle.hail_commands.specs.Refusals.{refusal_over, takes_too_much}
 use Rattle.hail_commands.specs.Commands.{AnswersPut, AnswersAlone, Answers}
-use Rattle.sound_states.proofs.Records.{file-spelled}
+use Rattle.sound_states.proofs.Records.{all-spelled, file-spelled}
 use Rattle.command_laws.specs.Ends.{IsDone, IsKnown, GivesText, GivesUnlessMemory, after_put, after_drop, after_audit, after_repair}
 use Rattle.command_laws.specs.After.{Follows, IsThen, HasRightFile, IsUntouched, IsSteady, spoilt_below, IsFaultless}
 use Rattle.command_laws.specs.Opened.{IsKeyed}
@@ -117,7 +117,7 @@ pub drop-get : (name : List ℕ) (records : List Record) (c d e f : Seen) (secon
     (Rose e.disk_faults f.disk_faults → ⊥) → (last.status ≡ 3) ⊎ (last.status ≡ 70)
 drop-get name records c d e f second last D G N K done disk =
     (let P = drop-done name c d second D done in
-    let named : is_name name ≡ true = (file-spelled P.records name P.file P.opened.read.in_grammar P.was_in_effect).0 in
+    let named : is_name name ≡ true = (file-spelled P.records name P.file (all-spelled P.records P.opened.read.in_grammar) P.was_in_effect).0 in
     let sure = sure-next (after_drop records name) d e (drop-sure name records c d second D done K) N in
     get-missing name (after_drop records name) e f last G sure.known named (dropped-none records name) disk)
 

@@ -48,6 +48,10 @@ refused-ending refusal.Already = refl
 refused-ending refusal.NotSetUp = refl
 refused-ending refusal.TooFewProviders = refl
 refused-ending refusal.NoSuchJob = refl
+refused-ending refusal.BadProfile = refl
+refused-ending refusal.OldVersion = refl
+refused-ending refusal.NewVersion = refl
+refused-ending refusal.PackTooLong = refl
 
 ended-ending : (n : ℕ) → EndStatus n → is_ending n ≡ true
 ended-ending n (EndStatus.by_done e) = ap is_ending e

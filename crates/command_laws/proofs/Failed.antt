@@ -11,7 +11,7 @@ use Rattle.hail_devices.specs.Providers.{Provider}
 use Rattle.hail_records.specs.Records.{Record, largest_file}
 use Rattle.hail_records.specs.Journal.{StandsFor, StandsOrIsEmpty}
 use Rattle.hail_records.specs.Table.{Due, due_of}
-use Rattle.hail_machine.specs.Jobs.{Kind, PutJob, GetJob, DropJob, AuditJob, RepairJob}
+use Rattle.hail_machine.specs.Jobs.{Kind, PutJob, GetJob, DropJob, AuditJob, RepairJob, UpgradeJob}
 use Rattle.hail_machine.specs.Answers as answer
 use Rattle.hail_machine.specs.Answers.{Answer}
 use Rattle.hail_machine.specs.Heard.{Entry}
@@ -279,6 +279,9 @@ own-end m text (answer.Got bytes) old new end by is own = absurd (written-own m 
 own-end m text answer.Dropped old new end by is own = absurd (written-own m text old new end by.written is own)
 own-end m text (answer.Audited number undecided counts) old new end by is own = absurd (written-own m text old new end by.written is own)
 own-end m text (answer.Repaired number) old new end by is own = absurd (written-own m text old new end by.written is own)
+own-end m text answer.Upgraded old new end by is own = absurd (written-own m text old new end by.written is own)
+own-end m text (answer.Scrubbed stripes symbols blocks) old new end by is own = absurd (written-own m text old new end by.written is own)
+own-end m text (answer.Packed before after) old new end by is own = absurd (written-own m text old new end by.written is own)
 
 -- which kinds of job end so
 abbrev Ends13 : Kind → Type 0
@@ -297,6 +300,7 @@ store-kind x (GetJob name) j L = L.gives
 store-kind x (DropJob name) j L = L.0
 store-kind x AuditJob j L = L.gives
 store-kind x RepairJob j L = tt
+store-kind x UpgradeJob j L = L.0
 
 lost-kind : (x : Ran) (kind : Kind) (stripe row : ℕ) → LeavesBy x kind (answer.Lost stripe row) → Ends4 kind
 lost-kind x (PutJob name bytes) stripe row L = L.0
@@ -304,6 +308,7 @@ lost-kind x (GetJob name) stripe row L = tt
 lost-kind x (DropJob name) stripe row L = L.0
 lost-kind x AuditJob stripe row L = L.gives
 lost-kind x RepairJob stripe row L = tt
+lost-kind x UpgradeJob stripe row L = L.0
 
 ended-13 : (kind : Kind) (text : List ℕ) (how : Answer) (x : Ran) (old new : Seen) (end : Ending) → LeavesBy x kind how → EndsByAnswer text how old new end → end.status ≡ 13 → Ends13 kind
 ended-13 kind text how x old new end L by is = go (own-end 13 text how old new end by is (inl refl))

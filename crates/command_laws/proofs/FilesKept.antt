@@ -10,7 +10,7 @@ use Rattle.hail_devices.specs.Told.{Goes}
 use Rattle.column_laws.proofs.Worked.{column-right}
 use Rattle.hail_records.specs.Records.{Record, Setup, PutStart, PutDone, Drop, AuditStart, AuditDone}
 use Rattle.hail_records.specs.Table.{File, Due, next_id, next_audit, file_of, due_of, started_as, is_start_of}
-use Rattle.hail_machine.specs.Setups.{object_of, stripes_of}
+use Rattle.hail_machine.specs.Setups.{profiled, object_of, stripes_of}
 use Rattle.hail_machine.specs.Jobs.{PutJob, DropJob, RepairJob}
 use Rattle.hail_machine.specs.Answers as answer
 use Rattle.hail_machine.specs.Answers.{Answer}
@@ -18,7 +18,7 @@ use Rattle.hail_machine.proofs.JobLists.{cond_true, cond_false, same_value}
 use Rattle.hail_machine.proofs.RecordFacts.{AreSound, other_name}
 use Rattle.hail_commands.specs.Forms.{Command, RowOf, InitWith, PutUnder, GetOf, DropOf, ListAll, AuditAll, RepairDue}
 use Rattle.hail_commands.specs.Seen.{Seen, Ending, IsRefused, provider_at}
-use Rattle.hail_commands.specs.Opens.{setup_in_effect}
+use Rattle.hail_commands.specs.Opens.{setup_in_effect, object_in_effect}
 use Rattle.hail_commands.specs.Blocks.{StoredOn, PartlyStored, DroppedFrom}
 use Rattle.hail_commands.specs.Puts.{PutIsCut, PutLeaves}
 use Rattle.hail_commands.specs.Drops.{DropLeaves}
@@ -67,8 +67,8 @@ has-same name bytes records after spoilt old new H file setup same = record {
   are_bytes = H.are_bytes;
   size = H.size;
   right = λ j below clean. (let l : j < (setup_in_effect records).n = subst (λ (s : Setup). j < s.n) setup below in
-      subst (λ s. is_wrong_or_untold (object_of s H.file.id) bytes j (provider_at new.providers j).held ≡ false) (sym setup)
-      (wrong-same (object_of (setup_in_effect records) H.file.id) bytes j (provider_at old.providers j).held (provider_at new.providers j).held (same j l) (H.right j l clean)));
+      subst (λ (s : Setup). is_wrong_or_untold (object_of (profiled s H.file.profile) H.file.id) bytes j (provider_at new.providers j).held ≡ false) (sym setup)
+      (wrong-same (object_in_effect records H.file) bytes j (provider_at old.providers j).held (provider_at new.providers j).held (same j l) (H.right j l clean)));
 }
 
 -- ---- the records after a command
@@ -264,10 +264,10 @@ goes-tells change (Some a) None tells g = absurd g
 goes-tells change (Some a) (Some b) tells g = refl
 
 pub columns-right : (s : Setup) (file : File) (bytes : List ℕ) (j : ℕ) (told : Option Held) → length bytes ≡ file.size → is_some told ≡ true →
-    ((stripe : ℕ) → stripe < stripes_of s file.size → IfSome told (λ held. held file.id stripe ≡ Some (columns (object_of s file.id) bytes j stripe))) → is_wrong_or_untold (object_of s file.id) bytes j told ≡ false
+    ((stripe : ℕ) → stripe < stripes_of (profiled s file.profile) file.size → IfSome told (λ held. held file.id stripe ≡ Some (columns (object_of (profiled s file.profile) file.id) bytes j stripe))) → is_wrong_or_untold (object_of (profiled s file.profile) file.id) bytes j told ≡ false
 columns-right s file bytes j None size tells h = absurd (false≢true tells)
 columns-right s file bytes j (Some held) size tells h =
-    each-not-wrong (object_of s file.id) bytes j (held file.id) (λ t l. ap (is_wrong_block (object_of s file.id) bytes j t) (h t (subst (λ n. t < stripes_of s n) size l)) ∙ column-right (object_of s file.id) bytes j t)
+    each-not-wrong (object_of (profiled s file.profile) file.id) bytes j (held file.id) (λ t l. ap (is_wrong_block (object_of (profiled s file.profile) file.id) bytes j t) (h t (subst (λ n. t < stripes_of (profiled s file.profile) n) size l)) ∙ column-right (object_of (profiled s file.profile) file.id) bytes j t)
 
 pub and-off : (b c : Bool) → (b && not c) ≡ false → c ≡ false → b ≡ false
 and-off true true h off = absurd (false≢true (sym off))
@@ -305,11 +305,11 @@ repair-has name bytes records due spoilt old new end A done K is_due H steady fe
         subst (λ (d : Due). GoesFlagged H.file.id records d old new j) due_is (subst (λ rs. GoesFlagged H.file.id rs P.due old new j) same (repaired-goes H.file.id old new end P j (subst (λ rs. j < (setup_in_effect rs).n) (sym same) below))))
 
     right : (j : ℕ) → j < (setup_in_effect records).n → (spoilt j && not (is_flagged (setup_in_effect records).tolerance due.counts j)) ≡ false →
-        is_wrong_or_untold (object_of (setup_in_effect records) H.file.id) bytes j (provider_at new.providers j).held ≡ false
+        is_wrong_or_untold (object_in_effect records H.file) bytes j (provider_at new.providers j).held ≡ false
     right j below clean = (let g = goes j below in elim (cases_Bool (is_flagged (setup_in_effect records).tolerance due.counts j)) [
       | inl flagged ↦ columns-right (setup_in_effect records) H.file bytes j (provider_at new.providers j).held H.size (g.1 (tells j below flagged))
           (repair-right name bytes records H.file due j old new end A K done is_due H.in_effect H.size (let b = bad-few name bytes records spoilt old new H steady in omega (arith, b, few)) below flagged)
-      | inr free ↦ wrong-same (object_of (setup_in_effect records) H.file.id) bytes j (provider_at old.providers j).held (provider_at new.providers j).held
+      | inr free ↦ wrong-same (object_in_effect records H.file) bytes j (provider_at old.providers j).held (provider_at new.providers j).held
           (g.0 free)
           (H.right j below (and-off (spoilt j) (is_flagged (setup_in_effect records).tolerance due.counts j) clean free))
     ])

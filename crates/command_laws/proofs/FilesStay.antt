@@ -10,11 +10,11 @@ use Rattle.hail_devices.specs.Faults.{Rose, last_count}
 use Rattle.hail_devices.specs.Providers.{Held, Provider}
 use Rattle.hail_devices.specs.Told.{Goes}
 use Rattle.column_laws.proofs.Worked.{column-right}
-use Rattle.hail_records.specs.Records.{Record, largest_file}
+use Rattle.hail_records.specs.Records.{Record, largest_file, Setup}
 use Rattle.hail_records.specs.Table.{File, file_as, profile_in, setup_of, next_id, file_of}
-use Rattle.hail_machine.specs.Setups.{object_of}
+use Rattle.hail_machine.specs.Setups.{setup_or_none, profiled, object_of}
 use Rattle.hail_commands.specs.Seen.{Seen, Ending, provider_at}
-use Rattle.hail_commands.specs.Opens.{setup_in_effect}
+use Rattle.hail_commands.specs.Opens.{setup_in_effect, object_in_effect}
 use Rattle.hail_commands.specs.Blocks.{StoredOn}
 use Rattle.hail_commands.specs.Commands.{AnswersPut}
 use Rattle.job_laws.specs.Failing.{has_risen, is_bad_with, is_bad_for, bad_seen}
@@ -34,6 +34,14 @@ stored-right o bytes older rose j (Some a) (Some b) tells g = each-not-wrong o b
 
 -- ---- a put that is done
 
+-- the object of its file is the setup's
+pub put-object : (records : List Record) (id : ℕ) → object_of (setup_in_effect records) id ≡ object_of (profiled (setup_in_effect records) (profile_in (setup_of records))) id
+put-object records id = by_setup (setup_of records)
+  where
+    by_setup : (o : Option Setup) → object_of (setup_or_none o) id ≡ object_of (profiled (setup_or_none o) (profile_in o)) id
+    by_setup None = refl
+    by_setup (Some s) = refl
+
 put-file : (name : List ℕ) (spoilt : ℕ → Bool) (old new : Seen) (end : Ending) (P : IsWholePut name old new end) → ((j : ℕ) → j < (setup_in_effect P.records).n → spoilt j ≡ false → is_some (provider_at old.providers j).held ≡ true) →
     HasRightFile new (after_put P.records name (length P.bytes)) name P.bytes spoilt
 put-file name spoilt old new end P tells = record {
@@ -41,7 +49,8 @@ put-file name spoilt old new end P tells = record {
   in_effect = P.in_effect;
   are_bytes = P.are_bytes;
   size = refl;
-  right = λ j below clean. stored-right (object_of (setup_in_effect P.records) (next_id P.records)) P.bytes (file_of P.records name) _ j (provider_at old.providers j).held (provider_at new.providers j).held (tells j below clean) (P.stored j below);
+  right = λ j below clean. subst (λ (o : Object). is_wrong_or_untold o P.bytes j (provider_at new.providers j).held ≡ false) (put-object P.records (next_id P.records))
+      (stored-right (object_of (setup_in_effect P.records) (next_id P.records)) P.bytes (file_of P.records name) _ j (provider_at old.providers j).held (provider_at new.providers j).held (tells j below clean) (P.stored j below));
 }
 
 pub put-has : (name bytes : List ℕ) (records : List Record) (spoilt : ℕ → Bool) (old new : Seen) (end : Ending) → AnswersPut name old new end → IsDone end → IsKnown old records → old.source ≡ Some bytes →
@@ -62,7 +71,7 @@ next-has name bytes records spoilt new next H U = record {
   in_effect = H.in_effect;
   are_bytes = H.are_bytes;
   size = H.size;
-  right = λ j below clean. ap (is_wrong_or_untold (object_of (setup_in_effect records) H.file.id) bytes j) (U j below clean) ∙ H.right j below clean;
+  right = λ j below clean. ap (is_wrong_or_untold (object_in_effect records H.file) bytes j) (U j below clean) ∙ H.right j below clean;
 }
 
 -- ---- how many providers are bad at a get
@@ -90,14 +99,14 @@ bad-off o bytes j p q None right calm = absurd (false≢true (sym right))
 bad-off o bytes j p q (Some held) right calm = (λ i. right i || calm i)
 
 pub bad-few : (name bytes : List ℕ) (records : List Record) (spoilt : ℕ → Bool) (old new : Seen) (H : HasRightFile old records name bytes spoilt) → IsSteady (setup_in_effect records).n spoilt old new →
-    bad_seen records old new H.file.id bytes ≤ spoilt_below (setup_in_effect records).n spoilt
+    bad_seen records old new H.file bytes ≤ spoilt_below (setup_in_effect records).n spoilt
 bad-few name bytes records spoilt old new H steady =
-    count_of-within (λ j. is_bad_for (object_of (setup_in_effect records) H.file.id) bytes j (provider_at old.providers j) (provider_at new.providers j)) spoilt 0 (setup_in_effect records).n within
+    count_of-within (λ j. is_bad_for (object_in_effect records H.file) bytes j (provider_at old.providers j) (provider_at new.providers j)) spoilt 0 (setup_in_effect records).n within
   where
-    within : (j : ℕ) → j < 0 + (setup_in_effect records).n → is_bad_for (object_of (setup_in_effect records) H.file.id) bytes j (provider_at old.providers j) (provider_at new.providers j) ≡ true → spoilt j ≡ true
+    within : (j : ℕ) → j < 0 + (setup_in_effect records).n → is_bad_for (object_in_effect records H.file) bytes j (provider_at old.providers j) (provider_at new.providers j) ≡ true → spoilt j ≡ true
     within j below bad = elim (cases_Bool (spoilt j)) [
       | inl t ↦ t
       | inr f ↦ (let l : j < (setup_in_effect records).n = omega (arith, below) in
-          absurd (false≢true (sym (bad-off (object_of (setup_in_effect records) H.file.id) bytes j (provider_at old.providers j) (provider_at new.providers j) (provider_at old.providers j).held (H.right j l f)
+          absurd (false≢true (sym (bad-off (object_in_effect records H.file) bytes j (provider_at old.providers j) (provider_at new.providers j) (provider_at old.providers j).held (H.right j l f)
           (calm-risen _ _ (steady j l f))) ∙ bad)))
     ]

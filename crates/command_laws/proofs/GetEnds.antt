@@ -6,7 +6,6 @@ use Rattle.hail_devices.specs.Faults.{Rose}
 use Rattle.hail_devices.specs.Told.{told_then, TakesFront}
 use Rattle.hail_records.specs.Records.{Record, is_name}
 use Rattle.hail_records.specs.Table.{File, file_of}
-use Rattle.hail_machine.specs.Setups.{object_of}
 use Rattle.hail_machine.specs.Jobs.{Kind, GetJob}
 use Rattle.hail_machine.specs.Answers as answer
 use Rattle.hail_machine.specs.Answers.{Answer}
@@ -16,14 +15,14 @@ use Rattle.hail_machine.specs.Refusals as refusal
 use Rattle.hail_machine.specs.Refusals.{Refusal}
 use Rattle.hail_commands.specs.Sinking.{WritesLine}
 use Rattle.hail_commands.specs.Seen.{Seen, Ending, IsRefused, sinking}
-use Rattle.hail_commands.specs.Opens.{IsOpened, setup_in_effect}
+use Rattle.hail_commands.specs.Opens.{IsOpened, setup_in_effect, object_in_effect}
 use Rattle.hail_commands.specs.Refusals.{refusal_over}
 use Rattle.hail_commands.specs.Ran.{Ran, ran_alone, job_number}
 use Rattle.hail_commands.specs.Lines.{text_of}
 use Rattle.hail_commands.specs.Gets.{GetLeaves}
 use Rattle.hail_commands.specs.Jobs.{AnswersJob, EndsByAnswer, LeftAlone}
 use Rattle.hail_commands.specs.Commands.{AnswersAlone}
-use Rattle.sound_states.proofs.Records.{file-spelled}
+use Rattle.sound_states.proofs.Records.{all-spelled, file-spelled}
 use Rattle.job_laws.specs.Failing.{bad_seen}
 use Rattle.command_laws.specs.Ends.{IsKnown, GivesUnlessMemory}
 use Rattle.job_laws.proofs.Complete.{shape-of, get-complete, get-right, get-forged}
@@ -44,7 +43,7 @@ module _ (name bytes : List ℕ) (records : List Record) (file : File) (old new 
   shape = shape-at old records K.opened
 
   begins : refusal_over records (GetJob name) ≡ None
-  begins = (let named : is_name name ≡ true = (file-spelled records name file K.opened.read.in_grammar in_effect).0 in
+  begins = (let named : is_name name ≡ true = (file-spelled records name file (all-spelled records K.opened.read.in_grammar) in_effect).0 in
       (λ i. cond (not (named i)) (Some refusal.BadName) (cond (not (is_some (in_effect i))) (Some refusal.NoSuchName) None)))
 
   no-refusal : (why : Refusal) → refusal_over records (GetJob name) ≡ Some why → ⊥
@@ -54,7 +53,7 @@ module _ (name bytes : List ℕ) (records : List Record) (file : File) (old new 
   abbrev EndsWith : Answer → Type 0
   EndsWith how = EndsByAnswer (text_of (setup_in_effect records).tolerance (GetJob name) how) how old new end
 
-  job-complete : AnswersJob (GetJob name) records old new end → bad_seen records old new file.id bytes ≤ (setup_in_effect records).b → WritesLine bytes end.status (sinking old new)
+  job-complete : AnswersJob (GetJob name) records old new end → bad_seen records old new file bytes ≤ (setup_in_effect records).b → WritesLine bytes end.status (sinking old new)
   job-complete (AnswersJob.refused why is synced r) few = absurd (no-refusal why is)
   job-complete (AnswersJob.no_memory synced r) few = inr (inr (r.status_is, none-written bytes old.sink new.sink r.sink))
   job-complete (AnswersJob.ended how none runs left by) few =
@@ -70,7 +69,7 @@ module _ (name bytes : List ℕ) (records : List Record) (file : File) (old new 
   refused-right : (status at : ℕ) → IsRefused status at old new end → (status ≡ 0 → ⊥) → TakesFront old.sink new.sink bytes × (end.status ≡ 0 → new.sink ≡ told_then old.sink bytes)
   refused-right status at r other = (none-written bytes old.sink new.sink r.sink, λ zero. absurd (other (sym r.status_is ∙ zero)))
 
-  job-right : AnswersJob (GetJob name) records old new end → bad_seen records old new file.id bytes ≤ (setup_in_effect records).b + 1 → TakesFront old.sink new.sink bytes × (end.status ≡ 0 → new.sink ≡ told_then old.sink bytes)
+  job-right : AnswersJob (GetJob name) records old new end → bad_seen records old new file bytes ≤ (setup_in_effect records).b + 1 → TakesFront old.sink new.sink bytes × (end.status ≡ 0 → new.sink ≡ told_then old.sink bytes)
   job-right (AnswersJob.refused why is synced r) few = absurd (no-refusal why is)
   job-right (AnswersJob.no_memory synced r) few = refused-right 70 0 r (λ e. omega (arith, e))
   job-right (AnswersJob.ended how none runs left by) few =
@@ -80,7 +79,7 @@ module _ (name bytes : List ℕ) (records : List Record) (file : File) (old new 
 
   -- what was heard holds a forgery
   abbrev Forged : Type 0
-  Forged = HoldsForgery (object_of (setup_in_effect records) file.id) bytes job_number end.heard
+  Forged = HoldsForgery (object_in_effect records file) bytes job_number end.heard
 
   forged-by : (x : Ran) (how : Answer) → ((got : List ℕ) → how ≡ answer.Got got → (got ≡ bytes) ⊎ Forged) → GetLeaves x name how → EndsWith how → (TakesFront old.sink new.sink bytes × (end.status ≡ 0 → new.sink ≡ told_then old.sink bytes)) ⊎ Forged
   forged-by x (answer.Got got) right L by = elim (right got refl) [
@@ -99,7 +98,7 @@ module _ (name bytes : List ℕ) (records : List Record) (file : File) (old new 
       (λ got is. get-forged (ran_left records (GetJob name) how old new end.heard left) name bytes file shape in_effect fits size got (subst (λ h. GetLeaves (ran_left records (GetJob name) how old new end.heard left) name h) is left.leaves.by_kind))
       left.leaves.by_kind by
 
-  pub seen-complete : AnswersAlone (GetJob name) old new end → bad_seen records old new file.id bytes ≤ (setup_in_effect records).b → (Rose old.disk_faults new.disk_faults → ⊥) → (Rose old.sink_faults new.sink_faults → ⊥) →
+  pub seen-complete : AnswersAlone (GetJob name) old new end → bad_seen records old new file bytes ≤ (setup_in_effect records).b → (Rose old.disk_faults new.disk_faults → ⊥) → (Rose old.sink_faults new.sink_faults → ⊥) →
       GivesUnlessMemory bytes old new end
   seen-complete A few disk sink = elim (alone-known (GetJob name) old new end records K A) [
     | inl (inl (rose, r)) ↦ absurd (disk rose)
@@ -107,7 +106,7 @@ module _ (name bytes : List ℕ) (records : List Record) (file : File) (old new 
     | inr job ↦ written-well bytes old new end (job-complete job few) sink
   ]
 
-  pub seen-right : AnswersAlone (GetJob name) old new end → bad_seen records old new file.id bytes ≤ (setup_in_effect records).b + 1 → TakesFront old.sink new.sink bytes × (end.status ≡ 0 → new.sink ≡ told_then old.sink bytes)
+  pub seen-right : AnswersAlone (GetJob name) old new end → bad_seen records old new file bytes ≤ (setup_in_effect records).b + 1 → TakesFront old.sink new.sink bytes × (end.status ≡ 0 → new.sink ≡ told_then old.sink bytes)
   seen-right A few = elim (alone-known (GetJob name) old new end records K A) [
     | inl (inl (rose, r)) ↦ refused-right 12 0 r (λ e. omega (arith, e))
     | inl (inr r) ↦ refused-right 70 0 r (λ e. omega (arith, e))

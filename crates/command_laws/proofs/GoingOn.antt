@@ -1,5 +1,5 @@
 -- Commands over devices that a run left go on with that run.
-use Rattle.std.proofs.Common.{◌≡◌, ℕ, ◌+◌, ◌<◌, ◌≤◌, ◌⊎◌, true, List, [], ◌∷◌, ◌++◌, length, Option, None, Some, refl, ap, sym, subst, ◌∙◌, inl, inr, arith, append_assoc}
+use Rattle.std.proofs.Common.{◌≡◌, ℕ, ◌+◌, ◌<◌, ◌≤◌, ◌⊎◌, true, false, List, [], ◌∷◌, ◌++◌, length, Option, None, Some, refl, ap, sym, subst, ◌∙◌, inl, inr, arith, append_assoc}
 use Rattle.std.specs.Prelude.{is_some, IfSome}
 use Rattle.std.specs.Option.{option_map}
 use Rattle.std.proofs.lemmas.Bool.{false≢true}
@@ -11,9 +11,12 @@ use Rattle.hail_devices.specs.Providers.{Provider}
 use Rattle.hail_devices.proofs.Lasting.{image-firm, each_image-mono}
 use Rattle.hail_devices.proofs.PickLaws.{IsImage-reads}
 use Rattle.hail_records.specs.Records.{Record}
-use Rattle.hail_records.specs.Journal.{StandsFor, StandsOrIsEmpty}
+use Rattle.hail_records.specs.Journal.{StandsFor}
 use Rattle.hail_records.specs.Reading.{HasNoSetup}
-use Rattle.hail_records.specs.Table.{setup_of, files_of}
+use Rattle.hail_records.specs.Table.{setup_of, version_of, files_of}
+use Rattle.hail_records.specs.Areas as areas
+use Rattle.hail_records.specs.Packed.{packed}
+use Rattle.hail_records.proofs.PackLaws.{packed_are}
 use Rattle.hail_machine.specs.Answers.{Answer}
 use Rattle.hail_machine.specs.Events.{Event, Begin, Step, Reopen, Names, Continue, Outcome, Refused, Opened, More, Begun, Ended, Listed, Continued, IsSpelled, IsSpelledKind}
 use Rattle.hail_machine.specs.Jobs.{Kind, PutJob, GetJob, DropJob, AuditJob, RepairJob}
@@ -23,12 +26,13 @@ use Rattle.hail_machine.specs.Refusals as refusal
 use Rattle.hail_machine.specs.Refusals.{Refusal}
 use Rattle.hail_machine.specs.Runs.{Moment, now, IsRun}
 use Rattle.hail_machine.specs.Setups.{setup_or_none}
-use Rattle.hail_machine.specs.Stands.{StandsWithDoubt, StandsForState}
-use Rattle.hail_machine.specs.States.{State, given_up, continued, setup_in, Settles}
+use Rattle.hail_machine.specs.Stands.{StandsForState}
+use Rattle.hail_machine.specs.States.{State, given_up, continued, setup_in}
+use Rattle.hail_machine.specs.Openings.{Rereads}
 use Rattle.hail_machine.specs.Transcripts.{GoOn}
-use Rattle.sound_states.specs.Sound.{IsSound}
+use Rattle.sound_states.specs.Sound.{IsWholeJournal, IsSound}
 use Rattle.sound_states.proofs.Events.{events-sound}
-use Rattle.sound_states.proofs.Records.{is_some-at, setup-more}
+use Rattle.sound_states.proofs.Records.{is_some-at, version-first, grammar-rest, setup-more}
 use Rattle.hail_commands.specs.Forms.{Command, RowOf, InitWith, PutUnder, GetOf, DropOf, ListAll, AuditAll, RepairDue}
 use Rattle.hail_commands.specs.Seen.{Seen, Ending, NoCountFalls, IsRefused, IsSynced}
 use Rattle.hail_openings.specs.Journals.{journal_read, IsRead, IsBadStart}
@@ -45,7 +49,7 @@ use Rattle.hail_openings.proofs.Readings.{read-once, read-set_up, read-good as r
 use Rattle.job_laws.proofs.Telling.{over-opened}
 use Rattle.command_laws.proofs.Images.{refused-keeps}
 use Rattle.command_laws.proofs.LastStates.{last-state}
-use Rattle.command_laws.proofs.Knowing.{IsGood, read-good, none-up}
+use Rattle.command_laws.proofs.Knowing.{IsGood, read-good, none-up, whole-end, StandsInState, StandsSo, stands-so}
 use Rattle.command_laws.proofs.Afterwards.{read-kept}
 use Rattle.command_laws.proofs.DoneStores.{tells-past}
 use Rattle.job_laws.proofs.BeginRefusals.{refusal-of}
@@ -59,7 +63,7 @@ now-more start (m ∷ own) base = refl
 pub run-sound : (start : State) (own base : List Moment) → IsSound 8 (now start base) → IsRun 8 start (own ++ base) → IsSound 8 (now start (own ++ base))
 run-sound start [] base S r = S
 run-sound start (m ∷ own) base S (spelled, happens, rest) =
-    events-sound 8 (length (own ++ base)) (now start (own ++ base)) (run-sound start own base S rest) m.event m.outcome m.state spelled happens
+    events-sound 8 (length (own ++ base)) (now start (own ++ base)) (run-sound start own base S rest) (omega arith, omega arith) m.event m.outcome m.state spelled happens
 
 steps-go : (c : State) (n : ℕ) (steps : List Moment) → AreSteps c n 1 steps → GoOn 1 steps
 steps-go c n [] h = tt
@@ -101,36 +105,80 @@ each-kept (Some a) (Some b) P kept tells h = λ image is. h image (kept image is
 
 -- ---- a store that a run left
 
--- the state in which jobs are given up and these records are settled
+-- the state in which jobs are given up and these records are settled, in a journal of today
 abbrev pub settled : State → List Record → State
-settled w rs = record (given_up w) { doubt = None; records = rs }
+settled w rs = record (given_up w) { doubt = None; records = rs; journal = rs; area = areas.A; is_switching = false }
 
 -- the records that an image of a store stands for may be settled
 pub record Settled (w : State) (image : List ℕ) (rs : List Record) : Type 0 where
-  pub settles : (v : State) → v.doubt ≡ w.doubt → v.records ≡ w.records → Settles v (record v { doubt = None; records = rs })
+  pub settles : (v : State) → v.doubt ≡ w.doubt → v.records ≡ w.records → v.journal ≡ w.journal → v.area ≡ w.area → Rereads v (settled v rs)
   pub good : IsGood (setup_in w) image rs
   pub up : is_some (setup_of rs) ≡ true
 
-pub settled-by : (w : State) → IsSound 8 w → is_some (setup_of w.records) ≡ true → (image : List ℕ) → StandsOrIsEmpty image w.records ⊎ StandsWithDoubt w image → (rs : List Record) × Settled w image rs
+-- while journals have no second version, an image of a store stands for one in which the disk holds the whole history
+whole-by : (w : State) → IsSound 8 w → is_some (setup_of w.records) ≡ true → (image : List ℕ) → StandsInState w image → IsWholeJournal w
+whole-by w S up image (inl (inl h)) = S.journal.whole (sym S.journal.alike.version ∙ version-first w.journal h.1.in_grammar)
+whole-by w S up image (inl (inr empty)) = absurd (none-up w.journal (ap is_some S.journal.alike.setup ∙ up) empty.0)
+whole-by w S up image (inr (inl D)) = S.journal.whole (sym S.journal.alike.version ∙ version-first w.journal (grammar-rest D.doubt.entry w.journal D.stands.1.in_grammar))
+whole-by w S up image (inr (inr X)) =
+    absurd (let second : version_of w.journal ≡ 2 = S.journal.alike.version ∙ (S.switching X.switching).version in
+    let set = is_some-at (setup_of w.journal) (ap is_some S.journal.alike.setup ∙ up) in
+    let like = (packed_are w.journal S.journal.accepted set.0 set.1 second).1 in
+    let first : version_of (packed w.journal) ≡ 1 = version-first (packed w.journal) X.stands.1.in_grammar in
+    let same : version_of (packed w.journal) ≡ version_of w.journal = like.version in
+    omega (arith, second, first, same))
+
+pub settled-by : (w : State) → IsSound 8 w → is_some (setup_of w.records) ≡ true → (image : List ℕ) → StandsInState w image → (rs : List Record) × Settled w image rs
 unfolding setup_in
-settled-by w S up image (inl (inl stands)) = (
-  w.records,
-  record {
-    settles = λ v doubt records. inl (ap (λ rs. record v { doubt = None; records = rs }) (sym records));
-    good = record { some = none-up w.records up; accepted = S.accepted; room = (let r = S.room in omega (arith, r)); setup = refl; stands = stands };
-    up = up;
-  },
-)
-settled-by w S up image (inl (inr empty)) = absurd (none-up w.records up empty.0)
-settled-by w S up image (inr D) = (let F = S.doubt D.doubt D.in_doubt in
-    let same = setup-more D.doubt.entry w.records up F.accepted in (
-      D.doubt.entry ∷ w.records,
+settled-by w S up image h = by_stand (stands-so w W up image h)
+  where
+    W : IsWholeJournal w
+    W = whole-by w S up image h
+
+    by_stand : StandsSo w image → (rs : List Record) × Settled w image rs
+    by_stand (StandsSo.sure stands) = (
+      w.records,
       record {
-        settles = λ v doubt records. inr (D.doubt, doubt ∙ D.in_doubt, ap (λ rs. record v { doubt = None; records = D.doubt.entry ∷ rs }) (sym records));
-        good = record { some = λ e. cc; accepted = (F.accepted, S.accepted); room = F.room; setup = ap setup_or_none same; stands = D.stands };
-        up = ap is_some same ∙ up;
+        settles = λ v doubt records journal area. (
+          v.journal,
+          v.area,
+          inl (refl, refl),
+          inl (λ i. record (given_up v) {
+            doubt = None;
+            records = sym records i;
+            journal = sym (journal ∙ W.journal) i;
+            area = sym (area ∙ W.area) i;
+            is_switching = false;
+          }),
+        );
+        good = record { some = none-up w.records up; accepted = S.accepted; room = (let r = S.room in let e = whole-end w W in omega (arith, r, e)); setup = refl; stands = stands };
+        up = up;
       },
-    ))
+    )
+    by_stand (StandsSo.doubtful d in_doubt stands) = (let F = S.doubt d in_doubt in
+        let same = setup-more d.entry w.records up F.accepted in (
+          d.entry ∷ w.records,
+          record {
+            settles = λ v doubt records journal area. (
+              v.journal,
+              v.area,
+              inl (refl, refl),
+              inr (
+                d,
+                doubt ∙ in_doubt,
+                λ i. record (given_up v) {
+                  doubt = None;
+                  records = d.entry ∷ sym records i;
+                  journal = d.entry ∷ sym (journal ∙ W.journal) i;
+                  area = sym (area ∙ W.area) i;
+                  is_switching = false;
+                },
+              ),
+            );
+            good = record { some = λ e. cc; accepted = (F.accepted, S.accepted); room = (let r = F.room in let e = whole-end w W in omega (arith, r, e)); setup = ap setup_or_none same; stands = stands };
+            up = ap is_some same ∙ up;
+          },
+        ))
 
 module _ (start : State) (ms : List Moment) (R : IsRun 8 start ms) (old : Seen) (S : IsStore (now start ms) old) where
   abbrev w : State
@@ -141,7 +189,7 @@ module _ (start : State) (ms : List Moment) (R : IsRun 8 start ms) (old : Seen) 
 
   found : (rs : List Record) × Settled w (reads told.0) rs
   found = settled-by w S.sound S.set_up (reads told.0)
-      (subst (λ d. EachImage d (λ image. StandsOrIsEmpty image w.records ⊎ StandsWithDoubt w image)) told.1 S.images (reads told.0) (IsImage-reads told.0))
+      (subst (λ d. EachImage d (StandsInState w)) told.1 S.images (reads told.0) (IsImage-reads told.0))
 
   abbrev rs : List Record
   rs = found.0
@@ -176,13 +224,13 @@ module _ (start : State) (ms : List Moment) (R : IsRun 8 start ms) (old : Seen) 
   unfolding setup_in
   run-opened faults l enough = (
     tt,
-    (settled (continued w) rs, found.1.settles (given_up (continued w)) refl refl, found.1.up, (let e = S.handed.count in omega (arith, e, enough)), (faults, faults-at faults l, refl)),
+    (settled (continued w) rs, found.1.settles (continued w) refl refl refl refl, found.1.up, (let e = S.handed.count in omega (arith, e, enough)), (faults, faults-at faults l, refl)),
     run-later,
   )
 
-  stands-synced : (d : Option Cells) (v : State) → d ≡ option_map synced old.disk → v.records ≡ rs → StandsForState d v
-  stands-synced d v is records = image-of-synced told.0 d (λ image. StandsOrIsEmpty image v.records ⊎ StandsWithDoubt v image) (is ∙ ap (option_map synced) told.1)
-      (inl (inl (subst (λ l. StandsFor (reads told.0) l) (sym records) found.1.good.stands)))
+  stands-synced : (d : Option Cells) (v : State) → d ≡ option_map synced old.disk → v.journal ≡ rs → v.area ≡ areas.A → StandsForState d v
+  stands-synced d v is journal area = image-of-synced told.0 d (StandsInState v) (is ∙ ap (option_map synced) told.1)
+      (inl (inl (area, subst (λ l. StandsFor (reads told.0) l) (sym journal) found.1.good.stands)))
 
   sound-opened : (faults : ℕ) → old.disk_faults ≤ faults → (setup_in_effect rs).n ≤ length old.providers → IsSound 8 (opened_at faults)
   sound-opened faults l enough = run-sound start (moment Reopen Opened (opened_at faults) ∷ later ∷ []) ms S.sound (run-opened faults l enough)
@@ -190,8 +238,10 @@ module _ (start : State) (ms : List Moment) (R : IsRun 8 start ms) (old : Seen) 
   over : (faults : ℕ) → old.disk_faults ≤ faults → (setup_in_effect rs).n ≤ length old.providers → IsOpenedOver (opened_at faults) rs faults old.providers
   over faults l enough = record {
     records = refl;
+    whole = record { journal = refl; area = refl; unswitched = refl };
     jobs = refl;
     next_job = refl;
+    none_alone = refl;
     append = refl;
     doubt = refl;
     is_open = refl;
@@ -218,9 +268,10 @@ module _ (start : State) (ms : List Moment) (R : IsRun 8 start ms) (old : Seen) 
     stands-kept : (status at : ℕ) → IsRefused status at old new end → StandsForState new.disk (closed_at new.disk_faults)
     stands-kept status at r = each-kept old.disk new.disk _ (refused-keeps status at old new end r) S.tells (each_image-mono old.disk _ _ again S.images)
       where
-        again : (image : List ℕ) → StandsOrIsEmpty image w.records ⊎ StandsWithDoubt w image → StandsOrIsEmpty image w.records ⊎ StandsWithDoubt (closed_at new.disk_faults) image
+        again : (image : List ℕ) → StandsInState w image → StandsInState (closed_at new.disk_faults) image
         again image (inl h) = inl h
-        again image (inr D) = inr (record { doubt = D.doubt; in_doubt = D.in_doubt; stands = D.stands })
+        again image (inr (inl D)) = inr (inl (record { doubt = D.doubt; in_doubt = D.in_doubt; stands = D.stands }))
+        again image (inr (inr X)) = inr (inr (record { switching = X.switching; stands = X.stands }))
 
     closed-on : (status at : ℕ) (why : Refusal) → IsRefused status at old new end → Happens 8 (length (later ∷ ms)) (continued w) Reopen (Refused why) (closed_at new.disk_faults) → GoesOn
     closed-on status at why r happens = (let m : Moment = moment Reopen (Refused why) (closed_at new.disk_faults) in
@@ -250,7 +301,7 @@ module _ (start : State) (ms : List Moment) (R : IsRun 8 start ms) (old : Seen) 
         let fewer : length old.providers < (setup_in_effect rs).n = subst (λ l. length old.providers < (setup_in_effect l).n) (once other read) few in
         let run : IsRun 8 start (m ∷ later ∷ ms) = (
           tt,
-          (settled (continued w) rs, found.1.settles (given_up (continued w)) refl refl, found.1.up, (let e = S.handed.count in omega (arith, e, fewer)), (new.disk_faults, faults-at new.disk_faults counts.disk, refl)),
+          (settled (continued w) rs, found.1.settles (continued w) refl refl refl refl, found.1.up, (let e = S.handed.count in omega (arith, e, fewer)), (new.disk_faults, faults-at new.disk_faults counts.disk, refl)),
           run-later,
         ) in (
           m ∷ later ∷ [],
@@ -260,7 +311,7 @@ module _ (start : State) (ms : List Moment) (R : IsRun 8 start ms) (old : Seen) 
             sound = run-sound start (m ∷ later ∷ []) ms S.sound run;
             set_up = found.1.up;
             tells = refused-tells 22 0 r;
-            images = stands-synced new.disk v sync refl;
+            images = stands-synced new.disk v sync refl refl;
             faults_are = refl;
             handed = handed-by v new.providers refl refl r.providers;
           },
@@ -290,7 +341,7 @@ module _ (start : State) (ms : List Moment) (R : IsRun 8 start ms) (old : Seen) 
         sound = sound-opened new.disk_faults counts.disk enough;
         set_up = found.1.up;
         tells = synced-tells old.disk new.disk sync S.tells;
-        images = stands-synced new.disk opened sync refl;
+        images = stands-synced new.disk opened sync refl refl;
         faults_are = refl;
         handed = handed-by opened new.providers refl refl same;
       }
@@ -321,7 +372,7 @@ module _ (start : State) (ms : List Moment) (R : IsRun 8 start ms) (old : Seen) 
         )
           where
             by_cause : (refusal_over rs kind ≡ Some why) ⊎ (why ≡ refusal.Memory) → (begin_refusal 8 opened kind ≡ Some why) ⊎ (why ≡ refusal.Memory)
-            by_cause (inl e) = inl (refusal-of opened kind refl refl ∙ e)
+            by_cause (inl e) = inl (refusal-of opened kind refl refl refl (record { journal = refl; area = refl; unswitched = refl }) ∙ e)
             by_cause (inr e) = inr e
 
         ended-on : (how : Answer) → IsSpelledKind kind → RunsAlone rs kind how old new end.heard → EndsByAnswer (text_of (setup_in_effect rs).tolerance kind how) how old new end → GoesOn

@@ -16,7 +16,7 @@ use Rattle.hail_records.specs.Journal.{StandsFor, StandsOrIsEmpty}
 use Rattle.hail_records.specs.Table.{next_id, next_audit}
 use Rattle.hail_records.proofs.Standing.{stands-front, stands-long}
 use Rattle.journal_core.proofs.Meanings.{one_meaning}
-use Rattle.hail_machine.specs.Jobs.{Kind, PutJob, GetJob, DropJob, AuditJob, RepairJob}
+use Rattle.hail_machine.specs.Jobs.{Kind, PutJob, GetJob, DropJob, AuditJob, RepairJob, UpgradeJob}
 use Rattle.hail_machine.specs.Answers as answer
 use Rattle.hail_machine.specs.Answers.{Answer}
 use Rattle.hail_commands.specs.Forms.{Command, Numbers, RowOf, InitWith, PutUnder, GetOf, DropOf, ListAll, AuditAll, RepairDue}
@@ -149,6 +149,10 @@ wrote-by x RepairJob (answer.ProviderFault j) L = (_, (L.0.due, L.0.is_due, refl
 wrote-by x RepairJob answer.DiskFault L = (_, (L.0.due, L.0.is_due, refl), came-doubt x _ L.0.gives.1)
 wrote-by x RepairJob answer.Memory L = (_, (L.0.due, L.0.is_due, refl), came-cut x _ L.0.gives.0)
 wrote-by x RepairJob how L = absurd L.0.gives
+wrote-by x UpgradeJob answer.Upgraded L = (_, refl, came-whole x _ L.0.0)
+wrote-by x UpgradeJob answer.DiskFault L = (_, refl, came-doubt x _ L.0.1)
+wrote-by x UpgradeJob answer.Memory L = (_, refl, came-cut x _ L.0.0)
+wrote-by x UpgradeJob how L = absurd L.0
 
 none-behind : (a b : List Record) → a ++ b ≡ [] → b ≡ []
 none-behind [] b e = e

@@ -344,12 +344,12 @@ repair-done old new end (AnswersAlone.begun records opened (AnswersJob.ended how
 
 repair-job-well : (records : List Record) (old new : Seen) (end : Ending) (bytes : ℕ → List ℕ) → IsOpened old records → refusal_over records RepairJob ≡ None → (Rose old.disk_faults new.disk_faults → ⊥) →
     ((j : ℕ) → j < (setup_in_effect records).n → Rose (provider_at old.providers j).store_faults (provider_at new.providers j).store_faults → ⊥) → (Rose old.sink_faults new.sink_faults → ⊥) →
-    ((name : List ℕ) (file : File) → file_of records name ≡ Some file → (length (bytes file.id) ≡ file.size) × (bad_seen records old new file.id (bytes file.id) ≤ (setup_in_effect records).b)) →
+    ((name : List ℕ) (file : File) → file_of records name ≡ Some file → (length (bytes file.id) ≡ file.size) × (bad_seen records old new file (bytes file.id) ≤ (setup_in_effect records).b)) →
     AnswersJob RepairJob records old new end → (end.status ≡ 0) ⊎ (end.status ≡ 70)
 repair-job-well records old new end bytes opened begins disk stores sink safe (AnswersJob.refused why is synced r) = absurd (let e : None ≡ Some why = sym begins ∙ is in cc)
 repair-job-well records old new end bytes opened begins disk stores sink safe (AnswersJob.no_memory synced r) = inr r.status_is
 repair-job-well records old new end bytes opened begins disk stores sink safe (AnswersJob.ended how none runs left by) =
-    elim (repair-end (ran_left records RepairJob how old new end.heard left) (shape-at old records opened) bytes how left.leaves.by_kind.0 (calm-disk records RepairJob how old new end.heard left disk) stores safe) [
+    elim (repair-end (ran_left records RepairJob how old new end.heard left) opened.read.accepted (shape-at old records opened) bytes how left.leaves.by_kind.0 (calm-disk records RepairJob how old new end.heard left disk) stores safe) [
       | inl (number, same) ↦ (let told : EndsWith records RepairJob (answer.Repaired number) old new end = subst (λ h. EndsWith records RepairJob h old new end) same by in
           zero-or-memory _ old new end (written-well _ old new end told.written sink))
       | inr same ↦ (let told : EndsWith records RepairJob answer.Memory old new end = subst (λ h. EndsWith records RepairJob h old new end) same by in inr told.status_is)
@@ -358,7 +358,7 @@ repair-job-well records old new end bytes opened begins disk stores sink safe (A
 pub repair-well : (records : List Record) (old new : Seen) (end : Ending) (bytes : ℕ → List ℕ) → AnswersAlone RepairJob old new end → IsKnown old records →
     refusal_over records RepairJob ≡ None → (Rose old.disk_faults new.disk_faults → ⊥) →
     ((j : ℕ) → j < (setup_in_effect records).n → Rose (provider_at old.providers j).store_faults (provider_at new.providers j).store_faults → ⊥) → (Rose old.sink_faults new.sink_faults → ⊥) →
-    ((name : List ℕ) (file : File) → file_of records name ≡ Some file → (length (bytes file.id) ≡ file.size) × (bad_seen records old new file.id (bytes file.id) ≤ (setup_in_effect records).b)) →
+    ((name : List ℕ) (file : File) → file_of records name ≡ Some file → (length (bytes file.id) ≡ file.size) × (bad_seen records old new file (bytes file.id) ≤ (setup_in_effect records).b)) →
     (end.status ≡ 0) ⊎ (end.status ≡ 70)
 repair-well records old new end bytes A K begins disk stores sink safe = elim (alone-known RepairJob old new end records K A) [
   | inl (inl (rose, r)) ↦ absurd (disk rose)

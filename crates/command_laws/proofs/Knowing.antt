@@ -1,5 +1,5 @@
 -- Which records a disk reads, and its images stand for, after a job that ran over known records.
-use Rattle.std.proofs.Common.{◌≡◌, ◌≢◌, ℕ, ◌-◌, ◌<◌, ◌≤◌, ◌⊎◌, Bool, true, false, cond, not, List, [], ◌∷◌, length, Option, None, Some, refl, ap, sym, subst, ◌∙◌, inl, inr, arith}
+use Rattle.std.proofs.Common.{◌≡◌, ◌≢◌, ℕ, ◌<◌, ◌≤◌, ◌⊎◌, Bool, true, false, cond, not, List, [], ◌∷◌, length, Option, None, Some, refl, ap, sym, subst, ◌∙◌, inl, inr, arith}
 use Rattle.std.specs.Prelude.{is_some, IfSome}
 use Rattle.std.specs.List.{list_all}
 use Rattle.std.proofs.lemmas.Bool.{false≢true}
@@ -8,19 +8,19 @@ use Rattle.hail_devices.specs.Cells.{Cells, reads}
 use Rattle.hail_devices.specs.Images.{EachImage}
 use Rattle.hail_devices.proofs.PickLaws.{IsImage-reads}
 use Rattle.hail_records.specs.Records.{Record, Setup, is_byte, is_name_byte, is_name, largest_journal}
-use Rattle.hail_records.specs.Journal.{text_size, StandsFor, StandsOrIsEmpty}
+use Rattle.hail_records.specs.Journal.{text_size, StandsFor}
 use Rattle.hail_records.specs.Table.{setup_of}
 use Rattle.hail_records.specs.Acceptance.{AreAccepted}
 use Rattle.hail_records.proofs.Standing.{stands-take, stands-long}
 use Rattle.journal_core.proofs.Meanings.{one_meaning}
-use Rattle.hail_machine.specs.Jobs.{Kind, PutJob, GetJob, DropJob, AuditJob, RepairJob}
+use Rattle.hail_machine.specs.Jobs.{Kind, PutJob, GetJob, DropJob, AuditJob, RepairJob, UpgradeJob}
 use Rattle.hail_machine.specs.Answers.{Answer}
 use Rattle.hail_machine.specs.Events.{AreBytes, IsSpelledKind}
 use Rattle.hail_machine.specs.Heard.{Entry}
 use Rattle.hail_machine.specs.Refusals.{Refusal}
 use Rattle.hail_machine.specs.Setups.{setup_or_none}
-use Rattle.hail_machine.specs.States.{State, setup_in}
-use Rattle.hail_machine.specs.Stands.{StandsWithDoubt, StandsForState}
+use Rattle.hail_machine.specs.States.{State, setup_in, Doubt, journal_end}
+use Rattle.hail_machine.specs.Stands.{StandsPlain, StandsWithDoubt, StandsSwitched, StandsForState}
 use Rattle.hail_commands.specs.Seen.{Seen}
 use Rattle.hail_openings.specs.Journals.{journal_read, IsRead}
 use Rattle.hail_commands.specs.Opens.{IsOpened, setup_in_effect}
@@ -31,6 +31,9 @@ use Rattle.command_laws.specs.Ends.{IsKnown, DiskHas}
 use Rattle.command_laws.specs.After.{IsSure}
 use Rattle.job_laws.proofs.Telling.{over-opened, opened_state, state-over}
 use Rattle.command_laws.proofs.LastStates.{IsLast, last-state}
+use Rattle.hail_records.specs.Areas.{end_in}
+use Rattle.hail_records.proofs.AreaLaws.{text_size-end}
+use Rattle.sound_states.specs.Sound.{IsWholeJournal}
 
 -- ---- a text that fits is looked at
 
@@ -82,29 +85,51 @@ sure-good s d cells rs is good enough has = record { known = known-good s d cell
 pub none-up : (rs : List Record) → is_some (setup_of rs) ≡ true → rs ≢ []
 none-up rs up none = false≢true (let e : false ≡ true = sym (ap (λ l. is_some (setup_of l)) none) ∙ up in e)
 
-last-good : (start last : State) → IsLast start last → (image : List ℕ) → StandsOrIsEmpty image last.records ⊎ StandsWithDoubt last image → (rs : List Record) × IsGood (setup_in start) image rs
+-- the room of a whole journal is that of the history
+pub whole-end : (w : State) → IsWholeJournal w → journal_end w ≡ text_size w.records
+whole-end w W = (λ i. end_in (W.area i) (W.journal i)) ∙ text_size-end w.records
+
+-- an image stands for the history, or for it with the record in doubt
+pub data StandsSo (w : State) (image : List ℕ) : Type 0 where
+  sure : StandsFor image w.records → StandsSo w image
+  doubtful : (doubt : Doubt) → w.doubt ≡ Some doubt → StandsFor image (doubt.entry ∷ w.records) → StandsSo w image
+
+-- what an image of a state stands for
+abbrev pub StandsInState : State → List ℕ → Type 0
+StandsInState w image = StandsPlain w image ⊎ (StandsWithDoubt w image ⊎ StandsSwitched w image)
+
+-- so it is where the disk holds the whole history
+pub stands-so : (w : State) → IsWholeJournal w → is_some (setup_of w.records) ≡ true → (image : List ℕ) → StandsInState w image → StandsSo w image
+stands-so w W up image (inl (inl h)) = StandsSo.sure (subst (StandsFor image) W.journal h.1)
+stands-so w W up image (inl (inr empty)) = absurd (none-up w.records up (sym W.journal ∙ empty.0))
+stands-so w W up image (inr (inl D)) = StandsSo.doubtful D.doubt D.in_doubt (subst (λ rs. StandsFor image (D.doubt.entry ∷ rs)) W.journal D.stands.1)
+stands-so w W up image (inr (inr X)) = absurd (false≢true (sym W.unswitched ∙ X.switching))
+
+last-good : (start last : State) → IsLast start last → (image : List ℕ) → StandsInState last image → (rs : List Record) × IsGood (setup_in start) image rs
 unfolding setup_in
-last-good start last L image (inl (inl stands)) = (
-  last.records,
-  record {
-    some = none-up last.records L.up;
-    accepted = L.sound.accepted;
-    room = (let r = L.sound.room in omega (arith, r));
-    setup = L.setup;
-    stands = stands;
-  },
-)
-last-good start last L image (inl (inr empty)) = absurd (none-up last.records L.up empty.0)
-last-good start last L image (inr D) = (let F = L.sound.doubt D.doubt D.in_doubt in (
-  D.doubt.entry ∷ last.records,
-  record {
-    some = λ e. cc;
-    accepted = (F.accepted, L.sound.accepted);
-    room = F.room;
-    setup = ap setup_or_none (setup-more D.doubt.entry last.records L.up F.accepted) ∙ L.setup;
-    stands = D.stands;
-  },
-))
+last-good start last L image h = by_stand (stands-so last L.whole L.up image h)
+  where
+    by_stand : StandsSo last image → (rs : List Record) × IsGood (setup_in start) image rs
+    by_stand (StandsSo.sure stands) = (
+      last.records,
+      record {
+        some = none-up last.records L.up;
+        accepted = L.sound.accepted;
+        room = (let r = L.sound.room in let e = whole-end last L.whole in omega (arith, r, e));
+        setup = L.setup;
+        stands = stands;
+      },
+    )
+    by_stand (StandsSo.doubtful d in_doubt stands) = (let F = L.sound.doubt d in_doubt in (
+      d.entry ∷ last.records,
+      record {
+        some = λ e. cc;
+        accepted = (F.accepted, L.sound.accepted);
+        room = (let r = F.room in let e = whole-end last L.whole in omega (arith, r, e));
+        setup = ap setup_or_none (setup-more d.entry last.records L.up F.accepted) ∙ L.setup;
+        stands = stands;
+      },
+    ))
 
 images-good : (start last : State) (told : Option Cells) → IsLast start last → StandsForState told last → AreGood (setup_in start) told
 images-good start last None L h = tt
@@ -139,6 +164,7 @@ spelled-kind records (GetJob name) are none = name-bytes name (first-off (is_nam
 spelled-kind records (DropJob name) are none = name-bytes name (first-off (is_name name) _ _ none)
 spelled-kind records AuditJob are none = tt
 spelled-kind records RepairJob are none = tt
+spelled-kind records UpgradeJob are none = tt
 
 -- ---- what a job leaves
 

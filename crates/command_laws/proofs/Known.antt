@@ -102,6 +102,10 @@ status-back refusal.Already own = absurd (own refl)
 status-back refusal.NotSetUp own = absurd (own refl)
 status-back refusal.TooFewProviders own = absurd (own refl)
 status-back refusal.NoSuchJob own = absurd (own refl)
+status-back refusal.BadProfile own = absurd (own refl)
+status-back refusal.OldVersion own = absurd (own refl)
+status-back refusal.NewVersion own = absurd (own refl)
+status-back refusal.PackTooLong own = absurd (own refl)
 
 -- any refusal but of those seven has the status of no memory, which is no refusal's
 refused-at : (why : Refusal) → (status_of why ≡ 70) ⊎ (refusal_at (status_of why) ≡ Some why)
@@ -122,6 +126,10 @@ refused-at refusal.Already = inl refl
 refused-at refusal.NotSetUp = inl refl
 refused-at refusal.TooFewProviders = inl refl
 refused-at refusal.NoSuchJob = inl refl
+refused-at refusal.BadProfile = inl refl
+refused-at refusal.OldVersion = inl refl
+refused-at refusal.NewVersion = inl refl
+refused-at refusal.PackTooLong = inl refl
 
 -- no refusal ends a command at a status that tells of none
 pub refused-not : (why : Refusal) (n : ℕ) → refusal_at n ≡ None → n ≢ 70 → status_of why ≡ n → ⊥
@@ -156,6 +164,9 @@ status-ended text (answer.Got bytes) old new end e = status-written text old new
 status-ended text answer.Dropped old new end e = status-written text old new end e.written
 status-ended text (answer.Audited number undecided counts) old new end e = status-written text old new end e.written
 status-ended text (answer.Repaired number) old new end e = status-written text old new end e.written
+status-ended text answer.Upgraded old new end e = status-written text old new end e.written
+status-ended text (answer.Scrubbed stripes symbols blocks) old new end e = status-written text old new end e.written
+status-ended text (answer.Packed before after) old new end e = status-written text old new end e.written
 
 ended-none : (n : ℕ) → EndStatus n → refusal_at n ≡ None
 ended-none n (EndStatus.by_done e) = ap refusal_at e
@@ -222,6 +233,10 @@ refused-opened refusal.Already = refl
 refused-opened refusal.NotSetUp = refl
 refused-opened refusal.TooFewProviders = refl
 refused-opened refusal.NoSuchJob = refl
+refused-opened refusal.BadProfile = refl
+refused-opened refusal.OldVersion = refl
+refused-opened refusal.NewVersion = refl
+refused-opened refusal.PackTooLong = refl
 
 pub job-opened : (kind : Kind) (records : List Record) (old new : Seen) (end : Ending) → AnswersJob kind records old new end → is_unopened end.status ≡ false
 job-opened kind records old new end (AnswersJob.refused why is synced r) = ap is_unopened r.status_is ∙ refused-opened why

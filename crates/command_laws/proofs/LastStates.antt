@@ -1,5 +1,5 @@
 -- The state in which a job ended is sound, and has the setup and the providers that it began with.
-use Rattle.std.proofs.Common.{◌≡◌, ℕ, ◌+◌, true, List, [], length, Option, Some, refl, ap, subst, ◌∙◌, arith}
+use Rattle.std.proofs.Common.{◌≡◌, ℕ, ◌+◌, true, List, length, Option, Some, refl, ap, subst, ◌∙◌, arith}
 use Rattle.std.specs.Prelude.{is_some}
 use Rattle.hail_records.specs.Table.{setup_of}
 use Rattle.hail_machine.specs.Jobs.{Kind, Job}
@@ -15,12 +15,13 @@ use Rattle.hail_machine.specs.Appends.{Moves}
 use Rattle.hail_machine.specs.Steps.{Acts}
 use Rattle.hail_machine.specs.Runs.{now}
 use Rattle.hail_commands.specs.JobRuns.{GoesOnTo, RunsJob}
-use Rattle.sound_states.specs.Sound.{IsSound}
+use Rattle.sound_states.specs.Sound.{IsWholeJournal, IsSound}
 use Rattle.sound_states.proofs.Events.{events-sound}
 use Rattle.hail_openings.specs.Opened.{IsOpenAtRest}
 use Rattle.lone_laws.specs.Walked.{Walked}
 use Rattle.lone_laws.proofs.Walk.{walk-begin, walk-last}
 use Rattle.job_laws.proofs.Runs.{walk-steps}
+use Rattle.job_laws.proofs.Whole.{runs-whole}
 
 -- the last state of a job that ran alone
 pub record IsLast (start new : State) : Type 0 where
@@ -28,6 +29,7 @@ pub record IsLast (start new : State) : Type 0 where
   pub up : is_some (setup_of new.records) ≡ true
   pub setup : setup_in new ≡ setup_in start
   pub handed : new.handed ≡ start.handed
+  pub whole : IsWholeJournal new
 
 -- a last step changes neither the records nor how many providers are handed in
 abbrev Stays : State → State → Type 0
@@ -53,13 +55,14 @@ module _ (w : State) (job : Job) (new : State) where
   acts-stay End how (so, is) = by-state w new _ is refl refl
   acts-stay action how h = moves-stay action w.append how h
 
-last-of : (start w : State) (kind : Kind) (job : Job) (new : State) → Walked start kind w job → IsSound 8 new → Stays w new → IsLast start new
+last-of : (start w : State) (kind : Kind) (job : Job) (new : State) → Walked start kind w job → IsSound 8 new → IsWholeJournal new → Stays w new → IsLast start new
 unfolding setup_in
-last-of start w kind job new W sound stay = record {
+last-of start w kind job new W sound whole stay = record {
   sound = sound;
   up = ap (λ rs. is_some (setup_of rs)) stay.0 ∙ W.sound.set_up W.opened;
   setup = ap (λ rs. setup_or_none (setup_of rs)) stay.0 ∙ W.setup;
   handed = stay.1 ∙ W.handed;
+  whole = whole;
 }
 
 pub last-state : (start new : State) (moment : ℕ) (kind : Kind) (how : Answer) (heard : List Entry) → IsOpenAtRest start 1 → IsSpelledKind kind → RunsJob start moment kind how heard new → IsLast start new
@@ -69,5 +72,6 @@ last-state start new moment kind how heard O spelled r =
     let last = walk-steps start r.begun kind (new_job start moment kind) (moment + 1) g.steps O b.1 g.are_steps in
     let a = walk-last start O kind (now r.begun g.steps) last.0 last.1 ((moment + 1) + length g.steps) new how g.ends in
     last-of start (now r.begun g.steps) kind last.0 new last.1
-    (events-sound 8 ((moment + 1) + length g.steps) (now r.begun g.steps) last.1.sound (Step 1) (Ended how) new (omega arith) g.ends)
+    (events-sound 8 ((moment + 1) + length g.steps) (now r.begun g.steps) last.1.sound (omega arith, omega arith) (Step 1) (Ended how) new (omega arith) g.ends)
+    (runs-whole start O kind new moment how heard spelled r)
     (acts-stay (now r.begun g.steps) last.0 new a.0 how a.3))

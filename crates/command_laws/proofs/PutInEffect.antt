@@ -26,13 +26,14 @@ use Rattle.hail_commands.specs.Puts.{put_records, PutIsCut, PutLeaves}
 use Rattle.hail_commands.specs.Jobs.{AnswersJob, LeftAlone}
 use Rattle.hail_commands.specs.Commands.{AnswersPut}
 use Rattle.command_laws.specs.Ends.{IsKnown, after_put}
-use Rattle.command_laws.specs.After.{IsSure, Follows, HasRightFile}
+use Rattle.command_laws.specs.After.{IsSure, Follows, HasRightFile, is_wrong_or_untold}
 use Rattle.command_laws.proofs.Known.{known-once}
 use Rattle.command_laws.proofs.GetEnds.{ran_left}
 use Rattle.command_laws.proofs.JobEnds.{unstarted-refused, not-long, put-in_effect}
 use Rattle.command_laws.proofs.Afterwards.{sure-refused}
 use Rattle.command_laws.proofs.DoneStores.{next-image, whole-read}
-use Rattle.command_laws.proofs.FilesStay.{stored-right}
+use Rattle.command_laws.proofs.FilesStay.{stored-right, put-object}
+use Rattle.hail_columns.specs.Objects.{Object}
 
 -- a disk that the next command finds told before
 pub tells-back : (new next : Seen) → Follows new next → is_some next.disk ≡ true → is_some new.disk ≡ true
@@ -91,7 +92,8 @@ module _ (name bytes : List ℕ) (records : List Record) (spoilt : ℕ → Bool)
     in_effect = put-in_effect records name (length bytes);
     are_bytes = are;
     size = refl;
-    right = λ j below clean. stored-right (object_of (setup_in_effect records) (next_id records)) bytes older (rose j) j (provider_at old.providers j).held (provider_at new.providers j).held (tells j below clean) (stored j below);
+    right = λ j below clean. subst (λ (o : Object). is_wrong_or_untold o bytes j (provider_at new.providers j).held ≡ false) (put-object records (next_id records))
+        (stored-right (object_of (setup_in_effect records) (next_id records)) bytes older (rose j) j (provider_at old.providers j).held (provider_at new.providers j).held (tells j below clean) (stored j below));
   }
 
   module _ (are : AreBytes bytes) (how : Answer) (left : LeftAlone records (PutJob name bytes) how old new end.heard) where

@@ -2,6 +2,7 @@
 use Rattle.std.proofs.Common.{◌≡◌, ℕ, ◌+◌, List, [], ◌∷◌, None, true, false, refl, sym, subst, ◌∙◌, inl, arith}
 use Rattle.hail_records.specs.Records.{PutStart, PutDone}
 use Rattle.hail_records.specs.Spellings.{spelling}
+use Rattle.hail_records.specs.Areas.{A}
 use Rattle.hail_machine.specs.Answers.{Put}
 use Rattle.hail_machine.specs.Appends.{begun_append, moved, doubted, done_append}
 use Rattle.hail_machine.specs.Actions.{actions_of}
@@ -26,10 +27,10 @@ use Rattle.command_laws.proofs.Chains.{put-begins}
 use Rattle.command_laws.proofs.Samples.{set_up-sure, held-sure}
 
 abbrev pub formed : State → State
-formed w = record w { records = set_up_records; jobs = []; next_job = 1; append = None; doubt = None; is_open = true; is_barred = false; disk_faults = 0 }
+formed w = record w { records = set_up_records; journal = set_up_records; area = A; is_switching = false; jobs = []; next_job = 1; alone = None; append = None; doubt = None; is_open = true; is_barred = false; disk_faults = 0 }
 
 pub form-is : (w : State) → IsOpenedOver w set_up_records 0 idle_providers → formed w ≡ w
-form-is w V = sym (λ i. record w { records = V.records i; jobs = V.jobs i; next_job = V.next_job i; append = V.append i; doubt = V.doubt i; is_open = V.is_open i; is_barred = V.unbarred i; disk_faults = V.faults_are i })
+form-is w V = sym (λ i. record w { records = V.records i; journal = (V.whole.journal ∙ V.records) i; area = V.whole.area i; is_switching = V.whole.unswitched i; jobs = V.jobs i; next_job = V.next_job i; alone = V.none_alone i; append = V.append i; doubt = V.doubt i; is_open = V.is_open i; is_barred = V.unbarred i; disk_faults = V.faults_are i })
 
 begins-none : refusal_over set_up_records (PutJob held_name []) ≡ None
 begins-none = put-begins small_setup held_name [] refl (omega arith)
@@ -133,10 +134,10 @@ module _ (w : State) (n : ℕ) (H : AreHanded idle_providers (formed w)) where
     runs = record {
       begun = s0;
       job = 1;
-      begins = (refl, refusal-of v (PutJob held_name []) refl refl ∙ begins-none, refl, refl);
+      begins = (refl, refusal-of v (PutJob held_name []) refl refl refl (record { journal = refl; area = refl; unswitched = refl }) ∙ begins-none, refl, refl);
       goes_on = record { steps = steps; are_steps = steps-are; ends = nine 0; heard_is = refl };
     };
-    images = λ image is. inl (inl (held-sure.images image is));
+    images = λ image is. inl (inl (refl, held-sure.images image is));
     faults_are = refl;
     handed = record { count = H.count; each = H.each };
     past_text = refl;
@@ -154,5 +155,5 @@ pub put : Answers (PutUnder held_name) (store set_up_records) (with_sink (store 
 put = AnswersPut.begun set_up_records [] set_up-sure.known.opened (record { are_bytes = refl; front = refl; few = omega arith; end = λ l. refl })
     (AnswersJob.ended Put begins-none put-alone
     (left-alone set_up_records (PutJob held_name []) Put (store set_up_records) (with_sink (store held_records) (stored_line held_name 0)) []
-    (λ w last n O r. jobs-leave (PutJob held_name []) w last n Put [] (refl, refl) O r) set_up-sure.known.opened refl put-alone)
+    (refl, refl) (λ w last n O r. jobs-leave (PutJob held_name []) w last n Put [] (refl, refl) O r) set_up-sure.known.opened refl put-alone)
     (record { written = inl (refl, refl); place = refl }))

@@ -10,14 +10,13 @@ use Rattle.hail_records.specs.Journal.{StandsFor, StandsOrIsEmpty}
 use Rattle.hail_records.specs.Table.{Due, due_of}
 use Rattle.hail_records.proofs.Standing.{stands-front}
 use Rattle.journal_core.proofs.Meanings.{one_meaning}
-use Rattle.hail_machine.specs.Setups.{object_of}
 use Rattle.hail_machine.specs.Jobs.{RepairJob}
 use Rattle.hail_machine.specs.Answers as answer
 use Rattle.hail_machine.specs.Answers.{Answer}
 use Rattle.hail_machine.proofs.JobLists.{same_value}
 use Rattle.hail_commands.specs.Seen.{Seen, Ending, IsRefused, provider_at}
 use Rattle.hail_openings.specs.Journals.{journal_read}
-use Rattle.hail_commands.specs.Opens.{setup_in_effect}
+use Rattle.hail_commands.specs.Opens.{setup_in_effect, object_in_effect}
 use Rattle.hail_commands.specs.Ran.{Ran}
 use Rattle.hail_commands.specs.Repairs.{RewritesAll, RepairGives}
 use Rattle.hail_commands.specs.Jobs.{AnswersJob, LeftAlone}
@@ -86,15 +85,15 @@ module _ (name bytes : List ℕ) (records : List Record) (due : Due) (spoilt : �
       right = right;
     }
       where
-        fewer : bad_seen records old new H.file.id bytes ≤ (setup_in_effect records).b
+        fewer : bad_seen records old new H.file bytes ≤ (setup_in_effect records).b
         fewer = (let b = bad-few name bytes records spoilt old new H steady in omega (arith, b, few))
 
         right : (j : ℕ) → j < (setup_in_effect records).n → (spoilt j && not (is_flagged (setup_in_effect records).tolerance due.counts j)) ≡ false →
-            is_wrong_or_untold (object_of (setup_in_effect records) H.file.id) bytes j (provider_at new.providers j).held ≡ false
+            is_wrong_or_untold (object_in_effect records H.file) bytes j (provider_at new.providers j).held ≡ false
         right j below clean = elim (cases_Bool (is_flagged (setup_in_effect records).tolerance due.counts j)) [
           | inl flagged ↦ columns-right (setup_in_effect records) H.file bytes j (provider_at new.providers j).held H.size (goes-tells _ (provider_at old.providers j).held (provider_at new.providers j).held (tells j below flagged) (W.held j below))
-              (λ stripe within. holds-right x (shape-at old records S.known.opened) due W name H.file bytes H.in_effect H.size fewer stripe within j below flagged)
-          | inr free ↦ wrong-same (object_of (setup_in_effect records) H.file.id) bytes j (provider_at old.providers j).held (provider_at new.providers j).held
+              (λ stripe within. holds-right x (shape-at old records S.known.opened) due W name H.file bytes H.in_effect H.size fewer S.known.opened.read.accepted stripe within j below flagged)
+          | inr free ↦ wrong-same (object_in_effect records H.file) bytes j (provider_at old.providers j).held (provider_at new.providers j).held
               (flag-off H.file.id (is_flagged (setup_in_effect records).tolerance due.counts j) _ (provider_at old.providers j).held (provider_at new.providers j).held free (W.held j below))
               (H.right j below (and-off (spoilt j) (is_flagged (setup_in_effect records).tolerance due.counts j) clean free))
         ]

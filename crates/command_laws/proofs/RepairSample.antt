@@ -1,7 +1,8 @@
 -- A repair of a store with no file, from every state that was just opened: four moves, and its end.
-use Rattle.std.proofs.Common.{◌≡◌, ℕ, ◌+◌, true, false, List, [], ◌∷◌, None, refl, sym, subst, inl, arith}
+use Rattle.std.proofs.Common.{◌≡◌, ℕ, ◌+◌, true, false, List, [], ◌∷◌, None, refl, sym, subst, ◌∙◌, inl, arith}
 use Rattle.hail_records.specs.Records.{RepairDone}
 use Rattle.hail_records.specs.Spellings.{spelling}
+use Rattle.hail_records.specs.Areas.{A}
 use Rattle.hail_machine.specs.Answers.{Repaired}
 use Rattle.hail_machine.specs.Appends.{begun_append, moved, doubted, done_append}
 use Rattle.hail_machine.specs.Actions.{actions_of}
@@ -30,10 +31,10 @@ repaired-sure : IsSure (store repaired_records) repaired_records
 repaired-sure = store-sure repaired_records (λ e. cc) refl (refl, (refl, (refl, (refl, tt)))) (omega arith) (omega arith)
 
 abbrev formed : State → State
-formed w = record w { records = due_records; jobs = []; next_job = 1; append = None; doubt = None; is_open = true; is_barred = false; disk_faults = 0 }
+formed w = record w { records = due_records; journal = due_records; area = A; is_switching = false; jobs = []; next_job = 1; alone = None; append = None; doubt = None; is_open = true; is_barred = false; disk_faults = 0 }
 
 form-is : (w : State) → IsOpenedOver w due_records 0 idle_providers → formed w ≡ w
-form-is w V = sym (λ i. record w { records = V.records i; jobs = V.jobs i; next_job = V.next_job i; append = V.append i; doubt = V.doubt i; is_open = V.is_open i; is_barred = V.unbarred i; disk_faults = V.faults_are i })
+form-is w V = sym (λ i. record w { records = V.records i; journal = (V.whole.journal ∙ V.records) i; area = V.whole.area i; is_switching = V.whole.unswitched i; jobs = V.jobs i; next_job = V.next_job i; alone = V.none_alone i; append = V.append i; doubt = V.doubt i; is_open = V.is_open i; is_barred = V.unbarred i; disk_faults = V.faults_are i })
 
 module _ (w : State) (n : ℕ) (H : AreHanded idle_providers (formed w)) where
   abbrev v : State
@@ -100,10 +101,10 @@ module _ (w : State) (n : ℕ) (H : AreHanded idle_providers (formed w)) where
     runs = record {
       begun = s0;
       job = 1;
-      begins = (refl, refusal-of v RepairJob refl refl, refl, refl);
+      begins = (refl, refusal-of v RepairJob refl refl refl (record { journal = refl; area = refl; unswitched = refl }), refl, refl);
       goes_on = record { steps = steps; are_steps = steps-are; ends = five 0; heard_is = refl };
     };
-    images = λ image is. inl (inl (repaired-sure.images image is));
+    images = λ image is. inl (inl (refl, repaired-sure.images image is));
     faults_are = refl;
     handed = record { count = H.count; each = H.each };
     past_text = refl;
@@ -121,7 +122,7 @@ pub repair : Answers RepairDue (store due_records) repaired_store (ends 0)
 repair = (
   AnswersAlone.begun due_records due-sure.known.opened (AnswersJob.ended (Repaired 1) refl repair-alone
       (left-alone due_records RepairJob (Repaired 1) (store due_records) repaired_store []
-      (λ w last n O r. jobs-leave RepairJob w last n (Repaired 1) [] tt O r) due-sure.known.opened refl repair-alone)
+      tt (λ w last n O r. jobs-leave RepairJob w last n (Repaired 1) [] tt O r) due-sure.known.opened refl repair-alone)
       (record { written = inl (refl, refl); place = refl })),
   (refl, refl),
 )

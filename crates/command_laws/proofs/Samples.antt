@@ -1,5 +1,5 @@
 -- A store with one empty file, and commands over it.
-use Rattle.std.proofs.Common.{◌≡◌, ◌≢◌, ℕ, zero, suc, ◌+◌, ◌<◌, ◌≤◌, true, false, List, [], ◌∷◌, ◌++◌, length, None, Some, refl, ap, sym, subst, inl, arith}
+use Rattle.std.proofs.Common.{◌≡◌, ◌≢◌, ℕ, zero, suc, ◌+◌, ◌<◌, ◌≤◌, true, false, List, [], ◌∷◌, ◌++◌, length, None, Some, refl, ap, sym, subst, ◌∙◌, inl, arith}
 use Rattle.std.specs.Prelude.{IsTrue, slice_get, take}
 use Rattle.std.specs.List.{list_all, flat_map}
 use Rattle.hail_codes.specs.Points.{upto}
@@ -9,11 +9,12 @@ use Rattle.hail_devices.specs.Disks.{synced}
 use Rattle.hail_devices.specs.Faults.{Rose, last_count}
 use Rattle.hail_devices.proofs.Lasting.{reads-firm, image-firm}
 use Rattle.hail_records.specs.Records.{Record, is_in_grammar, largest_journal}
-use Rattle.hail_records.specs.Journal.{text, text_size, StandsFor}
+use Rattle.hail_records.specs.Journal.{text, text_size}
 use Rattle.hail_records.specs.Table.{files_of, file_as}
 use Rattle.hail_records.specs.Acceptance.{AreAccepted}
 use Rattle.hail_records.proofs.Standing.{stands-text}
 use Rattle.hail_machine.specs.Actions.{Action, End, open_actions, actions_of}
+use Rattle.hail_records.specs.Areas.{A}
 use Rattle.hail_machine.specs.Answers.{Got}
 use Rattle.hail_machine.specs.Begins.{new_job}
 use Rattle.hail_machine.specs.Events.{Step, Ended}
@@ -31,7 +32,7 @@ use Rattle.hail_openings.specs.Opened.{AreHanded, IsOpenedOver}
 use Rattle.hail_commands.specs.Jobs.{RanAlone, RunsAlone, AnswersJob}
 use Rattle.hail_commands.specs.Commands.{AnswersAlone, AnswersList, Answers}
 use Rattle.command_laws.specs.After.{IsSure, HasRightFile, is_wrong_at}
-use Rattle.command_laws.specs.Instances.{store, small_setup, idle_providers, held_name, other_name, set_up_records, held_records, with_sink, ends, get_held, get_other}
+use Rattle.command_laws.specs.Instances.{store, small_setup, idle_providers, held_name, held_file, other_name, set_up_records, held_records, with_sink, ends, get_held, get_other}
 use Rattle.command_laws.specs.Pieces.{IsLater, IsChain}
 use Rattle.job_laws.specs.Failing.{bad_seen}
 use Rattle.command_laws.proofs.FilesStay.{bad-few}
@@ -59,7 +60,7 @@ held-sure = store-sure held_records (λ e. cc) refl (refl, (refl, (refl, tt))) (
 no-stripe : (t : ℕ) → t < stripes (object_of small_setup 1) 0 → ⊥
 no-stripe t l = (let e : stripes (object_of small_setup 1) 0 ≡ 0 = refl in omega (arith, e, l))
 
-right-at : (j : ℕ) → j < 4 → is_wrong_at held_records (store held_records) 1 [] j ≡ false
+right-at : (j : ℕ) → j < 4 → is_wrong_at held_records (store held_records) held_file [] j ≡ false
 right-at zero l = each-not-wrong (object_of small_setup 1) [] 0 (λ stripe. None) (λ t within. absurd (no-stripe t within))
 right-at (suc zero) l = each-not-wrong (object_of small_setup 1) [] 1 (λ stripe. None) (λ t within. absurd (no-stripe t within))
 right-at (suc (suc zero)) l = each-not-wrong (object_of small_setup 1) [] 2 (λ stripe. None) (λ t within. absurd (no-stripe t within))
@@ -76,7 +77,7 @@ held-file = record {
 }
 
 -- no provider is wrong or failed: each is right, and none failed
-pub none-bad : bad_seen held_records (store held_records) (store held_records) 1 [] ≤ (setup_in_effect held_records).b
+pub none-bad : bad_seen held_records (store held_records) (store held_records) held_file [] ≤ (setup_in_effect held_records).b
 unfolding held-file
 none-bad = (let b = bad-few held_name [] held_records (λ j. false) (store held_records) (store held_records) held-file (λ j below clean rose. no-rise j below rose) in within _ _ b (omega arith))
   where
@@ -104,10 +105,10 @@ never-seen (suc (suc (suc (suc j)))) rose = never-rises 0 (omega arith) rose
 -- ---- a get of the empty file, from every state that was just opened
 
 abbrev formed : State → State
-formed w = record w { records = held_records; jobs = []; next_job = 1; append = None; doubt = None; is_open = true; is_barred = false; disk_faults = 0 }
+formed w = record w { records = held_records; journal = held_records; area = A; is_switching = false; jobs = []; next_job = 1; alone = None; append = None; doubt = None; is_open = true; is_barred = false; disk_faults = 0 }
 
 form-is : (w : State) → IsOpenedOver w held_records 0 idle_providers → formed w ≡ w
-form-is w V = sym (λ i. record w { records = V.records i; jobs = V.jobs i; next_job = V.next_job i; append = V.append i; doubt = V.doubt i; is_open = V.is_open i; is_barred = V.unbarred i; disk_faults = V.faults_are i })
+form-is w V = sym (λ i. record w { records = V.records i; journal = (V.whole.journal ∙ V.records) i; area = V.whole.area i; is_switching = V.whole.unswitched i; jobs = V.jobs i; next_job = V.next_job i; alone = V.none_alone i; append = V.append i; doubt = V.doubt i; is_open = V.is_open i; is_barred = V.unbarred i; disk_faults = V.faults_are i })
 
 -- a get of a file with no bytes has its end left alone
 abbrev get_actions : ℕ → List Action
@@ -140,10 +141,10 @@ module _ (w : State) (n : ℕ) (H : AreHanded idle_providers (formed w)) (empty 
     runs = record {
       begun = begun;
       job = 1;
-      begins = (refl, refusal-of v (GetJob held_name) refl refl, refl, refl);
+      begins = (refl, refusal-of v (GetJob held_name) refl refl refl (record { journal = refl; area = refl; unswitched = refl }), refl, refl);
       goes_on = record { steps = []; are_steps = tt; ends = ends-here; heard_is = refl };
     };
-    images = λ image is. inl (inl (held-sure.images image is));
+    images = λ image is. inl (inl (refl, held-sure.images image is));
     faults_are = refl;
     handed = record { count = H.count; each = H.each };
     past_text = refl;
@@ -169,7 +170,7 @@ opened = held-sure.known.opened
 pub got : Answers (GetOf held_name) (store held_records) (store held_records) (ends 0)
 got = (
   AnswersAlone.begun held_records opened (AnswersJob.ended (Got []) refl got-alone
-      (left-alone held_records (GetJob held_name) (Got []) (store held_records) (store held_records) [] (λ w last n O r. jobs-leave (GetJob held_name) w last n (Got []) [] refl O r) opened refl got-alone)
+      (left-alone held_records (GetJob held_name) (Got []) (store held_records) (store held_records) [] refl (λ w last n O r. jobs-leave (GetJob held_name) w last n (Got []) [] refl O r) opened refl got-alone)
       (record { written = inl (refl, refl); place = refl })),
   (refl, refl),
 )

@@ -16,7 +16,6 @@ use Rattle.column_laws.proofs.Counts.{count_of-within, opens-at}
 use Rattle.column_laws.proofs.OtherRows.{forgery-of_other}
 use Rattle.hail_records.specs.Records.{Record}
 use Rattle.hail_records.specs.Table.{File, file_of}
-use Rattle.hail_machine.specs.Setups.{object_of, stripes_of}
 use Rattle.hail_machine.specs.Jobs.{GetJob, Given, Fetched, Answered, Worked}
 use Rattle.hail_machine.specs.Given.{block_given, blocks_given}
 use Rattle.hail_machine.specs.Answers as answer
@@ -24,8 +23,8 @@ use Rattle.hail_machine.specs.Answers.{Answer}
 use Rattle.hail_machine.specs.Heard.{Entry, given_to, HoldsForgery}
 use Rattle.hail_machine.proofs.JobLists.{cond_true, cond_false, same_value}
 use Rattle.hail_commands.specs.Seen.{Seen, Ending}
-use Rattle.hail_commands.specs.Opens.{setup_in_effect}
-use Rattle.hail_commands.specs.Ran.{Ran, ran_alone, setup_at_begin, job_number}
+use Rattle.hail_commands.specs.Opens.{setup_in_effect, object_in_effect}
+use Rattle.hail_commands.specs.Ran.{Ran, ran_alone, setup_at_begin, job_number, object_at_begin, stripes_at_begin}
 use Rattle.hail_commands.specs.Gets.{block_heard, HearsStripes, GetGives, GetLeaves}
 use Rattle.hail_commands.specs.Jobs.{AnswersJob}
 use Rattle.hail_commands.specs.Commands.{AnswersAlone}
@@ -76,9 +75,9 @@ unfolding is_seen_over
 none-agrees o opened place p j none = ap (λ (b : SeenBlock). is_seen (value p (point o j)) (symbol_in place b)) none
 
 module _ (x : Ran) (file : File) (bytes : List ℕ) (shape : IsShape (setup_at_begin x).n (setup_at_begin x).l (setup_at_begin x).b)
-    (few : bad_count x file.id bytes ≤ (setup_at_begin x).b + 1) where
+    (few : bad_count x file bytes ≤ (setup_at_begin x).b + 1) where
   abbrev o : Object
-  o = object_of (setup_at_begin x) file.id
+  o = object_at_begin x file
 
   -- one of which nothing was heard
   unheard : (entries : List Entry) (stripe place : ℕ) → ((j : ℕ) → block_given (given_to job_number entries) file.id stripe j ≡ None) →
@@ -86,7 +85,7 @@ module _ (x : Ran) (file : File) (bytes : List ℕ) (shape : IsShape (setup_at_b
   unheard entries stripe place none F =
       (let many = F.forged.wrong_ones in
       let seen : ℕ → List SeenBlock = blocks_given (given_to job_number entries) o.shape.n o.id in
-      let within = count_of-within (λ j. is_agreeing o F.opened place F.row j && is_wrong o bytes j (λ s. block_at (seen s) j)) (is_bad x file.id bytes) 0 o.shape.n
+      let within = count_of-within (λ j. is_agreeing o F.opened place F.row j && is_wrong o bytes j (λ s. block_at (seen s) j)) (is_bad x file bytes) 0 o.shape.n
       (λ j l e. absurd (false≢true (sym (none-agrees o F.opened place F.row j (closed j (omega (arith, l)))) ∙ (and_parts (is_agreeing o F.opened place F.row j) (is_wrong o bytes j (λ s. block_at (seen s) j)) e).0))) in
       omega (arith, many, within, few))
     where
@@ -98,9 +97,9 @@ module _ (x : Ran) (file : File) (bytes : List ℕ) (shape : IsShape (setup_at_b
   heard-right : (m stripe place : ℕ) → HearsStripes x file m → stripe < m → IsForgery o bytes (blocks_given (given_to job_number x.heard) o.shape.n o.id) stripe place → ⊥
   heard-right m stripe place H below F =
       (let seen : ℕ → List SeenBlock = blocks_given (given_to job_number x.heard) o.shape.n o.id in
-      let S = forgery-of_other o bytes (setup_at_begin x).profile seen stripe place F.opened F.row refl shape F.row_in F.opens F.forged.accepted F.forged.other in
+      let S = forgery-of_other o bytes file.profile seen stripe place F.opened F.row refl shape F.row_in F.opens F.forged.accepted F.forged.other in
       let many = S.forged.wrong_ones in
-      let within = count_of-within (λ j. is_agreeing o S.opened place S.row j && is_wrong_block o bytes j stripe (block_at (seen stripe) j)) (is_bad x file.id bytes) 0 o.shape.n
+      let within = count_of-within (λ j. is_agreeing o S.opened place S.row j && is_wrong_block o bytes j stripe (block_at (seen stripe) j)) (is_bad x file bytes) 0 o.shape.n
       (λ j l e. bad-block x file bytes m stripe H below F.row_in.stripe_in j l (and_parts (is_agreeing o S.opened place S.row j) (is_wrong_block o bytes j stripe (block_at (seen stripe) j)) e).1) in
       omega (arith, many, within, few))
 
@@ -117,22 +116,22 @@ module _ (x : Ran) (file : File) (bytes : List ℕ) (shape : IsShape (setup_at_b
 -- ---- a get
 
 module _ (name bytes : List ℕ) (records : List Record) (file : File) (old new : Seen) (end : Ending) (K : IsKnown old records) (in_effect : file_of records name ≡ Some file)
-    (few : bad_seen records old new file.id bytes ≤ (setup_in_effect records).b + 1) where
+    (few : bad_seen records old new file bytes ≤ (setup_in_effect records).b + 1) where
   shape : IsShape (setup_in_effect records).n (setup_in_effect records).l (setup_in_effect records).b
   shape = shape-at old records K.opened
 
   abbrev Forged : Type 0
-  Forged = HoldsForgery (object_of (setup_in_effect records) file.id) bytes job_number end.heard
+  Forged = HoldsForgery (object_in_effect records file) bytes job_number end.heard
 
   silent : end.heard ≡ [] → Forged → ⊥
   silent none F = nothing-right (ran_alone records old new end.heard 0 records None) file bytes shape few end.heard none F
 
-  by-answer : (x : Ran) (how : Answer) → (how_few : bad_count x file.id bytes ≤ (setup_at_begin x).b + 1) → IsShape (setup_at_begin x).n (setup_at_begin x).l (setup_at_begin x).b → file_of x.records name ≡ Some file →
-      GetLeaves x name how → HoldsForgery (object_of (setup_at_begin x) file.id) bytes job_number x.heard → ⊥
+  by-answer : (x : Ran) (how : Answer) → (how_few : bad_count x file bytes ≤ (setup_at_begin x).b + 1) → IsShape (setup_at_begin x).n (setup_at_begin x).l (setup_at_begin x).b → file_of x.records name ≡ Some file →
+      GetLeaves x name how → HoldsForgery (object_at_begin x file) bytes job_number x.heard → ⊥
   by-answer x how how_few fits is L F = by_gives how (subst (λ f. GetGives x f how) (same_value (file_of x.records name) L.file file L.in_effect is) L.gives)
     where
       by_gives : (how : Answer) → GetGives x file how → ⊥
-      by_gives (answer.Got got) G = stripes-right x file bytes fits how_few (stripes_of (setup_at_begin x) file.size) G.0 F
+      by_gives (answer.Got got) G = stripes-right x file bytes fits how_few (stripes_at_begin x file) G.0 F
       by_gives (answer.Lost stripe row) G = stripes-right x file bytes fits how_few (stripe + 1) G.hears F
       by_gives how G = G
 

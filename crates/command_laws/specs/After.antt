@@ -8,7 +8,7 @@
 --                                          first few of its job's
 --   is_refusal status          == the status tells that a command was refused, or that its source failed
 --   is_ending status          == the status is one with which a command ends whose words have a form
---   is_wrong_at records s id bytes j == provider j is wrong for an object of these bytes, or does not tell
+--   is_wrong_at records s file bytes j == provider j is wrong for a file of these bytes, or does not tell
 --                                       what it holds
 --   HasRightFile s records name bytes spoilt == a file of these bytes is in effect, and each provider that
 --                                          is not spoilt is right for it
@@ -30,12 +30,11 @@ use Rattle.hail_devices.specs.Providers.{Held}
 use Rattle.hail_devices.specs.Told.{Goes}
 use Rattle.hail_records.specs.Records.{Record}
 use Rattle.hail_records.specs.Table.{File, file_of}
-use Rattle.hail_machine.specs.Setups.{object_of}
 use Rattle.hail_machine.specs.Jobs.{Kind}
 use Rattle.hail_machine.specs.Events.{AreBytes}
 use Rattle.hail_commands.specs.Forms.{Command, PutUnder, GetOf, DropOf, ListAll, AuditAll}
 use Rattle.hail_commands.specs.Seen.{Seen, provider_at}
-use Rattle.hail_commands.specs.Opens.{setup_in_effect}
+use Rattle.hail_commands.specs.Opens.{setup_in_effect, object_in_effect}
 use Rattle.command_laws.specs.Ends.{IsKnown, RunsKind, DiskHas}
 use Rattle.command_laws.specs.Kept.{AreAppended}
 
@@ -84,9 +83,9 @@ is_wrong_or_untold o bytes j None = true
 is_wrong_or_untold o bytes j (Some held) = is_wrong o bytes j (held o.id)
 
 -- so is a provider as it is seen
-abbrev pub is_wrong_at : List Record → Seen → ℕ → List ℕ → ℕ → Bool
-is_wrong_at records s id bytes j =
-    is_wrong_or_untold (object_of (setup_in_effect records) id) bytes j (provider_at s.providers j).held
+abbrev pub is_wrong_at : List Record → Seen → File → List ℕ → ℕ → Bool
+is_wrong_at records s file bytes j =
+    is_wrong_or_untold (object_in_effect records file) bytes j (provider_at s.providers j).held
 
 -- a file of these bytes is in effect under this name, and each provider that is not spoilt is right for it
 pub record HasRightFile (s : Seen) (records : List Record) (name bytes : List ℕ)
@@ -96,7 +95,7 @@ pub record HasRightFile (s : Seen) (records : List Record) (name bytes : List �
   pub are_bytes : AreBytes bytes
   pub size : length bytes ≡ file.size
   pub right : (j : ℕ) → j < (setup_in_effect records).n → spoilt j ≡ false
-      → is_wrong_at records s file.id bytes j ≡ false
+      → is_wrong_at records s file bytes j ≡ false
 
 -- each of n providers that is not spoilt holds what it held
 abbrev pub IsUntouched : ℕ → (ℕ → Bool) → Seen → Seen → Type 0

@@ -26,13 +26,12 @@ use Rattle.hail_devices.specs.Told.{told_then, TakesFront}
 use Rattle.hail_records.specs.Records.{Record, PutStart, PutDone, Drop, AuditStart, AuditDone, RepairDone, largest_file}
 use Rattle.hail_records.specs.Journal.{StandsFor}
 use Rattle.hail_records.specs.Table.{File, Due, file_as, profile_in, setup_of, next_id, next_audit, file_of, due_of}
-use Rattle.hail_machine.specs.Setups.{object_of, stripes_of}
 use Rattle.hail_machine.specs.Jobs.{Kind, PutJob, GetJob, DropJob, AuditJob, RepairJob}
 use Rattle.hail_machine.specs.Events.{AreBytes}
 use Rattle.hail_machine.specs.Refusals.{Refusal}
 use Rattle.hail_machine.specs.Heard.{Entry}
 use Rattle.hail_commands.specs.Seen.{Seen, Ending, ReadsUpTo, IsRefused, provider_at}
-use Rattle.hail_commands.specs.Opens.{IsOpened, Unstarted, setup_in_effect}
+use Rattle.hail_commands.specs.Opens.{IsOpened, Unstarted, setup_in_effect, object_in_effect, stripes_in_effect}
 use Rattle.hail_commands.specs.Refusals.{refusal_over, status_of}
 use Rattle.hail_commands.specs.Ran.{Ran, ran_alone, EachHeldGoes}
 use Rattle.hail_commands.specs.Forms.{Command, RowOf, InitWith, PutUnder, GetOf, DropOf, AuditAll, RepairDue}
@@ -104,14 +103,13 @@ pub record FaultsHaveCauses (old new : Seen) (end : Ending) : Type 0 where
 abbrev pub AreSafe : List Record → Seen → Seen → (ℕ → List ℕ) → Type 0
 AreSafe records old new bytes = (name : List ℕ) (file : File) → file_of records name ≡ Some file →
     (length (bytes file.id) ≡ file.size)
-    × (bad_seen records old new file.id (bytes file.id) ≤ (setup_in_effect records).b)
+    × (bad_seen records old new file (bytes file.id) ≤ (setup_in_effect records).b)
 
 -- what is told of provider j has each block of a file of these bytes
 abbrev pub HoldsFile : List Record → Seen → List ℕ → File → ℕ → Type 0
-HoldsFile records new bytes file j = (stripe : ℕ) → stripe < stripes_of (setup_in_effect records) file.size →
+HoldsFile records new bytes file j = (stripe : ℕ) → stripe < stripes_in_effect records file →
     IfSome (provider_at new.providers j).held
-    (λ held. held file.id stripe
-    ≡ Some (columns (object_of (setup_in_effect records) file.id) bytes j stripe))
+    (λ held. held file.id stripe ≡ Some (columns (object_in_effect records file) bytes j stripe))
 
 -- the records after a put
 abbrev pub after_put : List Record → List ℕ → ℕ → List Record

@@ -2,7 +2,7 @@
 -- with one empty file.
 --
 --   store records             == what is seen of devices whose disk reads these records, with nothing loose
---   held_name, other_name     == the name of the file, and another one
+--   held_name, held_file, other_name == the name of the file, the file, and another name
 --   set_up_records, held_records == the records of a store that was set up, and of one with the file
 --   audited_records, due_records, repaired_records == of a store with no file after an audit, with a repair
 --                                          due, and after it
@@ -18,6 +18,7 @@ use Rattle.hail_devices.specs.Cells.{firm}
 use Rattle.hail_devices.specs.Providers.{Provider}
 use Rattle.hail_records.specs.Records.{Record, Setup, SetUp, PutStart, PutDone, AuditStart, AuditDone, RepairDone}
 use Rattle.hail_records.specs.Journal.{text}
+use Rattle.hail_records.specs.Table.{File, file_as}
 use Rattle.hail_commands.specs.Forms.{Numbers, GetOf}
 use Rattle.hail_commands.specs.Lines.{ready_line, stored_line, audit_lines, repaired_line}
 use Rattle.hail_commands.specs.Seen.{Seen, Ending}
@@ -65,6 +66,10 @@ empty_devices = record (store []) { disk = Some [] }
 -- the name of the file
 abbrev pub held_name : List ℕ
 held_name = 97 ∷ []
+
+-- the file
+abbrev pub held_file : File
+held_file = file_as held_name 1 0 0
 
 -- another name
 abbrev pub other_name : List ℕ

@@ -18,11 +18,11 @@ use Rattle.hail_columns.specs.Verdicts.{is_flagged}
 use Rattle.hail_devices.specs.Faults.{Rose}
 use Rattle.hail_devices.specs.Images.{IsImage, EachImage}
 use Rattle.hail_devices.specs.Told.{Goes}
-use Rattle.hail_records.specs.Records.{Record, PutStart, Drop, RepairDone, largest_file}
+use Rattle.hail_records.specs.Records.{Record, PutStart, Drop, RepairDone, Version, largest_file}
 use Rattle.hail_records.specs.Journal.{StandsFor}
 use Rattle.hail_records.specs.Table.{File, Due, next_id, file_of, due_of}
 use Rattle.hail_machine.specs.Events.{AreBytes}
-use Rattle.hail_machine.specs.Jobs.{Kind, PutJob, GetJob, DropJob, AuditJob, RepairJob}
+use Rattle.hail_machine.specs.Jobs.{Kind, PutJob, GetJob, DropJob, AuditJob, RepairJob, UpgradeJob}
 use Rattle.hail_commands.specs.Forms.{Command, Numbers, RowOf, PutUnder, GetOf, RepairDue}
 use Rattle.hail_commands.specs.Seen.{Seen, Ending, ReadsUpTo, provider_at}
 use Rattle.hail_openings.specs.Journals.{IsSetUpOn, MayBeLeft}
@@ -47,6 +47,7 @@ AreAppended records AuditJob own =
     (undecided : ℕ) × (counts : List ℕ) × (own ≡ audit_records records undecided counts)
 AreAppended records RepairJob own =
     (due : Due) × (due_of records ≡ Some due) × (own ≡ RepairDone due.number ∷ [])
+AreAppended records UpgradeJob own = own ≡ Version ∷ []
 
 -- an image stands for records, with the first few of those of a job
 pub record IsAfter (records : List Record) (kind : Kind) (image : List ℕ) : Type 0 where

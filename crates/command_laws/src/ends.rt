@@ -7,7 +7,6 @@ ghost use Rattle.hail_devices.specs.Told.{told_then, TakesFront};
 ghost use Rattle.hail_records.specs.Records.{Record};
 ghost use Rattle.hail_records.specs.Table.{File, Due, file_of, due_of};
 ghost use Rattle.hail_records.specs.Reading.{HasNoSetup};
-ghost use Rattle.hail_machine.specs.Setups.{object_of};
 ghost use Rattle.hail_machine.specs.Jobs.{Kind, PutJob, DropJob, AuditJob, RepairJob};
 ghost use Rattle.hail_machine.specs.Events.{AreBytes};
 ghost use Rattle.hail_machine.specs.Heard.{HoldsForgery};
@@ -15,7 +14,7 @@ ghost use Rattle.hail_machine.specs.Refusals.{Refusal};
 ghost use Rattle.hail_commands.specs.Forms.{Command, Numbers, RowOf, InitWith, PutUnder, GetOf, DropOf, ListAll, AuditAll, RepairDue};
 ghost use Rattle.hail_commands.specs.Seen.{Seen, Ending, IsRefused, provider_at};
 ghost use Rattle.hail_openings.specs.Journals.{journal_read, IsRead, IsBadStart};
-ghost use Rattle.hail_commands.specs.Opens.{setup_in_effect};
+ghost use Rattle.hail_commands.specs.Opens.{setup_in_effect, object_in_effect};
 ghost use Rattle.hail_commands.specs.Refusals.{refusal_over, status_of};
 ghost use Rattle.hail_commands.specs.Lines.{stored_line, dropped_line, repaired_line};
 ghost use Rattle.hail_commands.specs.Jobs.{AnswersJob};
@@ -32,35 +31,35 @@ pub fn gets_give_the_file()
     ensures complete { (name bytes : List ℕ) (records : List Record) (file : File) (old new : Seen)
         (end : Ending) → Answers (GetOf name) old new end →
         IsKnown old records → file_of records name ≡ Some file → AreBytes bytes → length bytes ≡ file.size →
-        bad_seen records old new file.id bytes ≤ (setup_in_effect records).b
+        bad_seen records old new file bytes ≤ (setup_in_effect records).b
         → (Rose old.disk_faults new.disk_faults → ⊥) →
         (Rose old.sink_faults new.sink_faults → ⊥) → GivesUnlessMemory bytes old new end }
     ensures right { (name bytes : List ℕ) (records : List Record) (file : File) (old new : Seen)
         (end : Ending) → Answers (GetOf name) old new end →
         IsKnown old records → file_of records name ≡ Some file → AreBytes bytes → length bytes ≡ file.size →
-        bad_seen records old new file.id bytes ≤ (setup_in_effect records).b + 1 → end.status ≡ 0
+        bad_seen records old new file bytes ≤ (setup_in_effect records).b + 1 → end.status ≡ 0
         → new.sink ≡ told_then old.sink bytes }
     ensures right_front { (name bytes : List ℕ) (records : List Record) (file : File) (old new : Seen)
         (end : Ending) → Answers (GetOf name) old new end →
         IsKnown old records → file_of records name ≡ Some file → AreBytes bytes → length bytes ≡ file.size →
-        bad_seen records old new file.id bytes ≤ (setup_in_effect records).b + 1
+        bad_seen records old new file bytes ≤ (setup_in_effect records).b + 1
         → TakesFront old.sink new.sink bytes }
     ensures unforged { (name bytes : List ℕ) (records : List Record) (file : File) (old new : Seen)
         (end : Ending) → Answers (GetOf name) old new end →
         IsKnown old records → file_of records name ≡ Some file
-        → bad_seen records old new file.id bytes ≤ (setup_in_effect records).b + 1 →
-        HoldsForgery (object_of (setup_in_effect records) file.id) bytes 1 end.heard → ⊥ }
+        → bad_seen records old new file bytes ≤ (setup_in_effect records).b + 1 →
+        HoldsForgery (object_in_effect records file) bytes 1 end.heard → ⊥ }
     ensures forged { (name bytes : List ℕ) (records : List Record) (file : File) (old new : Seen)
         (end : Ending) → Answers (GetOf name) old new end →
         IsKnown old records → file_of records name ≡ Some file → AreBytes bytes → length bytes ≡ file.size
         → end.status ≡ 0 →
         (new.sink ≡ told_then old.sink bytes)
-        ⊎ HoldsForgery (object_of (setup_in_effect records) file.id) bytes 1 end.heard }
+        ⊎ HoldsForgery (object_in_effect records file) bytes 1 end.heard }
     ensures forged_front { (name bytes : List ℕ) (records : List Record) (file : File) (old new : Seen)
         (end : Ending) → Answers (GetOf name) old new end →
         IsKnown old records → file_of records name ≡ Some file → AreBytes bytes → length bytes ≡ file.size →
         TakesFront old.sink new.sink bytes
-        ⊎ HoldsForgery (object_of (setup_in_effect records) file.id) bytes 1 end.heard }
+        ⊎ HoldsForgery (object_in_effect records file) bytes 1 end.heard }
     ensures ends { (name : List ℕ) (old new : Seen) (end : Ending) → Answers (GetOf name) old new end
         → (Rose old.disk_faults new.disk_faults → ⊥) →
         (Rose old.sink_faults new.sink_faults → ⊥)
@@ -146,7 +145,7 @@ pub fn repairs_write_anew()
         (old new : Seen) (end : Ending) →
         Answers RepairDue old new end → IsKnown old records → IsDone end → due_of records ≡ Some due
         → file_of records name ≡ Some file →
-        length bytes ≡ file.size → bad_seen records old new file.id bytes ≤ (setup_in_effect records).b
+        length bytes ≡ file.size → bad_seen records old new file bytes ≤ (setup_in_effect records).b
         → j < (setup_in_effect records).n →
         is_flagged (setup_in_effect records).tolerance due.counts j ≡ true
         → HoldsFile records new bytes file j }

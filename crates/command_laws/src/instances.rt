@@ -11,7 +11,7 @@ ghost use Rattle.job_laws.specs.Failing.{bad_seen};
 ghost use Rattle.command_laws.specs.After.{IsSure, Follows, HasRightFile, IsUntouched, IsSteady, IsFaultless};
 ghost use Rattle.command_laws.specs.Opened.{IsKeyed};
 ghost use Rattle.command_laws.specs.Pieces.{IsStore, IsLater, IsChain};
-ghost use Rattle.command_laws.specs.Instances.{store, small_setup, small_numbers, key_devices, ready_store, put_store, held_name, other_name, set_up_records, held_records, due_records, audited_store, repaired_store, empty_devices, with_sink, ends, get_held, get_other};
+ghost use Rattle.command_laws.specs.Instances.{store, small_setup, small_numbers, key_devices, ready_store, put_store, held_name, held_file, other_name, set_up_records, held_records, due_records, audited_store, repaired_store, empty_devices, with_sink, ends, get_held, get_other};
 
 /// A store that was set up, one with one empty file, and one with a repair due are known, in each image of the disk. The file is right on all
 /// providers, none of which is wrong or failed; the next command finds it so; and a state of the abstract client stands for the store.
@@ -20,7 +20,7 @@ pub fn there_are_known_stores()
     ensures sure { IsSure (store held_records) held_records }
     ensures due { IsSure (store due_records) due_records }
     ensures file { HasRightFile (store held_records) held_records held_name [] (λ j. false) }
-    ensures none_bad { bad_seen held_records (store held_records) (store held_records) 1 []
+    ensures none_bad { bad_seen held_records (store held_records) (store held_records) held_file []
         ≤ (setup_in_effect held_records).b }
     ensures between { Follows ready_store (store set_up_records) × Follows put_store (store held_records) }
     ensures faultless { IsFaultless (store set_up_records) put_store

@@ -48,7 +48,7 @@ fn a_lost_block_is_found_and_mended(rt: HostRuntime) -> Result<(), Fail> {
         done("repair", b"repaired 1\n"),
         refused("repair", 7, 0),
     ];
-    assert_eq!(rt; store.first_wrong(&rows), "none");
+    assert_eq!(rt; store.first_wrong(&rows), None);
     assert_eq!(rt; blocks(&store), before);
     Ok(())
 }
@@ -69,6 +69,6 @@ fn a_round_with_two_lost_answers_is_undecided(rt: HostRuntime) -> Result<(), Fai
         ),
         refused("repair", 7, 0),
     ];
-    assert_eq!(rt; store.first_wrong(&rows), "none");
+    assert_eq!(rt; store.first_wrong(&rows), None);
     Ok(())
 }

@@ -10,7 +10,7 @@ use vault::Heard;
 pub const KEY: &[u8] = b"000102030405060708090a0b0c0d0e0f101112131415161718191a1b1c1d1e1f\n";
 
 /// A command, its input, and how it is to end: its status, the place that the status speaks of, and what it writes.
-#[derive(Clone, Copy, Debug)]
+#[derive(Clone, Copy)]
 pub struct Row {
     pub line: &'static str,
     pub input: &'static [u8],
@@ -117,14 +117,14 @@ impl<D: Disk + Drop, P: Tamper + Drop> Store<D, P> {
         ended == Some((row.status, row.at)) && sink.written() == row.text
     }
 
-    /// The first command that ends otherwise than its row says, or that there is none.
-    pub fn first_wrong(&mut self, rows: &[Row]) -> &'static str {
+    /// The line of the first command that ends otherwise than its row says, or none.
+    pub fn first_wrong(&mut self, rows: &[Row]) -> Option<&'static str> {
         for row in rows {
             if !self.is_as_told(row) {
-                return row.line;
+                return Some(row.line);
             }
         }
-        "none"
+        None
     }
 
     /// The report of a command that takes no input and whose text is not looked at.
@@ -178,13 +178,21 @@ pub fn over_bytes(alloc: Global, bytes: &[u8]) -> Option<SureStore> {
     })
 }
 
+/// The line of the first command that ends otherwise than its row says, or none, over a disk that reads these bytes.
+pub fn first_wrong_over(alloc: Global, bytes: &[u8], rows: &[Row]) -> Option<&'static str> {
+    match over_bytes(alloc, bytes) {
+        Some(mut store) => store.first_wrong(rows),
+        None => Some("there was no memory for the devices"),
+    }
+}
+
 /// A store that these rows end well over, from an empty disk.
 pub fn after(alloc: Global, rows: &[Row]) -> Option<SureStore> {
     let mut store = over_bytes(alloc, b"")?;
-    match store.first_wrong(rows) {
-        "none" => Some(store),
-        _ => None,
+    if store.first_wrong(rows).is_some() {
+        return None;
     }
+    Some(store)
 }
 
 /// Which provider was fetched from at a place of what was heard, and the first symbol of the block that it gave.

@@ -1,5 +1,5 @@
 -- A drop that a fault of the disk cuts off at its last move, from every state that was just opened.
-use Rattle.std.proofs.Common.{◌≡◌, ℕ, zero, suc, ◌+◌, ◌<◌, true, List, [], ◌∷◌, Some, None, refl, subst, ◌∙◌, inr, arith}
+use Rattle.std.proofs.Common.{◌≡◌, ℕ, zero, suc, ◌+◌, ◌<◌, true, List, [], ◌∷◌, Some, None, refl, subst, ◌∙◌, inr, arith, inl}
 use Rattle.std.specs.Prelude.{slice_get}
 use Rattle.hail_records.specs.Records.{Drop}
 use Rattle.hail_records.specs.Spellings.{spelling}
@@ -106,10 +106,10 @@ module _ (w : State) (n : ℕ) (count : w.handed ≡ 4) where
     runs = record {
       begun = s0;
       job = 1;
-      begins = (refl, refusal-of v (DropJob named) refl refl ∙ drop_begins, refl, refl);
+      begins = (refl, refusal-of v (DropJob named) refl refl refl (record { journal = refl; area = refl; unswitched = refl }) ∙ drop_begins, refl, refl);
       goes_on = record { steps = steps; are_steps = steps-are; ends = happens4 0; heard_is = refl };
     };
-    images = λ image is. inr (record { doubt = record { entry = (Drop named); maker = Some (record base { place = 3 }) }; in_doubt = refl; stands = new-sure.images image is });
+    images = λ image is. inr (inl (record { doubt = record { entry = (Drop named); maker = Some (record base { place = 3 }) }; in_doubt = refl; stands = (refl, new-sure.images image is) }));
     faults_are = refl;
     handed = record { count = count; each = each };
     past_text = record { next = Some (Drop named); is_next = record { done = []; rest = []; parts = refl; after_is = refl }; same = refl };
@@ -129,7 +129,7 @@ pub answers : Answers (DropOf named) (byte_kept) (drop_cut) (ends 12)
 answers = (
   AnswersAlone.begun byte_records old-sure.known.opened (AnswersJob.ended (DiskFault) drop_begins alone
       (left-alone byte_records (DropJob named) (DiskFault) (byte_kept) (drop_cut) ([])
-      (λ w last n O r. jobs-leave (DropJob named) w last n (DiskFault) ([]) refl O r) old-sure.known.opened refl alone)
+      refl (λ w last n O r. jobs-leave (DropJob named) w last n (DiskFault) ([]) refl O r) old-sure.known.opened refl alone)
       (record { status_is = refl; place = refl; sink = refl })),
   (refl, refl),
 )

@@ -208,10 +208,10 @@ module _ (w : State) (n : ℕ) (count : w.handed ≡ 4) where
     runs = record {
       begun = s0;
       job = 1;
-      begins = (refl, refusal-of v (RepairJob) refl refl ∙ repair_begins, refl, refl);
+      begins = (refl, refusal-of v (RepairJob) refl refl refl (record { journal = refl; area = refl; unswitched = refl }) ∙ repair_begins, refl, refl);
       goes_on = record { steps = steps; are_steps = steps-are; ends = happens10 0; heard_is = refl };
     };
-    images = λ image is. inr (record { doubt = record { entry = (RepairDone 1); maker = Some (record base { place = 9; given = Worked 1 0 symbols ∷ Fetched 3 1 0 (Some (own_block 3)) ∷ Fetched 2 1 0 (None) ∷ Fetched 1 1 0 (Some (own_block 1)) ∷ Fetched 0 1 0 (Some (own_block 0)) ∷ [] }) }; in_doubt = refl; stands = new-sure.images image is });
+    images = λ image is. inr (inl (record { doubt = record { entry = (RepairDone 1); maker = Some (record base { place = 9; given = Worked 1 0 symbols ∷ Fetched 3 1 0 (Some (own_block 3)) ∷ Fetched 2 1 0 (None) ∷ Fetched 1 1 0 (Some (own_block 1)) ∷ Fetched 0 1 0 (Some (own_block 0)) ∷ [] }) }; in_doubt = refl; stands = (refl, new-sure.images image is) }));
     faults_are = refl;
     handed = record { count = count; each = each };
     past_text = record { next = Some (RepairDone 1); is_next = record { done = []; rest = []; parts = refl; after_is = refl }; same = refl };
@@ -231,7 +231,7 @@ pub answers : Answers (RepairDue) (due) (repair_cut) (ends 12)
 answers = (
   AnswersAlone.begun byte_audited_records old-sure.known.opened (AnswersJob.ended (DiskFault) repair_begins alone
       (left-alone byte_audited_records (RepairJob) (DiskFault) (due) (repair_cut) ([])
-      (λ w last n O r. jobs-leave (RepairJob) w last n (DiskFault) ([]) tt O r) old-sure.known.opened refl alone)
+      tt (λ w last n O r. jobs-leave (RepairJob) w last n (DiskFault) ([]) tt O r) old-sure.known.opened refl alone)
       (record { status_is = refl; place = refl; sink = refl })),
   (refl, refl),
 )

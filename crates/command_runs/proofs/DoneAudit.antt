@@ -78,6 +78,7 @@ module _ (w : State) (n : ℕ) (count : w.handed ≡ 4) where
   abbrev s4 : State
   s4 = record v {
     records = (AuditStart 1 ∷ byte_records);
+    journal = (AuditStart 1 ∷ byte_records);
     audits = (λ number. if number == 1 then n else v.audits number);
     jobs = (record base { subject = 1; place = 4 }) ∷ [];
     next_job = 2;
@@ -95,6 +96,7 @@ module _ (w : State) (n : ℕ) (count : w.handed ≡ 4) where
   abbrev s5 : State
   s5 = record v {
     records = (AuditStart 1 ∷ byte_records);
+    journal = (AuditStart 1 ∷ byte_records);
     audits = (λ number. if number == 1 then n else v.audits number);
     jobs = (record base { subject = 1; place = 5; given = Answered 0 1 0 (right 0) ∷ [] }) ∷ [];
     next_job = 2;
@@ -116,6 +118,7 @@ module _ (w : State) (n : ℕ) (count : w.handed ≡ 4) where
   abbrev s6 : State
   s6 = record v {
     records = (AuditStart 1 ∷ byte_records);
+    journal = (AuditStart 1 ∷ byte_records);
     audits = (λ number. if number == 1 then n else v.audits number);
     jobs = (record base { subject = 1; place = 6; given = Answered 1 1 0 (right 1) ∷ Answered 0 1 0 (right 0) ∷ [] }) ∷ [];
     next_job = 2;
@@ -137,6 +140,7 @@ module _ (w : State) (n : ℕ) (count : w.handed ≡ 4) where
   abbrev s7 : State
   s7 = record v {
     records = (AuditStart 1 ∷ byte_records);
+    journal = (AuditStart 1 ∷ byte_records);
     audits = (λ number. if number == 1 then n else v.audits number);
     jobs = (record base { subject = 1; place = 7; given = Answered 2 1 0 (None) ∷ Answered 1 1 0 (right 1) ∷ Answered 0 1 0 (right 0) ∷ [] }) ∷ [];
     next_job = 2;
@@ -158,6 +162,7 @@ module _ (w : State) (n : ℕ) (count : w.handed ≡ 4) where
   abbrev s8 : State
   s8 = record v {
     records = (AuditStart 1 ∷ byte_records);
+    journal = (AuditStart 1 ∷ byte_records);
     audits = (λ number. if number == 1 then n else v.audits number);
     jobs = (record base { subject = 1; place = 8; given = Answered 3 1 0 (right 3) ∷ Answered 2 1 0 (None) ∷ Answered 1 1 0 (right 1) ∷ Answered 0 1 0 (right 0) ∷ [] }) ∷ [];
     next_job = 2;
@@ -176,6 +181,7 @@ module _ (w : State) (n : ℕ) (count : w.handed ≡ 4) where
   abbrev s9 : State
   s9 = record v {
     records = (AuditStart 1 ∷ byte_records);
+    journal = (AuditStart 1 ∷ byte_records);
     audits = (λ number. if number == 1 then n else v.audits number);
     jobs = (record base { subject = 1; place = 9; given = Answered 3 1 0 (right 3) ∷ Answered 2 1 0 (None) ∷ Answered 1 1 0 (right 1) ∷ Answered 0 1 0 (right 0) ∷ [] }) ∷ [];
     next_job = 2;
@@ -191,6 +197,7 @@ module _ (w : State) (n : ℕ) (count : w.handed ≡ 4) where
   abbrev s10 : State
   s10 = record v {
     records = (AuditStart 1 ∷ byte_records);
+    journal = (AuditStart 1 ∷ byte_records);
     audits = (λ number. if number == 1 then n else v.audits number);
     jobs = (record base { subject = 1; place = 10; given = Answered 3 1 0 (right 3) ∷ Answered 2 1 0 (None) ∷ Answered 1 1 0 (right 1) ∷ Answered 0 1 0 (right 0) ∷ [] }) ∷ [];
     next_job = 2;
@@ -206,6 +213,7 @@ module _ (w : State) (n : ℕ) (count : w.handed ≡ 4) where
   abbrev s11 : State
   s11 = record v {
     records = (AuditStart 1 ∷ byte_records);
+    journal = (AuditStart 1 ∷ byte_records);
     audits = (λ number. if number == 1 then n else v.audits number);
     jobs = (record base { subject = 1; place = 11; given = Answered 3 1 0 (right 3) ∷ Answered 2 1 0 (None) ∷ Answered 1 1 0 (right 1) ∷ Answered 0 1 0 (right 0) ∷ [] }) ∷ [];
     next_job = 2;
@@ -221,6 +229,7 @@ module _ (w : State) (n : ℕ) (count : w.handed ≡ 4) where
   abbrev s12 : State
   s12 = record v {
     records = byte_audited_records;
+    journal = byte_audited_records;
     audits = (λ number. if number == 1 then n else v.audits number);
     jobs = (record base { subject = 1; place = 12; given = Answered 3 1 0 (right 3) ∷ Answered 2 1 0 (None) ∷ Answered 1 1 0 (right 1) ∷ Answered 0 1 0 (right 0) ∷ [] }) ∷ [];
     next_job = 2;
@@ -236,6 +245,7 @@ module _ (w : State) (n : ℕ) (count : w.handed ≡ 4) where
   abbrev s13 : State
   s13 = record v {
     records = byte_audited_records;
+    journal = byte_audited_records;
     audits = (λ number. if number == 1 then n else v.audits number);
     jobs = [];
     next_job = 2;
@@ -272,10 +282,10 @@ module _ (w : State) (n : ℕ) (count : w.handed ≡ 4) where
     runs = record {
       begun = s0;
       job = 1;
-      begins = (refl, refusal-of v (AuditJob) refl refl ∙ audit_begins, refl, refl);
+      begins = (refl, refusal-of v (AuditJob) refl refl refl (record { journal = refl; area = refl; unswitched = refl }) ∙ audit_begins, refl, refl);
       goes_on = record { steps = steps; are_steps = steps-are; ends = happens13 0; heard_is = refl };
     };
-    images = λ image is. inl (inl (new-sure.images image is));
+    images = λ image is. inl (inl (refl, new-sure.images image is));
     faults_are = refl;
     handed = record { count = count; each = each };
     past_text = refl;
@@ -295,7 +305,7 @@ pub answers : Answers (AuditAll) (damaged) (byte_audited) (ends_hearing 0 answer
 answers = (
   AnswersAlone.begun byte_records old-sure.known.opened (AnswersJob.ended (Audited 1 0 counts) audit_begins alone
       (left-alone byte_records (AuditJob) (Audited 1 0 counts) (damaged) (byte_audited) (answers_heard)
-      (λ w last n O r. jobs-leave (AuditJob) w last n (Audited 1 0 counts) (answers_heard) tt O r) old-sure.known.opened refl alone)
+      tt (λ w last n O r. jobs-leave (AuditJob) w last n (Audited 1 0 counts) (answers_heard) tt O r) old-sure.known.opened refl alone)
       (record { written = inl (refl, refl); place = refl })),
   (refl, refl),
 )

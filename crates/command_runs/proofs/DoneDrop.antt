@@ -73,6 +73,7 @@ module _ (w : State) (n : ℕ) (count : w.handed ≡ 4) where
   abbrev s4 : State
   s4 = record v {
     records = dropped_records;
+    journal = dropped_records;
     jobs = (record base { older = 1 ∷ []; place = 4 }) ∷ [];
     next_job = 2;
     append = None;
@@ -89,6 +90,7 @@ module _ (w : State) (n : ℕ) (count : w.handed ≡ 4) where
   abbrev s5 : State
   s5 = record v {
     records = dropped_records;
+    journal = dropped_records;
     jobs = (record base { older = 1 ∷ []; place = 5 }) ∷ [];
     next_job = 2;
     append = None;
@@ -106,6 +108,7 @@ module _ (w : State) (n : ℕ) (count : w.handed ≡ 4) where
   abbrev s6 : State
   s6 = record v {
     records = dropped_records;
+    journal = dropped_records;
     jobs = (record base { older = 1 ∷ []; place = 6 }) ∷ [];
     next_job = 2;
     append = None;
@@ -123,6 +126,7 @@ module _ (w : State) (n : ℕ) (count : w.handed ≡ 4) where
   abbrev s7 : State
   s7 = record v {
     records = dropped_records;
+    journal = dropped_records;
     jobs = (record base { older = 1 ∷ []; place = 7 }) ∷ [];
     next_job = 2;
     append = None;
@@ -140,6 +144,7 @@ module _ (w : State) (n : ℕ) (count : w.handed ≡ 4) where
   abbrev s8 : State
   s8 = record v {
     records = dropped_records;
+    journal = dropped_records;
     jobs = (record base { older = 1 ∷ []; place = 8 }) ∷ [];
     next_job = 2;
     append = None;
@@ -154,6 +159,7 @@ module _ (w : State) (n : ℕ) (count : w.handed ≡ 4) where
   abbrev s9 : State
   s9 = record v {
     records = dropped_records;
+    journal = dropped_records;
     jobs = [];
     next_job = 2;
     append = None;
@@ -189,10 +195,10 @@ module _ (w : State) (n : ℕ) (count : w.handed ≡ 4) where
     runs = record {
       begun = s0;
       job = 1;
-      begins = (refl, refusal-of v (DropJob named) refl refl ∙ drop_begins, refl, refl);
+      begins = (refl, refusal-of v (DropJob named) refl refl refl (record { journal = refl; area = refl; unswitched = refl }) ∙ drop_begins, refl, refl);
       goes_on = record { steps = steps; are_steps = steps-are; ends = happens9 0; heard_is = refl };
     };
-    images = λ image is. inl (inl (new-sure.images image is));
+    images = λ image is. inl (inl (refl, new-sure.images image is));
     faults_are = refl;
     handed = record { count = count; each = each };
     past_text = refl;
@@ -212,7 +218,7 @@ pub answers : Answers (DropOf named) (byte_kept) (dropped) (ends 0)
 answers = (
   AnswersAlone.begun byte_records old-sure.known.opened (AnswersJob.ended (Dropped) drop_begins alone
       (left-alone byte_records (DropJob named) (Dropped) (byte_kept) (dropped) ([])
-      (λ w last n O r. jobs-leave (DropJob named) w last n (Dropped) ([]) refl O r) old-sure.known.opened refl alone)
+      refl (λ w last n O r. jobs-leave (DropJob named) w last n (Dropped) ([]) refl O r) old-sure.known.opened refl alone)
       (record { written = inl (refl, refl); place = refl })),
   (refl, refl),
 )

@@ -151,10 +151,10 @@ module _ (w : State) (n : ℕ) (count : w.handed ≡ 4) where
     runs = record {
       begun = s0;
       job = 1;
-      begins = (refl, refusal-of v (GetJob named) refl refl ∙ begins-none, refl, refl);
+      begins = (refl, refusal-of v (GetJob named) refl refl refl (record { journal = refl; area = refl; unswitched = refl }) ∙ begins-none, refl, refl);
       goes_on = record { steps = steps; are_steps = steps-are; ends = happens6 0; heard_is = refl };
     };
-    images = λ image is. inl (inl (new-sure.images image is));
+    images = λ image is. inl (inl (refl, new-sure.images image is));
     faults_are = refl;
     handed = record { count = count; each = each };
     past_text = refl;
@@ -174,7 +174,7 @@ pub answers : Answers (GetOf named) (mended) (got) (ends_hearing 0 own_blocks_he
 answers = (
   AnswersAlone.begun byte_repaired_records old-sure.known.opened (AnswersJob.ended (Got byte) begins-none alone
       (left-alone byte_repaired_records (GetJob named) (Got byte) (mended) (got) (own_blocks_heard)
-      (λ w last n O r. jobs-leave (GetJob named) w last n (Got byte) (own_blocks_heard) refl O r) old-sure.known.opened refl alone)
+      refl (λ w last n O r. jobs-leave (GetJob named) w last n (Got byte) (own_blocks_heard) refl O r) old-sure.known.opened refl alone)
       (record { written = inl (refl, refl); place = refl })),
   (refl, refl),
 )

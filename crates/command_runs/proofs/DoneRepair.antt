@@ -172,6 +172,7 @@ module _ (w : State) (n : ℕ) (count : w.handed ≡ 4) where
   abbrev s10 : State
   s10 = record v {
     records = byte_repaired_records;
+    journal = byte_repaired_records;
     jobs = (record base { place = 10; given = Worked 1 0 symbols ∷ Fetched 3 1 0 (Some (own_block 3)) ∷ Fetched 2 1 0 (None) ∷ Fetched 1 1 0 (Some (own_block 1)) ∷ Fetched 0 1 0 (Some (own_block 0)) ∷ [] }) ∷ [];
     next_job = 2;
     append = None;
@@ -186,6 +187,7 @@ module _ (w : State) (n : ℕ) (count : w.handed ≡ 4) where
   abbrev s11 : State
   s11 = record v {
     records = byte_repaired_records;
+    journal = byte_repaired_records;
     jobs = [];
     next_job = 2;
     append = None;
@@ -221,10 +223,10 @@ module _ (w : State) (n : ℕ) (count : w.handed ≡ 4) where
     runs = record {
       begun = s0;
       job = 1;
-      begins = (refl, refusal-of v (RepairJob) refl refl ∙ repair_begins, refl, refl);
+      begins = (refl, refusal-of v (RepairJob) refl refl refl (record { journal = refl; area = refl; unswitched = refl }) ∙ repair_begins, refl, refl);
       goes_on = record { steps = steps; are_steps = steps-are; ends = happens11 0; heard_is = refl };
     };
-    images = λ image is. inl (inl (new-sure.images image is));
+    images = λ image is. inl (inl (refl, new-sure.images image is));
     faults_are = refl;
     handed = record { count = count; each = each };
     past_text = refl;
@@ -244,7 +246,7 @@ pub answers : Answers (RepairDue) (due) (repaired) (ends 0)
 answers = (
   AnswersAlone.begun byte_audited_records old-sure.known.opened (AnswersJob.ended (Repaired 1) repair_begins alone
       (left-alone byte_audited_records (RepairJob) (Repaired 1) (due) (repaired) ([])
-      (λ w last n O r. jobs-leave (RepairJob) w last n (Repaired 1) ([]) tt O r) old-sure.known.opened refl alone)
+      tt (λ w last n O r. jobs-leave (RepairJob) w last n (Repaired 1) ([]) tt O r) old-sure.known.opened refl alone)
       (record { written = inl (refl, refl); place = refl })),
   (refl, refl),
 )

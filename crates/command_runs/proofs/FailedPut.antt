@@ -77,6 +77,7 @@ module _ (w : State) (n : ℕ) (count : w.handed ≡ 4) where
   abbrev s4 : State
   s4 = record v {
     records = started_records;
+    journal = started_records;
     bytes = (λ id. if id == 1 then byte else v.bytes id);
     jobs = (record base { subject = 1; place = 4 }) ∷ [];
     next_job = 2;
@@ -94,6 +95,7 @@ module _ (w : State) (n : ℕ) (count : w.handed ≡ 4) where
   abbrev s5 : State
   s5 = record v {
     records = started_records;
+    journal = started_records;
     bytes = (λ id. if id == 1 then byte else v.bytes id);
     jobs = [];
     next_job = 2;
@@ -141,10 +143,10 @@ module _ (w : State) (n : ℕ) (count : w.handed ≡ 4) where
     runs = record {
       begun = s0;
       job = 1;
-      begins = (refl, refusal-of v (PutJob named byte) refl refl ∙ put_begins, refl, refl);
+      begins = (refl, refusal-of v (PutJob named byte) refl refl refl (record { journal = refl; area = refl; unswitched = refl }) ∙ put_begins, refl, refl);
       goes_on = record { steps = steps; are_steps = steps-are; ends = happens5 0; heard_is = refl };
     };
-    images = λ image is. inl (inl (new-sure.images image is));
+    images = λ image is. inl (inl (refl, new-sure.images image is));
     faults_are = refl;
     handed = record { count = count; each = each };
     past_text = refl;
@@ -163,5 +165,5 @@ pub answers : Answers (PutUnder named) (to_put) (put_failed) (ends 13)
 answers = AnswersPut.begun four_records byte old-sure.known.opened (record { are_bytes = refl; front = refl; few = omega arith; end = λ l. refl })
     (AnswersJob.ended (ProviderFault 0) put_begins alone
     (left-alone four_records (PutJob named byte) (ProviderFault 0) (to_put) (put_failed) ([])
-    (λ w last n O r. jobs-leave (PutJob named byte) w last n (ProviderFault 0) ([]) (refl, refl) O r) old-sure.known.opened refl alone)
+    (refl, refl) (λ w last n O r. jobs-leave (PutJob named byte) w last n (ProviderFault 0) ([]) (refl, refl) O r) old-sure.known.opened refl alone)
     (record { status_is = refl; place = refl; sink = refl }))

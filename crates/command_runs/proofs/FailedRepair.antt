@@ -161,10 +161,10 @@ module _ (w : State) (n : ℕ) (count : w.handed ≡ 4) where
     runs = record {
       begun = s0;
       job = 1;
-      begins = (refl, refusal-of v (RepairJob) refl refl ∙ repair_begins, refl, refl);
+      begins = (refl, refusal-of v (RepairJob) refl refl refl (record { journal = refl; area = refl; unswitched = refl }) ∙ repair_begins, refl, refl);
       goes_on = record { steps = steps; are_steps = steps-are; ends = happens6 0; heard_is = refl };
     };
-    images = λ image is. inl (inl (new-sure.images image is));
+    images = λ image is. inl (inl (refl, new-sure.images image is));
     faults_are = refl;
     handed = record { count = count; each = each };
     past_text = refl;
@@ -184,7 +184,7 @@ pub answers : Answers (RepairDue) (due) (repair_failed) (ends_at 13 2)
 answers = (
   AnswersAlone.begun byte_audited_records old-sure.known.opened (AnswersJob.ended (ProviderFault 2) repair_begins alone
       (left-alone byte_audited_records (RepairJob) (ProviderFault 2) (due) (repair_failed) ([])
-      (λ w last n O r. jobs-leave (RepairJob) w last n (ProviderFault 2) ([]) tt O r) old-sure.known.opened refl alone)
+      tt (λ w last n O r. jobs-leave (RepairJob) w last n (ProviderFault 2) ([]) tt O r) old-sure.known.opened refl alone)
       (record { status_is = refl; place = refl; sink = refl })),
   (refl, refl),
 )

@@ -135,7 +135,7 @@ module _ (w : State) (n : ℕ) (count : w.handed ≡ 4) where
     runs = record {
       begun = s0;
       job = 1;
-      begins = (refl, refusal-of v (GetJob named) refl refl ∙ get_begins, refl, refl);
+      begins = (refl, refusal-of v (GetJob named) refl refl refl (record { journal = refl; area = refl; unswitched = refl }) ∙ get_begins, refl, refl);
       goes_on = record { steps = steps; are_steps = steps-are; ends = happens5 0; heard_is = refl };
     };
     images = tt;
@@ -158,7 +158,7 @@ pub answers : Answers (GetOf named) (all_hidden) (hidden_fetched) (ends_hearing 
 answers = (
   AnswersAlone.begun byte_records hidden-opened (AnswersJob.ended (Lost 0 0) get_begins alone
       (left-alone byte_records (GetJob named) (Lost 0 0) (all_hidden) (hidden_fetched) (no_blocks)
-      (λ w last n O r. jobs-leave (GetJob named) w last n (Lost 0 0) (no_blocks) refl O r) hidden-opened refl alone)
+      refl (λ w last n O r. jobs-leave (GetJob named) w last n (Lost 0 0) (no_blocks) refl O r) hidden-opened refl alone)
       (record { status_is = refl; place = refl; sink = refl })),
   (refl, refl),
 )

@@ -77,6 +77,7 @@ module _ (w : State) (n : ℕ) (count : w.handed ≡ 4) where
   abbrev s4 : State
   s4 = record v {
     records = started_records;
+    journal = started_records;
     bytes = (λ id. if id == 1 then byte else v.bytes id);
     jobs = (record base { subject = 1; place = 4 }) ∷ [];
     next_job = 2;
@@ -94,6 +95,7 @@ module _ (w : State) (n : ℕ) (count : w.handed ≡ 4) where
   abbrev s5 : State
   s5 = record v {
     records = started_records;
+    journal = started_records;
     bytes = (λ id. if id == 1 then byte else v.bytes id);
     jobs = (record base { subject = 1; place = 5 }) ∷ [];
     next_job = 2;
@@ -112,6 +114,7 @@ module _ (w : State) (n : ℕ) (count : w.handed ≡ 4) where
   abbrev s6 : State
   s6 = record v {
     records = started_records;
+    journal = started_records;
     bytes = (λ id. if id == 1 then byte else v.bytes id);
     jobs = (record base { subject = 1; place = 6 }) ∷ [];
     next_job = 2;
@@ -130,6 +133,7 @@ module _ (w : State) (n : ℕ) (count : w.handed ≡ 4) where
   abbrev s7 : State
   s7 = record v {
     records = started_records;
+    journal = started_records;
     bytes = (λ id. if id == 1 then byte else v.bytes id);
     jobs = (record base { subject = 1; place = 7 }) ∷ [];
     next_job = 2;
@@ -148,6 +152,7 @@ module _ (w : State) (n : ℕ) (count : w.handed ≡ 4) where
   abbrev s8 : State
   s8 = record v {
     records = started_records;
+    journal = started_records;
     bytes = (λ id. if id == 1 then byte else v.bytes id);
     jobs = (record base { subject = 1; place = 8 }) ∷ [];
     next_job = 2;
@@ -163,6 +168,7 @@ module _ (w : State) (n : ℕ) (count : w.handed ≡ 4) where
   abbrev s9 : State
   s9 = record v {
     records = started_records;
+    journal = started_records;
     bytes = (λ id. if id == 1 then byte else v.bytes id);
     jobs = (record base { subject = 1; place = 9 }) ∷ [];
     next_job = 2;
@@ -178,6 +184,7 @@ module _ (w : State) (n : ℕ) (count : w.handed ≡ 4) where
   abbrev s10 : State
   s10 = record v {
     records = started_records;
+    journal = started_records;
     bytes = (λ id. if id == 1 then byte else v.bytes id);
     jobs = (record base { subject = 1; place = 10 }) ∷ [];
     next_job = 2;
@@ -193,6 +200,7 @@ module _ (w : State) (n : ℕ) (count : w.handed ≡ 4) where
   abbrev s11 : State
   s11 = record v {
     records = started_records;
+    journal = started_records;
     bytes = (λ id. if id == 1 then byte else v.bytes id);
     jobs = (record base { subject = 1; place = 11 }) ∷ [];
     next_job = 2;
@@ -208,6 +216,7 @@ module _ (w : State) (n : ℕ) (count : w.handed ≡ 4) where
   abbrev s12 : State
   s12 = record v {
     records = byte_records;
+    journal = byte_records;
     bytes = (λ id. if id == 1 then byte else v.bytes id);
     jobs = (record base { subject = 1; place = 12 }) ∷ [];
     next_job = 2;
@@ -223,6 +232,7 @@ module _ (w : State) (n : ℕ) (count : w.handed ≡ 4) where
   abbrev s13 : State
   s13 = record v {
     records = byte_records;
+    journal = byte_records;
     bytes = (λ id. if id == 1 then byte else v.bytes id);
     jobs = [];
     next_job = 2;
@@ -259,7 +269,7 @@ module _ (w : State) (n : ℕ) (count : w.handed ≡ 4) where
     runs = record {
       begun = s0;
       job = 1;
-      begins = (refl, refusal-of v (PutJob named byte) refl refl ∙ put_begins, refl, refl);
+      begins = (refl, refusal-of v (PutJob named byte) refl refl refl (record { journal = refl; area = refl; unswitched = refl }) ∙ put_begins, refl, refl);
       goes_on = record { steps = steps; are_steps = steps-are; ends = happens13 0; heard_is = refl };
     };
     images = tt;
@@ -281,5 +291,5 @@ pub answers : Answers (PutUnder named) (all_hidden) (all_hidden) (ends 0)
 answers = AnswersPut.begun four_records byte hidden-fresh (record { are_bytes = refl; front = refl; few = omega arith; end = λ l. tt })
     (AnswersJob.ended (Put) put_begins alone
     (left-alone four_records (PutJob named byte) (Put) (all_hidden) (all_hidden) ([])
-    (λ w last n O r. jobs-leave (PutJob named byte) w last n (Put) ([]) (refl, refl) O r) hidden-fresh refl alone)
+    (refl, refl) (λ w last n O r. jobs-leave (PutJob named byte) w last n (Put) ([]) (refl, refl) O r) hidden-fresh refl alone)
     (record { written = inl (refl, refl); place = refl }))

@@ -11,6 +11,7 @@ pub mod LostRepair
 pub mod Refusals
 pub mod DoneAudit
 pub mod DoneRepair
+pub mod DoneUpgrade
 pub mod FailedRepair
 pub mod DoneGet
 pub mod Meets

@@ -136,10 +136,10 @@ module _ (w : State) (n : ℕ) (count : w.handed ≡ 4) where
     runs = record {
       begun = s0;
       job = 1;
-      begins = (refl, refusal-of v (GetJob named) refl refl ∙ get_begins, refl, refl);
+      begins = (refl, refusal-of v (GetJob named) refl refl refl (record { journal = refl; area = refl; unswitched = refl }) ∙ get_begins, refl, refl);
       goes_on = record { steps = steps; are_steps = steps-are; ends = happens5 0; heard_is = refl };
     };
-    images = λ image is. inl (inl (new-sure.images image is));
+    images = λ image is. inl (inl (refl, new-sure.images image is));
     faults_are = refl;
     handed = record { count = count; each = each };
     past_text = refl;
@@ -159,7 +159,7 @@ pub answers : Answers (GetOf named) (all_lost) (found_lost) (ends_hearing 4 no_b
 answers = (
   AnswersAlone.begun byte_records old-sure.known.opened (AnswersJob.ended (Lost 0 0) get_begins alone
       (left-alone byte_records (GetJob named) (Lost 0 0) (all_lost) (found_lost) (no_blocks)
-      (λ w last n O r. jobs-leave (GetJob named) w last n (Lost 0 0) (no_blocks) refl O r) old-sure.known.opened refl alone)
+      refl (λ w last n O r. jobs-leave (GetJob named) w last n (Lost 0 0) (no_blocks) refl O r) old-sure.known.opened refl alone)
       (record { status_is = refl; place = refl; sink = refl })),
   (refl, refl),
 )

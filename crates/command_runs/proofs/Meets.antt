@@ -7,6 +7,7 @@ use Rattle.hail_columns.specs.Verdicts.{is_flagged}
 use Rattle.hail_devices.specs.Faults.{Rose}
 use Rattle.column_laws.proofs.Worked.{column-right}
 use Rattle.hail_machine.specs.Setups.{object_of}
+use Rattle.hail_records.specs.Table.{File}
 use Rattle.hail_records.specs.Examples.{four}
 use Rattle.hail_commands.specs.Seen.{provider_at}
 use Rattle.command_laws.specs.After.{HasRightFile, IsUntouched, IsSteady, is_wrong_at}
@@ -49,12 +50,16 @@ none-rises (suc (suc zero)) rose = never-rises 0 (omega arith) rose
 none-rises (suc (suc (suc zero))) rose = never-rises 0 (omega arith) rose
 none-rises (suc (suc (suc (suc j)))) rose = never-rises 0 (omega arith) rose
 
+-- the file
+abbrev pub kept : File
+kept = record { name = named; id = 1; size = 1; profile = 0 }
+
 -- the own block is right
 right_held : (j : ℕ) → is_wrong (object_of four 1) byte j (λ stripe. if (1 == 1) && (stripe == 0) then Some (columns (object_of four 1) byte j 0) else None) ≡ false
 unfolding is_wrong
 right_held j = rw (column-right (object_of four 1) byte j 0) refl
 
-right-at : (j : ℕ) → j < 4 → second j ≡ false → is_wrong_at byte_audited_records due 1 byte j ≡ false
+right-at : (j : ℕ) → j < 4 → second j ≡ false → is_wrong_at byte_audited_records due kept byte j ≡ false
 right-at zero l s = right_held 0
 right-at (suc zero) l s = right_held 1
 right-at (suc (suc zero)) l s = (let e : true ≡ false = s in absurd (cc e))
@@ -63,7 +68,7 @@ right-at (suc (suc (suc (suc j)))) l s = absurd (omega (arith, l))
 
 pub due-file : HasRightFile due byte_audited_records named byte second
 due-file = record {
-  file = record { name = named; id = 1; size = 1; profile = 0 };
+  file = kept;
   in_effect = refl;
   are_bytes = refl;
   size = refl;
@@ -114,7 +119,7 @@ flagged-second (suc (suc (suc j))) =
 
 -- ---- the file is right
 
-right-kept : (j : ℕ) → j < 4 → is_wrong_at byte_records to_put_other 1 byte j ≡ false
+right-kept : (j : ℕ) → j < 4 → is_wrong_at byte_records to_put_other kept byte j ≡ false
 right-kept zero l = right_held 0
 right-kept (suc zero) l = right_held 1
 right-kept (suc (suc zero)) l = right_held 2
@@ -123,14 +128,14 @@ right-kept (suc (suc (suc (suc j)))) l = absurd (omega (arith, l))
 
 pub kept-file : HasRightFile to_put_other byte_records named byte (λ j. false)
 kept-file = record {
-  file = record { name = named; id = 1; size = 1; profile = 0 };
+  file = kept;
   in_effect = refl;
   are_bytes = refl;
   size = refl;
   right = λ j l s. right-kept j l;
 }
 
-right-mended : (j : ℕ) → j < 4 → is_wrong_at byte_repaired_records mended 1 byte j ≡ false
+right-mended : (j : ℕ) → j < 4 → is_wrong_at byte_repaired_records mended kept byte j ≡ false
 right-mended zero l = right_held 0
 right-mended (suc zero) l = right_held 1
 right-mended (suc (suc zero)) l = right_held 2
@@ -139,14 +144,14 @@ right-mended (suc (suc (suc (suc j)))) l = absurd (omega (arith, l))
 
 pub mended-file : HasRightFile mended byte_repaired_records named byte (λ j. false)
 mended-file = record {
-  file = record { name = named; id = 1; size = 1; profile = 0 };
+  file = kept;
   in_effect = refl;
   are_bytes = refl;
   size = refl;
   right = λ j l s. right-mended j l;
 }
 
-right-damaged : (j : ℕ) → j < 4 → second j ≡ false → is_wrong_at byte_records damaged 1 byte j ≡ false
+right-damaged : (j : ℕ) → j < 4 → second j ≡ false → is_wrong_at byte_records damaged kept byte j ≡ false
 right-damaged zero l s = right_held 0
 right-damaged (suc zero) l s = right_held 1
 right-damaged (suc (suc zero)) l s = (let e : true ≡ false = s in absurd (cc e))
@@ -155,7 +160,7 @@ right-damaged (suc (suc (suc (suc j)))) l s = absurd (omega (arith, l))
 
 pub damaged-file : HasRightFile damaged byte_records named byte second
 damaged-file = record {
-  file = record { name = named; id = 1; size = 1; profile = 0 };
+  file = kept;
   in_effect = refl;
   are_bytes = refl;
   size = refl;
@@ -163,7 +168,7 @@ damaged-file = record {
 }
 
 -- at most one provider is wrong for it, or failed
-pub few-bad : bad_seen byte_audited_records due repaired 1 byte ≤ 1
+pub few-bad : bad_seen byte_audited_records due repaired kept byte ≤ 1
 unfolding due-file
 few-bad = within _ (bad-few named byte byte_audited_records second due repaired due-file (λ j below clean rose. repair-steady second j below clean rose))
   where

@@ -66,10 +66,10 @@ module _ (w : State) (n : ℕ) (count : w.handed ≡ 4) where
     runs = record {
       begun = s0;
       job = 1;
-      begins = (refl, refusal-of v (PutJob named byte) refl refl ∙ put_begins, refl, refl);
+      begins = (refl, refusal-of v (PutJob named byte) refl refl refl (record { journal = refl; area = refl; unswitched = refl }) ∙ put_begins, refl, refl);
       goes_on = record { steps = steps; are_steps = steps-are; ends = happens1 0; heard_is = refl };
     };
-    images = λ image is. inl (inl (new-sure.images image is));
+    images = λ image is. inl (inl (refl, new-sure.images image is));
     faults_are = refl;
     handed = record { count = count; each = each };
     past_text = record { next = None; is_next = tt; same = refl };
@@ -88,5 +88,5 @@ pub answers : Answers (PutUnder named) (to_put) (put_unmade) (ends 70)
 answers = AnswersPut.begun four_records byte old-sure.known.opened (record { are_bytes = refl; front = refl; few = omega arith; end = λ l. refl })
     (AnswersJob.ended (Memory) put_begins alone
     (left-alone four_records (PutJob named byte) (Memory) (to_put) (put_unmade) ([])
-    (λ w last n O r. jobs-leave (PutJob named byte) w last n (Memory) ([]) (refl, refl) O r) old-sure.known.opened refl alone)
+    (refl, refl) (λ w last n O r. jobs-leave (PutJob named byte) w last n (Memory) ([]) (refl, refl) O r) old-sure.known.opened refl alone)
     (record { status_is = refl; place = refl; sink = refl }))

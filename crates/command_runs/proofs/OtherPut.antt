@@ -80,6 +80,7 @@ module _ (w : State) (n : ℕ) (count : w.handed ≡ 4) where
   abbrev s4 : State
   s4 = record v {
     records = begun_records;
+    journal = begun_records;
     bytes = (λ id. if id == 2 then byte else v.bytes id);
     jobs = (record base { subject = 2; place = 4 }) ∷ [];
     next_job = 2;
@@ -97,6 +98,7 @@ module _ (w : State) (n : ℕ) (count : w.handed ≡ 4) where
   abbrev s5 : State
   s5 = record v {
     records = begun_records;
+    journal = begun_records;
     bytes = (λ id. if id == 2 then byte else v.bytes id);
     jobs = (record base { subject = 2; place = 5 }) ∷ [];
     next_job = 2;
@@ -115,6 +117,7 @@ module _ (w : State) (n : ℕ) (count : w.handed ≡ 4) where
   abbrev s6 : State
   s6 = record v {
     records = begun_records;
+    journal = begun_records;
     bytes = (λ id. if id == 2 then byte else v.bytes id);
     jobs = (record base { subject = 2; place = 6 }) ∷ [];
     next_job = 2;
@@ -133,6 +136,7 @@ module _ (w : State) (n : ℕ) (count : w.handed ≡ 4) where
   abbrev s7 : State
   s7 = record v {
     records = begun_records;
+    journal = begun_records;
     bytes = (λ id. if id == 2 then byte else v.bytes id);
     jobs = (record base { subject = 2; place = 7 }) ∷ [];
     next_job = 2;
@@ -151,6 +155,7 @@ module _ (w : State) (n : ℕ) (count : w.handed ≡ 4) where
   abbrev s8 : State
   s8 = record v {
     records = begun_records;
+    journal = begun_records;
     bytes = (λ id. if id == 2 then byte else v.bytes id);
     jobs = (record base { subject = 2; place = 8 }) ∷ [];
     next_job = 2;
@@ -166,6 +171,7 @@ module _ (w : State) (n : ℕ) (count : w.handed ≡ 4) where
   abbrev s9 : State
   s9 = record v {
     records = begun_records;
+    journal = begun_records;
     bytes = (λ id. if id == 2 then byte else v.bytes id);
     jobs = (record base { subject = 2; place = 9 }) ∷ [];
     next_job = 2;
@@ -181,6 +187,7 @@ module _ (w : State) (n : ℕ) (count : w.handed ≡ 4) where
   abbrev s10 : State
   s10 = record v {
     records = begun_records;
+    journal = begun_records;
     bytes = (λ id. if id == 2 then byte else v.bytes id);
     jobs = (record base { subject = 2; place = 10 }) ∷ [];
     next_job = 2;
@@ -196,6 +203,7 @@ module _ (w : State) (n : ℕ) (count : w.handed ≡ 4) where
   abbrev s11 : State
   s11 = record v {
     records = begun_records;
+    journal = begun_records;
     bytes = (λ id. if id == 2 then byte else v.bytes id);
     jobs = (record base { subject = 2; place = 11 }) ∷ [];
     next_job = 2;
@@ -211,6 +219,7 @@ module _ (w : State) (n : ℕ) (count : w.handed ≡ 4) where
   abbrev s12 : State
   s12 = record v {
     records = both_records;
+    journal = both_records;
     bytes = (λ id. if id == 2 then byte else v.bytes id);
     jobs = (record base { subject = 2; place = 12 }) ∷ [];
     next_job = 2;
@@ -226,6 +235,7 @@ module _ (w : State) (n : ℕ) (count : w.handed ≡ 4) where
   abbrev s13 : State
   s13 = record v {
     records = both_records;
+    journal = both_records;
     bytes = (λ id. if id == 2 then byte else v.bytes id);
     jobs = [];
     next_job = 2;
@@ -262,10 +272,10 @@ module _ (w : State) (n : ℕ) (count : w.handed ≡ 4) where
     runs = record {
       begun = s0;
       job = 1;
-      begins = (refl, refusal-of v (PutJob other_name byte) refl refl ∙ begins-none, refl, refl);
+      begins = (refl, refusal-of v (PutJob other_name byte) refl refl refl (record { journal = refl; area = refl; unswitched = refl }) ∙ begins-none, refl, refl);
       goes_on = record { steps = steps; are_steps = steps-are; ends = happens13 0; heard_is = refl };
     };
-    images = λ image is. inl (inl (new-sure.images image is));
+    images = λ image is. inl (inl (refl, new-sure.images image is));
     faults_are = refl;
     handed = record { count = count; each = each };
     past_text = refl;
@@ -284,5 +294,5 @@ pub answers : Answers (PutUnder other_name) (to_put_other) (stored_other) (ends 
 answers = AnswersPut.begun byte_records byte old-sure.known.opened (record { are_bytes = refl; front = refl; few = omega arith; end = λ l. refl })
     (AnswersJob.ended (Put) begins-none alone
     (left-alone byte_records (PutJob other_name byte) (Put) (to_put_other) (stored_other) ([])
-    (λ w last n O r. jobs-leave (PutJob other_name byte) w last n (Put) ([]) (refl, refl) O r) old-sure.known.opened refl alone)
+    (refl, refl) (λ w last n O r. jobs-leave (PutJob other_name byte) w last n (Put) ([]) (refl, refl) O r) old-sure.known.opened refl alone)
     (record { written = inl (refl, refl); place = refl }))

@@ -8,6 +8,7 @@ use Rattle.hail_devices.specs.Providers.{Provider}
 use Rattle.hail_records.specs.Records.{Record, is_in_grammar, largest_journal}
 use Rattle.hail_records.specs.Journal.{text, text_size, StandsFor}
 use Rattle.hail_records.specs.Acceptance.{AreAccepted}
+use Rattle.hail_records.specs.Areas.{A}
 use Rattle.hail_machine.specs.States.{State, with_provider}
 use Rattle.hail_machine.proofs.JobLists.{cond_true, cond_false}
 use Rattle.hail_devices.specs.Images.{EachImage}
@@ -68,9 +69,13 @@ one_byte-is bytes h = λ i id. (at id) i
 abbrev pub formed : List Record → (ℕ → List ℕ) → Provider → Provider → Provider → Provider → State → State
 formed rs bytes p q r s w = record w {
   records = rs;
+  journal = rs;
+  area = A;
+  is_switching = false;
   bytes = bytes;
   jobs = [];
   next_job = 1;
+  alone = None;
   append = None;
   doubt = None;
   providers = over w.providers p q r s;
@@ -87,9 +92,13 @@ form-is rs bytes p q r s w same V =
     (from_some r (w.providers 2) (V.handed.each 2 (omega arith))) (from_some s (w.providers 3) (V.handed.each 3 (omega arith))) in
     (λ i. record w {
       records = sym V.records i;
+      journal = sym (V.whole.journal ∙ V.records) i;
+      area = sym V.whole.area i;
+      is_switching = sym V.whole.unswitched i;
       bytes = same i;
       jobs = sym V.jobs i;
       next_job = sym V.next_job i;
+      alone = sym V.none_alone i;
       append = sym V.append i;
       doubt = sym V.doubt i;
       providers = P i;

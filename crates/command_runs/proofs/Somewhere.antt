@@ -20,9 +20,14 @@ Opened = (w : State) (old : Seen) (records : List Record) (faults : ℕ) → ope
 abbrev pub ThereIsOne : Type 0
 ThereIsOne = (records : List Record) (faults : ℕ) (providers : List Provider) → AreAccepted records → (w : State) × IsOpenedOver w records faults providers
 
+pub somewhere-opened : Opened → ThereIsOne → (records : List Record) (kind : Kind) (answer : Answer) (old new : Seen) (heard : List Entry) →
+    opens.IsOpened old records → RunsAlone records kind answer old new heard → RunsSomewhere kind answer heard
+somewhere-opened opened one records kind answer old new heard R alone =
+    (let w = one records alone.faults old.providers R.read.accepted in
+    let ran = alone.ran w.0 0 w.1 in
+    record { start = w.0; last = ran.last; opened = opened w.0 old records alone.faults R w.1; runs = ran.runs })
+
+-- so it is over a store that is known
 pub somewhere : Opened → ThereIsOne → (records : List Record) (kind : Kind) (answer : Answer) (old new : Seen) (heard : List Entry) →
     IsSure old records → RunsAlone records kind answer old new heard → RunsSomewhere kind answer heard
-somewhere opened one records kind answer old new heard sure alone =
-    (let w = one records alone.faults old.providers sure.known.opened.read.accepted in
-    let ran = alone.ran w.0 0 w.1 in
-    record { start = w.0; last = ran.last; opened = opened w.0 old records alone.faults sure.known.opened w.1; runs = ran.runs })
+somewhere opened one records kind answer old new heard sure alone = somewhere-opened opened one records kind answer old new heard sure.known.opened alone

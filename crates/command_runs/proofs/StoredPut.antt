@@ -78,6 +78,7 @@ module _ (w : State) (n : ℕ) (count : w.handed ≡ 4) where
   abbrev s4 : State
   s4 = record v {
     records = started_records;
+    journal = started_records;
     bytes = (λ id. if id == 1 then byte else v.bytes id);
     jobs = (record base { subject = 1; place = 4 }) ∷ [];
     next_job = 2;
@@ -95,6 +96,7 @@ module _ (w : State) (n : ℕ) (count : w.handed ≡ 4) where
   abbrev s5 : State
   s5 = record v {
     records = started_records;
+    journal = started_records;
     bytes = (λ id. if id == 1 then byte else v.bytes id);
     jobs = (record base { subject = 1; place = 5 }) ∷ [];
     next_job = 2;
@@ -113,6 +115,7 @@ module _ (w : State) (n : ℕ) (count : w.handed ≡ 4) where
   abbrev s6 : State
   s6 = record v {
     records = started_records;
+    journal = started_records;
     bytes = (λ id. if id == 1 then byte else v.bytes id);
     jobs = (record base { subject = 1; place = 6 }) ∷ [];
     next_job = 2;
@@ -131,6 +134,7 @@ module _ (w : State) (n : ℕ) (count : w.handed ≡ 4) where
   abbrev s7 : State
   s7 = record v {
     records = started_records;
+    journal = started_records;
     bytes = (λ id. if id == 1 then byte else v.bytes id);
     jobs = (record base { subject = 1; place = 7 }) ∷ [];
     next_job = 2;
@@ -149,6 +153,7 @@ module _ (w : State) (n : ℕ) (count : w.handed ≡ 4) where
   abbrev s8 : State
   s8 = record v {
     records = started_records;
+    journal = started_records;
     bytes = (λ id. if id == 1 then byte else v.bytes id);
     jobs = (record base { subject = 1; place = 8 }) ∷ [];
     next_job = 2;
@@ -164,6 +169,7 @@ module _ (w : State) (n : ℕ) (count : w.handed ≡ 4) where
   abbrev s9 : State
   s9 = record v {
     records = started_records;
+    journal = started_records;
     bytes = (λ id. if id == 1 then byte else v.bytes id);
     jobs = (record base { subject = 1; place = 9 }) ∷ [];
     next_job = 2;
@@ -179,6 +185,7 @@ module _ (w : State) (n : ℕ) (count : w.handed ≡ 4) where
   abbrev s10 : State
   s10 = record v {
     records = started_records;
+    journal = started_records;
     bytes = (λ id. if id == 1 then byte else v.bytes id);
     jobs = (record base { subject = 1; place = 10 }) ∷ [];
     next_job = 2;
@@ -194,6 +201,7 @@ module _ (w : State) (n : ℕ) (count : w.handed ≡ 4) where
   abbrev s11 : State
   s11 = record v {
     records = started_records;
+    journal = started_records;
     bytes = (λ id. if id == 1 then byte else v.bytes id);
     jobs = (record base { subject = 1; place = 11 }) ∷ [];
     next_job = 2;
@@ -209,6 +217,7 @@ module _ (w : State) (n : ℕ) (count : w.handed ≡ 4) where
   abbrev s12 : State
   s12 = record v {
     records = byte_records;
+    journal = byte_records;
     bytes = (λ id. if id == 1 then byte else v.bytes id);
     jobs = (record base { subject = 1; place = 12 }) ∷ [];
     next_job = 2;
@@ -224,6 +233,7 @@ module _ (w : State) (n : ℕ) (count : w.handed ≡ 4) where
   abbrev s13 : State
   s13 = record v {
     records = byte_records;
+    journal = byte_records;
     bytes = (λ id. if id == 1 then byte else v.bytes id);
     jobs = [];
     next_job = 2;
@@ -260,10 +270,10 @@ module _ (w : State) (n : ℕ) (count : w.handed ≡ 4) where
     runs = record {
       begun = s0;
       job = 1;
-      begins = (refl, refusal-of v (PutJob named byte) refl refl ∙ put_begins, refl, refl);
+      begins = (refl, refusal-of v (PutJob named byte) refl refl refl (record { journal = refl; area = refl; unswitched = refl }) ∙ put_begins, refl, refl);
       goes_on = record { steps = steps; are_steps = steps-are; ends = happens13 0; heard_is = refl };
     };
-    images = λ image is. inl (inl (new-sure.images image is));
+    images = λ image is. inl (inl (refl, new-sure.images image is));
     faults_are = refl;
     handed = record { count = count; each = each };
     past_text = refl;
@@ -282,5 +292,5 @@ pub answers : Answers (PutUnder named) (to_put) (byte_stored) (ends 0)
 answers = AnswersPut.begun four_records byte old-sure.known.opened (record { are_bytes = refl; front = refl; few = omega arith; end = λ l. refl })
     (AnswersJob.ended (Put) put_begins alone
     (left-alone four_records (PutJob named byte) (Put) (to_put) (byte_stored) ([])
-    (λ w last n O r. jobs-leave (PutJob named byte) w last n (Put) ([]) (refl, refl) O r) old-sure.known.opened refl alone)
+    (refl, refl) (λ w last n O r. jobs-leave (PutJob named byte) w last n (Put) ([]) (refl, refl) O r) old-sure.known.opened refl alone)
     (record { written = inl (refl, refl); place = refl }))

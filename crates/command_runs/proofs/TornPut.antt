@@ -79,6 +79,7 @@ module _ (w : State) (n : ℕ) (count : w.handed ≡ 4) where
   abbrev s4 : State
   s4 = record v {
     records = started_records;
+    journal = started_records;
     bytes = (λ id. if id == 1 then byte else v.bytes id);
     jobs = (record base { subject = 1; place = 4 }) ∷ [];
     next_job = 2;
@@ -96,6 +97,7 @@ module _ (w : State) (n : ℕ) (count : w.handed ≡ 4) where
   abbrev s5 : State
   s5 = record v {
     records = started_records;
+    journal = started_records;
     bytes = (λ id. if id == 1 then byte else v.bytes id);
     jobs = (record base { subject = 1; place = 5 }) ∷ [];
     next_job = 2;
@@ -114,6 +116,7 @@ module _ (w : State) (n : ℕ) (count : w.handed ≡ 4) where
   abbrev s6 : State
   s6 = record v {
     records = started_records;
+    journal = started_records;
     bytes = (λ id. if id == 1 then byte else v.bytes id);
     jobs = (record base { subject = 1; place = 6 }) ∷ [];
     next_job = 2;
@@ -132,6 +135,7 @@ module _ (w : State) (n : ℕ) (count : w.handed ≡ 4) where
   abbrev s7 : State
   s7 = record v {
     records = started_records;
+    journal = started_records;
     bytes = (λ id. if id == 1 then byte else v.bytes id);
     jobs = (record base { subject = 1; place = 7 }) ∷ [];
     next_job = 2;
@@ -150,6 +154,7 @@ module _ (w : State) (n : ℕ) (count : w.handed ≡ 4) where
   abbrev s8 : State
   s8 = record v {
     records = started_records;
+    journal = started_records;
     bytes = (λ id. if id == 1 then byte else v.bytes id);
     jobs = (record base { subject = 1; place = 8 }) ∷ [];
     next_job = 2;
@@ -165,6 +170,7 @@ module _ (w : State) (n : ℕ) (count : w.handed ≡ 4) where
   abbrev s9 : State
   s9 = record v {
     records = started_records;
+    journal = started_records;
     bytes = (λ id. if id == 1 then byte else v.bytes id);
     jobs = (record base { subject = 1; place = 9 }) ∷ [];
     next_job = 2;
@@ -180,6 +186,7 @@ module _ (w : State) (n : ℕ) (count : w.handed ≡ 4) where
   abbrev s10 : State
   s10 = record v {
     records = started_records;
+    journal = started_records;
     bytes = (λ id. if id == 1 then byte else v.bytes id);
     jobs = (record base { subject = 1; place = 10 }) ∷ [];
     next_job = 2;
@@ -195,6 +202,7 @@ module _ (w : State) (n : ℕ) (count : w.handed ≡ 4) where
   abbrev s11 : State
   s11 = record v {
     records = started_records;
+    journal = started_records;
     bytes = (λ id. if id == 1 then byte else v.bytes id);
     jobs = (record base { subject = 1; place = 11 }) ∷ [];
     next_job = 2;
@@ -210,6 +218,7 @@ module _ (w : State) (n : ℕ) (count : w.handed ≡ 4) where
   abbrev s12 : State
   s12 = record v {
     records = started_records;
+    journal = started_records;
     bytes = (λ id. if id == 1 then byte else v.bytes id);
     jobs = [];
     next_job = 2;
@@ -248,10 +257,10 @@ module _ (w : State) (n : ℕ) (count : w.handed ≡ 4) where
     runs = record {
       begun = s0;
       job = 1;
-      begins = (refl, refusal-of v (PutJob named byte) refl refl ∙ put_begins, refl, refl);
+      begins = (refl, refusal-of v (PutJob named byte) refl refl refl (record { journal = refl; area = refl; unswitched = refl }) ∙ put_begins, refl, refl);
       goes_on = record { steps = steps; are_steps = steps-are; ends = happens12 0; heard_is = refl };
     };
-    images = λ image is. elim (torn-image image is) [ inl h ↦ inl (inl h) | inr h ↦ inr (record { doubt = record { entry = (PutDone 1 1); maker = Some (record base { subject = 1; place = 11 }) }; in_doubt = refl; stands = h }) ];
+    images = λ image is. elim (torn-image image is) [ inl h ↦ inl (inl (refl, h)) | inr h ↦ inr (inl (record { doubt = record { entry = (PutDone 1 1); maker = Some (record base { subject = 1; place = 11 }) }; in_doubt = refl; stands = (refl, h) })) ];
     faults_are = refl;
     handed = record { count = count; each = each };
     past_text = record { next = Some (PutDone 1 1); is_next = record { done = PutStart 1 named ∷ []; rest = []; parts = refl; after_is = refl }; same = refl };
@@ -270,5 +279,5 @@ pub answers : Answers (PutUnder named) (to_put) (put_torn) (ends 12)
 answers = AnswersPut.begun four_records byte old-sure.known.opened (record { are_bytes = refl; front = refl; few = omega arith; end = λ l. refl })
     (AnswersJob.ended (DiskFault) put_begins alone
     (left-alone four_records (PutJob named byte) (DiskFault) (to_put) (put_torn) ([])
-    (λ w last n O r. jobs-leave (PutJob named byte) w last n (DiskFault) ([]) (refl, refl) O r) old-sure.known.opened refl alone)
+    (refl, refl) (λ w last n O r. jobs-leave (PutJob named byte) w last n (DiskFault) ([]) (refl, refl) O r) old-sure.known.opened refl alone)
     (record { status_is = refl; place = refl; sink = refl }))

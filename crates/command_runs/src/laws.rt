@@ -6,8 +6,8 @@ ghost use Rattle.hail_codes.specs.DispersalCode.{AcceptsNone};
 ghost use Rattle.hail_columns.specs.Verdicts.{is_flagged};
 ghost use Rattle.hail_devices.specs.Cells.{firm};
 ghost use Rattle.hail_records.specs.Records.{Record, is_setup};
-ghost use Rattle.hail_machine.specs.Jobs.{PutJob, GetJob, DropJob, AuditJob, RepairJob};
-ghost use Rattle.hail_machine.specs.Answers.{Put, Got, Dropped, Audited, Repaired, Lost, ProviderFault, DiskFault, Memory};
+ghost use Rattle.hail_machine.specs.Jobs.{PutJob, GetJob, DropJob, AuditJob, RepairJob, UpgradeJob};
+ghost use Rattle.hail_machine.specs.Answers.{Put, Got, Dropped, Audited, Repaired, Upgraded, Lost, ProviderFault, DiskFault, Memory};
 ghost use Rattle.hail_machine.specs.Refusals.{RepairDue as DueRefusal, NothingDue};
 ghost use Rattle.hail_commands.specs.Forms.{PutUnder, GetOf, DropOf, ListAll, RepairDue as RepairCommand};
 ghost use Rattle.hail_commands.specs.Keys.{IsKeyForm};
@@ -175,6 +175,7 @@ pub fn jobs_run_alone()
     ensures repair { RunsSomewhere RepairJob (Repaired 1) [] }
     ensures lost_repair { RunsSomewhere RepairJob (Lost 0 0) [] }
     ensures failed_repair { RunsSomewhere RepairJob (ProviderFault 2) [] }
+    ensures upgrade { RunsSomewhere UpgradeJob Upgraded [] }
 {
     opened_states();
 }

@@ -1,6 +1,6 @@
 -- The run is calm, and its audit missed no damage.
 use Rattle.std.proofs.Common.{◌≡◌, ℕ, zero, suc, ◌<◌, ◌==◌, Bool, true, false, ◌&&◌, ◌||◌, List, [], ◌∷◌, Some, None, refl, ap, sym, subst, ◌∙◌, inl, inr, arith}
-use Rattle.std.specs.Prelude.{not, nat_le, IsTrue, if◌then◌else◌}
+use Rattle.std.specs.Prelude.{not, nat_le, is_some, IsTrue, if◌then◌else◌}
 use Rattle.std.specs.List.{list_all}
 use Rattle.std.proofs.lemmas.Bool.{cases_Bool, and_parts, leb-true, false≢true}
 use Rattle.hail_columns.specs.Columns.{columns, is_wrong}
@@ -11,6 +11,7 @@ use Rattle.hail_machine.specs.Jobs.{Job, job_of}
 use Rattle.hail_machine.specs.States.{State, setup_in, file_in}
 use Rattle.hail_machine.specs.Runs.{Moment, first_moments}
 use Rattle.hail_machine.specs.Calm.{Mark, since, relies, replaced_count, IsCalm}
+use Rattle.hail_machine.specs.Scrubs.{AreScrubsCalm}
 use Rattle.hail_machine.specs.Missed.{is_wrong_told, is_wrong_now, NoneMissed}
 use Rattle.hail_machine.specs.Examples.{set_up}
 use Rattle.hail_records.specs.Examples.{four}
@@ -45,14 +46,24 @@ calm_by_test mark (m ∷ ms) h = (let p = and_parts (list_all (is_calm_for mark 
     passes true b reads h = h
     passes false b reads h = absurd (false≢true reads)
 
+-- no scrub runs, as a test
+abbrev pub runs_no_scrub : List Moment → Bool
+runs_no_scrub [] = true
+runs_no_scrub (m ∷ ms) = not (is_some m.state.alone) && runs_no_scrub ms
+
+pub scrubs_by_test : (mark : Mark) (ms : List Moment) → runs_no_scrub ms ≡ true → AreScrubsCalm mark ms
+scrubs_by_test mark [] h = tt
+scrubs_by_test mark (m ∷ ms) h = (let p = and_parts (not (is_some m.state.alone)) (runs_no_scrub ms) h in
+    (λ scrub at. absurd (false≢true (ap (λ x. not (is_some x)) (sym at) ∙ p.0)), scrubs_by_test mark ms p.1))
+
 pub calm : IsCalm relies (since set_up) moments
 unfolding setup_in
 calm = calm_by_test (since set_up) moments refl
 
 -- the only file in effect is that of the put
 only_file : (b : Bool) (name : List ℕ) (file : File) →
-    (if b then Some (file_as name 1 1 0) else None) ≡ Some file → file.id ≡ 1
-only_file true name file h = (let e : file_as name 1 1 0 ≡ file = cc in sym (ap (λ (f : File). f.id) e))
+    (if b then Some (file_as name 1 1 0) else None) ≡ Some file → file ≡ file_as name 1 1 0
+only_file true name file h = (let e : file_as name 1 1 0 ≡ file = cc in sym e)
 only_file false name file h = (let e : None ≡ Some file = h in cc)
 
 -- at the audit's begin each provider but the flagged one is right for it
@@ -62,9 +73,9 @@ right_then j = rw (column-right thing byte j 0) refl
 
 unmissed : (j : ℕ) → j < 4 → is_flagged 0 counts j ≡ false → (name : List ℕ) (file : File) → file_in state_21 name ≡ Some file → is_wrong_now state_21 file j ≡ true → ⊥
 unfolding setup_in
-unmissed j low flagged name file at wrong = go j low flagged (subst (λ id. is_wrong_told state_21 id j (state_21.providers j).held ≡ true) (only_file _ name file at) wrong)
+unmissed j low flagged name file at wrong = go j low flagged (subst (λ (f : File). is_wrong_told state_21 f j (state_21.providers j).held ≡ true) (only_file _ name file at) wrong)
   where
-    go : (j : ℕ) → j < 4 → is_flagged 0 counts j ≡ false → is_wrong_told state_21 1 j (state_21.providers j).held ≡ true → ⊥
+    go : (j : ℕ) → j < 4 → is_flagged 0 counts j ≡ false → is_wrong_told state_21 (file_as name 1 1 0) j (state_21.providers j).held ≡ true → ⊥
     go zero low flagged wrong = false≢true (sym (right_then 0) ∙ wrong)
     go (suc zero) low flagged wrong = false≢true (sym (right_then 1) ∙ wrong)
     go (suc (suc zero)) low flagged wrong = false≢true (sym flagged)
@@ -77,11 +88,12 @@ found = (tt, (tt, (tt, (tt, (tt, (tt, (tt, (tt, (tt, (tt, (tt, (tt, (tt, (tt, (t
 
 pub outright : IsOutright moments
 outright = record {
-  clean = record { records = inr (four, refl, refl); jobs = refl; first_job = refl; append = refl; doubt = refl; closed = refl; unbarred = refl };
+  clean = record { records = inr (four, refl, refl); journal = refl; first_area = refl; unswitched = refl; none_alone = refl; jobs = refl; first_job = refl; append = refl; doubt = refl; closed = refl; unbarred = refl };
   tell = λ j. refl;
   run = is_run;
   carried_out = writes;
   two_jobs = refl;
   calm = calm;
+  scrubs = scrubs_by_test (since set_up) moments refl;
   found = found;
 }

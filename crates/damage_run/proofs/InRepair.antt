@@ -13,7 +13,7 @@ use Rattle.run_laws.proofs.FirstHalf.{first_run}
 use Rattle.mark_laws.specs.MarkedRuns.{IsCalmRun}
 use Rattle.damage_run.specs.Points.{at, IsDamaged, InDoubt}
 use Rattle.damage_run.proofs.Run.{moments, is_run}
-use Rattle.damage_run.proofs.CalmRun.{calm_by_test, found, outright}
+use Rattle.damage_run.proofs.CalmRun.{calm_by_test, scrubs_by_test, found, outright}
 use Rattle.damage_run.proofs.Points.{doubt_at, maker_of, the_file}
 use Rattle.hail_records.specs.Records.{RepairDone}
 
@@ -38,6 +38,7 @@ calm_run = record {
   tell = outright.tell;
   run = ((omega arith, omega arith, omega arith), loses, first_run 8 set_up 47 moments is_run);
   calm = calm_by_test (since set_up) robbed_moments refl;
+  scrubs = scrubs_by_test (since set_up) robbed_moments refl;
   found = (tt, found.1.1.1.1.1.1.1.1.1.1);
 }
 

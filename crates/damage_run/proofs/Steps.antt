@@ -2,6 +2,7 @@
 use Rattle.std.proofs.Common.{ℕ, ◌==◌, true, false, List, [], ◌∷◌, Option, Some, None, refl, sym, inl, arith}
 use Rattle.std.specs.Prelude.{if◌then◌else◌}
 use Rattle.hail_records.specs.Records.{Record, SetUp, PutStart, PutDone, AuditStart, AuditDone, RepairDone}
+use Rattle.hail_records.specs.Areas.{A}
 use Rattle.hail_devices.specs.Faults.{one_more}
 use Rattle.hail_devices.specs.Providers.{Provider, with_block, without_block}
 use Rattle.hail_machine.specs.Jobs.{GetJob, AuditJob, RepairJob, Job, Given, Fetched, Answered, Worked}
@@ -26,10 +27,14 @@ counts = 0 ∷ 0 ∷ 1 ∷ 0 ∷ []
 abbrev at : List Record → List Job → ℕ → Option Append → Option Doubt → (ℕ → Provider) → (ℕ → ℕ) → State
 at records jobs next append doubt providers audits = record {
   records = records;
+  journal = records;
+  area = A;
+  is_switching = false;
   bytes = state_15.bytes;
   audits = audits;
   jobs = jobs;
   next_job = next;
+  alone = None;
   append = append;
   doubt = doubt;
   providers = providers;

@@ -12,6 +12,7 @@ use Rattle.hail_machine.specs.Events.{Begin, Step, Lose, Reopen}
 use Rattle.hail_machine.specs.States.{IsStart}
 use Rattle.hail_machine.specs.Runs.{Moment, IsRun, now, first_moments}
 use Rattle.hail_machine.specs.Calm.{IsCalm, since, relies}
+use Rattle.hail_machine.specs.Scrubs.{AreScrubsCalm}
 use Rattle.hail_machine.specs.Missed.{NoneMissed}
 use Rattle.hail_machine.specs.Halves.{AllTell}
 use Rattle.hail_machine.specs.Lines.{line}
@@ -64,4 +65,5 @@ pub record IsOutright (ms : List Moment) : Type 0 where
   pub carried_out : CarriesOut schedule ms written_lines
   pub two_jobs : length (now set_up (first_moments 22 ms)).jobs ≡ 2
   pub calm : IsCalm relies (since set_up) ms
+  pub scrubs : AreScrubsCalm (since set_up) ms
   pub found : NoneMissed set_up ms

@@ -38,10 +38,10 @@ fn store_before(alloc: Global, case: &Case) -> Option<Store> {
     if case.loses && !store.loses(2) {
         return None;
     }
-    match store.first_wrong(case.found) {
-        None => Some(store),
-        Some(_) => None,
+    if store.first_wrong(case.found).is_some() {
+        return None;
     }
+    Some(store)
 }
 
 /// Whether the command, and what a disk without faults shows afterwards, go as they are to where the disk fails at a call.

@@ -1,6 +1,7 @@
 use crate::case::Case;
-use crate::row::{done, refused};
+use crate::row::{Row, done, refused};
 use crate::store::{KEY, Store, four, three};
+use std::alloc::Global;
 use std::test::Fail;
 
 // Setting up syncs, asks the length, writes the empty journal and syncs, and appends one record in four calls.
@@ -40,22 +41,33 @@ fn a_put_stands_from_its_last_sync_on(rt: HostRuntime) -> Result<(), Fail> {
     Ok(())
 }
 
+/// How a put ends whose disk fails at a call.
+fn cut_put(call: u64) -> Row {
+    if call < 11 {
+        refused("put a", b"abc", 12, 0)
+    } else {
+        three()
+    }
+}
+
+/// Whether a put whose disk fails at a call ends as it is to, and the next one is done, under the number that is due.
+fn next_number_is_right(alloc: Global, call: u64) -> Option<bool> {
+    let mut store = Store::after(alloc, &[four()])?;
+    let told = store.disk_fails_at(&[call]) && store.first_wrong(&[cut_put(call)]).is_none();
+    let next = store.disk_fails_at(&[]) && store.first_wrong(&[three()]).is_none();
+    let drawn = store.has_object(0, 2) == (call >= 6) && !store.has_object(0, 3);
+    Some(told && next && drawn)
+}
+
 // The first record of a put, which draws its number, stands from the call 6 on; the next put then takes the number 2.
 #[test]
 fn a_put_cut_off_uses_its_number_once_it_is_begun(rt: HostRuntime) -> Result<(), Fail> {
     for call in 0..12u64 {
-        let mut store = Store::after(rt.alloc(), &[four()]).expect(&rt, "a store is set up");
-        assert!(rt; store.disk_fails_at(&[call]), "call {call}");
-        let first = if call < 11 {
-            refused("put a", b"abc", 12, 0)
-        } else {
-            three()
-        };
-        assert_eq!(rt; store.first_wrong(&[first]), None, "call {call}");
-        assert!(rt; store.disk_fails_at(&[]), "call {call}");
-        assert_eq!(rt; store.first_wrong(&[three()]), None, "call {call}");
-        assert_eq!(rt; store.has_object(0, 2), call >= 6, "call {call}");
-        assert_eq!(rt; store.has_object(0, 3), false, "call {call}");
+        assert_eq!(rt;
+            next_number_is_right(rt.alloc(), call),
+            Some(true),
+            "call {call}"
+        );
     }
     Ok(())
 }

@@ -75,9 +75,22 @@ impl Store {
     /// The store after these commands over devices that do not fail, where each ends as its row says.
     pub fn after(alloc: Global, rows: &[Row]) -> Option<Store> {
         let mut store = Store::new(alloc, &[])?;
-        match store.first_wrong(rows) {
-            None => Some(store),
-            Some(_) => None,
+        if store.first_wrong(rows).is_some() {
+            return None;
+        }
+        Some(store)
+    }
+
+    /// The line of the first command that ends otherwise than its row says, or none, from an empty disk on, where the provider at 2 fails
+    /// at these of its calls.
+    pub fn first_wrong_from_new(
+        alloc: Global,
+        fails: &[u64],
+        rows: &[Row],
+    ) -> Option<&'static str> {
+        match Store::new(alloc, fails) {
+            Some(mut store) => store.first_wrong(rows),
+            None => Some("there was no memory for the devices"),
         }
     }
 

@@ -6,6 +6,7 @@ use Rattle.hail_machine.specs.Jobs.{GetJob, Job, job_of}
 use Rattle.hail_machine.specs.States.{State, IsStart}
 use Rattle.hail_machine.specs.Runs.{Moment, IsRun, now, first_moments}
 use Rattle.hail_machine.specs.Calm.{Mark, IsCalm, relies}
+use Rattle.hail_machine.specs.Scrubs.{AreScrubsCalm}
 use Rattle.hail_machine.specs.Halves.{AllTell}
 use Rattle.hail_machine.specs.Examples.{set_up}
 use Rattle.run_laws.proofs.FirstHalf.{first_run}
@@ -15,15 +16,15 @@ use Rattle.damage_run.specs.Schedule.{name}
 use Rattle.damage_run.specs.Points.{at}
 use Rattle.fault_run.specs.Faults.{IsFaulty}
 use Rattle.fault_run.specs.Met.{HasFaults}
-use Rattle.fault_run.proofs.Parts.{first_calm}
+use Rattle.fault_run.proofs.Parts.{first_calm, first_scrubs}
 
 abbrev pub Marks : Type 0
-Marks = (limit : ℕ) (start : State) (ms : List Moment) → IsStart start → AllTell start → IsRun limit start ms → IsCalm relies (λ moments. 0) ms →
+Marks = (limit : ℕ) (start : State) (ms : List Moment) → IsStart start → AllTell start → IsRun limit start ms → IsCalm relies (λ moments. 0) ms → AreScrubsCalm (λ moments. 0) ms →
     IsMarkedRun limit (λ moments. 0) start ms
 
 -- up to each moment the run is calm by its start
 pub marked_to : Marks → (ms : List Moment) (k : ℕ) → IsFaulty ms → IsMarkedRun 8 (λ moments. 0) set_up (first_moments k ms)
-marked_to law ms k f = law 8 set_up (first_moments k ms) f.clean f.tell (first_run 8 set_up k ms f.run) (first_calm (λ moments. 0) k ms f.calm)
+marked_to law ms k f = law 8 set_up (first_moments k ms) f.clean f.tell (first_run 8 set_up k ms f.run) (first_calm (λ moments. 0) k ms f.calm) (first_scrubs (λ moments. 0) k ms f.scrubs)
 
 abbrev pub EndsSo : Type 0
 EndsSo = (limit : ℕ) (mark : Mark) (start : State) (m : Moment) (ms : List Moment) (job : Job) (name : List ℕ) (how : Answer) →

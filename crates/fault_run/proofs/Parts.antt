@@ -4,6 +4,7 @@ use Rattle.std.specs.Prelude.{length, nat_le, if◌then◌else◌}
 use Rattle.hail_machine.specs.States.{State}
 use Rattle.hail_machine.specs.Runs.{Moment, IsRun, now, first_moments}
 use Rattle.hail_machine.specs.Calm.{Mark, IsCalm, relies}
+use Rattle.hail_machine.specs.Scrubs.{AreScrubsCalm}
 use Rattle.hail_machine.specs.Failures.{Count, count_in, HasFailures, RoseBy}
 use Rattle.hail_machine.specs.Examples.{set_up}
 use Rattle.run_laws.proofs.FirstHalf.{first_run}
@@ -24,6 +25,15 @@ first_calm mark k [] h = tt
 first_calm mark k (m ∷ ms) h = by (nat_le (length (m ∷ ms)) k) (first_calm mark k ms h.1)
   where
     by : (b : Bool) → IsCalm relies mark (first_moments k ms) → IsCalm relies mark (if b then m ∷ ms else first_moments k ms)
+    by true rest = h
+    by false rest = rest
+
+-- and so are its scrubs
+pub first_scrubs : (mark : Mark) (k : ℕ) (ms : List Moment) → AreScrubsCalm mark ms → AreScrubsCalm mark (first_moments k ms)
+first_scrubs mark k [] h = tt
+first_scrubs mark k (m ∷ ms) h = by (nat_le (length (m ∷ ms)) k) (first_scrubs mark k ms h.1)
+  where
+    by : (b : Bool) → AreScrubsCalm mark (first_moments k ms) → AreScrubsCalm mark (if b then m ∷ ms else first_moments k ms)
     by true rest = h
     by false rest = rest
 

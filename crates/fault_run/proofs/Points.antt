@@ -3,7 +3,6 @@ use Rattle.std.proofs.Common.{◌≡◌, ℕ, suc, Bool, true, false, ◌&&◌, 
 use Rattle.std.specs.Prelude.{not, take}
 use Rattle.std.specs.Option.{option_map}
 use Rattle.std.proofs.lemmas.Bool.{and_parts, false≢true, not-true}
-use Rattle.poly_laws.specs.Poly.{is_seen as is_seen_over}
 use Rattle.hail_codes.specs.Polynomials.{value, is_seen}
 use Rattle.hail_codes.proofs.Values.{is_seen-none}
 use Rattle.hail_columns.specs.Objects.{point}
@@ -13,7 +12,10 @@ use Rattle.hail_records.specs.Records.{Record}
 use Rattle.hail_machine.specs.Jobs.{Given, Fetched, Answered, Job}
 use Rattle.hail_machine.specs.Actions.{Fetch, Ask, Remove, actions_of}
 use Rattle.hail_machine.specs.Answers.{Got}
-use Rattle.hail_machine.specs.Events.{Event, Continue}
+use Rattle.hail_machine.specs.Events.{Event, BeginScrub, Continue}
+use Rattle.hail_machine.specs.Scrubs.{scrubbed}
+use Rattle.hail_machine.specs.Examples.{set_up}
+use Rattle.mark_laws.specs.MarkedRuns.{BeginsNoScrub}
 use Rattle.hail_machine.specs.States.{Doubt, setup_in}
 use Rattle.hail_machine.specs.Runs.{Moment, first_moments}
 use Rattle.hail_machine.specs.Failures.{OfOthers}
@@ -24,11 +26,25 @@ use Rattle.step_laws.proofs.ByteSteps.{block_sized, block}
 use Rattle.damage_run.specs.Schedule.{name, byte}
 use Rattle.damage_run.specs.Points.{at}
 use Rattle.damage_run.proofs.Values.{thing, right, same_first, asked, decider, agrees_at}
-use Rattle.damage_run.proofs.CalmRun.{calm_by_test, outright}
+use Rattle.damage_run.proofs.CalmRun.{calm_by_test, scrubs_by_test, outright}
 use Rattle.damage_run.proofs.Points.{doubt_at, maker_of, the_file, last_of}
 use Rattle.fault_run.specs.Faults.{IsFaulty}
 use Rattle.fault_run.specs.Met.{Fails, HasFaults}
 use Rattle.fault_run.proofs.Run.{moments, is_run}
+
+-- no scrub begins
+abbrev begins_scrub : Event → Bool
+begins_scrub BeginScrub = true
+begins_scrub event = false
+
+abbrev scrubs_never : List Moment → Bool
+scrubs_never [] = true
+scrubs_never (m ∷ ms) = not (begins_scrub m.event) && scrubs_never ms
+
+unscrubbed_by_test : (ms : List Moment) → scrubs_never ms ≡ true → BeginsNoScrub ms
+unscrubbed_by_test [] h = tt
+unscrubbed_by_test (m ∷ ms) h = (let p = and_parts (not (begins_scrub m.event)) (scrubs_never ms) h in
+    (λ e. false≢true (sym (not-true (begins_scrub m.event) p.0) ∙ ap begins_scrub e), unscrubbed_by_test ms p.1))
 
 pub faulty : IsFaulty moments
 unfolding setup_in
@@ -37,6 +53,9 @@ faulty = record {
   tell = λ j. refl;
   run = is_run;
   calm = calm_by_test (λ moments. 0) moments refl;
+  scrubs = scrubs_by_test (λ moments. 0) moments refl;
+  unscrubbed = unscrubbed_by_test moments refl;
+  scrub_calm = record { jobs = calm_by_test (scrubbed set_up) moments refl; scrubs = scrubs_by_test (scrubbed set_up) moments refl };
   happens = refl;
 }
 
@@ -73,7 +92,7 @@ fetch_fails = record {
   failure = record {
     job = job_at (at 16 moments) 2;
     action = Fetch 0 1 0;
-    makes = record { event = refl; is_open = refl; unbarred = refl; runs = refl; next = refl; unheld = refl };
+    makes = record { event = refl; is_open = refl; unbarred = refl; none_alone = refl; runs = refl; next = refl; unheld = refl };
     amiss = (refl, λ seen goes gives. no_block seen (ap (λ job. block_of (newest_given job)) goes) (gives ∙ sym (block_sized 0)));
   };
 }
@@ -89,7 +108,7 @@ ask_fails = record {
   failure = record {
     job = job_at (at 55 moments) 6;
     action = Ask 2 1 0;
-    makes = record { event = refl; is_open = refl; unbarred = refl; runs = refl; next = refl; unheld = refl };
+    makes = record { event = refl; is_open = refl; unbarred = refl; none_alone = refl; runs = refl; next = refl; unheld = refl };
     amiss = (refl, λ symbol goes gives. some_right (same_first _ _ refl ∙ sym (ap (λ job. symbol_of (newest_given job)) goes ∙ gives)));
   };
 }
@@ -108,7 +127,7 @@ removal_fails = record {
   failure = record {
     job = job_at (at 71 moments) 7;
     action = Remove 3 1;
-    makes = record { event = refl; is_open = refl; unbarred = refl; runs = refl; next = refl; unheld = refl };
+    makes = record { event = refl; is_open = refl; unbarred = refl; none_alone = refl; runs = refl; next = refl; unheld = refl };
     amiss = (refl, λ gone. still_there (ap first_block gone));
   };
 }
@@ -171,6 +190,7 @@ faults = record {
   no_memory = record { moment = event_at 40; happened = record { is = refl }; event = refl; outcome = refl; file = the_file; in_effect = refl };
   cut_in_doubt = record { doubt = doubt_at (at 37 moments); in_doubt = refl; entry_is = refl; job = maker_of (doubt_at (at 37 moments)); maker = refl };
   cut_ended = refl;
+  cut_profile = refl;
   stop = event_at 37;
   stopped = record { is = refl };
   cut_settled = refl;
@@ -178,7 +198,7 @@ faults = record {
   later = after_first;
   came_moment = event_at 13;
   first_split = refl;
-  first_came = record { version = 1; done = refl; profiled = refl; started = refl; named = refl };
+  first_came = record { version = 1; done = refl; profiled = λ first. refl; started = refl; named = refl };
   never_out = never_by_test name after_first refl;
   first_got = record { moment = event_at 47; is = refl; event = refl; outcome = refl };
   has_stored = inl (record {
@@ -187,14 +207,14 @@ faults = record {
     bytes = byte;
     provider = 0;
     stripe = 0;
-    makes = record { event = refl; is_open = refl; unbarred = refl; runs = refl; next = refl; unheld = refl };
+    makes = record { event = refl; is_open = refl; unbarred = refl; none_alone = refl; runs = refl; next = refl; unheld = refl };
     puts = refl;
     begun_is = refl;
   });
   has_asked = inl (record {
     job = job_at (at 53 moments) 6;
     provider = 0;
-    makes = record { event = refl; is_open = refl; unbarred = refl; runs = refl; next = refl; unheld = refl };
+    makes = record { event = refl; is_open = refl; unbarred = refl; none_alone = refl; runs = refl; next = refl; unheld = refl };
     audits = refl;
     begun_is = refl;
     number_is = refl;

@@ -3,6 +3,7 @@ use Rattle.std.proofs.Common.{ℕ, ◌==◌, true, false, List, [], ◌∷◌, O
 use Rattle.std.specs.Prelude.{if◌then◌else◌}
 use Rattle.std.specs.Option.{option_map}
 use Rattle.hail_records.specs.Records.{Record, SetUp, PutStart, PutDone, Drop, AuditStart, AuditDone}
+use Rattle.hail_records.specs.Areas.{A}
 use Rattle.hail_devices.specs.Faults.{one_more}
 use Rattle.hail_devices.specs.Providers.{Provider, without_object}
 use Rattle.hail_machine.specs.Jobs.{PutJob, GetJob, DropJob, AuditJob, Job, Fetched, Answered, Worked}
@@ -27,10 +28,14 @@ use Rattle.fault_run.specs.Faults.{other}
 abbrev at : List Record → List Job → ℕ → Option Append → Option Doubt → (ℕ → Provider) → (ℕ → ℕ) → (ℕ → List ℕ) → State
 at records jobs next append doubt providers audits bytes = record {
   records = records;
+  journal = records;
+  area = A;
+  is_switching = false;
   bytes = bytes;
   audits = audits;
   jobs = jobs;
   next_job = next;
+  alone = None;
   append = append;
   doubt = doubt;
   providers = providers;
@@ -252,7 +257,7 @@ state_38 = record (at records_3 ([]) 5 (None) (None) providers_5 state_15.audits
 
 pub happens_37 : Happens 8 37 state_37 (Stop []) (Stopped) state_38
 unfolding setup_in actions_of
-happens_37 = inr (record { entry = PutDone 3 0; maker = Some (record put_4 { subject = 3; place = 7 }) }, refl, refl)
+happens_37 = (state_37.journal, state_37.area, inl (refl, refl), inr (record { entry = PutDone 3 0; maker = Some (record put_4 { subject = 3; place = 7 }) }, refl, refl))
 
 -- a reopening that cannot read the disk
 abbrev pub state_39 : State
@@ -268,7 +273,7 @@ state_40 = record (at records_3 ([]) 5 (None) (None) providers_5 state_15.audits
 
 pub happens_39 : Happens 8 39 state_39 (Reopen) (Opened) state_40
 unfolding setup_in actions_of
-happens_39 = (record (given_up state_39) { doubt = None }, inl refl, refl, omega arith, (2, omega arith, refl))
+happens_39 = (record (given_up state_39) { doubt = None }, (state_39.journal, state_39.area, inl (refl, refl), inl refl), refl, omega arith, (2, omega arith, refl))
 
 -- a begin that finds no memory
 abbrev pub state_41 : State

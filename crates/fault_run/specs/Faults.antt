@@ -13,8 +13,10 @@ use Rattle.hail_machine.specs.Events.{Event, Outcome, Begin, Step, Stop, Reopen,
 use Rattle.hail_machine.specs.States.{IsStart}
 use Rattle.hail_machine.specs.Runs.{Moment, IsRun}
 use Rattle.hail_machine.specs.Calm.{IsCalm, relies}
+use Rattle.hail_machine.specs.Scrubs.{AreScrubsCalm, IsScrubCalm}
 use Rattle.hail_machine.specs.Halves.{AllTell}
 use Rattle.hail_machine.specs.Examples.{set_up}
+use Rattle.mark_laws.specs.MarkedRuns.{BeginsNoScrub}
 use Rattle.damage_run.specs.Schedule.{name, byte}
 use Rattle.damage_run.specs.Points.{counts}
 
@@ -83,4 +85,7 @@ pub record IsFaulty (ms : List Moment) : Type 0 where
   pub tell : AllTell set_up
   pub run : IsRun 8 set_up ms
   pub calm : IsCalm relies (λ moments. 0) ms
+  pub scrubs : AreScrubsCalm (λ moments. 0) ms
+  pub unscrubbed : BeginsNoScrub ms
+  pub scrub_calm : IsScrubCalm set_up ms
   pub happens : told ms ≡ faulty_schedule

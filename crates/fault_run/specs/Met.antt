@@ -45,9 +45,9 @@ pub record HasMissed (w : State) (number j : ℕ) : Type 0 where
   pub runs : job_of w.jobs number ≡ Some job
   pub number_is : job.number ≡ number
   pub kind_is : job.kind ≡ GetJob name
-  pub pinned : Contains job.pinned (record { id = 1; bytes = byte })
+  pub pinned : Contains job.pinned (record { id = 1; profile = 0; bytes = byte })
   pub provider_in : j < (setup_in w).n
-  pub stripe_in : 0 < stripes (object_in w 1) (length (w.bytes 1))
+  pub stripe_in : 0 < stripes (object_in w 0 1) (length (w.bytes 1))
   pub missed : Contains job.given (Fetched j 1 0 None)
 
 -- the begin of a get of the stored file is refused
@@ -95,6 +95,7 @@ pub record HasFaults (ms : List Moment) : Type 0 where
   -- the put that was cut off: its job has ended, its record is in doubt, and a stop brings it into effect
   pub cut_in_doubt : InDoubt (at 37 ms) (PutDone 3 0)
   pub cut_ended : (at 37 ms).jobs ≡ []
+  pub cut_profile : 0 ≡ (setup_in (at 37 ms)).profile
   pub stop : Moment
   pub stopped : Happened ms 37 stop
   pub cut_settled : came (at 37 ms) stop.state ≡ Some (PutDone 3 0)

@@ -10,6 +10,8 @@ ghost use Rattle.hail_machine.specs.Survival.{IsKept};
 ghost use Rattle.hail_machine.specs.Runs.{Moment, first_moments};
 ghost use Rattle.hail_machine.specs.Jobs.{Job};
 ghost use Rattle.hail_machine.specs.Failures.{OfDisk, OfStores, OfOthers, count_in, RoseBy};
+ghost use Rattle.hail_machine.specs.Scrubs.{scrubbed, AreScrubsCalm, IsScrubCalm};
+ghost use Rattle.upgrade_run.specs.Schedule.{HasAll};
 ghost use Rattle.hail_machine.specs.Refusals as refusal;
 ghost use Rattle.hail_machine.specs.Halves.{IsGetRefusal};
 ghost use Rattle.hail_machine.specs.Examples.{set_up};
@@ -30,7 +32,8 @@ use hail_machine::laws::{
 };
 use headline::laws::every_run_keeps_the_headline;
 use mark_laws::laws::{
-    any_mark_will_do, damage_of_pinned_files_is_new, gets_give_or_are_lost, the_start_is_a_mark,
+    any_mark_will_do, damage_of_pinned_files_is_new, finished_scrubs_are_marks,
+    gets_give_or_are_lost, the_start_is_a_mark, unscrubbed_runs_are_scrub_calm,
 };
 use step_laws::laws::{done_audits_are_whole, done_puts_are_whole};
 
@@ -73,9 +76,9 @@ pub fn gets_are_refused_or_lost_by_faults()
 /// first file is kept past the fault, the stop and the reopenings.
 pub fn puts_survive_faults()
     ensures in_doubt { (ms : List Moment) → IsFaulty ms → HasFaults ms
-        → (job : Job) × PutIsWhole set_up (first_moments 37 ms) job 3 0 }
+        → (job : Job) × PutIsWhole set_up (first_moments 37 ms) job 3 0 0 }
     ensures settled { (ms : List Moment) → IsFaulty ms → HasFaults ms
-        → (job : Job) × PutIsWhole set_up (first_moments 37 ms) job 3 0 }
+        → (job : Job) × PutIsWhole set_up (first_moments 37 ms) job 3 0 0 }
     ensures first { (ms : List Moment) → IsFaulty ms → HasFaults ms
         → IsKept (at 63 ms) name (record { name = name; id = 1; size = 1; profile = 0 }) }
 {
@@ -92,15 +95,30 @@ pub fn reports_have_it()
     reports_have_what_jobs_heard();
 }
 
-/// The headline of the run: its start is a mark, so the second half holds of it too.
+/// The headline of the run: its start is a mark, so the second half holds of it too; and so is the begin of its last finished scrub, which
+/// is its start, as no scrub begins.
 pub fn headline_of_it()
     ensures headline { (ms : List Moment) → IsFaulty ms → Headline set_up ms }
     ensures mark { (ms : List Moment) → IsFaulty ms → IsMarkedRun 8 (λ moments. 0) set_up ms }
     ensures halves { (ms : List Moment) → IsFaulty ms → FirstHalf set_up ms × SecondHalf set_up ms }
+    ensures scrubs { (ms : List Moment) → IsFaulty ms → AreScrubsCalm (scrubbed set_up) ms }
+    ensures scrub_mark { (ms : List Moment) → IsFaulty ms
+        → IsMarkedRun 8 (scrubbed set_up) set_up ms × SecondHalf set_up ms }
 {
     every_run_keeps_the_headline();
     the_start_is_a_mark();
     any_mark_will_do();
+    unscrubbed_runs_are_scrub_calm();
+    finished_scrubs_are_marks();
+}
+
+/// The mark of a finished scrub, of the run of the second version: its scrub mends a block that was altered before, and the get that comes after
+/// counts from the scrub's begin, at event 22.
+pub fn a_finished_scrub_is_a_mark()
+    ensures { (ms : List Moment) × HasAll ms × IsScrubCalm set_up ms × (scrubbed set_up ms ≡ 22)
+        × IsMarkedRun 8 (scrubbed set_up) set_up ms × SecondHalf set_up ms }
+{
+    finished_scrubs_are_marks();
 }
 
 /// The numbers that the first put has stored under and the audit has asked under are below the next ones, and no other put and no other

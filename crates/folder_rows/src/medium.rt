@@ -76,6 +76,17 @@ pub struct Medium {
     calls_left: u64,
 }
 
+/// A call that changes something and gives nothing.
+#[derive(Clone, Copy)]
+pub enum Change<'a> {
+    MakeFolder(&'a str),
+    Rename(&'a str, &'a str),
+    Remove(&'a str),
+    Write(usize, usize, &'a [u8]),
+    SetLen(usize, usize),
+    Sync(usize),
+}
+
 /// What a call answers whose power is cut.
 fn no_power() -> io::Error {
     ErrorKind::Other.into()
@@ -84,6 +95,14 @@ fn no_power() -> io::Error {
 /// What a call answers that finds nothing.
 fn missing() -> io::Error {
     ErrorKind::NotFound.into()
+}
+
+/// What came of an allocation, as a call answers it.
+pub fn kept<T, E: Drop>(made: Result<T, E>) -> io::Result<T> {
+    match made {
+        Ok(value) => Ok(value),
+        Err(_) => Err(ErrorKind::OutOfMemory.into()),
+    }
 }
 
 /// A path without the slash at its end.
@@ -101,25 +120,26 @@ fn folder_of(path: &str) -> &str {
 
 /// These bytes with others written over them from an offset on, where zero bytes fill a gap.
 fn overwritten(alloc: Global, old: &[u8], at: usize, bytes: &[u8]) -> io::Result<Vec<u8>> {
-    let kept = at.min(old.len());
-    let mut new = Vec::from_slice(alloc, &old[..kept])?;
-    new.resize(at, 0)?;
-    new.extend_from_slice(bytes)?;
+    let front = at.min(old.len());
+    let mut new = kept(Vec::from_slice(alloc, &old[..front]))?;
+    kept(new.resize(at, 0))?;
+    kept(new.extend_from_slice(bytes))?;
     if let Some(rest) = old.get(new.len()..) {
-        new.extend_from_slice(rest)?;
+        kept(new.extend_from_slice(rest))?;
     }
     Ok(new)
 }
 
 /// How many bytes both begin with.
 fn same_at_front(a: &[u8], b: &[u8]) -> usize {
-    let most = a.len().min(b.len());
-    for n in 0..most {
-        if a[n] != b[n] {
-            return n;
+    let mut same = 0usize;
+    for (x, y) in a.iter().zip(b.iter()) {
+        if x != y {
+            return same;
         }
+        same = same.saturating_add(1);
     }
-    most
+    same
 }
 
 /// The bytes of a file that was cut half-way through what it has that is new.
@@ -138,12 +158,24 @@ impl Node {
         }
     }
 
+    /// Writes from an offset on.
+    fn write(&mut self, alloc: Global, at: usize, bytes: &[u8]) -> io::Result<()> {
+        self.written = overwritten(alloc, &self.written, at, bytes)?;
+        Ok(())
+    }
+
+    /// Brings the bytes to the medium.
+    fn sync(&mut self, alloc: Global) -> io::Result<()> {
+        self.firm = kept(Vec::from_slice(alloc, &self.written))?;
+        Ok(())
+    }
+
     /// The bytes of the node as they are found behind a cut.
     fn left(&self, alloc: Global, part: Part) -> io::Result<Vec<u8>> {
         match part {
-            Part::Nothing => Ok(Vec::from_slice(alloc, &self.firm)?),
+            Part::Nothing => kept(Vec::from_slice(alloc, &self.firm)),
             Part::Half => torn(alloc, &self.firm, &self.written),
-            Part::All => Ok(Vec::from_slice(alloc, &self.written)?),
+            Part::All => kept(Vec::from_slice(alloc, &self.written)),
         }
     }
 
@@ -158,6 +190,23 @@ impl Node {
 }
 
 impl Name {
+    /// A name for a path, as the calls and the medium have it.
+    fn new(
+        alloc: Global,
+        path: &str,
+        folder: usize,
+        now: Option<usize>,
+        firm: Option<usize>,
+    ) -> io::Result<Name> {
+        let path = kept(String::from_str(alloc, path))?;
+        Ok(Name {
+            path,
+            folder,
+            now,
+            firm,
+        })
+    }
+
     /// What the name names behind a cut.
     fn after_cut(&self, stays: Stays) -> Option<usize> {
         if stays.names { self.now } else { self.firm }
@@ -168,14 +217,10 @@ impl Medium {
     /// A medium on which a folder `home` is. Its power is not cut.
     pub fn new(alloc: Global) -> io::Result<Medium> {
         let mut nodes = Vec::new(alloc);
-        nodes.push(Node::new(alloc, true))?;
+        kept(nodes.push(Node::new(alloc, true)))?;
         let mut names = Vec::new(alloc);
-        names.push(Name {
-            path: String::from_str(alloc, "home")?,
-            folder: HOME,
-            now: Some(HOME),
-            firm: Some(HOME),
-        })?;
+        let home = Name::new(alloc, "home", HOME, Some(HOME), Some(HOME))?;
+        kept(names.push(home))?;
         Ok(Medium {
             alloc,
             nodes,
@@ -237,26 +282,27 @@ impl Medium {
                 return Ok(());
             }
         }
-        self.names.push(Name {
-            path: String::from_str(self.alloc, path)?,
-            folder,
-            now: node,
-            firm: None,
-        })?;
-        Ok(())
+        let name = Name::new(self.alloc, path, folder, node, None)?;
+        kept(self.names.push(name))
     }
 
     /// Makes an empty file or a folder, and gives its node.
-    pub fn make(&mut self, path: &str, is_folder: bool) -> io::Result<usize> {
+    fn make(&mut self, path: &str, is_folder: bool) -> io::Result<usize> {
         if self.find(path).is_some() {
             return Err(ErrorKind::AlreadyExists.into());
         }
         self.find(folder_of(path)).ok_or(missing())?;
         self.turn()?;
         let node = self.nodes.len();
-        self.nodes.push(Node::new(self.alloc, is_folder))?;
+        kept(self.nodes.push(Node::new(self.alloc, is_folder)))?;
         self.point(path, Some(node))?;
         Ok(node)
+    }
+
+    /// Makes a folder.
+    fn make_folder(&mut self, path: &str) -> io::Result<()> {
+        self.make(path, true)?;
+        Ok(())
     }
 
     /// Opens what is at a path, or makes it where this is asked for, and gives its node.
@@ -271,6 +317,18 @@ impl Medium {
             Some(node) => Ok(node),
             None if how.asks_create() || how.asks_create_new() => self.make(path, false),
             None => Err(missing()),
+        }
+    }
+
+    /// Makes a call that changes something.
+    pub fn change(&mut self, change: Change<'_>) -> io::Result<()> {
+        match change {
+            Change::MakeFolder(path) => self.make_folder(path),
+            Change::Rename(from, to) => self.rename(from, to),
+            Change::Remove(path) => self.remove(path),
+            Change::Write(node, at, bytes) => self.write(node, at, bytes),
+            Change::SetLen(node, len) => self.set_len(node, len),
+            Change::Sync(node) => self.sync(node),
         }
     }
 
@@ -290,7 +348,7 @@ impl Medium {
     }
 
     /// Gives the node at a path another path, which it takes from whatever has it.
-    pub fn rename(&mut self, from: &str, to: &str) -> io::Result<()> {
+    fn rename(&mut self, from: &str, to: &str) -> io::Result<()> {
         let node = self.find(from).ok_or(missing())?;
         self.turn()?;
         self.point(to, Some(node))?;
@@ -298,7 +356,7 @@ impl Medium {
     }
 
     /// Takes a name away. Where there is none nothing changes.
-    pub fn remove(&mut self, path: &str) -> io::Result<()> {
+    fn remove(&mut self, path: &str) -> io::Result<()> {
         self.powered()?;
         self.find(path).ok_or(missing())?;
         self.turn()?;
@@ -318,32 +376,40 @@ impl Medium {
     }
 
     /// Writes from an offset on.
-    pub fn write(&mut self, node: usize, at: usize, bytes: &[u8]) -> io::Result<()> {
+    fn write(&mut self, node: usize, at: usize, bytes: &[u8]) -> io::Result<()> {
         self.turn()?;
-        let node = self.nodes.get_mut(node).ok_or(missing())?;
-        node.written = overwritten(self.alloc, &node.written, at, bytes)?;
-        Ok(())
+        match self.nodes.get_mut(node) {
+            Some(node) => node.write(self.alloc, at, bytes),
+            None => Err(missing()),
+        }
     }
 
     /// Gives a file this length, where zero bytes fill a gap.
-    pub fn set_len(&mut self, node: usize, len: usize) -> io::Result<()> {
+    fn set_len(&mut self, node: usize, len: usize) -> io::Result<()> {
         self.turn()?;
-        let node = self.nodes.get_mut(node).ok_or(missing())?;
-        node.written.resize(len, 0)?;
-        Ok(())
+        match self.nodes.get_mut(node) {
+            Some(node) => kept(node.written.resize(len, 0)),
+            None => Err(missing()),
+        }
     }
 
-    /// Brings to the medium the bytes of a file, or the names in a folder.
-    pub fn sync(&mut self, node: usize) -> io::Result<()> {
-        self.turn()?;
+    /// Brings to the medium the names in a folder.
+    fn sync_names(&mut self, folder: usize) {
         for name in self.names.iter_mut() {
-            if name.folder == node {
+            if name.folder == folder {
                 name.firm = name.now;
             }
         }
-        let node = self.nodes.get_mut(node).ok_or(missing())?;
-        node.firm = Vec::from_slice(self.alloc, &node.written)?;
-        Ok(())
+    }
+
+    /// Brings to the medium the bytes of a file, or the names in a folder.
+    fn sync(&mut self, node: usize) -> io::Result<()> {
+        self.turn()?;
+        self.sync_names(node);
+        match self.nodes.get_mut(node) {
+            Some(node) => node.sync(self.alloc),
+            None => Err(missing()),
+        }
     }
 
     /// Whether a node is found behind a cut.
@@ -365,18 +431,15 @@ impl Medium {
             calls_left: u64::MAX,
         };
         for node in self.nodes.iter() {
-            left.nodes.push(node.after_cut(self.alloc, stays)?)?;
+            kept(left.nodes.push(node.after_cut(self.alloc, stays)?))?;
         }
         for name in self.names.iter() {
             if let Some(node) = name.after_cut(stays)
                 && self.is_left(name.folder, stays)
             {
-                left.names.push(Name {
-                    path: String::from_str(self.alloc, name.path.as_str())?,
-                    folder: name.folder,
-                    now: Some(node),
-                    firm: Some(node),
-                })?;
+                let path = name.path.as_str();
+                let name = Name::new(self.alloc, path, name.folder, Some(node), Some(node))?;
+                kept(left.names.push(name))?;
             }
         }
         Ok(left)

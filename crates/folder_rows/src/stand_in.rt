@@ -1,4 +1,4 @@
-use crate::medium::{Medium, Stays};
+use crate::medium::{Change, Medium, Stays, kept};
 use std::alloc::{Allocator, Global};
 use std::cell::{RefCell, RefMut};
 use std::fs::{Files, Metadata, OpenFile, OpenOptions};
@@ -36,12 +36,21 @@ fn lend(medium: &Rc<RefCell<Medium>>) -> io::Result<RefMut<'_, Medium>> {
     }
 }
 
+/// Makes a call that changes something on a medium.
+fn change_on(medium: &Rc<RefCell<Medium>>, change: Change<'_>) -> io::Result<()> {
+    lend(medium)?.change(change)
+}
+
+/// What is told of a node.
+fn metadata_of(medium: &Rc<RefCell<Medium>>, path: &str) -> io::Result<Metadata> {
+    lend(medium)?.metadata_at(path)
+}
+
 impl StandIn {
     /// A stand-in over a medium.
     fn over(alloc: Global, medium: Medium) -> io::Result<StandIn> {
-        Ok(StandIn {
-            medium: Rc::new(alloc, RefCell::new(medium))?,
-        })
+        let medium = kept(Rc::new(alloc, RefCell::new(medium)))?;
+        Ok(StandIn { medium })
     }
 
     /// A stand-in with an empty folder `home`.
@@ -69,7 +78,7 @@ impl StandIn {
     /// The bytes of the file at a path.
     pub fn bytes_at(&self, alloc: Global, path: &str) -> io::Result<Vec<u8>> {
         match lend(&self.medium)?.bytes_at(path) {
-            Some(bytes) => Ok(Vec::from_slice(alloc, bytes)?),
+            Some(bytes) => kept(Vec::from_slice(alloc, bytes)),
             None => Err(ErrorKind::NotFound.into()),
         }
     }
@@ -82,8 +91,9 @@ impl Files for StandIn {
 
     fn open_file(&self, how: &OpenOptions, path: &str) -> io::Result<Opened> {
         let node = lend(&self.medium)?.open(how, path)?;
+        let medium = kept(self.medium.clone())?;
         Ok(Opened {
-            medium: self.medium.clone()?,
+            medium,
             node,
             at: 0,
         })
@@ -94,11 +104,11 @@ impl Files for StandIn {
     }
 
     fn metadata(&self, path: &str) -> io::Result<Metadata> {
-        lend(&self.medium)?.metadata_at(path)
+        metadata_of(&self.medium, path)
     }
 
     fn symlink_metadata(&self, path: &str) -> io::Result<Metadata> {
-        lend(&self.medium)?.metadata_at(path)
+        metadata_of(&self.medium, path)
     }
 
     fn copy(&self, _from: &str, _to: &str) -> io::Result<u64> {
@@ -106,16 +116,15 @@ impl Files for StandIn {
     }
 
     fn rename(&self, from: &str, to: &str) -> io::Result<()> {
-        lend(&self.medium)?.rename(from, to)
+        change_on(&self.medium, Change::Rename(from, to))
     }
 
     fn remove_file(&self, path: &str) -> io::Result<()> {
-        lend(&self.medium)?.remove(path)
+        change_on(&self.medium, Change::Remove(path))
     }
 
     fn create_dir(&self, path: &str) -> io::Result<()> {
-        lend(&self.medium)?.make(path, true)?;
-        Ok(())
+        change_on(&self.medium, Change::MakeFolder(path))
     }
 
     fn create_dir_with_mode(&self, path: &str, _mode: u32) -> io::Result<()> {
@@ -147,7 +156,7 @@ impl Read for Opened {
 
 impl Write for Opened {
     fn write(&mut self, buf: &[u8]) -> io::Result<usize> {
-        lend(&self.medium)?.write(self.node, self.at, buf)?;
+        change_on(&self.medium, Change::Write(self.node, self.at, buf))?;
         self.at = self.at.saturating_add(buf.len());
         Ok(buf.len())
     }
@@ -175,11 +184,11 @@ impl OpenFile for Opened {
     }
 
     fn set_len(&self, size: u64) -> io::Result<()> {
-        lend(&self.medium)?.set_len(self.node, size as usize)
+        change_on(&self.medium, Change::SetLen(self.node, size as usize))
     }
 
     fn sync_all(&self) -> io::Result<()> {
-        lend(&self.medium)?.sync(self.node)
+        change_on(&self.medium, Change::Sync(self.node))
     }
 
     fn sync_data(&self) -> io::Result<()> {

@@ -12,7 +12,7 @@ use crate::stripes::{Coded, MASTER, shape_named};
 use aggregate::{Blocks, answer};
 use audit_verdict::{Counts, judge_round, round_challenge};
 use code_points::find_profile;
-use column_codec::{Block, ObjectKeys};
+use column_codec::{Block, MasksAtHand, ObjectKeys};
 use file_layout::FileShape;
 use hail_field::Symbol;
 use hail_poly::Work;
@@ -79,12 +79,20 @@ fn held_by(
     requires file { keys.now.file ≡ coded.now.file }
     requires provider { provider < coded.now.file.shape.n }
 {
+    let mut masks = MasksAtHand::new();
     let mut blocks = Vec::new(alloc);
     for stripe in 0..coded.file.stripes() {
         let mut rows = coded.rows(alloc)?;
         keys.symbols_into(stripe, bytes, &mut rows);
         let mut block = Block::zeros(alloc, coded.file.profile.size as usize)?;
-        keys.column_into(&coded.code, stripe, &rows, provider, block.symbols_mut());
+        keys.column_into(
+            &coded.code,
+            stripe,
+            &rows,
+            provider,
+            &mut masks,
+            block.symbols_mut(),
+        );
         blocks.push(block)?;
     }
     Ok(Held { blocks })

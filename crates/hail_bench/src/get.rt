@@ -11,7 +11,7 @@ use crate::failure::Failure;
 use crate::outcome::Outcome;
 use crate::spoilt::Spoilt;
 use crate::stripes::{Coded, MASTER};
-use column_codec::{Block, ObjectKeys, Trust};
+use column_codec::{Block, MasksAtHand, ObjectKeys, Trust};
 use hail_field::Symbol;
 use hail_poly::Work;
 use std::alloc::Global;
@@ -44,6 +44,7 @@ fn make(
     bytes: &[u8],
     stripe: u32,
     provider: u32,
+    masks: &mut MasksAtHand,
     rows: &mut [Symbol],
     block: &mut [Symbol],
 )
@@ -54,7 +55,7 @@ fn make(
     ensures { block.new ≡ columns (shaped_object keys.now.master.0 coded.now.file) bytes.now provider stripe }
 {
     keys.symbols_into(stripe, bytes, rows);
-    keys.column_into(&coded.code, stripe, rows, provider as usize, block);
+    keys.column_into(&coded.code, stripe, rows, provider as usize, masks, block);
 }
 
 /// Appends the blocks of all stripes of a file of these bytes to `seen`, by stripe and then by provider, with room for the
@@ -77,9 +78,10 @@ fn append_all(
         coded.now.file.shape.n) spoilt.liars seen.new.items) }
 {
     let n = u32::from(coded.file.shape.n);
+    let mut masks = MasksAtHand::new();
     for i in 0..coded.file.stripes() * n {
-        make(coded, keys, bytes, i / n, i % n, rows, block);
-        spoilt.spoil(coded, keys, i / n, i % n, rows, block);
+        make(coded, keys, bytes, i / n, i % n, &mut masks, rows, block);
+        spoilt.spoil(coded, keys, i / n, i % n, &mut masks, rows, block);
         seen.extend_from_slice(block)?;
     }
     Ok(())
@@ -156,6 +158,7 @@ impl GetWork {
         keys: &ObjectKeys,
         stripe: u32,
         trust: &mut Trust,
+        masks: &mut MasksAtHand,
         rows: &mut [Symbol],
         scratch: &mut [Block],
         work: &mut Work,
@@ -183,6 +186,7 @@ impl GetWork {
             seen,
             present,
             trust,
+            masks,
             rows,
             scratch,
             work,
@@ -214,9 +218,10 @@ impl GetWork {
             (file_bytes self.now.coded.file.length) count) }
     {
         let mut trust = Trust::new();
+        let mut masks = MasksAtHand::new();
         let mut sum = 0;
         for stripe in 0..count {
-            self.open(keys, stripe, &mut trust, rows, scratch, work)?;
+            self.open(keys, stripe, &mut trust, &mut masks, rows, scratch, work)?;
             sum = mix_all(sum, rows);
         }
         Ok(sum)

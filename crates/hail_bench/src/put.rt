@@ -8,7 +8,7 @@ ghost use Rattle.hail_bench.specs.declared.stripes.TheConstants.{MASTER};
 use crate::failure::Failure;
 use crate::outcome::Outcome;
 use crate::stripes::{Coded, MASTER, mix_blocks};
-use column_codec::{Block, ObjectKeys};
+use column_codec::{Block, MasksAtHand, ObjectKeys};
 use std::alloc::Global;
 use std::fmt::{self, Display, Formatter, Write};
 
@@ -44,9 +44,10 @@ impl PutWork {
         ensures { result ≡ making_checksum (shaped_object keys.now.master.0 self.now.coded.file)
             (file_bytes self.now.coded.file.length) count }
     {
+        let mut masks = MasksAtHand::new();
         let mut sum = 0;
         for stripe in 0..count {
-            keys.encode_stripe(&self.coded.code, stripe, &self.bytes, blocks);
+            keys.encode_stripe(&self.coded.code, stripe, &self.bytes, &mut masks, blocks);
             sum = mix_blocks(sum, blocks);
         }
         sum

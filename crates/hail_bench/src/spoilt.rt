@@ -5,7 +5,7 @@ ghost use Rattle.hail_codes.specs.ServerCode.{differences};
 use crate::blocks::fill;
 use crate::decode;
 use crate::stripes::Coded;
-use column_codec::ObjectKeys;
+use column_codec::{MasksAtHand, ObjectKeys};
 use hail_field::{Shape, Symbol};
 use std::fmt::{self, Display, Formatter, Write};
 
@@ -46,6 +46,7 @@ fn other_codeword(
     keys: &ObjectKeys,
     stripe: u32,
     provider: u32,
+    masks: &mut MasksAtHand,
     rows: &mut [Symbol],
     block: &mut [Symbol],
 )
@@ -55,7 +56,7 @@ fn other_codeword(
     requires block { length block.old ≡ coded.now.file.profile.size }
 {
     fill(stripe.wrapping_mul(16).wrapping_add(provider), rows);
-    keys.column_into(&coded.code, stripe, rows, provider as usize, block);
+    keys.column_into(&coded.code, stripe, rows, provider as usize, masks, block);
 }
 
 /// Adds an error to as many symbols of a block as are corrected.
@@ -105,6 +106,7 @@ impl Spoilt {
         keys: &ObjectKeys,
         stripe: u32,
         provider: u32,
+        masks: &mut MasksAtHand,
         rows: &mut [Symbol],
         block: &mut [Symbol],
     )
@@ -117,7 +119,7 @@ impl Spoilt {
         if provider < u32::from(self.liars) {
             match self.way {
                 Some(Way::Garbage) => fill(stripe.wrapping_mul(16).wrapping_add(provider), block),
-                _ => other_codeword(coded, keys, stripe, provider, rows, block),
+                _ => other_codeword(coded, keys, stripe, provider, masks, rows, block),
             }
         } else if provider < u32::from(self.erring) {
             add_errors(coded, stripe, block);

@@ -11,19 +11,20 @@ use Rattle.hail_devices.specs.Told.{Goes}
 use Rattle.hail_records.specs.Records.{Record, Setup, is_in_grammar, largest_journal}
 use Rattle.hail_records.specs.Journal.{text_size}
 use Rattle.hail_records.specs.Acceptance.{AreAccepted}
+use Rattle.hail_records.specs.Areas.{A}
 use Rattle.hail_machine.specs.Events as events
 use Rattle.hail_machine.specs.Events.{Outcome, Reopen}
 use Rattle.hail_machine.specs.Refusals as refusal
 use Rattle.hail_machine.specs.States.{State, setup_in}
-use Rattle.hail_machine.specs.Openings.{IsSetUp, Reopens}
+use Rattle.hail_machine.specs.Openings.{IsSetUp, Rereads, Reopens}
 use Rattle.hail_machine.specs.Stands.{StandsForState}
-use Rattle.sound_states.specs.Sound.{IsSound, IsAtRest}
+use Rattle.sound_states.specs.Sound.{IsWholeJournal, IsSound, IsAtRest}
 use Rattle.sound_states.proofs.Resting.{rest-sound}
-use Rattle.vault.specs.declared.fault.StartFault.{StartFault}
-use Rattle.vault.specs.declared.fault.StartFault.TheVariants as start_fault
+use Rattle.vault_open.specs.declared.fault.StartFault.{StartFault}
+use Rattle.vault_open.specs.declared.fault.StartFault.TheVariants as start_fault
 use Rattle.vault.specs.declared.vault.Vault.{Vault}
 use Rattle.hail_openings.specs.Opened.{IsJustOpened}
-use Rattle.vault.specs.Devices.{devices}
+use Rattle.vault_open.specs.Devices.{devices}
 use Rattle.hail_openings.specs.Journals.{IsRead, IsResynced, MayBeLeft}
 use Rattle.vault.specs.Seen.{provider_count}
 use Rattle.vault.specs.Stands.{Stands}
@@ -38,7 +39,7 @@ use Rattle.hail_client.proofs.Held.{zeros, zeros-held}
 use Rattle.hail_client.proofs.Fresh.{each-at}
 use Rattle.hail_client.proofs.Reopened.{without_vault, stands-opened, count-is, has-setup, opened}
 use Rattle.hail_client.proofs.Reopening.{WasOpened}
-use Rattle.vault.proofs.InitEvents.{err-is}
+use Rattle.vault_open.proofs.InitEvents.{err-is}
 
 -- by whether a disk tells
 pub by-told : {A X : Type 0} (told : Option A) → (IsSome told → X) → (is_some told ≡ false → X) → X
@@ -58,10 +59,14 @@ untold-goes step (Some old) new is goes = absurd (false≢true (sym is))
 abbrev pub closed-over : List Record → ℕ → ℕ → List Provider → State
 closed-over rs next faults ps = record {
   records = rs;
+  journal = rs;
+  area = A;
+  is_switching = false;
   bytes = zeros rs;
   audits = λ number. 0;
   jobs = [];
   next_job = next;
+  alone = None;
   append = None;
   doubt = None;
   providers = provider_or_empty ps;
@@ -74,8 +79,9 @@ closed-over rs next faults ps = record {
 pub rests-over : (rs : List Record) → AreAccepted rs → IsTrue (list_all is_in_grammar rs) → text_size rs ≤ largest_journal →
     (next faults : ℕ) (ps : List Provider) → IsAtRest (closed-over rs next faults ps)
 rests-over rs accepted spelled room next faults ps = record {
-  idle = (refl, refl, refl);
+  idle = (refl, refl, refl, refl);
   undoubted = refl;
+  whole = record { journal = refl; area = refl; unswitched = refl };
   accepted = accepted;
   in_grammar = spelled;
   room = room;
@@ -111,6 +117,10 @@ closed-standing None next faults ps holds none is =
 
 -- ---- reopenings
 
+-- a closed state whose disk is read again stays
+same-rereads-over : (rs : List Record) (next f : ℕ) (ps : List Provider) → Rereads (closed-over rs next f ps) (closed-over rs next f ps)
+same-rereads-over rs next f ps = (rs, A, inl (refl, refl), inl refl)
+
 module _ (moment next f g : ℕ) (ps : List Provider) (old new : Option Cells) (old_is : old ≡ None) (new_is : new ≡ None) (never : f ≤ g) where
   abbrev AnewBy : Outcome → Client → Type 0
   AnewBy outcome c = IsMadeAnew moment next Reopen outcome c (devices old f ps) (devices new g ps)
@@ -133,7 +143,7 @@ module _ (moment next f g : ℕ) (ps : List Provider) (old new : Option Cells) (
       UnlessBadJournal (Err (reopen_fault.NotOpened why)) (AnewBy (events.Refused (start_refusal why)) (without_vault next))
   fault-anew start_fault.DiskFault rose = closed-anew [] none-rests refusal.DiskFault (g, never, rose refl, refl)
   fault-anew start_fault.Memory rose = closed-anew [] none-rests refusal.Memory (g, never, refl)
-  fault-anew start_fault.NotSetUp rose = closed-anew [] none-rests refusal.NotSetUp (closed-over [] next f ps, inl refl, refl, (g, never, refl))
+  fault-anew start_fault.NotSetUp rose = closed-anew [] none-rests refusal.NotSetUp (closed-over [] next f ps, same-rereads-over [] next f ps, refl, (g, never, refl))
   fault-anew (start_fault.BadJournal at) rose = tt
 
 -- records were read
@@ -149,15 +159,18 @@ module _ (told : Option Cells) (rs : List Record) (is_read : IsRead told rs) (v 
     sound : IsSound 8 start
     sound = rest-sound 8 start (rest next f ps)
 
+    whole : IsWholeJournal start
+    whole = record { journal = refl; area = refl; unswitched = refl }
+
     pub is-up : IsSetUp start
-    is-up = has-setup start (inl refl) sound is_read.some
+    is-up = has-setup start sound is_read.some
 
     pub uses-as : provider_count v ≡ (setup_in start).n
-    uses-as = count-is start rs sound (inl refl) is_read.some v holds g next refl stands
+    uses-as = count-is start rs sound whole is_read.in_grammar (inl refl) is_read.some v holds g next refl stands
 
     pub stands-open : provider_count v ≤ length ps → Stands v (devices holds g ps) (opened start rs (provider_or_empty ps) (length ps) g)
     stands-open enough =
-        stands-opened start rs sound (inl refl) is_read.some v holds g next refl stands (provider_or_empty ps) ps (record { count = refl; each = each-at ps })
+        stands-opened start rs sound whole is_read.in_grammar (inl refl) is_read.some v holds g next refl stands (provider_or_empty ps) ps (record { count = refl; each = each-at ps })
         (let e = uses-as in omega (arith, enough, e))
 
     -- there is a state that was just opened over them
@@ -168,6 +181,7 @@ module _ (told : Option Cells) (rs : List Record) (is_read : IsRead told rs) (v 
         rest = (let r = rest next g ps in record {
           idle = r.idle;
           undoubted = r.undoubted;
+          whole = record { journal = refl; area = refl; unswitched = refl };
           accepted = r.accepted;
           in_grammar = r.in_grammar;
           room = r.room;
@@ -187,7 +201,7 @@ module _ (told : Option Cells) (rs : List Record) (is_read : IsRead told rs) (v 
       pub few-anew : length ps < provider_count v → IsMadeAnew moment next Reopen (events.Refused refusal.TooFewProviders) (without_vault next) (devices old f ps) (devices holds g ps)
       few-anew few =
           closed-anew moment next f g ps old holds old_is holds_is never rs rest refusal.TooFewProviders
-          (start, inl refl, is-up, (let e = uses-as in omega (arith, few, e)), (g, never, refl))
+          (start, same-rereads-over rs next f ps, is-up, (let e = uses-as in omega (arith, few, e)), (g, never, refl))
 
       pub opened-anew : provider_count v ≤ length ps → IsMadeAnew moment next Reopen events.Opened (record { vault = Some v; next_job = next }) (devices old f ps) (devices holds g ps)
       opened-anew enough = record {
@@ -196,7 +210,7 @@ module _ (told : Option Cells) (rs : List Record) (is_read : IsRead told rs) (v 
         makes = record {
           state = opened start rs (provider_or_empty ps) (length ps) g;
           spelled = tt;
-          happens = (start, inl refl, is-up, (let e = uses-as in omega (arith, enough, e)), (g, never, refl));
+          happens = (start, same-rereads-over rs next f ps, is-up, (let e = uses-as in omega (arith, enough, e)), (g, never, refl));
           stands = stands-open enough;
         };
       }

@@ -1,5 +1,5 @@
 -- An init as an event of the machine.
-use Rattle.std.proofs.Common.{◌≡◌, inl, inr, ℕ, Bool, true, false, List, Option, Some, None, Result, refl, ap, sym, subst, ◌∙◌}
+use Rattle.std.proofs.Common.{◌≡◌, inl, inr, ℕ, Bool, true, false, List, Option, Some, None, Result, refl, ap, sym, subst, ◌∙◌, arith}
 use Rattle.std.specs.Prelude.{IsSome, is_some}
 use Rattle.std.proofs.lemmas.Bool.{false≢true}
 use Rattle.hail_devices.specs.Cells.{Cells}
@@ -10,11 +10,11 @@ use Rattle.hail_machine.specs.Refusals as refusal
 use Rattle.hail_machine.specs.States.{State, Settles}
 use Rattle.hail_machine.specs.Openings.{Inits, InitsBy, InitsClosed}
 use Rattle.sound_states.proofs.Events.{events-sound}
-use Rattle.vault.specs.declared.fault.InitFault.{InitFault}
+use Rattle.vault_open.specs.declared.fault.InitFault.{InitFault}
 use Rattle.vault.specs.declared.vault.Vault.{Vault}
-use Rattle.vault.specs.Devices.{Devices, devices, AreDevices}
-use Rattle.vault.specs.Inits.{MayInit, MakesInit}
-use Rattle.vault.specs.Outcomes.{init_outcome}
+use Rattle.vault_open.specs.Devices.{Devices, devices, AreDevices}
+use Rattle.vault_open.specs.Inits.{MayInit, MakesInit}
+use Rattle.vault_open.specs.Inits.{init_outcome}
 use Rattle.hail_client.specs.declared.client.Client.{Client}
 use Rattle.hail_client.specs.Stands.{StandsBy, ClientStands, MakesEvent}
 
@@ -74,7 +74,7 @@ module _ (w : State) (moment : ℕ) (s : Setup) (spelled : IsSpelled (Init s)) w
         M,
         record {
           devices = M.devices;
-          sound = events-sound 8 moment w S.sound (Init s) (init_outcome result) M.state spelled M.happens;
+          sound = events-sound 8 moment w S.sound (omega arith, omega arith) (Init s) (init_outcome result) M.state spelled M.happens;
           closed = k.0 ∙ S.closed;
           next_job_is = k.1 ∙ S.next_job_is;
         },

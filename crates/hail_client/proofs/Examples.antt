@@ -1,25 +1,25 @@
 -- The worked rows.
-use Rattle.std.proofs.Common.{◌≡◌, ℕ, zero, suc, ◌<◌, ◌==◌, true, false, cond, List, [], ◌∷◌, length, replicate, codes, Option, Some, None, refl, ap, sym, subst, ◌∙◌, inl, inr, arith}
+use Rattle.std.proofs.Common.{◌≡◌, ℕ, zero, suc, [], ◌∷◌, replicate, codes, Some, None, refl, ap, sym, subst, ◌∙◌, inl, inr, arith}
 use Rattle.std.specs.Prelude.{slice_get, IsSome}
 use Rattle.std.proofs.lemmas.Bool.{cases_Bool, false≢true}
 use Rattle.hail_devices.specs.Providers.{Provider}
 use Rattle.hail_records.specs.Journal.{text, StandsFor}
-use Rattle.hail_records.specs.Table.{File, file_of, is_same_name}
+use Rattle.hail_records.specs.Table.{File, is_same_name}
 use Rattle.hail_machine.specs.Events.{Names, Closed}
 use Rattle.hail_machine.specs.Examples.{empty_provider, one_file, hundred}
 use Rattle.hail_machine.specs.Runs.{Moment}
-use Rattle.hail_machine.specs.States.{State, Doubt, IsStart}
+use Rattle.hail_machine.specs.States.{IsStart}
 use Rattle.hail_machine.specs.Stands.{IsFresh}
 use Rattle.hail_machine.specs.Survival.{IsKept}
 use Rattle.hail_machine.proofs.JobLists.{cond_true, cond_false}
 use Rattle.sound_states.specs.Follows.{AreHeld}
-use Rattle.sound_states.specs.Sound.{IsSound, IsAtRest}
+use Rattle.sound_states.specs.Sound.{IsAtRest}
 use Rattle.sound_states.proofs.Resting.{rest-sound}
-use Rattle.vault.specs.Devices.{Devices, AreDevices}
+use Rattle.vault_open.specs.Devices.{AreDevices}
 use Rattle.hail_client.specs.Examples.{closed_client, fresh, hidden, stored, stored_state, notes}
 use Rattle.hail_client.specs.Start.{start_of, TellAll}
 use Rattle.hail_client.specs.Stands.{ClientStands, IsReached}
-use Rattle.hail_client.proofs.Fresh.{is-start, are-devices, untold-start, start-tells, each-at}
+use Rattle.hail_client.proofs.Fresh.{is-start, are-devices, untold-start, each-at}
 use Rattle.hail_client.proofs.Settled.{firm-stands}
 use Rattle.hail_client.proofs.Standing.{start-stands}
 
@@ -64,8 +64,9 @@ one-held name file is = elim (cases_Bool (is_same_name (codes "notes.txt") name)
 
 stored-rests : IsAtRest stored_state
 stored-rests = record {
-  idle = (refl, refl, refl);
+  idle = (refl, refl, refl, refl);
   undoubted = refl;
+  whole = record { journal = refl; area = refl; unswitched = refl };
   accepted = (refl, (refl, (refl, tt)));
   in_grammar = refl;
   room = omega arith;
@@ -80,7 +81,7 @@ text-stands = record { in_grammar = refl; gate = 0; rest = []; closed = omega ar
 pub stored-stands : ClientStands closed_client stored stored_state
 stored-stands = record {
   devices = record {
-    images = firm-stands (text one_file) stored_state (inl text-stands);
+    images = firm-stands (text one_file) stored_state refl (inl text-stands);
     faults = refl;
     providers = record { count = refl; each = each-at stored.providers };
   };

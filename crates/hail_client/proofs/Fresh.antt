@@ -6,9 +6,10 @@ use Rattle.std.specs.List.{list_all}
 use Rattle.hail_devices.specs.Providers.{Provider}
 use Rattle.hail_records.specs.Records.{Record, Setup, SetUp, is_in_grammar}
 use Rattle.hail_records.specs.Journal.{StandsFor, StandsOrIsEmpty}
+use Rattle.hail_records.specs.Areas.{A}
 use Rattle.hail_machine.specs.States.{State, IsStart, AreFirst}
 use Rattle.hail_machine.specs.Stands.{IsFresh, StandsForState}
-use Rattle.vault.specs.Devices.{Devices, AreDevices}
+use Rattle.vault_open.specs.Devices.{Devices, AreDevices}
 use Rattle.hail_client.specs.Start.{provider_or_empty, start_of, TellAll}
 use Rattle.hail_client.proofs.Settled.{firm-stands}
 
@@ -22,10 +23,10 @@ fresh-reads : (bytes : List ℕ) (rs : List Record) → ((bytes ≡ []) × (rs �
 fresh-reads bytes rs (inl (empty, none)) = inr (none, (let e = ap length empty in omega (arith, e)))
 fresh-reads bytes rs (inr (s, one, stands)) = inl stands
 
-pub fresh-stands : (cells : Cells) (rs : List Record) (w : State) → IsFresh cells rs → w.records ≡ rs → StandsForState (Some cells) w
-fresh-stands cells rs w fresh same =
+pub fresh-stands : (cells : Cells) (rs : List Record) (w : State) → IsFresh cells rs → w.journal ≡ rs → w.area ≡ A → StandsForState (Some cells) w
+fresh-stands cells rs w fresh same area =
     subst (λ (c : Cells). StandsForState (Some c) w) (sym (none-loose 0 cells fresh.firm))
-    (firm-stands (reads cells) w (subst (StandsOrIsEmpty (reads cells)) (sym same) (fresh-reads (reads cells) rs fresh.stands)))
+    (firm-stands (reads cells) w area (subst (StandsOrIsEmpty (reads cells)) (sym same) (fresh-reads (reads cells) rs fresh.stands)))
 
 -- ---- the state before the first event
 
@@ -37,7 +38,7 @@ fresh-first bytes rs (inr (s, one, stands)) = inr (s, spelled (subst (λ (l : Li
     spelled all = grind (arith, all)
 
 pub is-start : (d : Devices) (cells : Cells) (rs : List Record) → d.holds ≡ Some cells → IsFresh cells rs → IsStart (start_of d rs)
-is-start d cells rs told fresh = record { records = fresh-first (reads cells) rs fresh.stands; jobs = refl; first_job = refl; append = refl; doubt = refl; closed = refl; unbarred = refl }
+is-start d cells rs told fresh = record { records = fresh-first (reads cells) rs fresh.stands; journal = refl; first_area = refl; unswitched = refl; none_alone = refl; jobs = refl; first_job = refl; append = refl; doubt = refl; closed = refl; unbarred = refl }
 
 pub each-at : (ps : List Provider) (j : ℕ) → j < length ps → slice_get ps j ≡ Some (provider_or_empty ps j)
 each-at [] j l = absurd (omega (arith, l))
@@ -52,7 +53,7 @@ start-tells (p ∷ ps) tell (suc j) = start-tells ps (λ k q h. tell (suc k) q h
 
 pub are-devices : (d : Devices) (cells : Cells) (rs : List Record) → d.holds ≡ Some cells → IsFresh cells rs → AreDevices d (start_of d rs)
 are-devices d cells rs told fresh = record {
-  images = subst (λ (o : Option Cells). StandsForState o (start_of d rs)) (sym told) (fresh-stands cells rs (start_of d rs) fresh refl);
+  images = subst (λ (o : Option Cells). StandsForState o (start_of d rs)) (sym told) (fresh-stands cells rs (start_of d rs) fresh refl refl);
   faults = refl;
   providers = record { count = refl; each = each-at d.providers };
 }
@@ -60,7 +61,7 @@ are-devices d cells rs told fresh = record {
 -- a disk that tells nothing
 pub untold-start : (d : Devices) (rs : List Record) → d.holds ≡ None → AreFirst rs → IsStart (start_of d rs) × AreDevices d (start_of d rs)
 untold-start d rs none first = (
-  record { records = first; jobs = refl; first_job = refl; append = refl; doubt = refl; closed = refl; unbarred = refl },
+  record { records = first; journal = refl; first_area = refl; unswitched = refl; none_alone = refl; jobs = refl; first_job = refl; append = refl; doubt = refl; closed = refl; unbarred = refl },
   record {
     images = subst (λ (o : Option Cells). StandsForState o (start_of d rs)) (sym none) tt;
     faults = refl;

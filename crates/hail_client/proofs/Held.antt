@@ -1,15 +1,11 @@
 -- Over all accepted records there are bytes for the files in effect.
-use Rattle.std.proofs.Common.{◌≡◌, ℕ, ◌==◌, ◌&&◌, true, false, cond, List, [], ◌∷◌, replicate, None, Some, refl, ap, sym, subst, ◌∙◌, inl, inr, zero, suc, length}
-use Rattle.std.specs.Prelude.{is_some}
-use Rattle.std.proofs.lemmas.Bool.{cases_Bool, eq-eqb, eqb-true, and_parts, and_from, false≢true}
+use Rattle.std.proofs.Common.{ℕ, List, replicate, ◌∙◌}
 use Rattle.std.proofs.lemmas.List.{length-replicate}
 use Rattle.hail_records.specs.Records.{Record}
 use Rattle.hail_records.specs.Table.{files_of}
 use Rattle.hail_records.specs.Acceptance.{AreAccepted}
-use Rattle.hail_machine.proofs.JobLists.{cond_true, cond_false}
 use Rattle.hail_machine.proofs.Given.{zeros-bytes}
 use Rattle.hail_records.proofs.SizeLaws.{size_by_id, size-in_effect}
-use Rattle.hail_machine.specs.Events.{AreBytes}
 use Rattle.sound_states.specs.Follows.{AreHeld}
 
 -- zeros for the bytes of each file

@@ -14,7 +14,7 @@ use Rattle.vault_core.specs.declared.wish.BeginFault.{BeginFault}
 use Rattle.vault_table.specs.Values.{Kept}
 use Rattle.vault.specs.declared.turn.Turn.{Turn}
 use Rattle.vault.specs.declared.vault.Vault.{Vault}
-use Rattle.vault.specs.Devices.{Devices}
+use Rattle.vault_open.specs.Devices.{Devices}
 use Rattle.vault.specs.Outcomes.{IfEnded}
 use Rattle.vault.specs.Seen.{table_of}
 use Rattle.vault.specs.Stands.{Stands, MakesBegin}

@@ -1,6 +1,7 @@
 -- A reopening as an event of the machine.
 use Rattle.std.proofs.Common.{◌≡◌, ◌≢◌, ◌⊎◌, inl, inr, ℕ, zero, suc, ◌<◌, ◌≤◌, true, false, List, [], ◌∷◌, length, replicate, length-take, Option, Some, None, refl, ap, sym, subst, ◌∙◌, arith}
-use Rattle.std.specs.Prelude.{is_some, slice_get}
+use Rattle.std.specs.Prelude.{is_some, slice_get, IsTrue}
+use Rattle.std.specs.List.{list_all}
 use Rattle.std.specs.Option.{option_map}
 use Rattle.std.proofs.lemmas.List.{length-replicate}
 use Rattle.std.proofs.lemmas.Bool.{cases_Bool}
@@ -9,33 +10,35 @@ use Rattle.hail_devices.specs.Disks.{synced}
 use Rattle.hail_devices.specs.Faults.{Rose}
 use Rattle.hail_devices.specs.Told.{Goes}
 use Rattle.hail_devices.specs.Providers.{Provider}
-use Rattle.hail_records.specs.Records.{Record, Setup, largest_journal}
+use Rattle.hail_records.specs.Records.{Record, Setup, is_in_grammar, largest_journal}
 use Rattle.hail_records.specs.Journal.{StandsFor, StandsOrIsEmpty}
 use Rattle.hail_records.specs.Table.{setup_of}
+use Rattle.hail_records.specs.Areas.{A}
 use Rattle.hail_machine.specs.Events as events
 use Rattle.hail_machine.specs.Events.{Reopen}
 use Rattle.hail_machine.specs.Refusals as refusal
 use Rattle.hail_machine.specs.States.{State, setup_in, given_up}
-use Rattle.hail_machine.specs.Stands.{StandsForState, StandsWithDoubt}
+use Rattle.hail_machine.specs.Stands.{StandsForState}
 use Rattle.hail_machine.specs.Openings.{Reopens, IsSetUp}
-use Rattle.sound_states.specs.Sound.{IsSound, IsAtRest}
+use Rattle.sound_states.specs.Sound.{IsWholeJournal, IsSound, IsAtRest}
 use Rattle.sound_states.proofs.Events.{events-sound}
 use Rattle.sound_states.proofs.Records.{none-set_up}
-use Rattle.vault.specs.declared.fault.StartFault.{StartFault}
-use Rattle.vault.specs.declared.fault.StartFault.TheVariants as start_fault
+use Rattle.vault_open.specs.declared.fault.StartFault.{StartFault}
+use Rattle.vault_open.specs.declared.fault.StartFault.TheVariants as start_fault
 use Rattle.vault.specs.declared.vault.Vault.{Vault}
 use Rattle.hail_openings.specs.Opened.{AreHanded, IsJustOpened}
-use Rattle.vault.specs.Devices.{devices, AreDevices}
+use Rattle.vault_open.specs.Devices.{devices, AreDevices}
 use Rattle.hail_openings.specs.Journals.{journal_read, IsRead, IsResynced}
-use Rattle.vault.specs.Causes.{IsStartFault, LiesInJournal}
+use Rattle.vault_open.specs.Causes.{IsStartFault, LiesInJournal}
 use Rattle.vault.specs.Seen.{provider_count}
 use Rattle.vault.specs.Stands.{Stands}
-use Rattle.vault.proofs.Ways.{images_on}
+use Rattle.vault_core.proofs.Plain.{first-end}
+use Rattle.vault_open.proofs.FirstVersion.{Shows, ShowsFirst, shows-first, version-shown}
 use Rattle.hail_client.specs.declared.client.Client.{Client}
 use Rattle.hail_client.specs.Outcomes.{start_refusal}
 use Rattle.hail_client.specs.Start.{anyone}
 use Rattle.hail_client.specs.Stands.{StandsClosed, MakesEvent}
-use Rattle.hail_client.proofs.Settled.{AreKept, settled, settles, settled-sound, read-kept, kept-accepted, kept-fits, firm-stands, short-read, whole-read}
+use Rattle.hail_client.proofs.Settled.{AreKept, settled, settled-whole, rereads, settled-sound, same-images, read-kept, kept-accepted, kept-fits, firm-stands, short-read, whole-read}
 use Rattle.hail_openings.proofs.Readings.{bad-none}
 use Rattle.hail_devices.proofs.PickLaws.{IsImage-reads}
 use Rattle.hail_devices.proofs.Lasting.{image-firm}
@@ -47,8 +50,8 @@ each-anyone (suc n) zero l = refl
 each-anyone (suc n) (suc j) l = each-anyone n j (omega (arith, l))
 
 -- accepted records, of which there is one, have a setup
-pub has-setup : (w : State) → AreKept w w.records → IsSound 8 w → w.records ≢ [] → IsSetUp w
-has-setup w kept sound some = elim (cases_Bool (is_some (setup_of w.records))) [
+pub has-setup : (w : State) → IsSound 8 w → w.records ≢ [] → IsSetUp w
+has-setup w sound some = elim (cases_Bool (is_some (setup_of w.records))) [
   | inl up ↦ up
   | inr down ↦ absurd (some (none-set_up w.records sound.accepted down))
 ]
@@ -57,21 +60,22 @@ has-setup w kept sound some = elim (cases_Bool (is_some (setup_of w.records))) [
 abbrev pub opened : State → List Record → (ℕ → Provider) → ℕ → ℕ → State
 opened w rs providers handed faults = record (settled w rs) { is_open = true; providers = providers; handed = handed; disk_faults = faults }
 
-module _ (w : State) (rs : List Record) (sound : IsSound 8 w) (kept : AreKept w rs) (some : rs ≢ []) where
+module _ (w : State) (rs : List Record) (sound : IsSound 8 w) (whole : IsWholeJournal w) (good : IsTrue (list_all is_in_grammar rs)) (kept : AreKept w rs) (some : rs ≢ []) where
   mid : IsSound 8 (settled w rs)
-  mid = settled-sound w rs sound kept
+  mid = settled-sound w rs sound whole kept
 
   up : IsSetUp (settled w rs)
-  up = has-setup (settled w rs) (inl refl) mid some
+  up = has-setup (settled w rs) mid some
 
   rests : (providers : ℕ → Provider) (handed faults : ℕ) → (setup_in (settled w rs)).n ≤ handed → IsAtRest (opened w rs providers handed faults)
   unfolding setup_in
   rests providers handed faults enough = record {
-    idle = (refl, refl, refl);
+    idle = (refl, refl, refl, refl);
     undoubted = refl;
+    whole = record { journal = refl; area = whole.area; unswitched = refl };
     accepted = mid.accepted;
-    in_grammar = mid.in_grammar;
-    room = (let a = mid.room in omega (arith, a));
+    in_grammar = good;
+    room = (let a = mid.room in let e = first-end (settled w rs) (settled-whole w rs whole) in omega (arith, a, e));
     files = mid.files;
     set_up = λ is. up;
     handed = λ is. enough;
@@ -108,8 +112,12 @@ module _ (w : State) (moment next : ℕ) (old : Cells) (f0 f1 : ℕ) (ps : List 
   le : w.disk_faults ≤ f1
   le = (let e = are.faults in omega (arith, e, never))
 
-  read : StandsOrIsEmpty (reads old) w.records ⊎ StandsWithDoubt w (reads old)
-  read = are.images (reads old) (IsImage-reads old)
+  -- the disk holds the whole history
+  whole_journal : IsWholeJournal w
+  whole_journal = sound.journal.whole (version-shown 8 w (reads old) sound (are.images (reads old) (IsImage-reads old)))
+
+  read : ShowsFirst w (reads old)
+  read = shows-first w (reads old) whole_journal (are.images (reads old) (IsImage-reads old))
 
   -- a state in which no vault is open, and job numbers go on
   closed-at : (new : Option Cells) (u : State) → Reopens w events.Opened u ⊎ ((why : refusal.Refusal) × Reopens w (events.Refused why) u) → StandsForState new u → u.disk_faults ≡ f1 → u.handed ≡ w.handed → ((j : ℕ) → u.providers j ≡ w.providers j) →
@@ -122,8 +130,8 @@ module _ (w : State) (moment next : ℕ) (old : Cells) (f0 f1 : ℕ) (ps : List 
   }
     where
       by : Reopens w events.Opened u ⊎ ((why : refusal.Refusal) × Reopens w (events.Refused why) u) → IsSound 8 u
-      by (inl h) = events-sound 8 moment w sound Reopen events.Opened u tt h
-      by (inr (why, h)) = events-sound 8 moment w sound Reopen (events.Refused why) u tt h
+      by (inl h) = events-sound 8 moment w sound (omega arith, omega arith) Reopen events.Opened u tt h
+      by (inr (why, h)) = events-sound 8 moment w sound (omega arith, omega arith) Reopen (events.Refused why) u tt h
 
   refused-at : (new : Option Cells) (why : refusal.Refusal) (u : State) → Reopens w (events.Refused why) u → StandsForState new u → u.disk_faults ≡ f1 → u.handed ≡ w.handed → ((j : ℕ) → u.providers j ≡ w.providers j) →
       u.is_open ≡ false → u.next_job ≡ w.next_job → MakesEvent w moment Reopen (events.Refused why) (without_vault next) (devices new f1 ps)
@@ -136,23 +144,23 @@ module _ (w : State) (moment next : ℕ) (old : Cells) (f0 f1 : ℕ) (ps : List 
 
   resynced-images : (new : Option Cells) → Goes IsResynced (Some old) new → StandsForState new left
   resynced-images None goes = absurd goes
-  resynced-images (Some new) (inl same) = images_on (Some new) w left refl refl (subst (λ (c : Cells). StandsForState (Some c) w) (sym same) are.images)
-  resynced-images (Some new) (inr same) = images_on (Some new) w left refl refl (subst (λ (c : Cells). StandsForState (Some c) w) (sym same) one)
+  resynced-images (Some new) (inl same) = same-images (Some new) w left refl refl refl refl (subst (λ (c : Cells). StandsForState (Some c) w) (sym same) are.images)
+  resynced-images (Some new) (inr same) = same-images (Some new) w left refl refl refl refl (subst (λ (c : Cells). StandsForState (Some c) w) (sym same) one)
     where
       one : StandsForState (Some (synced old)) w
-      one image of = subst (λ (l : List ℕ). StandsOrIsEmpty l w.records ⊎ StandsWithDoubt w l) (sym (image-firm (reads old) image of)) read
+      one image of = subst (Shows w) (sym (image-firm (reads old) image of)) (are.images (reads old) (IsImage-reads old))
 
-  synced-images : (new : Option Cells) (u : State) → new ≡ option_map synced (Some old) → StandsOrIsEmpty (reads old) u.records → StandsForState new u
-  synced-images new u is stands = subst (λ (o : Option Cells). StandsForState o u) (sym is) (firm-stands (reads old) u stands)
+  synced-images : (new : Option Cells) (u : State) → new ≡ option_map synced (Some old) → u.area ≡ A → StandsOrIsEmpty (reads old) u.journal → StandsForState new u
+  synced-images new u is area stands = subst (λ (o : Option Cells). StandsForState o u) (sym is) (firm-stands (reads old) u area stands)
 
   -- bytes that are no journal are not read
   not-bad : (at : ℕ) → IsStartFault (journal_read old) (start_fault.BadJournal at) → ⊥
   not-bad at (long, bad) = by_read read
     where
       none : (rs : List Record) → AreKept w rs → StandsFor (reads old) rs → ⊥
-      none rs kept stands = bad-none (journal_read old) at rs (kept-accepted w rs sound kept) (stands-take largest_journal (reads old) rs stands (kept-fits w rs sound kept)) bad
+      none rs kept stands = bad-none (journal_read old) at rs (kept-accepted w rs sound whole_journal kept) (stands-take largest_journal (reads old) rs stands (kept-fits w rs sound whole_journal kept)) bad
 
-      by_read : StandsOrIsEmpty (reads old) w.records ⊎ StandsWithDoubt w (reads old) → ⊥
+      by_read : ShowsFirst w (reads old) → ⊥
       by_read (inl (inl stands)) = none w.records (inl refl) stands
       by_read (inl (inr empty)) = (let short = empty.1 in let e = length-take largest_journal (reads old) in omega (arith, long, short, e))
       by_read (inr d) = none (d.doubt.entry ∷ w.records) (inr (d.doubt, d.in_doubt, refl)) d.stands
@@ -169,8 +177,8 @@ module _ (w : State) (moment next : ℕ) (old : Cells) (f0 f1 : ℕ) (ps : List 
   fault-event new start_fault.Memory goes is lies rose = refused-at new refusal.Memory left (f1, le, refl) (resynced-images new goes) refl refl (λ j. refl) refl refl
   fault-event new start_fault.NotSetUp goes is lies rose =
       (let kept = read-kept w (reads old) [] (free-read is) read in
-      refused-at new refusal.NotSetUp (record (settled w []) { disk_faults = f1 }) (settled w [], settles w [] kept, refl, (f1, le, refl))
-      (synced-images new (record (settled w []) { disk_faults = f1 }) (lies tt) (free-read is)) refl refl (λ j. refl) refl refl)
+      refused-at new refusal.NotSetUp (record (settled w []) { disk_faults = f1 }) (settled w [], rereads w [] whole_journal kept, refl, (f1, le, refl))
+      (synced-images new (record (settled w []) { disk_faults = f1 }) (lies tt) whole_journal.area (free-read is)) refl refl (λ j. refl) refl refl)
   fault-event new (start_fault.BadJournal at) goes is lies rose = absurd (not-bad at is)
 
   -- records were read
@@ -183,14 +191,14 @@ module _ (w : State) (moment next : ℕ) (old : Cells) (f0 f1 : ℕ) (ps : List 
     kept = read-kept w (reads old) rs whole read
 
     uses-as : provider_count v ≡ (setup_in (settled w rs)).n
-    uses-as = count-is w rs sound kept is_read.some v new f1 next is_next stands
+    uses-as = count-is w rs sound whole_journal is_read.in_grammar kept is_read.some v new f1 next is_next stands
 
     pub few-event : length ps < provider_count v → MakesEvent w moment Reopen (events.Refused refusal.TooFewProviders) (without_vault next) (devices new f1 ps)
     few-event few =
         (let count = are.providers.count in
         let fewer : w.handed < (setup_in (settled w rs)).n = (let e = uses-as in omega (arith, count, few, e)) in
-        refused-at new refusal.TooFewProviders (record (settled w rs) { disk_faults = f1 }) (settled w rs, settles w rs kept, up w rs sound kept is_read.some, fewer, (f1, le, refl))
-        (synced-images new (record (settled w rs) { disk_faults = f1 }) is_synced whole) refl refl (λ j. refl) refl refl)
+        refused-at new refusal.TooFewProviders (record (settled w rs) { disk_faults = f1 }) (settled w rs, rereads w rs whole_journal kept, up w rs sound whole_journal is_read.in_grammar kept is_read.some, fewer, (f1, le, refl))
+        (synced-images new (record (settled w rs) { disk_faults = f1 }) is_synced whole_journal.area whole) refl refl (λ j. refl) refl refl)
 
     pub opened-event : provider_count v ≤ length ps → MakesEvent w moment Reopen events.Opened (record { vault = Some v; next_job = next }) (devices new f1 ps)
     opened-event enough =
@@ -200,7 +208,7 @@ module _ (w : State) (moment next : ℕ) (old : Cells) (f0 f1 : ℕ) (ps : List 
         record {
           state = opened w rs w.providers w.handed f1;
           spelled = tt;
-          happens = (settled w rs, settles w rs kept, up w rs sound kept is_read.some, many_handed, (f1, le, refl));
+          happens = (settled w rs, rereads w rs whole_journal kept, up w rs sound whole_journal is_read.in_grammar kept is_read.some, many_handed, (f1, le, refl));
           stands = subst (λ (k : ℕ). Stands v (devices new f1 ps) (opened w rs w.providers k f1)) (sym count)
-              (stands-opened w rs sound kept is_read.some v new f1 next is_next stands w.providers ps (record { count = refl; each = are.providers.each }) many);
+              (stands-opened w rs sound whole_journal is_read.in_grammar kept is_read.some v new f1 next is_next stands w.providers ps (record { count = refl; each = are.providers.each }) many);
         })

@@ -12,12 +12,12 @@ use Rattle.hail_records.specs.Records.{Record}
 use Rattle.hail_machine.specs.Events.{Reopen, Opened, Refused}
 use Rattle.hail_machine.specs.Refusals.{TooFewProviders}
 use Rattle.hail_machine.specs.States.{State}
-use Rattle.vault.specs.declared.fault.StartFault.{StartFault}
-use Rattle.vault.specs.declared.fault.StartFault.TheVariants as start_fault
+use Rattle.vault_open.specs.declared.fault.StartFault.{StartFault}
+use Rattle.vault_open.specs.declared.fault.StartFault.TheVariants as start_fault
 use Rattle.vault.specs.declared.vault.Vault.{Vault}
-use Rattle.vault.specs.Devices.{devices}
+use Rattle.vault_open.specs.Devices.{devices}
 use Rattle.hail_openings.specs.Journals.{journal_read, IsRead, IsResynced}
-use Rattle.vault.specs.Causes.{IsStartFault, LiesInJournal}
+use Rattle.vault_open.specs.Causes.{IsStartFault, LiesInJournal}
 use Rattle.vault.specs.Seen.{provider_count}
 use Rattle.vault.specs.Stands.{Stands}
 use Rattle.hail_openings.specs.Opened.{IsJustOpened}
@@ -30,7 +30,7 @@ use Rattle.hail_client.specs.Stands.{ClientStands, MakesEvent}
 use Rattle.hail_client.proofs.Standing.{devices-of, sound-of, next-of}
 use Rattle.hail_client.proofs.Reopened as reopened
 use Rattle.hail_client.proofs.Reopened.{without_vault}
-use Rattle.vault.proofs.InitEvents.{err-is}
+use Rattle.vault_open.proofs.InitEvents.{err-is}
 
 -- records that a start read, and the vault that was opened over them
 abbrev pub WasOpened : Vault → Option Cells → Option Cells → ℕ → ℕ → Type 0

@@ -14,12 +14,13 @@ use Rattle.sound_states.specs.Sound.{IsSound}
 use Rattle.sound_states.proofs.Events.{devices-sound}
 use Rattle.vault.specs.declared.vault.Vault.{Vault}
 use Rattle.hail_openings.specs.Opened.{AreHanded}
-use Rattle.vault.specs.Devices.{devices}
+use Rattle.vault_open.specs.Devices.{devices}
 use Rattle.vault.specs.Stands.{Stands}
-use Rattle.vault.proofs.Ways.{images_on, handed_on, setup_same}
+use Rattle.vault.proofs.Ways.{handed_on, setup_same}
 use Rattle.hail_client.specs.declared.client.Client.{Client}
 use Rattle.hail_client.specs.Outcomes.{replace_outcome}
 use Rattle.hail_client.specs.Stands.{StandsBy, ClientStands, MakesEvent}
+use Rattle.hail_client.proofs.Settled.{same-images}
 use Rattle.hail_client.proofs.Standing.{devices-of, sound-of}
 
 -- what a provider that tells goes to, or one that does not
@@ -44,10 +45,12 @@ module _ (holds : Option Cells) (faults : ℕ) (ps qs : List Provider) (w : Stat
   stands-open v S handed sound =
       let same : setup_in after ≡ setup_in w = setup_same w after refl in
       record {
-        devices = record { images = images_on holds w after refl refl S.devices.images; faults = S.devices.faults; providers = handed };
+        devices = record { images = same-images holds w after refl refl refl refl S.devices.images; faults = S.devices.faults; providers = handed };
         core = record {
           sound = sound;
           is_open = S.core.is_open;
+          first = S.core.first;
+          none_alone = S.core.none_alone;
           table = S.core.table;
           setup = S.core.setup ∙ sym same;
           end = S.core.end;
@@ -65,7 +68,7 @@ module _ (holds : Option Cells) (faults : ℕ) (ps qs : List Provider) (w : Stat
   pub stands-after : (o : Option Vault) (next : ℕ) → StandsBy o next (devices holds faults ps) w → AreHanded qs after → IsSound 8 after → StandsBy o next (devices holds faults qs) after
   stands-after (Some v) next S handed sound = stands-open v S handed sound
   stands-after None next S handed sound = record {
-    devices = record { images = images_on holds w after refl refl S.devices.images; faults = S.devices.faults; providers = handed };
+    devices = record { images = same-images holds w after refl refl refl refl S.devices.images; faults = S.devices.faults; providers = handed };
     sound = sound;
     closed = S.closed;
     next_job_is = S.next_job_is;

@@ -10,7 +10,7 @@ use Rattle.hail_machine.specs.Runs.{Moment, now}
 use Rattle.hail_machine.specs.Transcripts.{GoOn}
 use Rattle.vault.specs.declared.turn.Turn.{Turn}
 use Rattle.vault.specs.declared.turn.Turn.TheVariants as turn
-use Rattle.vault.specs.Devices.{Devices}
+use Rattle.vault_open.specs.Devices.{Devices}
 use Rattle.vault.specs.Outcomes.{IfEnded}
 use Rattle.hail_client.specs.declared.client.Client.{Client}
 use Rattle.hail_client.specs.Outcomes.{step_outcome, is_more}

@@ -7,10 +7,11 @@ use Rattle.sound_states.specs.Sound.{IsSound}
 use Rattle.sound_states.proofs.Resting.{start-sound}
 use Rattle.sound_states.proofs.Events.{events-sound}
 use Rattle.vault.specs.declared.vault.Vault.{Vault}
-use Rattle.vault.specs.Devices.{Devices, AreDevices}
+use Rattle.vault_open.specs.Devices.{Devices, AreDevices}
 use Rattle.vault.proofs.Ways.{images_on}
 use Rattle.hail_client.specs.Client.{next_job_by, uses_by}
 use Rattle.hail_client.specs.Stands.{StandsClosed, StandsBy}
+use Rattle.hail_client.proofs.Settled.{same-images}
 
 pub devices-of : (o : Option Vault) (next : ℕ) (d : Devices) (w : State) → StandsBy o next d w → AreDevices d w
 devices-of (Some v) next d w S = S.devices
@@ -39,8 +40,8 @@ start-stands d w start are = record { devices = are; sound = start-sound 8 w sta
 -- and for the state in which a later call of the program goes on
 pub continued-stands : (d : Devices) (w : State) → IsSound 8 w → AreDevices d w → StandsClosed 1 d (continued w)
 continued-stands d w sound are = record {
-  devices = record { images = images_on d.holds w (continued w) refl refl are.images; faults = are.faults; providers = record { count = are.providers.count; each = are.providers.each } };
-  sound = events-sound 8 0 w sound Continue Continued (continued w) tt refl;
+  devices = record { images = same-images d.holds w (continued w) refl refl refl refl are.images; faults = are.faults; providers = record { count = are.providers.count; each = are.providers.each } };
+  sound = events-sound 8 0 w sound (omega arith, omega arith) Continue Continued (continued w) tt refl;
   closed = refl;
   next_job_is = refl;
 }

@@ -10,38 +10,53 @@ use Rattle.hail_machine.specs.Events.{Stop, AreBytes}
 use Rattle.hail_machine.specs.States.{State}
 use Rattle.hail_machine.specs.Stands.{StandsForState}
 use Rattle.sound_states.specs.Sound.{IsSound}
-use Rattle.vault.specs.Devices.{devices, AreDevices}
+use Rattle.vault_open.specs.Devices.{devices, AreDevices}
 use Rattle.hail_client.specs.declared.client.Client.{Client}
 use Rattle.hail_client.specs.Client.{client_next_job}
 use Rattle.hail_client.specs.Stands.{StandsClosed, ClientStands, MakesEvent}
 use Rattle.hail_client.proofs.Standing.{devices-of, sound-of, next-of}
-use Rattle.hail_client.proofs.Settled.{AreKept, settled, settles, settled-sound, image-kept, firm-stands}
+use Rattle.vault_open.proofs.FirstVersion.{shows-first, version-shown}
+use Rattle.hail_client.proofs.Settled.{AreLeft, left_with, left-rereads, left-sound, kept-left, settled, image-kept, firm-stands}
 
 -- the vault is given up over devices that stand for the state with these records and nothing in doubt
-pub closed-stands : (w : State) (rs : List Record) (told : Option Cells) (faults next : ℕ) (ps : List Provider) → IsSound 8 w → AreKept w rs → w.next_job ≡ next → w.disk_faults ≡ faults →
-    (ws : AreDevices (devices told faults ps) (settled w rs)) → StandsClosed next (devices told faults ps) (settled w rs)
-closed-stands w rs told faults next ps sound kept next_is faults_are are = record { devices = are; sound = settled-sound w rs sound kept; closed = refl; next_job_is = next_is }
+pub closed-stands : (w : State) (rs js : List Record) (told : Option Cells) (faults next : ℕ) (ps : List Provider) → IsSound 8 w → AreLeft w rs js → w.next_job ≡ next → w.disk_faults ≡ faults →
+    (ws : AreDevices (devices told faults ps) (left_with w rs js)) → StandsClosed next (devices told faults ps) (left_with w rs js)
+closed-stands w rs js told faults next ps sound left next_is faults_are are = record { devices = are; sound = left-sound w rs js sound left; closed = refl; next_job_is = next_is }
+
+-- the records and the journal that are left, over a disk that was stopped
+record StoppedAt (w : State) (new : Option Cells) : Type 0 where
+  records : List Record
+  journal : List Record
+  left : AreLeft w records journal
+  stands : StandsForState new (left_with w records journal)
 
 -- where the disk goes, there is one of the two that it stands for
-stopped-kept : (w : State) (old new : Option Cells) → Goes Stopped old new → StandsForState old w → (rs : List Record) × AreKept w rs × StandsForState new (settled w rs)
-stopped-kept w None None goes stands = (w.records, inl refl, tt)
-stopped-kept w None (Some new) goes stands = absurd goes
-stopped-kept w (Some old) None goes stands = absurd goes
-stopped-kept w (Some old) (Some new) (image, is, new_is) stands =
-    (let k = image-kept w image (stands image is) in
-    (k.0, k.1, subst (λ (c : Cells). StandsForState (Some c) (settled w k.0)) (sym new_is) (firm-stands image (settled w k.0) k.2)))
+stopped-left : (w : State) (old new : Option Cells) → IsSound 8 w → Goes Stopped old new → StandsForState old w → StoppedAt w new
+stopped-left w None None sound goes stands = record { records = w.records; journal = w.journal; left = inl (refl, refl); stands = tt }
+stopped-left w None (Some new) sound goes stands = absurd goes
+stopped-left w (Some old) None sound goes stands = absurd goes
+stopped-left w (Some old) (Some new) sound (image, is, new_is) stands =
+    let whole = sound.journal.whole (version-shown 8 w image sound (stands image is)) in
+    let k = image-kept w image (shows-first w image whole (stands image is)) in
+    record {
+      records = k.0;
+      journal = k.0;
+      left = kept-left w k.0 whole k.1;
+      stands = subst (λ (c : Cells). StandsForState (Some c) (settled w k.0)) (sym new_is) (firm-stands image (settled w k.0) whole.area k.2);
+    }
 
 pub stops : (w : State) (moment : ℕ) (picks : List ℕ) (c next : Client) (old new : Option Cells) (f g : ℕ) (ps : List Provider) → AreBytes picks → next ≡ record { vault = None; next_job = client_next_job c } →
     Goes Stopped old new → g ≡ f → ClientStands c (devices old f ps) w → MakesEvent w moment (Stop picks) events.Stopped next (devices new g ps)
 stops w moment picks c next old new f g ps spelled next_is goes same S =
     let are = devices-of c.vault c.next_job (devices old f ps) w S in
-    let k = stopped-kept w old new goes are.images in
     let sound = sound-of c.vault c.next_job (devices old f ps) w S in
+    let k = stopped-left w old new sound goes are.images in
+    let after = left_with w k.records k.journal in
     record {
-      state = settled w k.0;
+      state = after;
       spelled = spelled;
-      happens = settles w k.0 k.1;
-      stands = subst (λ (x : Client). ClientStands x (devices new g ps) (settled w k.0)) (sym next_is)
-          (closed-stands w k.0 new g (client_next_job c) ps sound k.1 (next-of c.vault c.next_job (devices old f ps) w S) (are.faults ∙ sym same)
-          (record { images = k.2; faults = are.faults ∙ sym same; providers = record { count = are.providers.count; each = are.providers.each } }));
+      happens = left-rereads w k.records k.journal k.left;
+      stands = subst (λ (x : Client). ClientStands x (devices new g ps) after) (sym next_is)
+          (closed-stands w k.records k.journal new g (client_next_job c) ps sound k.left (next-of c.vault c.next_job (devices old f ps) w S) (are.faults ∙ sym same)
+          (record { images = k.stands; faults = are.faults ∙ sym same; providers = record { count = are.providers.count; each = are.providers.each } }));
     }

@@ -16,8 +16,8 @@ use Rattle.hail_machine.specs.Events as events
 use Rattle.hail_machine.specs.Events.{Outcome}
 use Rattle.vault_core.specs.declared.wish.BeginFault.{BeginFault}
 use Rattle.vault_table.specs.Values.{Kept}
-use Rattle.vault.specs.declared.fault.StartFault.{StartFault}
-use Rattle.vault.specs.declared.fault.StartFault.TheVariants as start_fault
+use Rattle.vault_open.specs.declared.fault.StartFault.{StartFault}
+use Rattle.vault_open.specs.declared.fault.StartFault.TheVariants as start_fault
 use Rattle.vault.specs.declared.turn.Turn.{Turn}
 use Rattle.vault.specs.declared.turn.Turn.TheVariants as turn
 use Rattle.vault.specs.Outcomes as vault

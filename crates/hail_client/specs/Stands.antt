@@ -35,7 +35,8 @@ use Rattle.hail_machine.specs.Transcripts.{RunsToEnd}
 use Rattle.sound_states.specs.Sound.{IsSound}
 use Rattle.vault.specs.declared.turn.Turn.{Turn}
 use Rattle.vault.specs.declared.vault.Vault.{Vault}
-use Rattle.vault.specs.Devices.{Devices, devices, AreDevices, IsSameBeyond}
+use Rattle.vault_open.specs.Devices.{Devices, devices, AreDevices}
+use Rattle.vault.specs.Devices.{IsSameBeyond}
 use Rattle.hail_openings.specs.Journals.{IsRead}
 use Rattle.hail_openings.specs.Opened.{IsJustOpened}
 use Rattle.vault.specs.Outcomes.{IfEnded}

@@ -8,8 +8,9 @@
 use Rattle.std.specs.Prelude.{◌≡◌, ℕ, zero, suc, false, List, [], ◌∷◌, length, slice_get, None, Some, IsSome}
 use Rattle.hail_devices.specs.Providers.{Provider}
 use Rattle.hail_records.specs.Records.{Record}
+use Rattle.hail_records.specs.Areas.{A}
 use Rattle.hail_machine.specs.States.{State}
-use Rattle.vault.specs.Devices.{Devices}
+use Rattle.vault_open.specs.Devices.{Devices}
 
 -- a provider that tells that it holds nothing, and counts nothing: it stands at each place past those
 -- handed in
@@ -26,10 +27,14 @@ provider_or_empty (p ∷ ps) (suc j) = provider_or_empty ps j
 abbrev pub start_of : Devices → List Record → State
 start_of d rs = record {
   records = rs;
+  journal = rs;
+  area = A;
+  is_switching = false;
   bytes = λ id. [];
   audits = λ number. 0;
   jobs = [];
   next_job = 1;
+  alone = None;
   append = None;
   doubt = None;
   providers = provider_or_empty d.providers;

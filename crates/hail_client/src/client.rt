@@ -2,7 +2,7 @@ ghost use Rattle.std.specs.Prelude.{◌≡◌, ℕ, false, option_copied};
 ghost use Rattle.hail_machine.specs.Events.{Names};
 ghost use Rattle.hail_machine.specs.States.{State, IsStart, continued};
 ghost use Rattle.sound_states.specs.Sound.{IsSound};
-ghost use Rattle.vault.specs.Devices.{Devices, AreDevices};
+ghost use Rattle.vault_open.specs.Devices.{Devices, AreDevices};
 ghost use Rattle.hail_client.specs.Client.{is_open, client_next_job, names_of, uses};
 ghost use Rattle.hail_client.specs.Outcomes.{names_outcome};
 ghost use Rattle.hail_client.specs.Stands.{ClientStands, MakesEvent};

@@ -4,6 +4,7 @@ ghost use Rattle.hail_devices.specs.Cells.{Cells};
 ghost use Rattle.hail_devices.specs.Images.{EachImage};
 ghost use Rattle.hail_records.specs.Records.{Record};
 ghost use Rattle.hail_records.specs.Table.{File};
+ghost use Rattle.hail_records.specs.Areas.{A};
 ghost use Rattle.hail_machine.specs.Events.{Event, Outcome};
 ghost use Rattle.hail_machine.specs.Runs.{Moment, now};
 ghost use Rattle.hail_machine.specs.Halves.{AllTell};
@@ -11,7 +12,7 @@ ghost use Rattle.hail_machine.specs.Stands.{IsFresh, StandsForState};
 ghost use Rattle.hail_machine.specs.States.{State, IsStart, AreFirst};
 ghost use Rattle.hail_machine.specs.Survival.{IsKept};
 ghost use Rattle.sound_states.specs.Sound.{IsSound};
-ghost use Rattle.vault.specs.Devices.{Devices, AreDevices};
+ghost use Rattle.vault_open.specs.Devices.{Devices, AreDevices};
 ghost use Rattle.hail_client.specs.declared.client.Client.{Client};
 ghost use Rattle.hail_client.specs.Client.{client_next_job, uses};
 ghost use Rattle.hail_client.specs.Examples.{closed_client, fresh, hidden, stored, stored_state, notes};
@@ -37,10 +38,10 @@ pub fn images_have_the_files()
         EachImage d.holds (ImageHasFile name file) }
 {}
 
-/// A disk before its first use stands for each state over the records that it reads.
+/// A disk before its first use stands for each state whose journal, in the first area, is of the records that it reads.
 pub fn fresh_disks_stand()
-    ensures { (cells : Cells) (rs : List Record) (w : State) → IsFresh cells rs → w.records ≡ rs
-        → StandsForState (Some cells) w }
+    ensures { (cells : Cells) (rs : List Record) (w : State) → IsFresh cells rs → w.journal ≡ rs
+        → w.area ≡ A → StandsForState (Some cells) w }
 {}
 
 /// So there is a state before the first event for every disk that tells, before its first use, and for all providers; for a disk that

@@ -4,7 +4,7 @@ ghost use Rattle.hail_devices.specs.ProviderCalls.{Replaces};
 ghost use Rattle.hail_devices.specs.Providers.{HasPlace, with_symbol, without_block};
 ghost use Rattle.hail_machine.specs.Events.{Alter, Lose};
 ghost use Rattle.hail_machine.specs.States.{State};
-ghost use Rattle.vault.specs.Devices.{devices};
+ghost use Rattle.vault_open.specs.Devices.{devices};
 ghost use Rattle.provider_model.specs.Seen.{provider_seen};
 ghost use Rattle.hail_client.specs.Outcomes.{replace_outcome};
 ghost use Rattle.hail_client.specs.Stands.{ClientStands, MakesEvent};

@@ -2,7 +2,8 @@ ghost use Rattle.std.specs.Prelude.{◌≡◌, ◌≢◌, List, true, Some, IfSo
 ghost use Rattle.hail_machine.specs.Runs.{Moment};
 ghost use Rattle.hail_machine.specs.States.{State};
 ghost use Rattle.vault.specs.declared.turn.Turn.TheVariants as turn;
-ghost use Rattle.vault.specs.Devices.{devices, devices_seen};
+ghost use Rattle.vault_open.specs.Devices.{devices};
+ghost use Rattle.vault.specs.Devices.{devices_seen};
 ghost use Rattle.vault.specs.Outcomes.{IfEnded, HasPaddedCounts};
 ghost use Rattle.hail_client.specs.Client.{is_open};
 ghost use Rattle.hail_client.specs.Outcomes.{is_more};

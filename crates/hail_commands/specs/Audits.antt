@@ -21,12 +21,12 @@ use Rattle.hail_devices.specs.Faults.{Rose}
 use Rattle.hail_records.specs.Records.{Setup, Record, AuditStart, AuditDone}
 use Rattle.hail_records.specs.Table.{File, files_of, next_audit}
 use Rattle.hail_machine.specs.Jobs.{Answered}
-use Rattle.hail_machine.specs.Setups.{object_of}
+use Rattle.hail_machine.specs.Setups.{profiled}
 use Rattle.hail_machine.specs.Actions.{rounds_of}
 use Rattle.hail_machine.specs.Given.{answer_given, answers_given}
 use Rattle.hail_machine.specs.Heard.{Entry, given_to}
 use Rattle.hail_machine.specs.Answers.{Answer, Audited, DiskFault, Memory}
-use Rattle.hail_commands.specs.Ran.{Ran, setup_at_begin, job_number, SameHeld, NoFetches, IsWhole, IsCut}
+use Rattle.hail_commands.specs.Ran.{Ran, setup_at_begin, object_at_begin, job_number, SameHeld, NoFetches, IsWhole, IsCut}
 use Rattle.hail_commands.specs.Truthful.{IsTruthful}
 
 -- a file among others in ascending order of their numbers
@@ -47,8 +47,8 @@ pub record Question : Type 0 where
 -- a question for each file that has a stripe and each round
 abbrev pub questions : Setup → List File → List Question
 questions s files =
-    flat_map (λ (f : File). map (λ round. record { file = f; round = round }) (rounds_of s f.size))
-    (files_by_number files)
+    flat_map (λ (f : File). map (λ round. record { file = f; round = round })
+    (rounds_of (profiled s f.profile) f.size)) (files_by_number files)
 
 -- the questions of an audit
 abbrev pub questions_of : Ran → List Question
@@ -57,7 +57,7 @@ questions_of x = questions (setup_at_begin x) (files_of x.records)
 -- the challenge of a question
 abbrev pub challenge_at : Ran → ℕ → Question → Challenge
 challenge_at x number q =
-    challenge_of (object_of (setup_at_begin x) q.file.id) q.file.size (setup_at_begin x).picks number q.round
+    challenge_of (object_at_begin x q.file) q.file.size (setup_at_begin x).picks number q.round
 
 -- the answer that an ask gave
 abbrev pub answer_heard : Ran → ℕ → ℕ → ℕ → Option ℕ
@@ -84,7 +84,7 @@ pub record HearsRounds (x : Ran) (number : ℕ) : Type 0 where
 -- one round is judged by what all providers answered
 abbrev pub JudgesOne : Ran → ℕ → Question → Sums → Sums → Type 0
 JudgesOne x number q old new =
-    Judges (object_of (setup_at_begin x) q.file.id) (challenge_at x number q)
+    Judges (object_at_begin x q.file) (challenge_at x number q)
     (answers_given (given_to job_number x.heard) (setup_at_begin x).n q.file.id q.round) old new
 
 -- rounds are judged one after the other

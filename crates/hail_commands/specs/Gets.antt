@@ -17,11 +17,10 @@ use Rattle.hail_columns.specs.Opened.{SeenBlock, GivesSymbols, LosesRow, OpensFi
 use Rattle.hail_devices.specs.Providers.{sized}
 use Rattle.hail_records.specs.Table.{File, file_of}
 use Rattle.hail_machine.specs.Jobs.{Fetched}
-use Rattle.hail_machine.specs.Setups.{object_of, stripes_of}
 use Rattle.hail_machine.specs.Given.{block_given, blocks_given}
 use Rattle.hail_machine.specs.Heard.{Entry, given_to}
 use Rattle.hail_machine.specs.Answers.{Answer, Got, Lost}
-use Rattle.hail_commands.specs.Ran.{Ran, setup_at_begin, job_number, SameHeld}
+use Rattle.hail_commands.specs.Ran.{Ran, setup_at_begin, object_at_begin, stripes_at_begin, job_number, SameHeld}
 use Rattle.hail_commands.specs.Truthful.{IsTruthful}
 
 -- the block that a fetch from a provider gave
@@ -44,23 +43,23 @@ pub record HearsStripes (x : Ran) (file : File) (count : ℕ) : Type 0 where
   pub heard : x.heard ≡ fetch_entries x file.id count
   pub truthful : (j : ℕ) → j < (setup_at_begin x).n → IfSome (x.old j).held (λ held.
       IsTruthful (λ stripe. block_heard x file.id stripe j)
-      (λ stripe. sized (object_of (setup_at_begin x) file.id).profile.size (held file.id stripe))
+      (λ stripe. sized (object_at_begin x file).profile.size (held file.id stripe))
       (upto count)
       (x.old j).other_faults (x.new j).other_faults)
 
 -- a stripe of the file has a row that is not accepted, and no stripe before it
 pub record LosesStripe (x : Ran) (file : File) (stripe row : ℕ) : Type 0 where
-  pub within : stripe < stripes_of (setup_at_begin x) file.size
+  pub within : stripe < stripes_at_begin x file
   pub hears : HearsStripes x file (stripe + 1)
   pub before : (k : ℕ) → k < stripe → (symbols : List ℕ) × GivesSymbols
-      (object_of (setup_at_begin x) file.id) k (blocks_heard x file.id k) symbols
-  pub loses : LosesRow (object_of (setup_at_begin x) file.id) stripe (blocks_heard x file.id stripe) row
+      (object_at_begin x file) k (blocks_heard x file.id k) symbols
+  pub loses : LosesRow (object_at_begin x file) stripe (blocks_heard x file.id stripe) row
 
 -- what a get gives of a file
 abbrev pub GetGives : Ran → File → Answer → Type 0
 GetGives x file (Got bytes) =
-    HearsStripes x file (stripes_of (setup_at_begin x) file.size)
-    × OpensFile (object_of (setup_at_begin x) file.id) file.size (blocks_heard x file.id) bytes
+    HearsStripes x file (stripes_at_begin x file)
+    × OpensFile (object_at_begin x file) file.size (blocks_heard x file.id) bytes
 GetGives x file (Lost stripe row) = LosesStripe x file stripe row
 GetGives x file answer = ⊥
 

@@ -14,10 +14,10 @@ use Rattle.std.specs.Prelude.{◌≡◌, ◌⊎◌, ℕ, ◌≤◌, List, [], �
 use Rattle.std.specs.Option.{option_map}
 use Rattle.hail_devices.specs.Cells.{Cells, reads}
 use Rattle.hail_devices.specs.Images.{EachImage}
-use Rattle.hail_records.specs.Records.{Record, Drop, RepairDone}
+use Rattle.hail_records.specs.Records.{Record, Drop, RepairDone, Version}
 use Rattle.hail_records.specs.Table.{due_of}
 use Rattle.hail_records.specs.Journal.{text_size, StandsFor, StandsOrIsEmpty}
-use Rattle.hail_machine.specs.Jobs.{Kind, PutJob, GetJob, DropJob, AuditJob, RepairJob}
+use Rattle.hail_machine.specs.Jobs.{Kind, PutJob, GetJob, DropJob, AuditJob, RepairJob, UpgradeJob}
 use Rattle.hail_machine.specs.Begins.{due_number}
 use Rattle.hail_machine.specs.Answers.{Answer, Lost, ProviderFault, DiskFault, Memory}
 use Rattle.hail_machine.specs.States.{State}
@@ -37,6 +37,7 @@ use Rattle.hail_commands.specs.Gets.{GetLeaves}
 use Rattle.hail_commands.specs.Drops.{DropLeaves}
 use Rattle.hail_commands.specs.Audits.{AuditLeaves, audit_records}
 use Rattle.hail_commands.specs.Repairs.{RepairLeaves}
+use Rattle.hail_commands.specs.Upgrades.{UpgradeLeaves}
 
 -- what a job leaves and hears, by its kind; only gets and audits hear anything, and only gets and repairs
 -- fetch
@@ -46,6 +47,7 @@ LeavesBy x (GetJob name) answer = GetLeaves x name answer
 LeavesBy x (DropJob name) answer = DropLeaves x name answer × NoFetches x × (x.heard ≡ [])
 LeavesBy x AuditJob answer = AuditLeaves x answer
 LeavesBy x RepairJob answer = RepairLeaves x answer × (x.heard ≡ [])
+LeavesBy x UpgradeJob answer = UpgradeLeaves x answer × NoFetches x × (x.heard ≡ [])
 
 -- what a job leaves: providers that it does not use stay as they are
 pub record Leaves (x : Ran) (kind : Kind) (answer : Answer) : Type 0 where
@@ -76,6 +78,7 @@ IsNext AuditJob before after next =
     × IsNextRecord (audit_records before undecided counts) before after next
 IsNext RepairJob before after next =
     IsNextRecord (RepairDone (due_number (due_of before)) ∷ []) before after next
+IsNext UpgradeJob before after next = IsNextRecord (Version ∷ []) before after next
 
 -- the records in effect, with the one that was being appended
 abbrev pub with_next : Option Record → List Record → List Record

@@ -17,6 +17,7 @@ pub mod Gets
 pub mod Drops
 pub mod Audits
 pub mod Repairs
+pub mod Upgrades
 pub mod Jobs
 pub mod Inits
 pub mod Commands

@@ -1,6 +1,8 @@
 -- What stands before the begin of a command over a store that is set up. Records have the newest first.
 --
 --   setup_in_effect records              == the setup in effect
+--   object_in_effect records file        == the object of a file in effect
+--   stripes_in_effect records file       == how many stripes it has
 --   IsOpened old records          == they are read, and enough providers are handed in
 --   Unstarted old new end         == the command ended before that, with its cause
 --
@@ -8,17 +10,26 @@
 -- status comes exactly where its cause applies, unless a counted fault of the disk or want of memory comes
 -- before.
 use Rattle.std.specs.Prelude.{ℕ, ◌<◌, ◌≤◌, IfSome, List, length}
+use Rattle.hail_columns.specs.Objects.{Object}
 use Rattle.hail_devices.specs.Faults.{Rose}
 use Rattle.hail_records.specs.Records.{Setup, Record}
-use Rattle.hail_records.specs.Table.{setup_of}
+use Rattle.hail_records.specs.Table.{File, setup_of}
 use Rattle.hail_records.specs.Reading.{HasNoSetup}
-use Rattle.hail_machine.specs.Setups.{setup_or_none}
+use Rattle.hail_machine.specs.Setups.{setup_or_none, profiled, object_of, stripes_of}
 use Rattle.hail_openings.specs.Journals.{journal_read, IsRead, IsBadStart}
 use Rattle.hail_commands.specs.Seen.{Seen, Ending, IsRefused, IsSynced}
 
 -- the setup in effect
 abbrev pub setup_in_effect : List Record → Setup
 setup_in_effect records = setup_or_none (setup_of records)
+
+-- the object of a file in effect
+abbrev pub object_in_effect : List Record → File → Object
+object_in_effect records file = object_of (profiled (setup_in_effect records) file.profile) file.id
+
+-- how many stripes a file in effect has
+abbrev pub stripes_in_effect : List Record → File → ℕ
+stripes_in_effect records file = stripes_of (profiled (setup_in_effect records) file.profile) file.size
 
 -- the records are read, and enough providers are handed in
 pub record IsOpened (old : Seen) (records : List Record) : Type 0 where

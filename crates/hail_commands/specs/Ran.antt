@@ -6,6 +6,11 @@
 --   ran_from w new heard  == the same between two states of the machine
 --   ran_alone records old new heard faults after doubt  == the same as it is seen of the devices
 --   CountsRise x       == no count of faults fell
+--   object_at_begin x file  == the object of a file
+--   stripes_at_begin x file == how many stripes it has
+--   profile_among other files id == the profile of the file of a number among these; the other one where
+--                         there is none
+--   object_numbered x id == the object of a number among the files in effect
 --   providers_of x     == the numbers of the providers of the setup
 --   job_number         == 1, the number of the one job
 --   EachHeldGoes x change   == so goes what each provider of the setup holds that tells it; one that
@@ -15,15 +20,18 @@
 --   IsWhole x records  == these records came into effect, given the oldest first, and none is in doubt
 --   IsCut x records    == so did those of them before some record, and none is in doubt
 --   IsCutInDoubt x records  == the same, but that very record may be in doubt
-use Rattle.std.specs.Prelude.{◌≡◌, ◌⊎◌, ℕ, ◌<◌, ◌≤◌, List, ◌∷◌, ◌++◌, reverse, Option, None, Some}
+use Rattle.std.specs.Prelude.{◌≡◌, ◌⊎◌, ℕ, ◌<◌, ◌≤◌, ◌==◌, List, [], ◌∷◌, ◌++◌, reverse, Option, None, Some, if◌then◌else◌}
 use Rattle.std.specs.Option.{option_map}
+use Rattle.hail_columns.specs.Objects.{Object}
 use Rattle.hail_devices.specs.Providers.{Held, Provider}
 use Rattle.hail_devices.specs.Told as told
 use Rattle.hail_records.specs.Records.{Setup, Record}
+use Rattle.hail_records.specs.Table.{File, files_of}
+use Rattle.hail_machine.specs.Setups.{profiled, object_of}
 use Rattle.hail_machine.specs.States.{State, Doubt}
 use Rattle.hail_machine.specs.Heard.{Entry}
 use Rattle.hail_commands.specs.Seen.{Seen, provider_at}
-use Rattle.hail_commands.specs.Opens.{setup_in_effect}
+use Rattle.hail_commands.specs.Opens.{setup_in_effect, object_in_effect, stripes_in_effect}
 
 -- what a run of one job began with, and what it left
 pub record Ran : Type 0 where
@@ -66,6 +74,25 @@ ran_alone records old new heard faults after doubt = record {
 -- the setup in effect
 abbrev pub setup_at_begin : Ran → Setup
 setup_at_begin x = setup_in_effect x.records
+
+-- the object of a file
+abbrev pub object_at_begin : Ran → File → Object
+object_at_begin x file = object_in_effect x.records file
+
+-- how many stripes a file has
+abbrev pub stripes_at_begin : Ran → File → ℕ
+stripes_at_begin x file = stripes_in_effect x.records file
+
+-- the profile of the file of a number among these; the other one where there is none
+abbrev pub profile_among : ℕ → List File → ℕ → ℕ
+profile_among other [] id = other
+profile_among other (f ∷ fs) id = if f.id == id then f.profile else profile_among other fs id
+
+-- the object of a number among the files in effect
+abbrev pub object_numbered : Ran → ℕ → Object
+object_numbered x id =
+    object_of (profiled (setup_at_begin x)
+    (profile_among (setup_at_begin x).profile (files_of x.records) id)) id
 
 -- the number of the one job
 abbrev pub job_number : ℕ

@@ -5,12 +5,12 @@
 --   causes_of records kind          == the causes for which the begin is refused, in order
 --   refusal_over records kind         == the first one that applies; None where the job begins
 --   status_of refusal               == the status that tells of it
-use Rattle.std.specs.Prelude.{ℕ, ◌+◌, ◌-◌, ◌^◌, ◌&&◌, ◌||◌, Bool, false, not, List, [], ◌∷◌, length, sum, Option, is_some, nat_le, nat_lt}
+use Rattle.std.specs.Prelude.{ℕ, ◌+◌, ◌-◌, ◌^◌, ◌==◌, ◌&&◌, ◌||◌, Bool, false, not, List, [], ◌∷◌, length, sum, Option, is_some, nat_le, nat_lt}
 use Rattle.hail_records.specs.Records.{Record, is_name, largest_file, largest_journal, most_files}
 use Rattle.hail_records.specs.Journal.{text_size}
-use Rattle.hail_records.specs.Table.{next_id, next_audit, file_of, files_of, due_of}
+use Rattle.hail_records.specs.Table.{version_of, next_id, next_audit, file_of, files_of, due_of}
 use Rattle.hail_machine.specs.Begins.{names_in, is_name_among}
-use Rattle.hail_machine.specs.Jobs.{Kind, PutJob, GetJob, DropJob, AuditJob, RepairJob}
+use Rattle.hail_machine.specs.Jobs.{Kind, PutJob, GetJob, DropJob, AuditJob, RepairJob, UpgradeJob}
 use Rattle.hail_machine.specs.Space.{append_sizes}
 use Rattle.hail_machine.specs.Refusals as refusal
 use Rattle.hail_machine.specs.Refusals.{Refusal, Cause, first_refusal}
@@ -19,7 +19,8 @@ use Rattle.hail_commands.specs.Opens.{setup_in_effect}
 -- the records of a job find no room in the journal
 abbrev pub takes_too_much : List Record → Kind → Bool
 takes_too_much records kind =
-    nat_lt largest_journal (text_size records + sum (append_sizes (setup_in_effect records) kind))
+    nat_lt largest_journal
+    (text_size records + sum (append_sizes (version_of records) (setup_in_effect records) kind))
 
 -- the numbers that a job draws come to their end
 abbrev pub has_no_number : List Record → Kind → Bool
@@ -57,6 +58,9 @@ causes_of records AuditJob =
 causes_of records RepairJob =
     record { applies = not (is_some (due_of records)); refusal = refusal.NothingDue }
     ∷ record { applies = is_full_for records RepairJob; refusal = refusal.JournalFull } ∷ []
+causes_of records UpgradeJob =
+    record { applies = version_of records == 2; refusal = refusal.NewVersion }
+    ∷ record { applies = is_full_for records UpgradeJob; refusal = refusal.JournalFull } ∷ []
 
 -- why a begin is refused
 abbrev pub refusal_over : List Record → Kind → Option Refusal

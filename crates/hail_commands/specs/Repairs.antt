@@ -13,6 +13,7 @@
 use Rattle.std.specs.Prelude.{◌≡◌, ◌⊎◌, ℕ, ◌<◌, Bool, true, false, List, [], ◌∷◌, ◌++◌, map, All, Contains, Some, IfSome}
 use Rattle.std.specs.List.{flat_map}
 use Rattle.hail_codes.specs.Points.{upto}
+use Rattle.hail_columns.specs.Objects.{Object}
 use Rattle.hail_columns.specs.Opened.{SeenBlock, GivesSymbols, LosesRow}
 use Rattle.hail_columns.specs.Columns.{column_of_symbols}
 use Rattle.hail_columns.specs.Verdicts.{is_flagged}
@@ -20,9 +21,9 @@ use Rattle.hail_devices.specs.Faults.{Rose}
 use Rattle.hail_devices.specs.Providers.{Held, sized}
 use Rattle.hail_records.specs.Records.{Setup, RepairDone}
 use Rattle.hail_records.specs.Table.{File, Due, files_of, due_of}
-use Rattle.hail_machine.specs.Setups.{object_of, stripes_of}
+use Rattle.hail_machine.specs.Setups.{profiled, stripes_of}
 use Rattle.hail_machine.specs.Answers.{Answer, Repaired, Lost, ProviderFault, DiskFault, Memory}
-use Rattle.hail_commands.specs.Ran.{Ran, setup_at_begin, EachHeldGoes, IsWhole, IsCut, IsCutInDoubt}
+use Rattle.hail_commands.specs.Ran.{Ran, setup_at_begin, object_numbered, EachHeldGoes, IsWhole, IsCut, IsCutInDoubt}
 use Rattle.hail_commands.specs.Truthful.{IsTruthful}
 use Rattle.hail_commands.specs.Audits.{files_by_number}
 
@@ -35,7 +36,7 @@ pub record Place : Type 0 where
 abbrev pub places : Setup → List File → List Place
 places s files =
     flat_map (λ (f : File). map (λ stripe. record { object = f.id; stripe = stripe })
-    (upto (stripes_of s f.size))) (files_by_number files)
+    (upto (stripes_of (profiled s f.profile) f.size))) (files_by_number files)
 
 -- the places of a repair
 abbrev pub places_of : Ran → List Place
@@ -52,7 +53,7 @@ blocks_at x gave place = map (λ j. gave j place) (upto (setup_at_begin x).n)
 -- what a provider holds of a place, if it is a block of the size
 abbrev pub held_at : Ran → Held → Place → SeenBlock
 held_at x held place =
-    sized (object_of (setup_at_begin x) place.object).profile.size (held place.object place.stripe)
+    sized (object_numbered x place.object).profile.size (held place.object place.stripe)
 
 -- each provider that tells gave what it held, or nothing where its count rose
 abbrev pub IsTruth : Ran → Gave → List Place → Type 0
@@ -62,23 +63,23 @@ IsTruth x gave asked = (j : ℕ) → j < (setup_at_begin x).n → IfSome (x.old 
 -- what was given opens to these symbols
 abbrev pub GivesPlace : Ran → Gave → (Place → List ℕ) → Place → Type 0
 GivesPlace x gave symbols place =
-    GivesSymbols (object_of (setup_at_begin x) place.object) place.stripe (blocks_at x gave place)
+    GivesSymbols (object_numbered x place.object) place.stripe (blocks_at x gave place)
     (symbols place)
 
 -- a provider's block of each of these places was made anew from symbols, and all else is as before
-pub record RewrittenOn (s : Setup) (symbols : Place → List ℕ) (all : List Place) (j : ℕ)
+pub record RewrittenOn (objects : ℕ → Object) (symbols : Place → List ℕ) (all : List Place) (j : ℕ)
     (old new : Held) : Type 0 where
   pub stored : All (λ place. new place.object place.stripe
-      ≡ Some (column_of_symbols (object_of s place.object) (symbols place) j place.stripe)) all
+      ≡ Some (column_of_symbols (objects place.object) (symbols place) j place.stripe)) all
   pub others : (place : Place) → (Contains all place → ⊥)
       → new place.object place.stripe ≡ old place.object place.stripe
 
 -- the same of some of these places
-pub record PartlyRewrittenOn (s : Setup) (symbols : Place → List ℕ) (all : List Place) (j : ℕ)
+pub record PartlyRewrittenOn (objects : ℕ → Object) (symbols : Place → List ℕ) (all : List Place) (j : ℕ)
     (old new : Held) : Type 0 where
   pub stored : All (λ place. (new place.object place.stripe ≡ old place.object place.stripe)
       ⊎ (new place.object place.stripe
-      ≡ Some (column_of_symbols (object_of s place.object) (symbols place) j place.stripe))) all
+      ≡ Some (column_of_symbols (objects place.object) (symbols place) j place.stripe))) all
   pub others : (place : Place) → (Contains all place → ⊥)
       → new place.object place.stripe ≡ old place.object place.stripe
 
@@ -98,7 +99,7 @@ pub record RewritesAll (x : Ran) (due : Due) : Type 0 where
   pub truth : IsTruth x gave (places_of x)
   pub gives : All (GivesPlace x gave symbols) (places_of x)
   pub held : EachHeldGoes x (λ j. IfFlagged (flags x due j)
-      (RewrittenOn (setup_at_begin x) symbols (places_of x) j))
+      (RewrittenOn (object_numbered x) symbols (places_of x) j))
 
 -- the same of the places before some place: the repair ended there
 pub record RewritesPart (x : Ran) (due : Due) (done rest : List Place) (gave : Gave)
@@ -107,7 +108,7 @@ pub record RewritesPart (x : Ran) (due : Due) (done rest : List Place) (gave : G
   pub truth : IsTruth x gave done
   pub gives : All (GivesPlace x gave symbols) done
   pub held : EachHeldGoes x (λ j. IfFlagged (flags x due j)
-      (PartlyRewrittenOn (setup_at_begin x) symbols done j))
+      (PartlyRewrittenOn (object_numbered x) symbols done j))
 
 -- the same, with no more said of the place
 pub record RewritesSome (x : Ran) (due : Due) : Type 0 where
@@ -127,7 +128,7 @@ pub record LosesAtPlace (x : Ran) (due : Due) (stripe row : ℕ) : Type 0 where
   pub part : RewritesPart x due done (place ∷ rest) gave symbols
   pub truth : IsTruth x gave (done ++ place ∷ [])
   pub stripe_is : place.stripe ≡ stripe
-  pub loses : LosesRow (object_of (setup_at_begin x) place.object) stripe (blocks_at x gave place) row
+  pub loses : LosesRow (object_numbered x place.object) stripe (blocks_at x gave place) row
 
 -- what a repair leaves, by the audit that was due
 abbrev pub RepairGives : Ran → Due → Answer → Type 0

@@ -1,12 +1,14 @@
 //! Worked rows: values of the definitions, computed by the checker.
 ghost use Rattle.std.specs.Prelude.{◌≡◌, ℕ, ◌+◌, ◌^◌, List, [], ◌∷◌, ◌++◌, length, codes, replicate, Some, None};
-ghost use Rattle.hail_records.specs.Records.{Setup, SetUp, PutStart, PutDone, AuditStart, AuditDone};
-ghost use Rattle.hail_records.specs.Table.{files_of};
-ghost use Rattle.hail_machine.specs.Jobs.{PutJob, GetJob, DropJob, AuditJob, RepairJob};
+ghost use Rattle.hail_records.specs.Records.{Setup, SetUp, PutStart, PutDone, AuditStart, AuditDone, Version};
+ghost use Rattle.hail_records.specs.Table.{files_of, file_as};
+ghost use Rattle.hail_machine.specs.Jobs.{PutJob, GetJob, DropJob, AuditJob, RepairJob, UpgradeJob};
 ghost use Rattle.hail_machine.specs.Answers.{Put, Got, Dropped, Audited, Repaired, DiskFault};
-ghost use Rattle.hail_machine.specs.Refusals.{BadName, TooLong, NoSuchName, RepairDue, NothingDue};
+ghost use Rattle.hail_machine.specs.Refusals.{BadName, TooLong, NoSuchName, RepairDue, NothingDue, NewVersion};
 ghost use Rattle.hail_machine.specs.Examples.{six, one_file, flagged_file, hundred};
 ghost use Rattle.hail_commands.specs.Lines.{ready_line, list_lines, text_of};
+ghost use Rattle.hail_commands.specs.Opens.{object_in_effect, stripes_in_effect};
+ghost use Rattle.hail_commands.specs.Ran.{profile_among};
 ghost use Rattle.hail_commands.specs.Refusals.{refusal_over};
 
 /// What the commands write.
@@ -34,4 +36,17 @@ pub fn refusals()
     ensures due { refusal_over flagged_file AuditJob ≡ Some RepairDue }
     ensures repaired { refusal_over flagged_file RepairJob ≡ None }
     ensures nothing_due { refusal_over one_file RepairJob ≡ Some NothingDue }
+    ensures upgraded { refusal_over one_file UpgradeJob ≡ None }
+    ensures new_version { refusal_over (Version ∷ one_file) UpgradeJob ≡ Some NewVersion }
+{}
+
+/// A file's object and its stripes are those of its own profile; a number that no file has is given the other profile.
+pub fn objects()
+    ensures own { (object_in_effect one_file (file_as (codes "a") 7 100 3)).profile.keep ≡ 48 }
+    ensures first { (object_in_effect one_file (file_as (codes "a") 7 100 0)).profile.keep ≡ 2 }
+    ensures fewer { stripes_in_effect one_file (file_as (codes "a") 7 1000 3) ≡ 1 }
+    ensures found { profile_among 4
+        (file_as (codes "a") 1 5 2 ∷ file_as (codes "b") 2 5 0 ∷ []) 2 ≡ 0 }
+    ensures other { profile_among 4
+        (file_as (codes "a") 1 5 2 ∷ file_as (codes "b") 2 5 0 ∷ []) 3 ≡ 4 }
 {}

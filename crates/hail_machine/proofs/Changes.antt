@@ -6,11 +6,12 @@ use Rattle.hail_records.specs.Table.{next_id, setup_of}
 use Rattle.hail_machine.specs.Jobs.{Kind, Job, Fetched, Answered, Worked, job_of, with_job, without_job, advanced}
 use Rattle.hail_machine.specs.Actions.{Action, WriteBody, SyncGate, Store, Fetch, Ask, Work, Remove}
 use Rattle.hail_machine.specs.Events.{Event, Outcome}
-use Rattle.hail_machine.specs.States.{State, Append, Doubt, setup_in, worked_object}
+use Rattle.hail_machine.specs.States.{State, Append, Doubt, Scrub, Alone, Scrubbing, setup_in, worked_object}
 use Rattle.hail_machine.specs.Given.{blocks_given}
 use Rattle.hail_columns.specs.Opened.{GivesSymbols}
-use Rattle.hail_machine.specs.Begins.{begin_refusal, new_job}
+use Rattle.hail_machine.specs.Begins.{refusal_of_begin, beginning}
 use Rattle.hail_machine.specs.Appends.{Writes, subject_drawn, taken_out}
+use Rattle.hail_machine.specs.Alone.{block_to_scrub}
 use Rattle.hail_machine.specs.Steps.{next_action, block_to_store}
 use Rattle.hail_machine.specs.Runs.{is_replacement}
 use Rattle.hail_machine.specs.Deeds.{told_block}
@@ -40,6 +41,7 @@ pub record GoesOn (old : State) (before : Job) (action : Action) (job : Job) : T
   pub gave : Gave old before action job
   pub number : job.number ≡ before.number
   pub kind : job.kind ≡ before.kind
+  pub profile : job.profile ≡ before.profile
   pub begun : job.begun ≡ before.begun
   pub pinned : job.pinned ≡ before.pinned
   pub flagged : job.flagged ≡ before.flagged
@@ -56,7 +58,7 @@ pub data Grown (old new : State) (k : ℕ) : Type 0 where
 -- a running job after an event
 pub data Job_is (limit moment : ℕ) (old new : State) (k : ℕ) (job : Job) : Type 0 where
   kept : job_of old.jobs k ≡ Some job → Grown old new k → Job_is limit moment old new k job
-  begun : (kind : Kind) → job ≡ new_job old moment kind → k ≡ old.next_job → begin_refusal limit old kind ≡ None →
+  begun : (kind : Kind) (profile : Option ℕ) → job ≡ beginning old moment kind profile → k ≡ old.next_job → refusal_of_begin limit old kind profile ≡ None →
       new.records ≡ old.records → Job_is limit moment old new k job
   plain : (before : Job) (action : Action) → job_of old.jobs k ≡ Some before → next_action old before ≡ Some action → IsPlain action →
       GoesOn old before action job → new.records ≡ old.records →
@@ -91,6 +93,8 @@ pub data Block_is (old : State) (e : Event) (r : Outcome) (new : State) (i o s :
   replaced : is_replacement e r i ≡ true → Block_is old e r new i o s
   stored : (job : Job) → job_of old.jobs job.number ≡ Some job → next_action old job ≡ Some (Store i o s) →
       told_block new i o s ≡ option_map (λ held. Some (block_to_store old job job.kind i o s)) (old.providers i).held → Block_is old e r new i o s
+  scrubbed : (scrub : Scrub) (rest : List Action) → old.alone ≡ Some (Scrubbing scrub) → scrub.todo ≡ Store i o s ∷ rest →
+      told_block new i o s ≡ option_map (λ held. Some (block_to_scrub old scrub i o s)) (old.providers i).held → Block_is old e r new i o s
   removed : (job : Job) → job_of old.jobs job.number ≡ Some job → next_action old job ≡ Some (Remove i o) → Block_is old e r new i o s
 
 -- the next job number, whether a vault is open, and the bytes of object numbers stay
@@ -98,6 +102,7 @@ pub record Rest (old new : State) : Type 0 where
   pub next : new.next_job ≡ old.next_job
   pub is_open : new.is_open ≡ old.is_open
   pub bytes : new.bytes ≡ old.bytes
+  pub alone : new.alone ≡ old.alone
   pub doubt : (d : Doubt) → new.doubt ≡ Some d → (old.doubt ≡ Some d) ⊎ ((a : Append) × (old.append ≡ Some a) × (d.entry ≡ a.entry))
 
 -- a record in doubt after an event: it was so before, or is that of the append in flight, or a setup
@@ -114,9 +119,14 @@ IsIdle w = w.is_open ≡ false → (w.jobs ≡ []) × (w.append ≡ None)
 abbrev pub IsGated : State → Type 0
 IsGated w = (a : Append) → w.append ≡ Some a → a.moves ≡ 3 → (d : Doubt) × (w.doubt ≡ Some d) × (d.entry ≡ a.entry)
 
--- what is known of every state that a run reaches, and what the changes of an event hang on
+-- while something runs alone, no job runs
+abbrev pub IsLone : State → Type 0
+IsLone w = (x : Alone) → w.alone ≡ Some x → w.jobs ≡ []
+
+-- what is known of every state that a run reaches
 pub record IsQuietState (w : State) : Type 0 where
   pub idle : IsIdle w
+  pub lone : IsLone w
 
 -- what an event may change
 pub record Changes (limit moment : ℕ) (old : State) (e : Event) (r : Outcome) (new : State) : Type 0 where
@@ -127,6 +137,7 @@ pub record Changes (limit moment : ℕ) (old : State) (e : Event) (r : Outcome) 
   pub numbers : ((new.jobs ≡ []) × (new.append ≡ None)) ⊎ (old.next_job ≤ new.next_job)
   pub next : (k : ℕ) (j : Job) → job_of new.jobs k ≡ Some j → (k < new.next_job) ⊎ (job_of old.jobs k ≡ Some j) ⊎ ((before : Job) × (job_of old.jobs k ≡ Some before))
   pub idle : IsIdle old → IsIdle new
+  pub lone : IsLone old → IsLone new
   pub gated : IsGated old → IsGated new
   pub bytes : (o : ℕ) → o < next_id old.records → new.bytes o ≡ old.bytes o
   pub block : (i o s : ℕ) → Block_is old e r new i o s
@@ -143,6 +154,7 @@ module _ (limit moment : ℕ) (old : State) (e : Event) (r : Outcome) where
     numbers = inr (omega (arith, rest.next));
     next = λ k j h. inr (inl (ap (λ l. job_of l k) (sym jobs) ∙ h));
     gated = gate;
+    lone = λ f x h. jobs ∙ f x (sym rest.alone ∙ h);
     idle = λ f closed. (let p = f (sym rest.is_open ∙ closed) in (jobs ∙ p.0, append ∙ p.1));
     bytes = λ o l. ap (λ f. f o) rest.bytes;
     block = block;
@@ -150,7 +162,7 @@ module _ (limit moment : ℕ) (old : State) (e : Event) (r : Outcome) where
 
   pub unchanged : (new : State) → new ≡ old → Changes limit moment old e r new
   unchanged new is = subst (λ (w : State). Changes limit moment old e r w) (sym is)
-      (only_devices old (λ g. g) refl refl refl (record { next = refl; is_open = refl; bytes = refl; doubt = λ d h. inl h }) (λ i o s. Block_is.same refl))
+      (only_devices old (λ g. g) refl refl refl (record { next = refl; is_open = refl; bytes = refl; alone = refl; doubt = λ d h. inl h }) (λ i o s. Block_is.same refl))
 
   -- all jobs are given up
   pub gives_up : (new : State) → new.jobs ≡ [] → new.append ≡ None → Records_is old new → new.providers ≡ old.providers → new.bytes ≡ old.bytes → ((d : Doubt) → new.doubt ≡ Some d → Doubt_is old new d) → Changes limit moment old e r new
@@ -163,6 +175,7 @@ module _ (limit moment : ℕ) (old : State) (e : Event) (r : Outcome) where
     next = λ k j h. absurd (found_none new.jobs k j jobs h);
     gated = (λ g a h three. absurd (let f : None ≡ Some a = sym append ∙ h in cc));
     idle = λ f closed. (jobs, append);
+    lone = λ f x h. jobs;
     bytes = λ o l. ap (λ f. f o) bytes;
     block = λ i o s. Block_is.same (ap (λ p. option_map (λ held. held o s) (p i).held) providers);
   }
@@ -181,6 +194,7 @@ module _ (limit moment : ℕ) (old : State) (e : Event) (r : Outcome) where
     numbers = inr (omega (arith, rest.next));
     next = λ k j h. inr (inl (found_without old.jobs n k j (ap (λ l. job_of l k) (sym jobs) ∙ h)).1);
     gated = gate;
+    lone = λ f x h. jobs ∙ ap (λ l. without_job l n) (f x (sym rest.alone ∙ h));
     idle = λ f closed. (let p = f (sym rest.is_open ∙ closed) in (jobs ∙ ap (λ l. without_job l n) p.0, elim append [ inl stays ↦ stays ∙ p.1 | inr none ↦ none ]));
     bytes = λ o l. ap (λ f. f o) rest.bytes;
     block = block;
@@ -206,6 +220,7 @@ module _ (limit moment : ℕ) (old : State) (e : Event) (r : Outcome) where
       | inr q ↦ inr (inl q.1)
     ];
     gated = gate;
+    lone = λ f x h. absurd (found_none old.jobs before.number before (f x (sym rest.alone ∙ h)) runs);
     idle = λ f closed. (let p = f (sym rest.is_open ∙ closed) in absurd (found_none old.jobs before.number before p.0 runs));
     bytes = λ o l. ap (λ f. f o) rest.bytes;
     block = block;

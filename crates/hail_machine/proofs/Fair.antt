@@ -3,18 +3,22 @@ use Rattle.std.proofs.Common.{◌≡◌, ℕ, zero, suc, ◌+◌, ◌-◌, ◌<�
 use Rattle.std.specs.Prelude.{slice_get}
 use Rattle.std.specs.List.{flat_map}
 use Rattle.std.proofs.lemmas.Bool.{cases_Bool}
-use Rattle.plain_facts.specs.Lists.{Each, In}
-use Rattle.plain_facts.proofs.Each.{each_get, each_append, each_map, each_flat, each_flat_in}
 use Rattle.hail_codes.specs.Points.{upto}
 use Rattle.hail_records.specs.Records.{Setup}
-use Rattle.hail_machine.specs.Jobs.{Kind, PutJob, GetJob, DropJob, AuditJob, RepairJob, Pinned, Job}
+use Rattle.hail_machine.specs.Jobs.{Kind, PutJob, GetJob, DropJob, AuditJob, RepairJob, UpgradeJob, Pinned, Job}
 use Rattle.hail_machine.specs.Actions.{Action, WriteBody, SyncBody, WriteGate, SyncGate, Store, Fetch, Ask, Work, Remove, End, append_actions, on_each_provider, on_each_stripe, open_actions, store_actions, read_actions, rewrite_actions, repair_actions, rounds_of, ask_actions, remove_actions, actions_by}
-use Rattle.hail_machine.specs.Setups.{pinned_stripes, put_stripes}
+use Rattle.hail_machine.specs.Setups.{profiled, stripes_of}
 use Rattle.hail_machine.specs.States.{State, setup_in}
 use Rattle.hail_machine.specs.Steps.{next_action, is_idle_drop}
 use Rattle.hail_machine.proofs.JobLists.{cond_true, cond_false}
+use Rattle.plain_facts.specs.Lists.{Each, In}
+use Rattle.plain_facts.proofs.Each.{each_get, each_append, each_map, each_flat}
 use Rattle.hail_machine.proofs.ActionLists.{split_get}
 use Rattle.hail_machine.proofs.Numbers.{next_by, next_is_by}
+
+each_flat_in : {A X : Type 0} (P : X → Type 0) (f : A → List X) (as_ : List A) → ((a : A) → In a as_ → Each P (f a)) → Each P (flat_map f as_)
+each_flat_in P f [] h = tt
+each_flat_in P f (a ∷ as_) h = each_append P (f a) (flat_map f as_) (h a (inl refl)) (each_flat_in P f as_ (λ x i. h x (inr i)))
 
 -- a job works on a file of this object number
 pub record HasPin (job : Job) (o : ℕ) : Type 0 where
@@ -48,7 +52,7 @@ fair s job (PutJob name bytes) = (
       (
         tt,
         each_append (IsFair job (PutJob name bytes)) (store_actions s job bytes) (append_actions ++ (remove_actions s job ++ End ∷ []))
-            (each_flat (IsFair job (PutJob name bytes)) (λ stripe. on_each_provider s (λ j. Store j job.subject stripe)) (upto (put_stripes s job bytes))
+            (each_flat (IsFair job (PutJob name bytes)) (λ stripe. on_each_provider s (λ j. Store j job.subject stripe)) (upto (stripes_of (profiled s job.profile) (length bytes)))
             (λ stripe. each_map (IsFair job (PutJob name bytes)) (λ j. Store j job.subject stripe) (upto s.n) (λ j. refl)))
             (tt, (tt, (tt, (tt, each_append (IsFair job (PutJob name bytes)) (remove_actions s job) (End ∷ []) (fair_removals s job (PutJob name bytes) (λ j o i. i)) (tt, tt))))),
       ),
@@ -56,8 +60,8 @@ fair s job (PutJob name bytes) = (
   ),
 )
 fair s job (GetJob name) = each_append (IsFair job (GetJob name)) (read_actions s job.pinned) (End ∷ [])
-    (each_flat (IsFair job (GetJob name)) (λ (f : Pinned). on_each_stripe s (length f.bytes) (open_actions s f.id)) job.pinned
-    (λ f. each_flat (IsFair job (GetJob name)) (open_actions s f.id) (upto (pinned_stripes s f))
+    (each_flat (IsFair job (GetJob name)) (λ (f : Pinned). on_each_stripe (profiled s f.profile) (length f.bytes) (open_actions s f.id)) job.pinned
+    (λ f. each_flat (IsFair job (GetJob name)) (open_actions s f.id) (upto (stripes_of (profiled s f.profile) (length f.bytes)))
     (λ stripe. each_append (IsFair job (GetJob name)) (on_each_provider s (λ j. Fetch j f.id stripe)) (Work f.id stripe ∷ []) (each_map (IsFair job (GetJob name)) (λ j. Fetch j f.id stripe) (upto s.n) (λ j. tt)) (tt, tt))))
     (tt, tt)
 fair s job (DropJob name) = (tt, (tt, (tt, (tt, each_append (IsFair job (DropJob name)) (remove_actions s job) (End ∷ []) (fair_removals s job (DropJob name) (λ j o i. i)) (tt, tt)))))
@@ -70,8 +74,8 @@ fair s job AuditJob = (
       (
         tt,
         each_append (IsFair job AuditJob) (ask_actions s job) (append_actions ++ End ∷ [])
-            (each_flat (IsFair job AuditJob) (λ (f : Pinned). flat_map (λ round. on_each_provider s (λ j. Ask j f.id round)) (rounds_of s (length f.bytes))) job.pinned
-            (λ f. each_flat (IsFair job AuditJob) (λ round. on_each_provider s (λ j. Ask j f.id round)) (rounds_of s (length f.bytes))
+            (each_flat (IsFair job AuditJob) (λ (f : Pinned). flat_map (λ round. on_each_provider s (λ j. Ask j f.id round)) (rounds_of (profiled s f.profile) (length f.bytes))) job.pinned
+            (λ f. each_flat (IsFair job AuditJob) (λ round. on_each_provider s (λ j. Ask j f.id round)) (rounds_of (profiled s f.profile) (length f.bytes))
             (λ round. each_map (IsFair job AuditJob) (λ j. Ask j f.id round) (upto s.n) (λ j. tt))))
             (tt, (tt, (tt, (tt, (tt, tt))))),
       ),
@@ -79,13 +83,14 @@ fair s job AuditJob = (
   ),
 )
 fair s job RepairJob = each_append (IsFair job RepairJob) (repair_actions s job) (append_actions ++ End ∷ [])
-    (each_flat_in (IsFair job RepairJob) (λ (f : Pinned). on_each_stripe s (length f.bytes) (λ stripe. open_actions s f.id stripe ++ rewrite_actions s job f.id stripe)) job.pinned
-    (λ f i. each_flat (IsFair job RepairJob) (λ stripe. open_actions s f.id stripe ++ rewrite_actions s job f.id stripe) (upto (pinned_stripes s f))
+    (each_flat_in (IsFair job RepairJob) (λ (f : Pinned). on_each_stripe (profiled s f.profile) (length f.bytes) (λ stripe. open_actions s f.id stripe ++ rewrite_actions s job f.id stripe)) job.pinned
+    (λ f i. each_flat (IsFair job RepairJob) (λ stripe. open_actions s f.id stripe ++ rewrite_actions s job f.id stripe) (upto (stripes_of (profiled s f.profile) (length f.bytes)))
     (λ stripe. each_append (IsFair job RepairJob) (open_actions s f.id stripe) (rewrite_actions s job f.id stripe)
     (each_append (IsFair job RepairJob) (on_each_provider s (λ j. Fetch j f.id stripe)) (Work f.id stripe ∷ []) (each_map (IsFair job RepairJob) (λ j. Fetch j f.id stripe) (upto s.n) (λ j. tt)) (tt, tt))
     (each_flat (IsFair job RepairJob) (λ j. cond (job.flagged j) (Store j f.id stripe ∷ []) []) (upto s.n)
     (λ j. fair_cond job RepairJob (job.flagged j) (Store j f.id stripe) (record { file = f; pinned = i; id_is = refl }))))))
     (tt, (tt, (tt, (tt, (tt, tt)))))
+fair s job UpgradeJob = (tt, (tt, (tt, (tt, (tt, tt)))))
 
 fair_by : (w : State) (job : Job) (kind : Kind) (place : ℕ) (action : Action) → next_by w job kind place ≡ Some action → IsFair job kind action
 fair_by w job (PutJob name bytes) place action h = each_get (IsFair job (PutJob name bytes)) (actions_by (setup_in w) job (PutJob name bytes)) place action (fair (setup_in w) job (PutJob name bytes)) h
@@ -97,6 +102,7 @@ fair_by w job (DropJob name) place action h = elim (cases_Bool (is_idle_drop w j
 ]
 fair_by w job AuditJob place action h = each_get (IsFair job AuditJob) (actions_by (setup_in w) job AuditJob) place action (fair (setup_in w) job AuditJob) h
 fair_by w job RepairJob place action h = each_get (IsFair job RepairJob) (actions_by (setup_in w) job RepairJob) place action (fair (setup_in w) job RepairJob) h
+fair_by w job UpgradeJob place action h = each_get (IsFair job UpgradeJob) (actions_by (setup_in w) job UpgradeJob) place action (fair (setup_in w) job UpgradeJob) h
 
 pub is_fair : (w : State) (job : Job) (action : Action) → next_action w job ≡ Some action → IsFair job job.kind action
 is_fair w job action h = fair_by w job job.kind job.place action (sym (next_is_by w job) ∙ h)
@@ -127,7 +133,7 @@ rest_tail s job = each_append IsRest (remove_actions s job) (End ∷ [])
     (each_flat IsRest (λ object. on_each_provider s (λ j. Remove j object)) job.older (λ o. each_map IsRest (λ j. Remove j o) (upto s.n) (λ j. tt))) (tt, tt)
 
 all_stores : (s : Setup) (job : Job) (bytes : List ℕ) → Each IsStore (store_actions s job bytes)
-all_stores s job bytes = each_flat IsStore (λ stripe. on_each_provider s (λ j. Store j job.subject stripe)) (upto (put_stripes s job bytes))
+all_stores s job bytes = each_flat IsStore (λ stripe. on_each_provider s (λ j. Store j job.subject stripe)) (upto (stripes_of (profiled s job.profile) (length bytes)))
     (λ stripe. each_map IsStore (λ j. Store j job.subject stripe) (upto s.n) (λ j. tt))
 
 -- an action of a put stands in its first append, among its stores, in its second append, or after it

@@ -79,7 +79,7 @@ abbrev pub stopped_without : State
 stopped_without = record (given_up state_9) { doubt = None }
 
 pub stops_with : Happens 1 9 state_9 (Stop []) Stopped stopped_with
-stops_with = inr (record { entry = PutDone 1 0; maker = maker_at state_9 }, refl, refl)
+stops_with = (state_9.journal, state_9.area, inl (refl, refl), inr (record { entry = PutDone 1 0; maker = maker_at state_9 }, refl, refl))
 
 pub stops_without : Happens 1 9 state_9 (Stop []) Stopped stopped_without
-stops_without = inl refl
+stops_without = (state_9.journal, state_9.area, inl (refl, refl), inl refl)

@@ -1,7 +1,7 @@
 -- A get gives what its fetches open to.
 use Rattle.std.proofs.Common.{◌≡◌, ℕ, ◌+◌, ◌<◌, ◌==◌, Bool, true, false, cond, ◌&&◌, List, [], ◌∷◌, ◌++◌, length, Option, Some, None, refl, ap, sym, subst, ◌∙◌, inl, inr, arith, map}
 use Rattle.std.specs.Prelude.{slice_get}
-use Rattle.std.proofs.lemmas.Bool.{cases_Bool, cases_lt, and_parts, eqb-true}
+use Rattle.std.proofs.lemmas.Bool.{cases_Bool, cases_lt, and_parts, eqb-true, eq-eqb}
 use Rattle.plain_facts.proofs.Each.{each_get}
 use Rattle.plain_facts.proofs.Lists.{map-same}
 use Rattle.hail_codes.specs.Points.{upto}
@@ -9,18 +9,18 @@ use Rattle.hail_columns.specs.Opened.{GivesSymbols}
 use Rattle.hail_records.specs.Records.{Setup, is_name}
 use Rattle.hail_records.specs.Table.{File, setup_of}
 use Rattle.hail_machine.specs.Jobs.{GetJob, Pinned, Given, Fetched, Answered, Worked, Job, job_of}
-use Rattle.hail_machine.specs.Setups.{object_of, pinned_stripes}
+use Rattle.hail_machine.specs.Setups.{object_of, profiled, pinned_stripes}
 use Rattle.hail_machine.specs.Actions.{Action, WriteBody, SyncGate, Fetch, Ask, Work, End, read_actions, actions_of}
 use Rattle.hail_machine.specs.Refusals as refusal
 use Rattle.hail_machine.specs.Answers as answer
-use Rattle.hail_machine.specs.States.{State, IsStart, setup_in, object_in, file_in}
-use Rattle.hail_machine.specs.Begins.{is_busy, begin_refusal, pinned_file, pin_one, pinned_for}
-use Rattle.hail_machine.specs.Given.{block_given, blocks_given, symbols_given, file_given}
+use Rattle.hail_machine.specs.States.{State, IsStart, setup_in, object_in, file_object, file_in}
+use Rattle.hail_machine.specs.Begins.{is_busy, refusal_of_begin, pinned_file, pin_one, pinned_for}
+use Rattle.hail_machine.specs.Given.{block_given, blocks_given, symbols_given, file_given, pinned_profile}
 use Rattle.hail_machine.specs.Steps.{next_action, GotBytes, Ends}
 use Rattle.hail_machine.specs.Runs.{Moment, now, first_moments, IsRun}
 use Rattle.hail_machine.specs.Heard.{entries_of, heard_by_kind, heard_by, given_to}
 use Rattle.hail_machine.specs.Halves.{GotIsOpened}
-use Rattle.hail_machine.proofs.JobLists.{cond_false, same_value, found_none}
+use Rattle.hail_machine.proofs.JobLists.{cond_true, cond_false, same_value, found_none}
 use Rattle.hail_machine.proofs.Changes.{IsQuiet, Gave, Grown, Job_is, Changes}
 use Rattle.hail_machine.proofs.StepEnds.{event_end}
 use Rattle.hail_machine.proofs.Events.{changes}
@@ -32,9 +32,9 @@ use Rattle.hail_machine.proofs.Given.{given_to-more, symbols_given-newest}
 
 -- ---- a get that begins has a file
 
-pub get_file : (limit : ℕ) (w : State) (name : List ℕ) (o : Option File) → file_in w name ≡ o → begin_refusal limit w (GetJob name) ≡ None → (f : File) × (file_in w name ≡ Some f)
-get_file limit w name (Some f) is h = (f, is)
-get_file limit w name None is h = absurd (elim (cases_Bool w.is_barred) [
+pub get_file : (limit : ℕ) (w : State) (name : List ℕ) (profile : Option ℕ) (o : Option File) → file_in w name ≡ o → refusal_of_begin limit w (GetJob name) profile ≡ None → (f : File) × (file_in w name ≡ Some f)
+get_file limit w name profile (Some f) is h = (f, is)
+get_file limit w name profile None is h = absurd (elim (cases_Bool w.is_barred) [
   | inl a ↦ (let e = rw a at h in let f : Some refusal.MustReopen ≡ None = e in cc)
   | inr a ↦ elim (cases_Bool (is_busy limit w (GetJob name))) [
     | inl b ↦ (let e = rw (a, b) at h in let f : Some refusal.Busy ≡ None = e in cc)
@@ -59,14 +59,18 @@ symbols_skip o s2 symbols given object s apart = elim (cases_Bool ((o == object)
   | inr f ↦ cond_false ((o == object) && (s2 == s)) symbols (symbols_given given object s) f
 ]
 
--- what a get's job has opened of a stripe
-abbrev Opened : Setup → ℕ → List Given → ℕ → Type 0
-Opened t id given s = GivesSymbols (object_of t id) s (blocks_given given t.n id s) (symbols_given given id s)
+-- the profile of a get's own file
+pub own_profile : (other : ℕ) (ps : List Pinned) (f : Pinned) (o : ℕ) → ps ≡ f ∷ [] → o ≡ f.id → pinned_profile other ps o ≡ f.profile
+own_profile other ps f o p e = ap (λ l. pinned_profile other l o) p ∙ cond_true (f.id == o) f.profile other (eq-eqb f.id o (sym e))
 
-opened_by : (t : Setup) (id : ℕ) (given more : List Given) (s : ℕ) → ((j : ℕ) → block_given more id s j ≡ block_given given id s j) → symbols_given more id s ≡ symbols_given given id s → Opened t id given s → Opened t id more s
-opened_by t id given more s blocks symbols h =
-    subst (GivesSymbols (object_of t id) s (blocks_given more t.n id s)) (sym symbols)
-    (subst (λ b. GivesSymbols (object_of t id) s b (symbols_given given id s)) (sym (map-same (block_given more id s) (block_given given id s) (upto t.n) blocks)) h)
+-- what a get's job has opened of a stripe
+abbrev Opened : Setup → ℕ → ℕ → List Given → ℕ → Type 0
+Opened t profile id given s = GivesSymbols (object_of (profiled t profile) id) s (blocks_given given t.n id s) (symbols_given given id s)
+
+opened_by : (t : Setup) (p id : ℕ) (given more : List Given) (s : ℕ) → ((j : ℕ) → block_given more id s j ≡ block_given given id s j) → symbols_given more id s ≡ symbols_given given id s → Opened t p id given s → Opened t p id more s
+opened_by t p id given more s blocks symbols h =
+    subst (GivesSymbols (object_of (profiled t p) id) s (blocks_given more t.n id s)) (sym symbols)
+    (subst (λ b. GivesSymbols (object_of (profiled t p) id) s b (symbols_given given id s)) (sym (map-same (block_given more id s) (block_given given id s) (upto t.n) blocks)) h)
 
 -- ---- the actions of a get
 
@@ -97,7 +101,7 @@ pub record HasFile (b w : State) (job : Job) (name : List ℕ) : Type 0 where
 pub record Facts (start : State) (ms : List Moment) : Type 0 where
   pub file : (k : ℕ) (j : Job) (name : List ℕ) → job_of (now start ms).jobs k ≡ Some j → j.kind ≡ GetJob name → HasFile (begin_of start ms j) (now start ms) j name
   pub opened : (k : ℕ) (j : Job) (name : List ℕ) (f : Pinned) (q o s : ℕ) → job_of (now start ms).jobs k ≡ Some j → j.kind ≡ GetJob name → j.pinned ≡ f ∷ [] → q < j.place →
-      slice_get (actions_of (setup_in (now start ms)) j) q ≡ Some (Work o s) → Opened (setup_in (now start ms)) f.id j.given s
+      slice_get (actions_of (setup_in (now start ms)) j) q ≡ Some (Work o s) → Opened (setup_in (now start ms)) f.profile f.id j.given s
 
 module _ (limit : ℕ) (start : State) (m : Moment) (ms : List Moment) (A : All start ms) (F : Facts start ms) (X : Changes limit (length ms) (now start ms) m.event m.outcome m.state) where
   -- the setup stays while a job runs on
@@ -105,7 +109,7 @@ module _ (limit : ℕ) (start : State) (m : Moment) (ms : List Moment) (A : All 
   setup_kept k j h = elim (X.job k j h) [
     | Job_is.kept r (Grown.as_before rec) ↦ ap setup_of rec
     | Job_is.kept r (Grown.by_other x a runs next_is flight mine other rec) ↦ setup_one limit start m ms A.numbers A.pins X a x flight runs mine rec
-    | Job_is.begun kd is k_is allowed rec ↦ ap setup_of rec
+    | Job_is.begun kd wish is k_is allowed rec ↦ ap setup_of rec
     | Job_is.plain x action runs next_is is_plain goes rec st ↦ ap setup_of rec
     | Job_is.drew x runs next_is none_ is rec ↦ ap setup_of rec
     | Job_is.finished x a runs next_is flight mine is rec none_ ↦
@@ -123,9 +127,9 @@ module _ (limit : ℕ) (start : State) (m : Moment) (ms : List Moment) (A : All 
           pinned = pinned ∙ (f.pinned ∙ ap (λ (b : State). pinned_file b f.file ∷ []) same);
           setup = setup_kept k j h ∙ (f.setup ∙ ap (λ (b : State). setup_of b.records) same);
         })
-    | Pins_is.new_one kd is k_is allowed rec ↦
+    | Pins_is.new_one kd wish is k_is allowed rec ↦
         (let kd_is : kd ≡ GetJob name = sym (ap (λ (x : Job). x.kind) is) ∙ kind in
-        let g = get_file limit (now start ms) name (file_in (now start ms) name) refl (subst (λ kk. begin_refusal limit (now start ms) kk ≡ None) kd_is allowed) in
+        let g = get_file limit (now start ms) name wish (file_in (now start ms) name) refl (subst (λ kk. refusal_of_begin limit (now start ms) kk wish ≡ None) kd_is allowed) in
         let begun : j.begun ≡ length ms = ap (λ (x : Job). x.begun) is in
         let same : now start ms ≡ begin_of start (m ∷ ms) j = ap (now start) (sym (ap (λ n. first_moments n (m ∷ ms)) begun ∙ (first_more (length ms) m ms (omega arith) ∙ first_all ms))) in
         record {
@@ -137,10 +141,10 @@ module _ (limit : ℕ) (start : State) (m : Moment) (ms : List Moment) (A : All 
   ]
 
   opened_step : (k : ℕ) (j : Job) (name : List ℕ) (f : Pinned) (q o s : ℕ) → job_of m.state.jobs k ≡ Some j → j.kind ≡ GetJob name → j.pinned ≡ f ∷ [] → q < j.place →
-      slice_get (actions_of (setup_in m.state) j) q ≡ Some (Work o s) → Opened (setup_in m.state) f.id j.given s
-  opened_step k j name f q o s h kind pinned early at = subst (λ t. Opened t f.id j.given s) (sym same_setup) (elim (X.job k j h) [
+      slice_get (actions_of (setup_in m.state) j) q ≡ Some (Work o s) → Opened (setup_in m.state) f.profile f.id j.given s
+  opened_step k j name f q o s h kind pinned early at = subst (λ t. Opened t f.profile f.id j.given s) (sym same_setup) (elim (X.job k j h) [
     | Job_is.kept r grown ↦ F.opened k j name f q o s r kind pinned early at_old
-    | Job_is.begun kd is k_is allowed rec ↦ absurd (let e : j.place ≡ 0 = ap (λ (x : Job). x.place) is in omega arith)
+    | Job_is.begun kd wish is k_is allowed rec ↦ absurd (let e : j.place ≡ 0 = ap (λ (x : Job). x.place) is in omega arith)
     | Job_is.plain x action runs next_is is_plain goes rec st ↦ by_gave x action runs next_is (sym goes.kind ∙ kind) (sym goes.pinned ∙ pinned) goes.pinned goes.place goes.gave
     | Job_is.drew x runs next_is none_ is rec ↦
         by_quiet x WriteBody runs next_is (sym (ap (λ (y : Job). y.kind) is) ∙ kind) (sym (ap (λ (y : Job). y.pinned) is) ∙ pinned) (ap (λ (y : Job). y.pinned) is) (ap (λ (y : Job). y.place) is) tt (ap (λ (y : Job). y.given) is)
@@ -167,31 +171,31 @@ module _ (limit : ℕ) (start : State) (m : Moment) (ms : List Moment) (A : All 
       here x action next_is kx = sym (get_next (now start ms) x name kx) ∙ next_is
 
       by_quiet : (x : Job) (action : Action) → job_of (now start ms).jobs k ≡ Some x → next_action (now start ms) x ≡ Some action → x.kind ≡ GetJob name → x.pinned ≡ f ∷ [] → j.pinned ≡ x.pinned → j.place ≡ x.place + 1 →
-          IsQuiet action → j.given ≡ x.given → Opened (setup_in (now start ms)) f.id j.given s
+          IsQuiet action → j.given ≡ x.given → Opened (setup_in (now start ms)) f.profile f.id j.given s
       by_quiet x action runs next_is kx px pp place quiet given = elim (cases_lt q x.place) [
-        | inl l ↦ subst (λ g. Opened (setup_in (now start ms)) f.id g s) (sym given) (F.opened k x name f q o s runs kx px l (at_x x kx px))
+        | inl l ↦ subst (λ g. Opened (setup_in (now start ms)) f.profile f.id g s) (sym given) (F.opened k x name f q o s runs kx px l (at_x x kx px))
         | inr l ↦ absurd (let q_is : q ≡ x.place = omega arith in
             subst IsQuiet (same_value _ action (Work o s) (here x action next_is kx) (subst (λ n. slice_get (actions_of (setup_in (now start ms)) x) n ≡ Some (Work o s)) q_is (at_x x kx px))) quiet)
       ]
 
       -- the work that was made before stands before what is made now
-      before_now : (x : Job) → q < x.place → x.kind ≡ GetJob name → x.pinned ≡ f ∷ [] → job_of (now start ms).jobs k ≡ Some x → Opened (setup_in (now start ms)) f.id x.given s
+      before_now : (x : Job) → q < x.place → x.kind ≡ GetJob name → x.pinned ≡ f ∷ [] → job_of (now start ms).jobs k ≡ Some x → Opened (setup_in (now start ms)) f.profile f.id x.given s
       before_now x l kx px runs = F.opened k x name f q o s runs kx px l (at_x x kx px)
 
       by_gave : (x : Job) (action : Action) → job_of (now start ms).jobs k ≡ Some x → next_action (now start ms) x ≡ Some action → x.kind ≡ GetJob name → x.pinned ≡ f ∷ [] → j.pinned ≡ x.pinned → j.place ≡ x.place + 1 →
-          Gave (now start ms) x action j → Opened (setup_in (now start ms)) f.id j.given s
+          Gave (now start ms) x action j → Opened (setup_in (now start ms)) f.profile f.id j.given s
       by_gave x action runs next_is kx px pp place (Gave.nothing quiet given) = by_quiet x action runs next_is kx px pp place quiet given
       by_gave x action runs next_is kx px pp place (Gave.fetched i o2 s2 block act given) = elim (cases_lt q x.place) [
         | inl l ↦
             (let fetch = in_flat (setup_in (now start ms)) x name f x.place (Fetch i o2 s2) kx px (λ e. cc) (here x (Fetch i o2 s2) (next_is ∙ ap Some act) kx) in
             let apart : s ≡ s2 → ⊥ = (λ e. (let r = order (setup_in (now start ms)) f.id (pinned_stripes (setup_in (now start ms)) f) 0 q x.place i o o2 s2 (subst (λ n. slice_get (flat (setup_in (now start ms)) f.id (upto (pinned_stripes (setup_in (now start ms)) f))) q ≡ Some (Work o n)) e (stands x kx px)) fetch in omega arith)) in
-            subst (λ g. Opened (setup_in (now start ms)) f.id g s) (sym given)
-            (opened_by (setup_in (now start ms)) f.id x.given (Fetched i o2 s2 block ∷ x.given) s (λ n. block_skips i o2 s2 block x.given f.id s n apart) refl (before_now x l kx px runs)))
+            subst (λ g. Opened (setup_in (now start ms)) f.profile f.id g s) (sym given)
+            (opened_by (setup_in (now start ms)) f.profile f.id x.given (Fetched i o2 s2 block ∷ x.given) s (λ n. block_skips i o2 s2 block x.given f.id s n apart) refl (before_now x l kx px runs)))
         | inr l ↦ absurd (let q_is : q ≡ x.place = omega arith in
             let e : Fetch i o2 s2 ≡ Work o s = same_value _ (Fetch i o2 s2) (Work o s) (here x (Fetch i o2 s2) (next_is ∙ ap Some act) kx) (subst (λ n. slice_get (actions_of (setup_in (now start ms)) x) n ≡ Some (Work o s)) q_is (at_x x kx px)) in cc)
       ]
       by_gave x action runs next_is kx px pp place (Gave.answered i o2 r symbol act given) = elim (cases_lt q x.place) [
-        | inl l ↦ subst (λ g. Opened (setup_in (now start ms)) f.id g s) (sym given) (opened_by (setup_in (now start ms)) f.id x.given (Answered i o2 r symbol ∷ x.given) s (λ n. refl) refl (before_now x l kx px runs))
+        | inl l ↦ subst (λ g. Opened (setup_in (now start ms)) f.profile f.id g s) (sym given) (opened_by (setup_in (now start ms)) f.profile f.id x.given (Answered i o2 r symbol ∷ x.given) s (λ n. refl) refl (before_now x l kx px runs))
         | inr l ↦ absurd (let q_is : q ≡ x.place = omega arith in
             let e : Ask i o2 r ≡ Work o s = same_value _ (Ask i o2 r) (Work o s) (here x (Ask i o2 r) (next_is ∙ ap Some act) kx) (subst (λ n. slice_get (actions_of (setup_in (now start ms)) x) n ≡ Some (Work o s)) q_is (at_x x kx px)) in cc)
       ]
@@ -199,24 +203,25 @@ module _ (limit : ℕ) (start : State) (m : Moment) (ms : List Moment) (A : All 
         | inl l ↦
             (let work = in_flat (setup_in (now start ms)) x name f x.place (Work o2 s2) kx px (λ e. cc) (here x (Work o2 s2) (next_is ∙ ap Some act) kx) in
             let apart : s ≡ s2 → ⊥ = (λ e. (let r = once (setup_in (now start ms)) f.id (pinned_stripes (setup_in (now start ms)) f) 0 q x.place o o2 s2 (subst (λ n. slice_get (flat (setup_in (now start ms)) f.id (upto (pinned_stripes (setup_in (now start ms)) f))) q ≡ Some (Work o n)) e (stands x kx px)) work in omega arith)) in
-            subst (λ g. Opened (setup_in (now start ms)) f.id g s) (sym given)
-            (opened_by (setup_in (now start ms)) f.id x.given (Worked o2 s2 symbols ∷ x.given) s (λ n. refl) (symbols_skip o2 s2 symbols x.given f.id s apart) (before_now x l kx px runs)))
+            subst (λ g. Opened (setup_in (now start ms)) f.profile f.id g s) (sym given)
+            (opened_by (setup_in (now start ms)) f.profile f.id x.given (Worked o2 s2 symbols ∷ x.given) s (λ n. refl) (symbols_skip o2 s2 symbols x.given f.id s apart) (before_now x l kx px runs)))
         | inr l ↦
             (let q_is : q ≡ x.place = omega arith in
             let e : Work o2 s2 ≡ Work o s = same_value _ (Work o2 s2) (Work o s) (here x (Work o2 s2) (next_is ∙ ap Some act) kx) (subst (λ n. slice_get (actions_of (setup_in (now start ms)) x) n ≡ Some (Work o s)) q_is (at_x x kx px)) in
             let o_is : o2 ≡ o = cc in
             let s_is : s2 ≡ s = cc in
             let id_is : o ≡ f.id = (each_get (From (setup_in (now start ms)) f.id 0) (flat (setup_in (now start ms)) f.id (upto (pinned_stripes (setup_in (now start ms)) f))) q (Work o s) (from (setup_in (now start ms)) f.id (pinned_stripes (setup_in (now start ms)) f) 0) (stands x kx px)).1 in
-            subst (λ g. Opened (setup_in (now start ms)) f.id g s) (sym given)
-            (worked_here (o_is ∙ id_is) s_is gives))
+            subst (λ g. Opened (setup_in (now start ms)) f.profile f.id g s) (sym given)
+            (worked_here (o_is ∙ id_is) s_is
+            (subst (λ p. GivesSymbols (object_in (now start ms) p o2) s2 (blocks_given x.given (setup_in (now start ms)).n o2 s2) symbols) (own_profile (setup_in (now start ms)).profile x.pinned f o2 px (o_is ∙ id_is)) gives)))
       ]
         where
-          worked_here : o2 ≡ f.id → s2 ≡ s → GivesSymbols (object_in (now start ms) o2) s2 (blocks_given x.given (setup_in (now start ms)).n o2 s2) symbols → Opened (setup_in (now start ms)) f.id (Worked o2 s2 symbols ∷ x.given) s
+          worked_here : o2 ≡ f.id → s2 ≡ s → GivesSymbols (object_in (now start ms) f.profile o2) s2 (blocks_given x.given (setup_in (now start ms)).n o2 s2) symbols → Opened (setup_in (now start ms)) f.profile f.id (Worked o2 s2 symbols ∷ x.given) s
           worked_here a b g =
-              subst (λ n. Opened (setup_in (now start ms)) f.id (Worked o2 s2 symbols ∷ x.given) n) b
-              (subst (λ n. Opened (setup_in (now start ms)) n (Worked o2 s2 symbols ∷ x.given) s2) a
-              (subst (GivesSymbols (object_in (now start ms) o2) s2 (blocks_given (Worked o2 s2 symbols ∷ x.given) (setup_in (now start ms)).n o2 s2)) (sym (symbols_given-newest o2 s2 symbols x.given))
-              (subst (λ l. GivesSymbols (object_in (now start ms) o2) s2 l symbols) (sym (map-same (block_given (Worked o2 s2 symbols ∷ x.given) o2 s2) (block_given x.given o2 s2) (upto (setup_in (now start ms)).n) (λ n. refl))) g)))
+              subst (λ n. Opened (setup_in (now start ms)) f.profile f.id (Worked o2 s2 symbols ∷ x.given) n) b
+              (subst (λ n. Opened (setup_in (now start ms)) f.profile n (Worked o2 s2 symbols ∷ x.given) s2) a
+              (subst (GivesSymbols (object_in (now start ms) f.profile o2) s2 (blocks_given (Worked o2 s2 symbols ∷ x.given) (setup_in (now start ms)).n o2 s2)) (sym (symbols_given-newest o2 s2 symbols x.given))
+              (subst (λ l. GivesSymbols (object_in (now start ms) f.profile o2) s2 l symbols) (sym (map-same (block_given (Worked o2 s2 symbols ∷ x.given) o2 s2) (block_given x.given o2 s2) (upto (setup_in (now start ms)).n) (λ n. refl))) g)))
 
   step_facts : Facts start (m ∷ ms)
   step_facts = record { file = file_step; opened = opened_step }
@@ -278,10 +283,10 @@ got_is_opened limit start m ms job name bytes clean run e =
         given = λ s l.
             (let at = worked_on (setup_in (now start ms)) p.id (pinned_stripes (setup_in (now start ms)) p) 0 s (omega arith) (subst (λ (u : Setup). s < 0 + pinned_stripes u p) (sym t) (let z : s < 0 + pinned_stripes (setup_in b) p = omega (arith, l) in z)) in
             let early = before_end (setup_in (now start ms)) p.id (pinned_stripes (setup_in (now start ms)) p) at.0 job.place (Work p.id s) at.1 end_at in
-            let o : Opened (setup_in (now start ms)) p.id job.given s = F.opened job.number job name p at.0 p.id s e.runs e.kind f.pinned early
+            let o : Opened (setup_in (now start ms)) p.profile p.id job.given s = F.opened job.number job name p at.0 p.id s e.runs e.kind f.pinned early
             (ap (λ l. slice_get l at.0) (get_actions (setup_in (now start ms)) job name p e.kind f.pinned) ∙ from_flat (setup_in (now start ms)) p.id (upto (pinned_stripes (setup_in (now start ms)) p)) at.0 (Work p.id s) at.1) in
-            subst (λ l. GivesSymbols (object_in b f.file.id) s l (symbols_given job.given f.file.id s)) (sym (heard_blocks job name (setup_in b).n f.file.id s e.kind))
-            (subst (λ (u : Setup). Opened u p.id job.given s) t o));
+            subst (λ l. GivesSymbols (file_object b f.file) s l (symbols_given job.given f.file.id s)) (sym (heard_blocks job name (setup_in b).n f.file.id s e.kind))
+            (subst (λ (u : Setup). Opened u p.profile p.id job.given s) t o));
         cut = got_by (now start ms) job p bytes f.pinned ends ∙ ap (λ (u : Setup). file_given u job.given p) t;
       };
     })

@@ -3,28 +3,30 @@ use Rattle.std.proofs.Common.{◌≡◌, ℕ, zero, suc, ◌+◌, ◌<◌, ◌�
 use Rattle.std.specs.Prelude.{slice_get, slice_index_or, nat_le}
 use Rattle.std.specs.List.{Contains, flat_map}
 use Rattle.std.proofs.lemmas.Bool.{eq-eqb, cases_lt, or_parts, and_from, le-leb, lt-leb, false≢true}
-use Rattle.plain_facts.specs.Lists.{In}
-use Rattle.plain_facts.proofs.Each.{each_get}
 use Rattle.hail_columns.specs.Columns.{columns}
 use Rattle.hail_records.specs.Records.{Record, Setup}
-use Rattle.hail_records.specs.Table.{started_as, setup_of}
-use Rattle.hail_machine.specs.Jobs.{Kind, PutJob, GetJob, DropJob, AuditJob, RepairJob, Pinned, Job, job_of}
+use Rattle.hail_records.specs.Table.{started_as, setup_of, next_id}
+use Rattle.hail_machine.specs.Jobs.{Kind, PutJob, GetJob, DropJob, AuditJob, RepairJob, UpgradeJob, Pinned, Job, job_of}
 use Rattle.hail_machine.specs.Actions.{Action, WriteBody, SyncBody, WriteGate, SyncGate, Store, Remove, End, append_actions, on_each_provider, on_each_stripe, actions_by, actions_of}
-use Rattle.hail_machine.specs.Setups.{object_of}
-use Rattle.hail_machine.specs.States.{State, Append, IsStart, setup_in, object_in}
+use Rattle.hail_machine.specs.Setups.{object_of, profiled}
+use Rattle.hail_machine.specs.States.{State, Append, IsStart, setup_in, object_in, Scrub, Scrubbing}
 use Rattle.hail_machine.specs.Begins.{is_check}
 use Rattle.hail_machine.specs.Steps.{next_action, block_to_store}
 use Rattle.hail_machine.specs.Runs.{Moment, now, first_moments, is_replacement, is_replaced_since, IsRun}
 use Rattle.hail_machine.specs.Deeds.{told_block, HasMadeStore}
 use Rattle.hail_machine.proofs.JobLists.{cond_true, same_value, found_none}
+use Rattle.plain_facts.proofs.Each.{each_get}
 use Rattle.hail_machine.proofs.Changes.{Grown, Job_is, Block_is, Changes}
 use Rattle.hail_machine.proofs.Events.{some_told, changes}
-use Rattle.hail_machine.proofs.Numbers.{objects, Draws, next_is_by, first_above, drawn_later}
-use Rattle.hail_machine.proofs.Numbers as num
+use Rattle.hail_machine.proofs.Numbers.{objects, Draws, HasNumber, next_is_by, at_three, first_above, drawn_later}
+use Rattle.plain_facts.specs.Lists.{In}
 use Rattle.hail_machine.proofs.RecordFacts.{started-less}
+use Rattle.hail_machine.proofs.Refused.{none_lone}
+use Rattle.hail_machine.proofs.Done.{done-started}
 use Rattle.hail_machine.proofs.Fair.{HasPin, IsFair, fair, is_fair, PutAt, put_at, store_place}
 use Rattle.hail_machine.proofs.Pins.{pinned_stands, check_alone, Wrote}
 use Rattle.hail_machine.proofs.PinFacts.{Pins_is, pins_is, stands_quiet, setup_same, setup_one}
+use Rattle.hail_machine.proofs.Numbers as num
 use Rattle.hail_machine.proofs.PinFacts as pin
 
 pub contains_in : {X : Type 0} (xs : List X) (x : X) → Contains xs x → In x xs
@@ -54,17 +56,18 @@ pub store_kinds : (job : Job) (kind : Kind) (i o s : ℕ) → job.kind ≡ kind 
     ((name : List ℕ) × (bytes : List ℕ) × (job.kind ≡ PutJob name bytes) × (o ≡ job.subject)) ⊎ ((job.kind ≡ RepairJob) × HasPin job o)
 store_kinds job (PutJob name bytes) i o s is h = inl (name, bytes, is, h)
 store_kinds job RepairJob i o s is h = inr (is, h)
+store_kinds job UpgradeJob i o s is h = absurd h
 store_kinds job (GetJob name) i o s is h = absurd h
 store_kinds job (DropJob name) i o s is h = absurd h
 store_kinds job AuditJob i o s is h = absurd h
 
--- a removal is of an object that the job takes away
 pub remove_kinds : (job : Job) (kind : Kind) (i o : ℕ) → job.kind ≡ kind → IsFair job kind (Remove i o) → In o job.older
 remove_kinds job (PutJob name bytes) i o is h = h
 remove_kinds job (GetJob name) i o is h = h
 remove_kinds job (DropJob name) i o is h = h
 remove_kinds job AuditJob i o is h = h
 remove_kinds job RepairJob i o is h = h
+remove_kinds job UpgradeJob i o is h = h
 
 -- ---- the actions of a put
 
@@ -94,16 +97,16 @@ made_own s w job name bytes i o st p same kind h =
     late (PutAt.after l is) = omega arith
 
 -- the actions of a put hang on its number and on the object that it takes away
-abbrev put_parts : Setup → ℕ → List ℕ → List ℕ → List Action
-put_parts t n l b = append_actions ++ (on_each_stripe t (length b) (λ stripe. on_each_provider t (λ p. Store p n stripe))
-    ++ (append_actions ++ (flat_map (λ object. on_each_provider t (λ p. Remove p object)) l ++ End ∷ [])))
+abbrev put_parts : Setup → ℕ → ℕ → List ℕ → List ℕ → List Action
+put_parts t p n l b = append_actions ++ (on_each_stripe (profiled t p) (length b) (λ stripe. on_each_provider t (λ j. Store j n stripe))
+    ++ (append_actions ++ (flat_map (λ object. on_each_provider t (λ j. Remove j object)) l ++ End ∷ [])))
 
-parts_are : (t : Setup) (x : Job) (b n : List ℕ) → actions_by t x (PutJob n b) ≡ put_parts t x.subject x.older b
+parts_are : (t : Setup) (x : Job) (b n : List ℕ) → actions_by t x (PutJob n b) ≡ put_parts t x.profile x.subject x.older b
 parts_are t x b n = refl
 
-put_actions : (s : Setup) (i j : Job) (name bytes : List ℕ) → i.kind ≡ PutJob name bytes → j.kind ≡ PutJob name bytes → j.subject ≡ i.subject → j.older ≡ i.older → actions_of s j ≡ actions_of s i
-put_actions s i j name bytes ki kj subject older =
-    actions_are s j (PutJob name bytes) kj ∙ (parts_are s j bytes name ∙ (ap (λ n. put_parts s n j.older bytes) subject ∙ (ap (λ l. put_parts s i.subject l bytes) older ∙ sym (actions_are s i (PutJob name bytes) ki ∙ parts_are s i bytes name))))
+put_actions : (s : Setup) (i j : Job) (name bytes : List ℕ) → i.kind ≡ PutJob name bytes → j.kind ≡ PutJob name bytes → j.subject ≡ i.subject → j.profile ≡ i.profile → j.older ≡ i.older → actions_of s j ≡ actions_of s i
+put_actions s i j name bytes ki kj subject profile older =
+    actions_are s j (PutJob name bytes) kj ∙ (parts_are s j bytes name ∙ (ap (λ p. put_parts s p j.subject j.older bytes) profile ∙ (ap (λ n. put_parts s i.profile n j.older bytes) subject ∙ (ap (λ l. put_parts s i.profile i.subject l bytes) older ∙ sym (actions_are s i (PutJob name bytes) ki ∙ parts_are s i bytes name)))))
 
 -- ---- facts
 
@@ -112,19 +115,19 @@ pub record Facts (start : State) (ms : List Moment) : Type 0 where
   pub audited : (k : ℕ) (j : Job) (f : Pinned) (i s : ℕ) → job_of (now start ms).jobs k ≡ Some j → j.kind ≡ AuditJob → In f j.pinned → is_replaced_since j.begun i ms ≡ false →
       told_block (now start ms) i f.id s ≡ told_block (now start (first_moments j.begun ms)) i f.id s
   pub stored : (k : ℕ) (j : Job) (name bytes : List ℕ) (i o s : ℕ) (b : Option (List ℕ)) → job_of (now start ms).jobs k ≡ Some j → j.kind ≡ PutJob name bytes → started_as (now start ms).records j.subject ≡ Some name →
-      HasMadeStore (setup_in (now start ms)) j i o s → is_replaced_since j.begun i ms ≡ false → told_block (now start ms) i o s ≡ Some b → b ≡ Some (columns (object_in (now start ms) o) bytes i s)
+      HasMadeStore (setup_in (now start ms)) j i o s → is_replaced_since j.begun i ms ≡ false → told_block (now start ms) i o s ≡ Some b → b ≡ Some (columns (object_in (now start ms) j.profile o) bytes i s)
 
 module _ (limit : ℕ) (start : State) (m : Moment) (ms : List Moment) (N : num.Facts objects start ms) (P : pin.Facts start ms) (F : Facts start ms) (X : Changes limit (length ms) (now start ms) m.event m.outcome m.state) where
   begun_step : (k : ℕ) (j : Job) → job_of m.state.jobs k ≡ Some j → j.begun ≤ suc (length ms)
   begun_step k j h = elim (pins_is limit start m ms N P X k j h) [
     | Pins_is.had x runs pinned kind begun g ↦ (let l = F.begun k x runs in omega arith)
-    | Pins_is.new_one kind is k_is allowed rec ↦ (let e : j.begun ≡ length ms = ap (λ (x : Job). x.begun) is in omega arith)
+    | Pins_is.new_one kind wish is k_is allowed rec ↦ (let e : j.begun ≡ length ms = ap (λ (x : Job). x.begun) is in omega arith)
   ]
 
   -- a block of an object that no put stores, no repair works on and no job takes away stays, unless its provider is replaced
-  safe_block : (i o s : ℕ) → started_as (now start ms).records o ≡ None → ((x : Job) → job_of (now start ms).jobs x.number ≡ Some x → x.kind ≡ RepairJob → HasPin x o → ⊥) →
+  safe_block : (i o s : ℕ) → ((scrub : Scrub) → (now start ms).alone ≡ Some (Scrubbing scrub) → ⊥) → started_as (now start ms).records o ≡ None → ((x : Job) → job_of (now start ms).jobs x.number ≡ Some x → x.kind ≡ RepairJob → HasPin x o → ⊥) →
       ((x : Job) → job_of (now start ms).jobs x.number ≡ Some x → In o x.older → ⊥) → (told_block m.state i o s ≡ told_block (now start ms) i o s) ⊎ (is_replacement m.event m.outcome i ≡ true)
-  safe_block i o s quiet no_repair no_older = elim (X.block i o s) [
+  safe_block i o s no_scrub quiet no_repair no_older = elim (X.block i o s) [
     | Block_is.same e ↦ inl e
     | Block_is.replaced r ↦ inr r
     | Block_is.stored x runs next_is is ↦ absurd (elim (store_kinds x x.kind i o s refl (is_fair (now start ms) x (Store i o s) next_is)) [
@@ -133,6 +136,7 @@ module _ (limit : ℕ) (start : State) (m : Moment) (ms : List Moment) (N : num.
           let z : None ≡ Some p.0 = sym quiet ∙ (ap (started_as (now start ms).records) p.3 ∙ st) in cc)
       | inr q ↦ no_repair x runs q.0 q.1
     ])
+    | Block_is.scrubbed scrub rest alone next_is is ↦ absurd (no_scrub scrub alone)
     | Block_is.removed x runs next_is ↦ absurd (no_older x runs (remove_kinds x x.kind i o refl (is_fair (now start ms) x (Remove i o) next_is)))
   ]
 
@@ -149,7 +153,7 @@ module _ (limit : ℕ) (start : State) (m : Moment) (ms : List Moment) (N : num.
         let back : told_block (now start ms) i f.id s ≡ told_block (now start (first_moments j.begun (m ∷ ms))) i f.id s =
         F.audited k x f i s runs kx in_x (replaced_before x.begun i m ms none_x)
         ∙ ap (λ hs. told_block (now start hs) i f.id s) (sym (ap (λ n. first_moments n (m ∷ ms)) begun ∙ first_more x.begun m ms (F.begun k x runs))) in
-        elim (safe_block i f.id s (P.pins k x f runs in_x).1
+        elim (safe_block i f.id s (λ scrub alone. found_none (now start ms).jobs k x (N.idle.lone (Scrubbing scrub) alone) runs) (P.pins k x f runs in_x).1
         (λ y runs_y ky pin_y. (let same : y.number ≡ k = P.checks y.number k y x runs_y runs (ap is_check ky) (ap is_check kx) in
         let e : y ≡ x = same_value _ y x (subst (λ n. job_of (now start ms).jobs n ≡ Some y) same runs_y) runs in
         let z : RepairJob ≡ AuditJob = sym ky ∙ (ap (λ (q : Job). q.kind) e ∙ kx) in cc))
@@ -157,12 +161,12 @@ module _ (limit : ℕ) (start : State) (m : Moment) (ms : List Moment) (N : num.
           | inl e ↦ e ∙ back
           | inr r ↦ absurd (replaced_now x.begun i m ms (F.begun k x runs) r none_x)
         ])
-    | Pins_is.new_one kd is k_is allowed rec ↦
+    | Pins_is.new_one kd wish is k_is allowed rec ↦
         (let st = pinned_stands (now start ms) kd f (subst (λ (x : Job). In f x.pinned) is in_f) in
         let begun : j.begun ≡ length ms = ap (λ (x : Job). x.begun) is in
         let kind_is : kd ≡ AuditJob = sym (ap (λ (x : Job). x.kind) is) ∙ kind in
-        elim (safe_block i f.id s (stands_quiet limit start m ms N P X f st).1
-        (λ y runs_y ky pin_y. false≢true (sym (check_alone limit (now start ms) kd allowed (ap is_check kind_is) y.number y runs_y) ∙ ap is_check ky))
+        elim (safe_block i f.id s (λ scrub alone. (let z : None ≡ Some (Scrubbing scrub) = sym (none_lone limit (now start ms) kd wish allowed) ∙ alone in cc)) (stands_quiet limit start m ms N P X f st).1
+        (λ y runs_y ky pin_y. false≢true (sym (check_alone limit (now start ms) kd wish allowed (ap is_check kind_is) y.number y runs_y) ∙ ap is_check ky))
         (λ y runs_y in_y. P.older_out y.number y f.id st.name st.file runs_y in_y st.in_effect (sym (ap (λ (x : Pinned). x.id) st.is)))) [
           | inl e ↦ e ∙ ap (λ hs. told_block (now start hs) i f.id s) (sym (ap (λ n. first_moments n (m ∷ ms)) begun ∙ (first_more (length ms) m ms (omega arith) ∙ first_all ms)))
           | inr r ↦ absurd (replaced_now j.begun i m ms (omega arith) r none)
@@ -171,7 +175,7 @@ module _ (limit : ℕ) (start : State) (m : Moment) (ms : List Moment) (N : num.
 
   -- a block that a put had stored is still its column
   carry : (k : ℕ) (x : Job) (name bytes : List ℕ) (i o s : ℕ) (b : Option (List ℕ)) → job_of (now start ms).jobs k ≡ Some x → x.kind ≡ PutJob name bytes → started_as (now start ms).records x.subject ≡ Some name →
-      HasMadeStore (setup_in (now start ms)) x i o s → is_replaced_since x.begun i (m ∷ ms) ≡ false → told_block m.state i o s ≡ Some b → b ≡ Some (columns (object_in (now start ms) o) bytes i s)
+      HasMadeStore (setup_in (now start ms)) x i o s → is_replaced_since x.begun i (m ∷ ms) ≡ false → told_block m.state i o s ≡ Some b → b ≡ Some (columns (object_in (now start ms) x.profile o) bytes i s)
   carry k x name bytes i o s b runs kind st made none told =
       (let own = made_own (setup_in (now start ms)) (now start ms) x name bytes i o s made.place refl kind made.action in
       let late : 4 ≤ x.place = (let l = made.made in let g = own.0 in omega arith) in
@@ -185,40 +189,43 @@ module _ (limit : ℕ) (start : State) (m : Moment) (ms : List Moment) (N : num.
               let same : y.number ≡ k = N.apart y.number k y x runs_y runs (subst (Draws objects) (sym p.2) tt, place.0) (subst (Draws objects) (sym kind) tt, late) (sym p.3 ∙ own.1) in
               let e : y ≡ x = same_value _ y x (subst (λ n. job_of (now start ms).jobs n ≡ Some y) same runs_y) runs in
               some_told (block_to_store (now start ms) y y.kind i o s) ((now start ms).providers i).held b (sym is ∙ told)
-              ∙ ap Some (ap (λ kd. block_to_store (now start ms) y kd i o s) (ap (λ (q : Job). q.kind) e ∙ kind)))
+              ∙ ap Some (ap (λ kd. block_to_store (now start ms) y kd i o s) (ap (λ (q : Job). q.kind) e ∙ kind)
+              ∙ ap (λ p. columns (object_in (now start ms) p o) bytes i s) (ap (λ (q : Job). q.profile) e)))
           | inr q ↦ absurd (let z = (P.pins y.number y q.1.file runs_y q.1.pinned).1 in
               let f : None ≡ Some name = sym z ∙ (ap (started_as (now start ms).records) q.1.id_is ∙ st_o) in cc)
         ]
+        | Block_is.scrubbed scrub rest alone next_is is ↦ absurd (found_none (now start ms).jobs k x (N.idle.lone (Scrubbing scrub) alone) runs)
         | Block_is.removed y runs_y next_is ↦ absurd (let z = (P.older y.number y o runs_y (remove_kinds y y.kind i o refl (is_fair (now start ms) y (Remove i o) next_is))).1 in
             let f : None ≡ Some name = sym z ∙ st_o in cc)
       ])
 
-  columns_now : (o i s : ℕ) (bytes : List ℕ) (b : Option (List ℕ)) → setup_of m.state.records ≡ setup_of (now start ms).records → b ≡ Some (columns (object_in (now start ms) o) bytes i s) → b ≡ Some (columns (object_in m.state o) bytes i s)
-  columns_now o i s bytes b e h = h ∙ ap (λ t. Some (columns (object_of t o) bytes i s)) (sym (setup_same m.state (now start ms) e))
+  columns_now : (p q o i s : ℕ) (bytes : List ℕ) (b : Option (List ℕ)) → p ≡ q → setup_of m.state.records ≡ setup_of (now start ms).records → b ≡ Some (columns (object_in (now start ms) p o) bytes i s) → b ≡ Some (columns (object_in m.state q o) bytes i s)
+  columns_now p q o i s bytes b same e h = h ∙ (ap (λ t. Some (columns (object_of (profiled t p) o) bytes i s)) (sym (setup_same m.state (now start ms) e))
+      ∙ ap (λ x. Some (columns (object_of (profiled (setup_in m.state) x) o) bytes i s)) same)
 
-  made_back : (x j : Job) (name bytes : List ℕ) (i o s : ℕ) → setup_of m.state.records ≡ setup_of (now start ms).records → x.kind ≡ PutJob name bytes → j.kind ≡ PutJob name bytes → j.subject ≡ x.subject → j.older ≡ x.older →
+  made_back : (x j : Job) (name bytes : List ℕ) (i o s : ℕ) → setup_of m.state.records ≡ setup_of (now start ms).records → x.kind ≡ PutJob name bytes → j.kind ≡ PutJob name bytes → j.subject ≡ x.subject → j.profile ≡ x.profile → j.older ≡ x.older →
       (h : HasMadeStore (setup_in m.state) j i o s) → slice_get (actions_of (setup_in (now start ms)) x) h.place ≡ Some (Store i o s)
-  made_back x j name bytes i o s e kx kj subject older h =
-      ap (λ l. slice_get l h.place) (sym (put_actions (setup_in (now start ms)) x j name bytes kx kj subject older) ∙ ap (λ t. actions_of t j) (sym (setup_same m.state (now start ms) e))) ∙ h.action
+  made_back x j name bytes i o s e kx kj subject profile older h =
+      ap (λ l. slice_get l h.place) (sym (put_actions (setup_in (now start ms)) x j name bytes kx kj subject profile older) ∙ ap (λ t. actions_of t j) (sym (setup_same m.state (now start ms) e))) ∙ h.action
 
   stored_step : (k : ℕ) (j : Job) (name bytes : List ℕ) (i o s : ℕ) (b : Option (List ℕ)) → job_of m.state.jobs k ≡ Some j → j.kind ≡ PutJob name bytes → started_as m.state.records j.subject ≡ Some name →
-      HasMadeStore (setup_in m.state) j i o s → is_replaced_since j.begun i (m ∷ ms) ≡ false → told_block m.state i o s ≡ Some b → b ≡ Some (columns (object_in m.state o) bytes i s)
+      HasMadeStore (setup_in m.state) j i o s → is_replaced_since j.begun i (m ∷ ms) ≡ false → told_block m.state i o s ≡ Some b → b ≡ Some (columns (object_in m.state j.profile o) bytes i s)
   stored_step k j name bytes i o s b h kind st made none told = elim (X.job k j h) [
     | Job_is.kept r (Grown.as_before rec) ↦
-        columns_now o i s bytes b (ap setup_of rec) (carry k j name bytes i o s b r kind (ap (λ rs. started_as rs j.subject) (sym rec) ∙ st)
-        (record { place = made.place; made = made.made; action = made_back j j name bytes i o s (ap setup_of rec) kind kind refl refl made }) none told)
+        columns_now j.profile j.profile o i s bytes b refl (ap setup_of rec) (carry k j name bytes i o s b r kind (ap (λ rs. started_as rs j.subject) (sym rec) ∙ st)
+        (record { place = made.place; made = made.made; action = made_back j j name bytes i o s (ap setup_of rec) kind kind refl refl refl made }) none told)
     | Job_is.kept r (Grown.by_other x a runs next_is flight mine other rec) ↦
         (let e = setup_one limit start m ms N P X a x flight runs mine rec in
         let own = made_own (setup_in m.state) m.state j name bytes i o s made.place refl kind made.action in
         let below = N.below k j r (subst (Draws objects) (sym kind) tt, (let l = made.made in let g = own.0 in omega arith)) in
-        columns_now o i s bytes b e (carry k j name bytes i o s b r kind
+        columns_now j.profile j.profile o i s bytes b refl e (carry k j name bytes i o s b r kind
         (started-less (now start ms).records a.entry j.subject name (P.append_proper a flight) below (ap (λ rs. started_as rs j.subject) (sym rec) ∙ st))
-        (record { place = made.place; made = made.made; action = made_back j j name bytes i o s e kind kind refl refl made }) none told))
-    | Job_is.begun kd is k_is allowed rec ↦ absurd (let e : j.place ≡ 0 = ap (λ (x : Job). x.place) is in let l = made.made in omega arith)
+        (record { place = made.place; made = made.made; action = made_back j j name bytes i o s e kind kind refl refl refl made }) none told))
+    | Job_is.begun kd profile is k_is allowed rec ↦ absurd (let e : j.place ≡ 0 = ap (λ (x : Job). x.place) is in let l = made.made in omega arith)
     | Job_is.plain x action runs next_is is_plain goes rec stores_it ↦
         (let kx : x.kind ≡ PutJob name bytes = sym goes.kind ∙ kind in
-        let act = made_back x j name bytes i o s (ap setup_of rec) kx kind goes.subject goes.older made in
-        columns_now o i s bytes b (ap setup_of rec)
+        let act = made_back x j name bytes i o s (ap setup_of rec) kx kind goes.subject goes.profile goes.older made in
+        columns_now x.profile j.profile o i s bytes b (sym goes.profile) (ap setup_of rec)
         (elim (cases_lt made.place x.place) [
           | inl l ↦ carry k x name bytes i o s b runs kx (ap (λ rs. started_as rs x.subject) (sym rec) ∙ (ap (started_as m.state.records) (sym goes.subject) ∙ st))
               (record { place = made.place; made = l; action = act }) (subst (λ n. is_replaced_since n i (m ∷ ms) ≡ false) goes.begun none) told
@@ -234,8 +241,8 @@ module _ (limit : ℕ) (start : State) (m : Moment) (ms : List Moment) (N : num.
         let own = made_own (setup_in m.state) m.state j name bytes i o s made.place refl kind made.action in
         let late : 4 ≤ x.place = (let g = made.made in let l = own.0 in omega arith) in
         let subject : j.subject ≡ x.subject = ap (λ (y : Job). y.subject) is ∙ drawn_later (now start ms) x x.kind (first_above x late) in
-        let act = made_back x j name bytes i o s (ap setup_of rec) kx kind subject (ap (λ (y : Job). y.older) is) made in
-        columns_now o i s bytes b (ap setup_of rec)
+        let act = made_back x j name bytes i o s (ap setup_of rec) kx kind subject (ap (λ (y : Job). y.profile) is) (ap (λ (y : Job). y.older) is) made in
+        columns_now x.profile j.profile o i s bytes b (sym (ap (λ (y : Job). y.profile) is)) (ap setup_of rec)
         (elim (cases_lt made.place x.place) [
           | inl l ↦ carry k x name bytes i o s b runs kx (ap (λ rs. started_as rs x.subject) (sym rec) ∙ (ap (started_as m.state.records) (sym subject) ∙ st))
               (record { place = made.place; made = l; action = act }) (subst (λ n. is_replaced_since n i (m ∷ ms) ≡ false) (ap (λ (y : Job). y.begun) is) none) told
@@ -259,8 +266,8 @@ module _ (limit : ℕ) (start : State) (m : Moment) (ms : List Moment) (N : num.
       done_now : (x : Job) (a : Append) → 4 ≤ x.place → j.subject ≡ x.subject → m.state.records ≡ a.entry ∷ (now start ms).records → Wrote x (PutJob name bytes) a.entry → ⊥
       done_now x a late subject rec (inl w) = (let l = w.0 in omega arith)
       done_now x a late subject rec (inr w) =
-          (let none_now : started_as m.state.records j.subject ≡ None = ap (λ rs. started_as rs j.subject) (rec ∙ ap (λ (r : Record). r ∷ (now start ms).records) w.1)
-          ∙ cond_true (x.subject == j.subject) None (started_as (now start ms).records j.subject) (eq-eqb x.subject j.subject (sym subject)) in
+          (let none_now : started_as m.state.records j.subject ≡ None = ap (λ rs. started_as rs j.subject) (rec ∙ ap (λ (r : Record). r ∷ (now start ms).records) w.1.1)
+          ∙ done-started w.1.0 x.subject (length bytes) x.profile (now start ms).records j.subject ∙ cond_true (x.subject == j.subject) None (started_as (now start ms).records j.subject) (eq-eqb x.subject j.subject (sym subject)) in
           let z : None ≡ Some name = sym none_now ∙ st in cc)
 
   pub step_facts : Facts start (m ∷ ms)

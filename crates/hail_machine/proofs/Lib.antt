@@ -9,10 +9,13 @@ pub mod JobLists
 pub mod ActionLists
 pub mod Plans
 pub mod Changes
+pub mod Asides
+pub mod Refused
 pub mod StepEnds
 pub mod Events
 pub mod Done
 pub mod Written
+pub mod Journals
 pub mod Numbers
 pub mod Uses
 pub mod RecordFacts
@@ -20,6 +23,7 @@ pub mod Fair
 pub mod Pins
 pub mod PinFacts
 pub mod Held
+pub mod PutProfiles
 pub mod Survive
 pub mod Acknowledged
 pub mod Stripes

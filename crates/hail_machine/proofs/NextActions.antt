@@ -3,7 +3,7 @@ use Rattle.std.proofs.Common.{◌≡◌, Some, refl, sym, ◌∙◌, inl, inr}
 use Rattle.std.specs.Prelude.{slice_get}
 use Rattle.std.proofs.lemmas.Bool.{cases_Bool}
 use Rattle.hail_records.specs.Records.{Setup}
-use Rattle.hail_machine.specs.Jobs.{Kind, PutJob, GetJob, DropJob, AuditJob, RepairJob, Job, advanced}
+use Rattle.hail_machine.specs.Jobs.{Kind, PutJob, GetJob, DropJob, AuditJob, RepairJob, UpgradeJob, Job, advanced}
 use Rattle.hail_machine.specs.Actions.{Action, End, actions_by, actions_of}
 use Rattle.hail_machine.specs.States.{State, setup_in}
 use Rattle.hail_machine.specs.Steps.{next_action, is_idle_drop}
@@ -23,3 +23,4 @@ actions_by-advanced s x (GetJob name) = refl
 actions_by-advanced s x (DropJob name) = refl
 actions_by-advanced s x AuditJob = refl
 actions_by-advanced s x RepairJob = refl
+actions_by-advanced s x UpgradeJob = refl

@@ -4,16 +4,16 @@ use Rattle.std.specs.Prelude.{slice_get, nat_lt}
 use Rattle.std.proofs.lemmas.Bool.{cases_Bool, cases_eq, cases_lt, ltb-true, lt-ltb}
 use Rattle.hail_records.specs.Records.{Record, SetUp, PutStart, PutDone, Drop, AuditStart, AuditDone, RepairDone, PutDoneIn, Version, Resume, InEffect, RepairDue}
 use Rattle.hail_records.specs.Table.{next_id, next_audit}
-use Rattle.hail_machine.specs.Jobs.{Kind, PutJob, GetJob, DropJob, AuditJob, RepairJob, Job, job_of}
+use Rattle.hail_machine.specs.Jobs.{Kind, PutJob, GetJob, DropJob, AuditJob, RepairJob, UpgradeJob, Job, job_of}
 use Rattle.hail_machine.specs.Actions.{Action, WriteBody, SyncGate, End, actions_by, actions_of}
 use Rattle.hail_machine.specs.States.{State, Append, IsStart, setup_in}
 use Rattle.hail_machine.specs.Appends.{Writes, is_first_append, subject_drawn}
 use Rattle.hail_machine.specs.Steps.{next_action, is_idle_drop}
 use Rattle.hail_machine.specs.Runs.{Moment, now, IsRun}
 use Rattle.hail_machine.proofs.JobLists.{cond_true, cond_false, same_value, found_none}
-use Rattle.hail_machine.proofs.Changes.{IsPlain, Job_is, Append_is, Records_is, IsQuietState, Changes}
-use Rattle.hail_machine.proofs.Events.{changes}
+use Rattle.hail_machine.proofs.Changes.{IsPlain, Job_is, Append_is, Records_is, IsIdle, IsLone, IsQuietState, Changes}
 use Rattle.hail_machine.proofs.Written.{IsAppended, IsWritten, written_on}
+use Rattle.hail_machine.proofs.Events.{changes}
 
 -- the two series of numbers
 pub data Series : Type 0 where
@@ -44,8 +44,8 @@ next_grows objects (AuditDone number undecided counts) rs good = omega arith
 next_grows objects (RepairDone number) rs good = omega arith
 next_grows objects (PutDoneIn id size profile) rs good = omega arith
 next_grows objects Version rs good = omega arith
-next_grows objects (Resume id audit) rs good = absurd good
-next_grows objects (InEffect id size profile name) rs good = absurd good
+next_grows objects (Resume next audit) rs good = absurd good
+next_grows objects (InEffect id size profile kept) rs good = absurd good
 next_grows objects (RepairDue number counts) rs good = absurd good
 next_grows audits (SetUp s) rs good = omega arith
 next_grows audits (PutStart id name) rs good = omega arith
@@ -56,8 +56,8 @@ next_grows audits (AuditDone number undecided counts) rs good = omega arith
 next_grows audits (RepairDone number) rs good = omega arith
 next_grows audits (PutDoneIn id size profile) rs good = omega arith
 next_grows audits Version rs good = omega arith
-next_grows audits (Resume id audit) rs good = absurd good
-next_grows audits (InEffect id size profile name) rs good = absurd good
+next_grows audits (Resume next audit) rs good = absurd good
+next_grows audits (InEffect id size profile kept) rs good = absurd good
 next_grows audits (RepairDue number counts) rs good = absurd good
 
 on_top : (series : Series) (rs more : List Record) → more ≡ rs → next series rs ≤ next series more
@@ -90,10 +90,12 @@ three_by objects w job (GetJob name) d = absurd d
 three_by objects w job (DropJob name) d = absurd d
 three_by objects w job AuditJob d = absurd d
 three_by objects w job RepairJob d = absurd d
+three_by objects w job UpgradeJob d = absurd d
 three_by audits w job (PutJob name bytes) d = absurd d
 three_by audits w job (GetJob name) d = absurd d
 three_by audits w job (DropJob name) d = absurd d
 three_by audits w job RepairJob d = absurd d
+three_by audits w job UpgradeJob d = absurd d
 
 -- at place 3 a put or an audit makes the fourth move of its first append
 pub at_three : (series : Series) (w : State) (job : Job) → Draws series job.kind → job.place ≡ 3 → next_action w job ≡ Some SyncGate
@@ -106,6 +108,7 @@ drawn_later w job (GetJob name) h = refl
 drawn_later w job (DropJob name) h = refl
 drawn_later w job AuditJob h = cond_false _ _ _ h
 drawn_later w job RepairJob h = refl
+drawn_later w job UpgradeJob h = refl
 
 pub drawn_first : (series : Series) (w : State) (job : Job) (kind : Kind) → Draws series kind → is_first_append job ≡ true → subject_drawn w job kind ≡ next series w.records
 drawn_first objects w job (PutJob name bytes) d h = cond_true _ _ _ h
@@ -114,10 +117,12 @@ drawn_first objects w job (GetJob name) d h = absurd d
 drawn_first objects w job (DropJob name) d h = absurd d
 drawn_first objects w job AuditJob d h = absurd d
 drawn_first objects w job RepairJob d h = absurd d
+drawn_first objects w job UpgradeJob d h = absurd d
 drawn_first audits w job (PutJob name bytes) d h = absurd d
 drawn_first audits w job (GetJob name) d h = absurd d
 drawn_first audits w job (DropJob name) d h = absurd d
 drawn_first audits w job RepairJob d h = absurd d
+drawn_first audits w job UpgradeJob d h = absurd d
 
 -- a record that raises the next number
 abbrev pub Raises : Series → Record → Type 0
@@ -135,10 +140,12 @@ writes_first objects w job (GetJob name) entry d first h = absurd d
 writes_first objects w job (DropJob name) entry d first h = absurd d
 writes_first objects w job AuditJob entry d first h = absurd d
 writes_first objects w job RepairJob entry d first h = absurd d
+writes_first objects w job UpgradeJob entry d first h = absurd d
 writes_first audits w job (PutJob name bytes) entry d first h = absurd d
 writes_first audits w job (GetJob name) entry d first h = absurd d
 writes_first audits w job (DropJob name) entry d first h = absurd d
 writes_first audits w job RepairJob entry d first h = absurd d
+writes_first audits w job UpgradeJob entry d first h = absurd d
 
 pub first_below : (job : Job) → job.place < 4 → is_first_append job ≡ true
 first_below job l = lt-ltb job.place 4 l
@@ -190,7 +197,7 @@ module _ (series : Series) (limit : ℕ) (start : State) (m : Moment) (ms : List
   numbered : (k : ℕ) (j : Job) → job_of m.state.jobs k ≡ Some j → HasNumber series j → Numbered series (now start ms) m.state k j
   numbered k j h has = elim (X.job k j h) [
     | Job_is.kept r grown ↦ Numbered.was j r has refl refl
-    | Job_is.begun kind is k_is none rec ↦ absurd (let e : j.place ≡ 0 = ap (λ (x : Job). x.place) is in let l = has.1 in omega arith)
+    | Job_is.begun kind profile is k_is none rec ↦ absurd (let e : j.place ≡ 0 = ap (λ (x : Job). x.place) is in let l = has.1 in omega arith)
     | Job_is.plain i action runs next_is is_plain goes rec stores_it ↦ elim (cases_eq i.place 3) [
       | inl three ↦ absurd (subst IsPlain (same_value _ action SyncGate next_is (at_three series (now start ms) i (draws_back i j goes.kind has.0) three)) is_plain)
       | inr other ↦ Numbered.was i runs (draws_back i j goes.kind has.0, (let e = goes.place in let l = has.1 in omega arith)) (sym goes.subject) (sym goes.begun)
@@ -236,7 +243,7 @@ module _ (series : Series) (limit : ℕ) (start : State) (m : Moment) (ms : List
   fits_step a j h hj d small = elim (X.append a h) [
     | Append_is.kept b flight job_is entry rec ↦ elim (X.job a.job j hj) [
       | Job_is.kept r grown ↦ carried b entry rec j refl (F.fits b j flight (subst (λ n. job_of (now start ms).jobs n ≡ Some j) job_is r) d small)
-      | Job_is.begun kind is k_is none rec2 ↦ absurd (let l = F.holder b flight in omega arith)
+      | Job_is.begun kind profile is k_is none rec2 ↦ absurd (let l = F.holder b flight in omega arith)
       | Job_is.plain i action runs next_is is_plain goes rec2 stores_it ↦ carried b entry rec i goes.subject
           (F.fits b i flight (subst (λ n. job_of (now start ms).jobs n ≡ Some i) job_is runs) (draws_back i j goes.kind d) (let e = goes.place in omega arith))
       | Job_is.drew i runs next_is none is rec2 ↦ absurd (let e : None ≡ Some b = sym none ∙ flight in cc)
@@ -308,7 +315,7 @@ module _ (series : Series) (limit : ℕ) (start : State) (m : Moment) (ms : List
     fits = fits_step;
     holder = holder_step;
     jobs_below = jobs_below_step;
-    idle = record { idle = X.idle F.idle.idle };
+    idle = record { idle = X.idle F.idle.idle; lone = X.lone F.idle.lone };
     written = written_on limit (length ms) (now start ms) m.event m.outcome m.state X F.written;
     used_below = used_below_step;
     used_mine = used_mine_step;
@@ -322,7 +329,7 @@ start_facts series start clean = record {
   fits = λ a j h g d s. absurd (found_none start.jobs a.job j clean.jobs g);
   holder = λ a h. absurd (let e : None ≡ Some a = sym clean.append ∙ h in cc);
   jobs_below = λ k j h. absurd (found_none start.jobs k j clean.jobs h);
-  idle = record { idle = λ closed. (clean.jobs, clean.append) };
+  idle = record { idle = λ closed. (clean.jobs, clean.append); lone = λ x h. absurd (let e : None ≡ Some x = sym clean.none_alone ∙ h in cc) };
   written = (λ a h. absurd (let e : None ≡ Some a = sym clean.append ∙ h in cc), λ d h. absurd (let e : None ≡ Some d = sym clean.doubt ∙ h in cc));
   used_below = λ b n u. absurd u;
   used_mine = λ b n k j u h has s. absurd u;

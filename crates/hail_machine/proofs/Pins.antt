@@ -1,21 +1,22 @@
 -- Files in effect, files that jobs work on, and objects that they take away.
-use Rattle.std.proofs.Common.{◌≡◌, ℕ, ◌<◌, ◌≤◌, ◌==◌, Bool, true, false, ◌⊎◌, List, [], ◌∷◌, length, Option, Some, None, refl, ap, sym, subst, ◌∙◌, inl, inr}
+use Rattle.std.proofs.Common.{◌≡◌, ℕ, ◌<◌, ◌≤◌, ◌==◌, Bool, true, false, ◌⊎◌, ◌||◌, List, [], ◌∷◌, length, Option, Some, None, refl, ap, sym, subst, ◌∙◌, inl, inr}
 use Rattle.std.specs.Prelude.{nat_lt}
 use Rattle.std.specs.List.{list_any}
-use Rattle.std.proofs.lemmas.Bool.{eq-eqb, cases_Bool, cases_lt, false≢true, or_parts}
-use Rattle.plain_facts.specs.Lists.{In}
-use Rattle.hail_records.specs.Records.{Record, PutStart, PutDone, Drop, AuditStart, AuditDone, RepairDone}
-use Rattle.hail_records.specs.Table.{File, version_of, next_id, files_of}
-use Rattle.hail_machine.specs.Jobs.{Kind, PutJob, GetJob, DropJob, AuditJob, RepairJob, Pinned, Job, job_of}
-use Rattle.hail_machine.specs.Refusals as refusal
-use Rattle.hail_machine.specs.States.{State, file_in, setup_in}
+use Rattle.std.proofs.lemmas.Bool.{eq-eqb, cases_Bool, cases_lt, false≢true}
+use Rattle.hail_records.specs.Records.{Record, PutStart, PutDone, Drop, AuditStart, AuditDone, RepairDone, Version}
+use Rattle.hail_records.specs.Table.{File, next_id, files_of, version_of}
+use Rattle.hail_machine.specs.Jobs.{Kind, PutJob, GetJob, DropJob, AuditJob, RepairJob, UpgradeJob, Pinned, Job, job_of}
 use Rattle.hail_machine.specs.Refusals.{Cause, first_refusal}
-use Rattle.hail_machine.specs.Begins.{is_check, is_put_or_check, is_busy, begin_refusal, pinned_file, pin, pin_all, pin_one, pinned_for}
+use Rattle.hail_machine.specs.States.{State, file_in}
+use Rattle.hail_machine.specs.Begins.{is_check, is_put_or_check, is_shut, are_jobs_in_the_way, refusal_of_begin, pinned_file, pin, pin_all, pin_one, pinned_for}
 use Rattle.hail_machine.specs.Appends.{Writes, is_first_append, is_pinned, removable, taken_out, done_record}
+use Rattle.hail_machine.proofs.Done.{by_version}
+use Rattle.hail_machine.proofs.Refused.{not_busy, right_false, left_false}
 use Rattle.hail_machine.proofs.JobLists.{cond_true, cond_false, same_value}
 use Rattle.hail_machine.proofs.Numbers.{first_above, first_below}
 use Rattle.hail_machine.proofs.RecordFacts.{IsProper, listed_file}
-use Rattle.hail_machine.proofs.Done.{by_version}
+use Rattle.plain_facts.specs.Lists.{In}
+use Rattle.hail_machine.specs.Refusals as refusal
 
 -- ---- what begins pin
 
@@ -63,6 +64,7 @@ pinned_stands w (GetJob name) f h = in_effect_one w name (file_in w name) f refl
 pinned_stands w (DropJob name) f h = absurd h
 pinned_stands w AuditJob f h = in_effect_all w f h
 pinned_stands w RepairJob f h = in_effect_all w f h
+pinned_stands w UpgradeJob f h = absurd h
 
 -- ---- what is pinned is not taken away
 
@@ -120,21 +122,13 @@ taken w job (DropJob n) o h = (n, refl, removable_is w job n (file_in w n) o ref
 taken w job (GetJob n) o h = absurd h
 taken w job AuditJob o h = absurd h
 taken w job RepairJob o h = absurd h
+taken w job UpgradeJob o h = absurd h
 
 -- ---- begins of audits and repairs
 
-pub not_busy : (limit : ℕ) (w : State) (kind : Kind) → begin_refusal limit w kind ≡ None → is_busy limit w kind ≡ false
-not_busy limit w kind h = elim (cases_Bool w.is_barred) [
-  | inl t ↦ absurd (let e = rw t at h in let f : Some refusal.MustReopen ≡ None = e in cc)
-  | inr o ↦ elim (cases_Bool (is_busy limit w kind)) [
-    | inl b ↦ absurd (let e = rw (o, b) at h in let f : Some refusal.Busy ≡ None = e in cc)
-    | inr f ↦ f
-  ]
-]
-
-pub check_alone : (limit : ℕ) (w : State) (kind : Kind) → begin_refusal limit w kind ≡ None → is_check kind ≡ true → (k : ℕ) (j : Job) → job_of w.jobs k ≡ Some j → is_check j.kind ≡ false
-check_alone limit w AuditJob none check k j runs =
-    not_put (any_job (λ (x : Job). is_put_or_check x.kind) w.jobs k j runs ((or_parts _ _ (not_busy limit w AuditJob none)).1))
+pub check_alone : (limit : ℕ) (w : State) (kind : Kind) (profile : Option ℕ) → refusal_of_begin limit w kind profile ≡ None → is_check kind ≡ true → (k : ℕ) (j : Job) → job_of w.jobs k ≡ Some j → is_check j.kind ≡ false
+check_alone limit w AuditJob profile none check k j runs =
+    not_put (any_job (λ (x : Job). is_put_or_check x.kind) w.jobs k j runs (right_false _ _ (right_false (is_shut w) (are_jobs_in_the_way limit w AuditJob) (not_busy limit w AuditJob profile none))))
   where
     not_put : is_put_or_check j.kind ≡ false → is_check j.kind ≡ false
     not_put h = by_kind j.kind h
@@ -145,26 +139,31 @@ check_alone limit w AuditJob none check k j runs =
         by_kind (DropJob name) h = h
         by_kind AuditJob h = h
         by_kind RepairJob h = h
-check_alone limit w RepairJob none check k j runs = any_job (λ (x : Job). is_check x.kind) w.jobs k j runs ((or_parts _ _ (not_busy limit w RepairJob none)).1)
-check_alone limit w (PutJob name bytes) none check k j runs = absurd (false≢true check)
-check_alone limit w (GetJob name) none check k j runs = absurd (false≢true check)
-check_alone limit w (DropJob name) none check k j runs = absurd (false≢true check)
+        by_kind UpgradeJob h = h
+check_alone limit w RepairJob profile none check k j runs = any_job (λ (x : Job). is_check x.kind) w.jobs k j runs (right_false _ _ (right_false (is_shut w) (are_jobs_in_the_way limit w RepairJob) (not_busy limit w RepairJob profile none)))
+check_alone limit w UpgradeJob profile none check k j runs = absurd (false≢true check)
+check_alone limit w (PutJob name bytes) profile none check k j runs = absurd (false≢true check)
+check_alone limit w (GetJob name) profile none check k j runs = absurd (false≢true check)
+check_alone limit w (DropJob name) profile none check k j runs = absurd (false≢true check)
 
 -- ---- what appends write
 
 -- the record of an append, by the job that it is of
 abbrev pub Wrote : Job → Kind → Record → Type 0
-Wrote job (PutJob name bytes) entry = ((job.place < 4) × (entry ≡ PutStart job.subject name)) ⊎ ((4 ≤ job.place) × (entry ≡ PutDone job.subject (length bytes)))
+Wrote job (PutJob name bytes) entry = ((job.place < 4) × (entry ≡ PutStart job.subject name)) ⊎ ((4 ≤ job.place) × ((version : ℕ) × (entry ≡ done_record version job.subject (length bytes) job.profile)))
 Wrote job (DropJob name) entry = entry ≡ Drop name
 Wrote job AuditJob entry = ((number : ℕ) × (entry ≡ AuditStart number)) ⊎ ((number : ℕ) × (u : ℕ) × (c : List ℕ) × (entry ≡ AuditDone number u c))
 Wrote job RepairJob entry = (number : ℕ) × (entry ≡ RepairDone number)
+Wrote job UpgradeJob entry = entry ≡ Version
 Wrote job (GetJob name) entry = ⊥
+
+done_proper : (v id size profile : ℕ) (rs : List Record) → IsProper rs (done_record v id size profile)
+done_proper v id size profile rs = by_version v id size profile (IsProper rs) tt tt
 
 pub writes_proper : (w : State) (job : Job) (kind : Kind) (entry : Record) → Writes w job kind entry → IsProper w.records entry
 writes_proper w job (PutJob name bytes) entry h = elim (cases_Bool (is_first_append job)) [
-  | inl t ↦ subst (IsProper w.records) (sym (h ∙ cond_true (is_first_append job) (PutStart (next_id w.records) name) (done_record (version_of w.records) job.subject (length bytes) (setup_in w).profile) t)) refl
-  | inr f ↦ subst (IsProper w.records) (sym (h ∙ cond_false (is_first_append job) (PutStart (next_id w.records) name) (done_record (version_of w.records) job.subject (length bytes) (setup_in w).profile) f))
-      (by_version (version_of w.records) job.subject (length bytes) (setup_in w).profile (IsProper w.records) tt tt)
+  | inl t ↦ subst (IsProper w.records) (sym (h ∙ cond_true (is_first_append job) (PutStart (next_id w.records) name) (done_record (version_of w.records) job.subject (length bytes) job.profile) t)) refl
+  | inr f ↦ subst (IsProper w.records) (sym (h ∙ cond_false (is_first_append job) (PutStart (next_id w.records) name) (done_record (version_of w.records) job.subject (length bytes) job.profile) f)) (done_proper (version_of w.records) job.subject (length bytes) job.profile w.records)
 ]
 writes_proper w job (GetJob name) entry h = absurd h
 writes_proper w job (DropJob name) entry h = subst (IsProper w.records) (sym h) tt
@@ -173,3 +172,4 @@ writes_proper w job AuditJob entry h = elim (cases_Bool (is_first_append job)) [
   | inr f ↦ (let g = rw f at h in subst (IsProper w.records) (sym g.2) tt)
 ]
 writes_proper w job RepairJob entry h = subst (IsProper w.records) (sym h) tt
+writes_proper w job UpgradeJob entry h = subst (IsProper w.records) (sym h) tt

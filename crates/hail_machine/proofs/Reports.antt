@@ -1,27 +1,29 @@
 -- What a report has of a job is what that job heard.
-use Rattle.std.proofs.Common.{◌≡◌, ℕ, ◌+◌, ◌<◌, ◌≤◌, ◌==◌, true, false, ◌⊎◌, List, [], ◌∷◌, ◌++◌, length, Option, Some, None, refl, ap, sym, subst, ◌∙◌, inl, inr, arith}
+use Rattle.std.proofs.Common.{◌≡◌, ℕ, ◌+◌, ◌<◌, ◌≤◌, ◌==◌, Bool, true, false, ◌⊎◌, List, [], ◌∷◌, ◌++◌, length, Option, Some, None, refl, ap, sym, subst, ◌∙◌, inl, inr, arith}
 use Rattle.std.proofs.lemmas.Bool.{cases_Bool, eqb-true}
 use Rattle.std.proofs.lemmas.List.{append_assoc, append-nil}
 use Rattle.hail_records.specs.Records.{Setup, is_setup}
-use Rattle.hail_machine.specs.Jobs.{Kind, PutJob, GetJob, DropJob, AuditJob, RepairJob, Given, Fetched, Answered, Worked, Job, job_of, without_job}
+use Rattle.hail_machine.specs.Jobs.{Kind, PutJob, GetJob, DropJob, AuditJob, RepairJob, UpgradeJob, Given, Fetched, Answered, Worked, Job, job_of, without_job}
 use Rattle.hail_machine.specs.Actions.{Action, WriteBody, SyncBody, WriteGate, SyncGate, Store, Fetch, Ask, Work, Remove, End}
 use Rattle.hail_machine.specs.Refusals as refusal
 use Rattle.hail_machine.specs.Answers as answer
 use Rattle.hail_machine.specs.Answers.{Answer}
-use Rattle.hail_machine.specs.Events.{Event, Init, Begin, Step, Alter, Lose, Stop, Reopen, Names, Continue, Outcome, Ready, Refused, Opened, Begun, More, Waiting, Ended, Replaced, NothingHeld, Stopped, Listed, Closed}
-use Rattle.hail_machine.specs.States.{State, Append, IsStart, given_up, Settles}
-use Rattle.hail_machine.specs.Begins.{Begins}
+use Rattle.hail_machine.specs.Events.{Event, Init, Begin, BeginAt, BeginScrub, BeginPack, Step, Alter, Lose, Stop, Reopen, Names, Continue, Outcome, Ready, Refused, Opened, Begun, More, Waiting, Ended, Replaced, NothingHeld, Stopped, Listed, Closed}
+use Rattle.hail_machine.specs.States.{State, Append, Alone, IsStart, Settles}
+use Rattle.hail_machine.specs.Begins.{BeginsAt}
 use Rattle.hail_machine.specs.Appends.{Moves}
-use Rattle.hail_machine.specs.Steps.{next_action, holder_of, Acts, ActsOrWaits, StepsOn, StepsJob, StepsOpen, Steps}
-use Rattle.hail_machine.specs.Openings.{Stops, Reopens, InitsClosed, InitsBy, Inits}
+use Rattle.hail_machine.specs.Steps.{next_action, holder_of, Acts, ActsOrWaits, StepsOn, StepsJob, StepsMine, StepsOne, StepsOpen, Steps}
+use Rattle.hail_machine.specs.Alone.{number_alone, StepsAlone, BeginsAlone}
+use Rattle.hail_machine.specs.Openings.{reread, Rereads, Stops, Reopens, InitsClosed, InitsBy, Inits}
 use Rattle.hail_machine.specs.Replacements.{ReplacesAt, ReplacesIf}
 use Rattle.hail_machine.specs.Machine.{Lists, Happens}
 use Rattle.hail_machine.specs.Runs.{Moment, now, IsRun}
 use Rattle.hail_machine.specs.Heard.{Entry, entries_of, heard_by_kind, heard_by, heard_at, reported_after, heard_in, given_to, NoneContinues, EndsJob}
 use Rattle.hail_devices.specs.Providers.{Held}
 use Rattle.std.specs.Prelude.{nat_lt}
-use Rattle.hail_machine.proofs.JobLists.{cond_true, cond_false, number_of, found_without}
-use Rattle.hail_machine.proofs.Changes.{Job_is, Changes}
+use Rattle.hail_machine.proofs.JobLists.{cond_true, cond_false, number_of, found_none, found_without}
+use Rattle.hail_machine.proofs.Changes.{IsLone, Job_is, Changes}
+use Rattle.hail_machine.proofs.Asides.{steps_aside}
 use Rattle.hail_machine.proofs.Events.{changes}
 use Rattle.hail_machine.proofs.Numbers.{objects}
 use Rattle.hail_machine.proofs.Numbers as num
@@ -61,16 +63,21 @@ others_hear k x AuditJob apart = others_nothing k x.number x.given apart
 others_hear k x (PutJob name bytes) apart = refl
 others_hear k x (DropJob name) apart = refl
 others_hear k x RepairJob apart = refl
+others_hear k x UpgradeJob apart = refl
 
 -- an outcome that ends no job
 abbrev IsNoEnd : Outcome → Type 0
 IsNoEnd (Ended how) = ⊥
 IsNoEnd r = Unit {0}
 
+-- an event that ends no job: by its outcome, or since no job runs
+abbrev EndsNone : State → Outcome → Type 0
+EndsNone old r = IsNoEnd r ⊎ (old.jobs ≡ [])
+
 -- what an event does to a report
 pub data Report_is (old : State) (e : Event) (r : Outcome) (new : State) : Type 0 where
   anew : e ≡ Continue → heard_at old e r ≡ [] → Report_is old e r new
-  same : ((xs : List Entry) → reported_after e xs ≡ xs) → heard_at old e r ≡ [] → IsNoEnd r → old.next_job ≤ new.next_job → Report_is old e r new
+  same : ((xs : List Entry) → reported_after e xs ≡ xs) → heard_at old e r ≡ [] → EndsNone old r → old.next_job ≤ new.next_job → Report_is old e r new
   ended : (x : Job) → e ≡ Step x.number → ((xs : List Entry) → reported_after e xs ≡ xs) → heard_at old e r ≡ heard_by (Some x) → job_of old.jobs x.number ≡ Some x →
       new.jobs ≡ without_job old.jobs x.number → old.next_job ≤ new.next_job → Report_is old e r new
 
@@ -84,7 +91,7 @@ module _ (old : State) where
     Result r new = Report_is old (Step job.number) r new
 
     on : (new : State) → new.next_job ≡ old.next_job → Result More new
-    on new next = Report_is.same (λ xs. refl) refl tt (omega (arith, next))
+    on new next = Report_is.same (λ xs. refl) refl (inl tt) (omega (arith, next))
 
     over : (how : Answer) (new : State) → new.next_job ≡ old.next_job → new.jobs ≡ without_job old.jobs job.number → Result (Ended how) new
     over how new next jobs = Report_is.ended job refl (λ xs. refl) (ap heard_by runs) runs jobs (omega (arith, next))
@@ -118,7 +125,7 @@ module _ (old : State) where
     acts action r new h = moves action old.append r new h
 
     acts_or_waits : (action : Action) (holder : Option ℕ) (r : Outcome) (new : State) → ActsOrWaits old job action holder r new → Result r new
-    acts_or_waits action (Some n) (Waiting h) new w = Report_is.same (λ xs. refl) refl tt (let e = ap next_of w.1 in omega (arith, e))
+    acts_or_waits action (Some n) (Waiting h) new w = Report_is.same (λ xs. refl) refl (inl tt) (let e = ap next_of w.1 in omega (arith, e))
     acts_or_waits action None r new h = acts action r new h
     acts_or_waits action (Some n) r new h = absurd h
 
@@ -128,7 +135,7 @@ module _ (old : State) where
 
   -- an event that ends no job, and leaves the next number
   plain : (e : Event) (r : Outcome) (new : State) → ((xs : List Entry) → reported_after e xs ≡ xs) → heard_at old e r ≡ [] → IsNoEnd r → new.next_job ≡ old.next_job → Report_is old e r new
-  plain e r new kept none no_end next = Report_is.same kept none no_end (omega (arith, next))
+  plain e r new kept none no_end next = Report_is.same kept none (inl no_end) (omega (arith, next))
 
   unchanged : (e : Event) (r : Outcome) (new : State) → ((xs : List Entry) → reported_after e xs ≡ xs) → heard_at old e r ≡ [] → IsNoEnd r → new ≡ old → Report_is old e r new
   unchanged e r new kept none no_end is = plain e r new kept none no_end (ap (λ (w : State). w.next_job) is)
@@ -139,30 +146,55 @@ module _ (old : State) where
       subst (λ n. Report_is old (Step n) r new) same (steps_on job (subst (λ n. job_of old.jobs n ≡ Some job) (sym same) is) (next_action old job) r new h))
   steps_job number None r new is h = absurd h
 
-  steps_open : (number : ℕ) (is_barred : _) (r : Outcome) (new : State) → StepsOpen old number is_barred r new → Report_is old (Step number) r new
-  steps_open number true (Refused refusal.MustReopen) new h = unchanged (Step number) (Refused refusal.MustReopen) new (λ xs. refl) refl tt h
-  steps_open number false r new h = steps_job number (job_of old.jobs number) r new refl h
-  steps_open number true r new h = absurd h
+  -- what runs alone is no job, and no job runs beside it
+  steps_beside : (number : ℕ) (x : Alone) (r : Outcome) (new : State) → old.jobs ≡ [] → StepsAlone old x r new → Report_is old (Step number) r new
+  steps_beside number x r new none h = Report_is.same (λ xs. refl) (nothing_heard r) (inr none) (let e = (steps_aside old x r new h).next_job in omega (arith, e))
+    where
+      nothing_heard : (r : Outcome) → heard_at old (Step number) r ≡ []
+      nothing_heard (Ended how) = ap (λ (js : List Job). heard_by (job_of js number)) none
+      nothing_heard r = refl
 
-  steps : (number : ℕ) (is_open : _) (r : Outcome) (new : State) → Steps old number is_open r new → Report_is old (Step number) r new
-  steps number false Closed new h = unchanged (Step number) Closed new (λ xs. refl) refl tt h
-  steps number true r new h = steps_open number old.is_barred r new h
-  steps number false r new h = absurd h
+  steps_mine : (number : ℕ) (x : Alone) (mine : Bool) (r : Outcome) (new : State) → old.jobs ≡ [] → StepsMine old number x mine r new → Report_is old (Step number) r new
+  steps_mine number x true r new none h = steps_beside number x r new none h
+  steps_mine number x false r new none h = steps_job number (job_of old.jobs number) r new refl h
 
-  begins : (limit moment : ℕ) (kind : Kind) (r : Outcome) (new : State) → Begins limit moment old kind r new → Report_is old (Begin kind) r new
-  begins limit moment kind Closed new h = unchanged (Begin kind) Closed new (λ xs. refl) refl tt h.1
-  begins limit moment kind (Refused why) new h = unchanged (Begin kind) (Refused why) new (λ xs. refl) refl tt h.2
-  begins limit moment kind (Begun job) new h = Report_is.same (λ xs. refl) refl tt (let e : new.next_job ≡ old.next_job + 1 = ap (λ (w : State). w.next_job) h.3 in omega (arith, e))
-  begins limit moment kind r new h = absurd h
+  steps_one : (number : ℕ) (alone : Option Alone) (r : Outcome) (new : State) → old.alone ≡ alone → IsLone old → StepsOne old number alone r new → Report_is old (Step number) r new
+  steps_one number None r new is lone h = steps_job number (job_of old.jobs number) r new refl h
+  steps_one number (Some x) r new is lone h = steps_mine number x (number_alone x == number) r new (lone x is) h
+
+  steps_open : (number : ℕ) (is_barred : _) (r : Outcome) (new : State) → IsLone old → StepsOpen old number is_barred r new → Report_is old (Step number) r new
+  steps_open number true (Refused refusal.MustReopen) new lone h = unchanged (Step number) (Refused refusal.MustReopen) new (λ xs. refl) refl tt h
+  steps_open number false r new lone h = steps_one number old.alone r new refl lone h
+  steps_open number true r new lone h = absurd h
+
+  steps : (number : ℕ) (is_open : _) (r : Outcome) (new : State) → IsLone old → Steps old number is_open r new → Report_is old (Step number) r new
+  steps number false Closed new lone h = unchanged (Step number) Closed new (λ xs. refl) refl tt h
+  steps number true r new lone h = steps_open number old.is_barred r new lone h
+  steps number false r new lone h = absurd h
+
+  begins : (e : Event) (limit moment : ℕ) (kind : Kind) (profile : Option ℕ) (r : Outcome) (new : State) → ((xs : List Entry) → reported_after e xs ≡ xs) → ((r : Outcome) → heard_at old e r ≡ []) → BeginsAt limit moment old kind profile r new → Report_is old e r new
+  begins e limit moment kind profile Closed new kept none h = unchanged e Closed new kept (none Closed) tt h.1
+  begins e limit moment kind profile (Refused why) new kept none h = unchanged e (Refused why) new kept (none (Refused why)) tt h.2
+  begins e limit moment kind profile (Begun job) new kept none h = Report_is.same kept (none (Begun job)) (inl tt) (let g : new.next_job ≡ old.next_job + 1 = ap (λ (w : State). w.next_job) h.3 in omega (arith, g))
+  begins e limit moment kind profile r new kept none h = absurd h
+
+  begins_alone : (e : Event) (why : Option refusal.Refusal) (x : Alone) (r : Outcome) (new : State) → ((xs : List Entry) → reported_after e xs ≡ xs) → ((r : Outcome) → heard_at old e r ≡ []) → BeginsAlone old why x r new → Report_is old e r new
+  begins_alone e why x Closed new kept none h = unchanged e Closed new kept (none Closed) tt h.1
+  begins_alone e why x (Refused refused) new kept none h = unchanged e (Refused refused) new kept (none (Refused refused)) tt h.2
+  begins_alone e why x (Begun job) new kept none h = Report_is.same kept (none (Begun job)) (inl tt) (let g : new.next_job ≡ old.next_job + 1 = ap (λ (w : State). w.next_job) h.3 in omega (arith, g))
+  begins_alone e why x r new kept none h = absurd h
+
+  reread_next : (mid : State) → Rereads old mid → mid.next_job ≡ old.next_job
+  reread_next mid (journal, area, holds, s) = settled_next (reread old journal area) mid s
 
   stops : (picks : List ℕ) (r : Outcome) (new : State) → Stops old r new → Report_is old (Stop picks) r new
-  stops picks Stopped new h = plain (Stop picks) Stopped new (λ xs. refl) refl tt (settled_next (given_up old) new h)
+  stops picks Stopped new h = plain (Stop picks) Stopped new (λ xs. refl) refl tt (reread_next new h)
   stops picks r new h = absurd h
 
   reopens : (r : Outcome) (new : State) → Reopens old r new → Report_is old Reopen r new
-  reopens Opened new (mid, s, up, enough, (faults, low, is)) = plain Reopen Opened new (λ xs. refl) refl tt (ap (λ (w : State). w.next_job) is ∙ settled_next (given_up old) mid s)
-  reopens (Refused refusal.NotSetUp) new (mid, s, none, (faults, low, is)) = plain Reopen (Refused refusal.NotSetUp) new (λ xs. refl) refl tt (ap (λ (w : State). w.next_job) is ∙ settled_next (given_up old) mid s)
-  reopens (Refused refusal.TooFewProviders) new (mid, s, up, few, (faults, low, is)) = plain Reopen (Refused refusal.TooFewProviders) new (λ xs. refl) refl tt (ap (λ (w : State). w.next_job) is ∙ settled_next (given_up old) mid s)
+  reopens Opened new (mid, s, up, enough, (faults, low, is)) = plain Reopen Opened new (λ xs. refl) refl tt (ap (λ (w : State). w.next_job) is ∙ reread_next mid s)
+  reopens (Refused refusal.NotSetUp) new (mid, s, none, (faults, low, is)) = plain Reopen (Refused refusal.NotSetUp) new (λ xs. refl) refl tt (ap (λ (w : State). w.next_job) is ∙ reread_next mid s)
+  reopens (Refused refusal.TooFewProviders) new (mid, s, up, few, (faults, low, is)) = plain Reopen (Refused refusal.TooFewProviders) new (λ xs. refl) refl tt (ap (λ (w : State). w.next_job) is ∙ reread_next mid s)
   reopens (Refused refusal.DiskFault) new (faults, low, rose, is) = plain Reopen (Refused refusal.DiskFault) new (λ xs. refl) refl tt (ap (λ (w : State). w.next_job) is)
   reopens (Refused refusal.Memory) new (faults, low, is) = plain Reopen (Refused refusal.Memory) new (λ xs. refl) refl tt (ap (λ (w : State). w.next_job) is)
   reopens r new h = absurd h
@@ -202,23 +234,26 @@ module _ (old : State) where
   lists true r new h = absurd h
   lists false r new h = absurd h
 
-  report : (limit moment : ℕ) (e : Event) (r : Outcome) (new : State) → Happens limit moment old e r new → Report_is old e r new
-  report limit moment (Init s) r new h = inits s old.is_open r new h
-  report limit moment (Begin kind) r new h = begins limit moment kind r new h
-  report limit moment (Step number) r new h = steps number old.is_open r new h
-  report limit moment (Alter j object stripe place symbol) r new h = replaces_if (Alter j object stripe place symbol) (λ xs. refl) (λ x. refl) (nat_lt j old.handed) j _ _ r new h
-  report limit moment (Lose j object stripe) r new h = replaces_if (Lose j object stripe) (λ xs. refl) (λ x. refl) (nat_lt j old.handed) j _ _ r new h
-  report limit moment (Stop picks) r new h = stops picks r new h
-  report limit moment Reopen r new h = reopens r new h
-  report limit moment Names r new h = lists old.is_open r new h
-  report limit moment Continue r new h = Report_is.anew refl refl
+  report : (limit moment : ℕ) (e : Event) (r : Outcome) (new : State) → IsLone old → Happens limit moment old e r new → Report_is old e r new
+  report limit moment (Init s) r new lone h = inits s old.is_open r new h
+  report limit moment (Begin kind) r new lone h = begins (Begin kind) limit moment kind None r new (λ xs. refl) (λ x. refl) h
+  report limit moment (BeginAt profile name bytes) r new lone h = begins (BeginAt profile name bytes) limit moment (PutJob name bytes) (Some profile) r new (λ xs. refl) (λ x. refl) h
+  report limit moment BeginScrub r new lone h = begins_alone BeginScrub _ _ r new (λ xs. refl) (λ x. refl) h
+  report limit moment BeginPack r new lone h = begins_alone BeginPack _ _ r new (λ xs. refl) (λ x. refl) h
+  report limit moment (Step number) r new lone h = steps number old.is_open r new lone h
+  report limit moment (Alter j object stripe place symbol) r new lone h = replaces_if (Alter j object stripe place symbol) (λ xs. refl) (λ x. refl) (nat_lt j old.handed) j _ _ r new h
+  report limit moment (Lose j object stripe) r new lone h = replaces_if (Lose j object stripe) (λ xs. refl) (λ x. refl) (nat_lt j old.handed) j _ _ r new h
+  report limit moment (Stop picks) r new lone h = stops picks r new h
+  report limit moment Reopen r new lone h = reopens r new h
+  report limit moment Names r new lone h = lists old.is_open r new h
+  report limit moment Continue r new lone h = Report_is.anew refl refl
 
 -- a job that runs after an event ran before, or its number was the next one
 ran : (limit moment : ℕ) (old : State) (e : Event) (r : Outcome) (new : State) (k : ℕ) (j : Job) → Changes limit moment old e r new → job_of new.jobs k ≡ Some j →
     ((x : Job) × (job_of old.jobs k ≡ Some x)) ⊎ (k ≡ old.next_job)
 ran limit moment old e r new k j X h = elim (X.job k j h) [
   | Job_is.kept runs grown ↦ inl (j, runs)
-  | Job_is.begun kind is k_is allowed rec ↦ inr k_is
+  | Job_is.begun kind profile is k_is allowed rec ↦ inr k_is
   | Job_is.plain x action runs next_is is_plain goes rec st ↦ inl (x, runs)
   | Job_is.drew x runs next_is none_ is rec ↦ inl (x, runs)
   | Job_is.finished x a runs next_is flight mine is rec none_ ↦ inl (x, runs)
@@ -243,12 +278,15 @@ module _ (limit : ℕ) (start : State) (clean : IsStart start) where
   change : (m : Moment) (ms : List Moment) → Run (m ∷ ms) → Changes limit (length ms) (now start ms) m.event m.outcome m.state
   change m ms run = changes limit (length ms) (now start ms) m.event m.outcome m.state (num.facts objects limit start clean ms run.2).idle run.1
 
+  lone : (ms : List Moment) → Run ms → IsLone (now start ms)
+  lone ms run = (num.facts objects limit start clean ms run).idle.lone
+
   below : (ms : List Moment) → Run ms → (k : ℕ) (j : Job) → job_of (now start ms).jobs k ≡ Some j → k < (now start ms).next_job
   below ms run = (num.facts objects limit start clean ms run).jobs_below
 
   fresh : (ms : List Moment) → Run ms → Fresh start ms
   fresh [] run = record { running = λ k j h. refl; above = λ k l. refl }
-  fresh (m ∷ ms) run = (let F = fresh ms run.2 in elim (report (now start ms) limit (length ms) m.event m.outcome m.state run.1) [
+  fresh (m ∷ ms) run = (let F = fresh ms run.2 in elim (report (now start ms) limit (length ms) m.event m.outcome m.state (lone ms run.2) run.1) [
     | Report_is.anew is none ↦ (let all : (k : ℕ) → given_to k (heard_in start (m ∷ ms)) ≡ [] = λ k.
         ap (λ l. given_to k (reported_after m.event (heard_in start ms) ++ l)) none ∙ ap (λ (e : Event). given_to k (reported_after e (heard_in start ms) ++ [])) is in
         record { running = λ k j h. all k; above = λ k l. all k })
@@ -274,9 +312,10 @@ module _ (limit : ℕ) (start : State) (clean : IsStart start) where
 
   module _ (job : Job) where
     over_at : (m : Moment) (ms : List Moment) → Run (m ∷ ms) → EndsJob start m ms job → Over (m ∷ ms) job.number
-    over_at m ms run e = elim (report (now start ms) limit (length ms) m.event m.outcome m.state run.1) [
+    over_at m ms run e = elim (report (now start ms) limit (length ms) m.event m.outcome m.state (lone ms run.2) run.1) [
       | Report_is.anew is none ↦ absurd (let f : Step job.number ≡ Continue = sym e.event ∙ is in cc)
-      | Report_is.same kept none no_end next ↦ absurd (subst IsNoEnd e.outcome no_end)
+      | Report_is.same kept none (inl no_end) next ↦ absurd (subst IsNoEnd e.outcome no_end)
+      | Report_is.same kept none (inr idle) next ↦ absurd (found_none (now start ms).jobs job.number job idle e.runs)
       | Report_is.ended x at kept heard runs jobs next ↦ (let same : job.number ≡ x.number = (let f : Step job.number ≡ Step x.number = sym e.event ∙ at in cc) in
           let low = below ms run.2 job.number job e.runs in
           record {
@@ -306,7 +345,7 @@ module _ (limit : ℕ) (start : State) (clean : IsStart start) where
           | inl x ↦ G.gone x.0 x.1
           | inr is ↦ omega (arith, is)
         ] in
-        elim (report old limit (length (later ++ m ∷ ms)) p.event p.outcome p.state run.1) [
+        elim (report old limit (length (later ++ m ∷ ms)) p.event p.outcome p.state (lone (later ++ m ∷ ms) run.2) run.1) [
           | Report_is.anew is nothing ↦ absurd (none.0 is)
           | Report_is.same kept nothing no_end next ↦ (
             record { gone = gone next; low = omega arith },

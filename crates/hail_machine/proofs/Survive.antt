@@ -1,19 +1,19 @@
 -- A file that came into effect stays until a record that takes it out is in doubt.
-use Rattle.std.proofs.Common.{◌≡◌, ℕ, suc, ◌==◌, Bool, false, List, [], ◌∷◌, ◌++◌, length, Some, None, refl, ap, sym, ◌∙◌, inl, inr, arith}
-use Rattle.std.proofs.lemmas.Bool.{cases_Bool, ne_eqb}
+use Rattle.std.proofs.Common.{◌≡◌, ℕ, suc, ◌==◌, Bool, true, false, Option, List, [], ◌∷◌, ◌++◌, length, Some, None, refl, ap, sym, ◌∙◌, inl, inr, arith}
+use Rattle.std.proofs.lemmas.Bool.{cases_Bool, ne_eqb, false≢true}
 use Rattle.hail_records.specs.Records.{Record, Setup, SetUp, PutStart, PutDone, Drop, AuditStart, AuditDone, RepairDone, PutDoneIn, Version, Resume, InEffect, RepairDue}
-use Rattle.hail_records.specs.Table.{File, started_as, is_start_of, is_same_name, file_of, file_as, setup_of, profile_in}
-use Rattle.hail_records.proofs.FilesLaws.{same-refl}
-use Rattle.hail_machine.specs.States.{State, Doubt, IsStart}
+use Rattle.hail_records.specs.Table.{File, file_as, setup_of, version_of, profile_in, started_as, is_start_of, is_same_name, file_of}
 use Rattle.hail_machine.specs.Appends.{done_record}
+use Rattle.hail_machine.specs.States.{State, Doubt, IsStart}
 use Rattle.hail_machine.specs.Runs.{Moment, now, newest, came, IsRun}
 use Rattle.hail_machine.specs.Survival.{ComesIn, takes_out, NoneTakesOut, IsKept, Survives}
 use Rattle.hail_machine.proofs.JobLists.{cond_true, cond_false}
 use Rattle.hail_machine.proofs.Changes.{Records_is, Doubt_is, IsGated, Changes}
 use Rattle.hail_machine.proofs.Events.{changes}
 use Rattle.hail_machine.proofs.Numbers.{objects}
+use Rattle.hail_machine.proofs.Done.{put_ended, profile_done, done-ended, done-file}
+use Rattle.hail_records.proofs.FilesLaws.{same-refl}
 use Rattle.hail_machine.proofs.Numbers as num
-use Rattle.hail_machine.proofs.Done.{put_ended, done-ended, done-file}
 
 gated : (limit : ℕ) (start : State) → IsStart start → (ms : List Moment) → IsRun limit start ms → IsGated (now start ms)
 gated limit start clean [] run = λ a h three. absurd (let e : None ≡ Some a = sym clean.append ∙ h in cc)
@@ -59,13 +59,19 @@ module _ (limit : ℕ) (start : State) (m : Moment) (ms : List Moment) (G : IsGa
       ended : Record
       ended = done_record c.version file.id file.size file.profile
 
+      same_profile : profile_done c.version (now start ms).records file.profile ≡ file.profile
+      same_profile = elim (cases_Bool (c.version == 2)) [
+        | inl t ↦ cond_true (c.version == 2) file.profile (profile_in (setup_of (now start ms).records)) t
+        | inr f ↦ cond_false (c.version == 2) file.profile (profile_in (setup_of (now start ms).records)) f ∙ sym (c.profiled f)
+      ]
+
       done : (rs : List Record) → m.state.records ≡ ended ∷ rs → rs ≡ (now start ms).records → file_of m.state.records name ≡ Some file
       done rs rec is =
           ap (λ l. file_of l name) (rec ∙ ap (λ l. ended ∷ l) is)
           ∙ (done-file c.version file.id file.size file.profile (now start ms).records name
           ∙ (cond_true (is_start_of name (started_as (now start ms).records file.id)) _ (file_of (now start ms).records name)
           (ap (is_start_of name) c.started ∙ same-refl name)
-          ∙ (ap (λ p. Some (file_as name file.id file.size p)) (sym c.profiled)
+          ∙ (ap (λ p. Some (file_as name file.id file.size p)) same_profile
           ∙ ap Some (ap (λ (n : List ℕ). file_as n file.id file.size file.profile) (sym c.named)))))
 
       top : (r : Record) (rs : List Record) → m.state.records ≡ r ∷ rs → m.state.records ≡ ended ∷ rs

@@ -1,14 +1,14 @@
 -- The kinds of record that appends bring: those of a packed journal alone never come so.
-use Rattle.std.proofs.Common.{◌≡◌, ℕ, true, false, Bool, Some, sym, subst, inl, inr}
+use Rattle.std.proofs.Common.{◌≡◌, ℕ, true, false, Bool, List, Option, Some, None, refl, ap, sym, subst, ◌∙◌, inl, inr}
 use Rattle.std.proofs.lemmas.Bool.{cases_Bool}
-use Rattle.std.specs.Prelude.{length, if◌then◌else◌}
-use Rattle.hail_records.specs.Records.{Record, PutStart, Resume, InEffect, RepairDue}
-use Rattle.hail_records.specs.Table.{version_of, next_id}
-use Rattle.hail_machine.specs.Jobs.{Kind, PutJob, GetJob, DropJob, AuditJob, RepairJob, Job}
+use Rattle.std.specs.Prelude.{◌==◌, length, if◌then◌else◌}
+use Rattle.hail_records.specs.Records.{Record, SetUp, PutStart, PutDone, Drop, AuditStart, AuditDone, RepairDone, PutDoneIn, Version, Resume, InEffect, RepairDue}
+use Rattle.hail_records.specs.Table.{version_of, next_id, next_audit}
+use Rattle.hail_machine.specs.Jobs.{Kind, PutJob, GetJob, DropJob, AuditJob, RepairJob, UpgradeJob, Job}
 use Rattle.hail_machine.specs.Events.{Event, Outcome}
-use Rattle.hail_machine.specs.States.{State, Append, Doubt, setup_in}
+use Rattle.hail_machine.specs.States.{State, Append, Doubt}
 use Rattle.hail_machine.specs.Appends.{Writes, done_record, is_first_append}
-use Rattle.hail_machine.proofs.Done.{by_version}
+use Rattle.hail_machine.proofs.JobLists.{cond_true, cond_false}
 use Rattle.hail_machine.proofs.Changes.{Append_is, Doubt_is, Changes}
 
 -- a record that an append may bring
@@ -22,12 +22,19 @@ IsAppended r = Unit {0}
 abbrev pub IsWritten : State → Type 0
 IsWritten w = ((a : Append) → w.append ≡ Some a → IsAppended a.entry) × ((d : Doubt) → w.doubt ≡ Some d → IsAppended d.entry)
 
+done_appended : (version id size profile : ℕ) → IsAppended (done_record version id size profile)
+done_appended version id size profile = by (version == 2)
+  where
+    by : (b : Bool) → IsAppended (if b then PutDoneIn id size profile else PutDone id size)
+    by true = tt
+    by false = tt
+
 pub writes_appended : (w : State) (job : Job) (kind : Kind) (entry : Record) → Writes w job kind entry → IsAppended entry
 writes_appended w job (PutJob name bytes) entry h = subst IsAppended (sym h) (by (is_first_append job))
   where
-    by : (b : Bool) → IsAppended (if b then PutStart (next_id w.records) name else done_record (version_of w.records) job.subject (length bytes) (setup_in w).profile)
+    by : (b : Bool) → IsAppended (if b then PutStart (next_id w.records) name else done_record (version_of w.records) job.subject (length bytes) job.profile)
     by true = tt
-    by false = by_version (version_of w.records) job.subject (length bytes) (setup_in w).profile IsAppended tt tt
+    by false = done_appended (version_of w.records) job.subject (length bytes) job.profile
 writes_appended w job (GetJob name) entry h = absurd h
 writes_appended w job (DropJob name) entry h = subst IsAppended (sym h) tt
 writes_appended w job AuditJob entry h = elim (cases_Bool (is_first_append job)) [
@@ -35,6 +42,7 @@ writes_appended w job AuditJob entry h = elim (cases_Bool (is_first_append job))
   | inr f ↦ (let g = rw f at h in subst IsAppended (sym g.2) tt)
 ]
 writes_appended w job RepairJob entry h = subst IsAppended (sym h) tt
+writes_appended w job UpgradeJob entry h = subst IsAppended (sym h) tt
 
 pub written_on : (limit moment : ℕ) (old : State) (e : Event) (r : Outcome) (new : State) → Changes limit moment old e r new → IsWritten old → IsWritten new
 written_on limit moment old e r new X W = (

@@ -18,8 +18,8 @@ use Rattle.std.specs.Prelude.{ℕ, ◌==◌, Bool, true, false, List, [], ◌∷
 use Rattle.std.specs.List.{flat_map}
 use Rattle.hail_codes.specs.Points.{upto}
 use Rattle.hail_records.specs.Records.{Setup}
-use Rattle.hail_machine.specs.Jobs.{Kind, PutJob, GetJob, DropJob, AuditJob, RepairJob, Pinned, Job}
-use Rattle.hail_machine.specs.Setups.{stripes_of}
+use Rattle.hail_machine.specs.Jobs.{Kind, PutJob, GetJob, DropJob, AuditJob, RepairJob, UpgradeJob, Pinned, Job}
+use Rattle.hail_machine.specs.Setups.{profiled, stripes_of}
 
 -- one action of a job, which makes at most one device call
 pub data Action : Type 0 where
@@ -50,19 +50,21 @@ on_each_stripe s size actions = flat_map actions (upto (stripes_of s size))
 -- their lengths
 pub record PinsOf (P : Type 0) : Type 0 where
   pub id : P → ℕ
+  pub profile : P → ℕ
   pub size : P → ℕ
 
 -- the machine's pinned files
 abbrev pub machine_pins : PinsOf Pinned
-machine_pins = record { id = λ f. f.id; size = λ f. length f.bytes }
+machine_pins = record { id = λ f. f.id; profile = λ f. f.profile; size = λ f. length f.bytes }
 
--- the stores of a put of so many bytes: each stripe on each provider
-abbrev pub store_plan : Setup → ℕ → ℕ → List Action
-store_plan s subject size = on_each_stripe s size (λ stripe. on_each_provider s (λ j. Store j subject stripe))
+-- the stores of a put of so many bytes at a profile: each stripe on each provider
+abbrev pub store_plan : Setup → ℕ → ℕ → ℕ → List Action
+store_plan s profile subject size =
+    on_each_stripe (profiled s profile) size (λ stripe. on_each_provider s (λ j. Store j subject stripe))
 
 -- those of a job
 abbrev pub store_actions : Setup → Job → List ℕ → List Action
-store_actions s job bytes = store_plan s job.subject (length bytes)
+store_actions s job bytes = store_plan s job.profile job.subject (length bytes)
 
 -- a fetch from each provider, and the work on what they gave
 abbrev pub open_actions : Setup → ℕ → ℕ → List Action
@@ -70,7 +72,8 @@ open_actions s object stripe = on_each_provider s (λ j. Fetch j object stripe) 
 
 -- the fetches and the work of a get: stripe by stripe of its file
 abbrev pub read_plan : {P : Type 0} → PinsOf P → Setup → List P → List Action
-read_plan p s pins = flat_map (λ f. on_each_stripe s (p.size f) (open_actions s (p.id f))) pins
+read_plan p s pins =
+    flat_map (λ f. on_each_stripe (profiled s (p.profile f)) (p.size f) (open_actions s (p.id f))) pins
 
 -- those of a job
 abbrev pub read_actions : Setup → List Pinned → List Action
@@ -88,7 +91,7 @@ rewrite_actions s job object stripe = rewrite_plan s job.flagged object stripe
 -- the fetches, the work and the stores of a repair
 abbrev pub repair_plan : {P : Type 0} → PinsOf P → Setup → (ℕ → Bool) → List P → List Action
 repair_plan p s flagged pins =
-    flat_map (λ f. on_each_stripe s (p.size f)
+    flat_map (λ f. on_each_stripe (profiled s (p.profile f)) (p.size f)
     (λ stripe. open_actions s (p.id f) stripe ++ rewrite_plan s flagged (p.id f) stripe)) pins
 
 -- those of a job
@@ -103,7 +106,7 @@ rounds_of s size = if stripes_of s size == 0 then [] else upto s.rounds
 abbrev pub ask_plan : {P : Type 0} → PinsOf P → Setup → List P → List Action
 ask_plan p s pins =
     flat_map (λ f. flat_map (λ round. on_each_provider s (λ j. Ask j (p.id f) round))
-    (rounds_of s (p.size f))) pins
+    (rounds_of (profiled s (p.profile f)) (p.size f))) pins
 
 -- those of a job
 abbrev pub ask_actions : Setup → Job → List Action
@@ -124,10 +127,12 @@ pub data Aim : Type 0 where
   ToDrop : Aim
   ToAudit : Aim
   ToRepair : Aim
+  ToUpgrade : Aim
 
 -- All that the actions of a job hang on. A program keeps one for each job, with its own kind of pinned files.
 pub record Plan (P : Type 0) : Type 0 where
   pub aim : Aim
+  pub profile : ℕ
   pub subject : ℕ
   pub older : List ℕ
   pub flagged : ℕ → Bool
@@ -136,12 +141,13 @@ pub record Plan (P : Type 0) : Type 0 where
 -- the actions of a plan
 abbrev pub plan_actions : {P : Type 0} → PinsOf P → Setup → Plan P → Aim → List Action
 plan_actions p s plan (ToPut size) =
-    append_actions ++ (store_plan s plan.subject size
+    append_actions ++ (store_plan s plan.profile plan.subject size
     ++ (append_actions ++ (remove_plan s plan.older ++ End ∷ [])))
 plan_actions p s plan ToGet = read_plan p s plan.pins ++ End ∷ []
 plan_actions p s plan ToDrop = append_actions ++ (remove_plan s plan.older ++ End ∷ [])
 plan_actions p s plan ToAudit = append_actions ++ (ask_plan p s plan.pins ++ (append_actions ++ End ∷ []))
 plan_actions p s plan ToRepair = repair_plan p s plan.flagged plan.pins ++ (append_actions ++ End ∷ [])
+plan_actions p s plan ToUpgrade = append_actions ++ End ∷ []
 
 -- the aim of a kind
 abbrev pub aim_of : Kind → Aim
@@ -150,12 +156,14 @@ aim_of (GetJob name) = ToGet
 aim_of (DropJob name) = ToDrop
 aim_of AuditJob = ToAudit
 aim_of RepairJob = ToRepair
+aim_of UpgradeJob = ToUpgrade
 
 -- the plan of a job of the machine
 abbrev pub plan_of : Job → Plan Pinned
 plan_of job =
     record {
       aim = aim_of job.kind;
+      profile = job.profile;
       subject = job.subject;
       older = job.older;
       flagged = job.flagged;

@@ -1,5 +1,6 @@
--- How jobs end: Put, Got with the bytes, Dropped, Audited with the sums, Repaired, Lost at the lowest row
--- that was not accepted, or a fault of a provider's store or of the disk, or want of memory.
+-- How jobs end: Put, Got with the bytes, Dropped, Audited with the sums, Repaired, Upgraded, Lost at the
+-- lowest row that was not accepted, a scrub with what it found, a pack with the two lengths of the text, or a
+-- fault of a provider's store or of the disk, or want of memory.
 use Rattle.std.specs.Prelude.{ℕ, List}
 
 -- the answer of a job that ended
@@ -13,3 +14,6 @@ pub data Answer : Type 0 where
   ProviderFault : (provider : ℕ) → Answer
   DiskFault : Answer
   Memory : Answer
+  Upgraded : Answer
+  Scrubbed : (stripes : ℕ) (symbols blocks : List ℕ) → Answer
+  Packed : (before after : ℕ) → Answer

@@ -18,9 +18,9 @@
 use Rattle.std.specs.Prelude.{◌≡◌, ℕ, ◌+◌, ◌==◌, ◌&&◌, Bool, true, List, [], ◌∷◌, length, Option, None, Some, nat_lt, if◌then◌else◌}
 use Rattle.std.specs.List.{list_any}
 use Rattle.hail_columns.specs.Verdicts.{Sums}
-use Rattle.hail_records.specs.Records.{Record, PutStart, PutDone, Drop, AuditStart, AuditDone, RepairDone}
+use Rattle.hail_records.specs.Records.{Record, PutStart, PutDone, Drop, AuditStart, AuditDone, RepairDone, PutDoneIn, Version}
 use Rattle.hail_records.specs.Table.{File, version_of, next_id, next_audit}
-use Rattle.hail_machine.specs.Jobs.{Kind, PutJob, GetJob, DropJob, AuditJob, RepairJob, Pinned, Job, advanced}
+use Rattle.hail_machine.specs.Jobs.{Kind, PutJob, GetJob, DropJob, AuditJob, RepairJob, UpgradeJob, Pinned, Job, advanced}
 use Rattle.hail_machine.specs.Actions.{Action, WriteBody, SyncBody, WriteGate, SyncGate}
 use Rattle.hail_machine.specs.Answers.{DiskFault, Memory}
 use Rattle.hail_machine.specs.Events.{Outcome, More, Ended}
@@ -31,16 +31,16 @@ use Rattle.hail_machine.specs.Audits.{HasSums}
 abbrev pub is_first_append : Job → Bool
 is_first_append job = nat_lt job.place 4
 
--- the record that ends a put in a version of the journal: that of the first version, which is the only one
--- that is written
+-- the record that ends a put in a version of the journal: in the second one it has the file's profile
 abbrev pub done_record : ℕ → ℕ → ℕ → ℕ → Record
-done_record version id size profile = PutDone id size
+done_record version id size profile =
+    if version == 2 then PutDoneIn id size profile else PutDone id size
 
 -- the record that a job's append writes
 abbrev pub Writes : State → Job → Kind → Record → Type 0
 Writes w job (PutJob name bytes) entry =
     entry ≡ (if is_first_append job then PutStart (next_id w.records) name
-    else done_record (version_of w.records) job.subject (length bytes) (setup_in w).profile)
+    else done_record (version_of w.records) job.subject (length bytes) job.profile)
 Writes w job (GetJob name) entry = ⊥
 Writes w job (DropJob name) entry = entry ≡ Drop name
 Writes w job AuditJob entry = by_append (is_first_append job)
@@ -51,6 +51,7 @@ Writes w job AuditJob entry = by_append (is_first_append job)
         (sums : Sums) × HasSums (setup_in w) job sums
         × (entry ≡ AuditDone job.subject sums.undecided sums.counts)
 Writes w job RepairJob entry = entry ≡ RepairDone job.subject
+Writes w job UpgradeJob entry = entry ≡ Version
 
 -- the number of a job from the first move of this append on
 abbrev pub subject_drawn : State → Job → Kind → ℕ

@@ -10,9 +10,9 @@ use Rattle.hail_columns.specs.Challenges.{Challenge, challenge_of}
 use Rattle.hail_columns.specs.Verdicts.{Sums, Judges}
 use Rattle.hail_records.specs.Records.{Setup}
 use Rattle.hail_machine.specs.Jobs.{Pinned, Job}
-use Rattle.hail_machine.specs.Setups.{object_of}
+use Rattle.hail_machine.specs.Setups.{profiled, object_of}
 use Rattle.hail_machine.specs.Actions.{rounds_of}
-use Rattle.hail_machine.specs.Given.{answers_given, pinned_size}
+use Rattle.hail_machine.specs.Given.{answers_given, pinned_size, pinned_profile}
 
 -- the challenge of a round of a job for a file of this length
 abbrev pub challenge_in : Setup → Job → ℕ → ℕ → ℕ → Challenge
@@ -20,12 +20,15 @@ challenge_in s job object size round = challenge_of (object_of s object) size s.
 
 -- the challenge of a round of a job to a file that it works on
 abbrev pub asked_challenge : Setup → Job → ℕ → ℕ → Challenge
-asked_challenge s job object round = challenge_in s job object (pinned_size job.pinned object) round
+asked_challenge s job object round =
+    challenge_in (profiled s (pinned_profile s.profile job.pinned object)) job object
+    (pinned_size job.pinned object) round
 
 -- one round of a file is judged by what all providers answered
 abbrev pub JudgesRound : Setup → Job → Pinned → ℕ → Sums → Sums → Type 0
 JudgesRound s job f round old new =
-    Judges (object_of s f.id) (challenge_in s job f.id (length f.bytes) round)
+    Judges (object_of (profiled s f.profile) f.id)
+    (challenge_in (profiled s f.profile) job f.id (length f.bytes) round)
     (answers_given job.given s.n f.id round) old new
 
 -- rounds of a file are judged one after the other
@@ -38,7 +41,7 @@ JudgesRounds s job f (round ∷ more) old new =
 abbrev pub JudgesFiles : Setup → Job → List Pinned → Sums → Sums → Type 0
 JudgesFiles s job [] old new = new ≡ old
 JudgesFiles s job (f ∷ fs) old new =
-    (mid : Sums) × JudgesRounds s job f (rounds_of s (length f.bytes)) old mid
+    (mid : Sums) × JudgesRounds s job f (rounds_of (profiled s f.profile) (length f.bytes)) old mid
     × JudgesFiles s job fs mid new
 
 -- the sums of an audit over all that it heard

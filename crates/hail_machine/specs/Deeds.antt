@@ -1,7 +1,7 @@
 -- What the steps of a run did: which job made which action, and which numbers were used.
 --
 --   Makes old m job action               == a moment after this state is a step in which the job made the
---                                          action, or failed at it
+--                                          action, or failed at it; nothing ran alone
 --   StoresFor old m begun object         == it is a store of a put with that begin, on that object
 --   AsksFor old m begun number object round  == it is an ask of an audit with that begin and number, for an
 --                                          object in a round
@@ -25,6 +25,7 @@ pub record Makes (old : State) (m : Moment) (job : Job) (action : Action) : Type
   pub event : m.event ≡ Step job.number
   pub is_open : old.is_open ≡ true
   pub unbarred : old.is_barred ≡ false
+  pub none_alone : old.alone ≡ None
   pub runs : job_of old.jobs job.number ≡ Some job
   pub next : next_action old job ≡ Some action
   pub unheld : holder_of old.append action ≡ None

@@ -10,15 +10,18 @@ use Rattle.std.specs.Prelude.{ℕ, ◌<◌, ◌^◌, List, IsTrue}
 use Rattle.std.specs.List.{list_all}
 use Rattle.hail_records.specs.Records.{Setup, is_byte, is_master}
 use Rattle.hail_records.specs.Table.{File}
-use Rattle.hail_machine.specs.Jobs.{Kind, PutJob, GetJob, DropJob, AuditJob, RepairJob}
+use Rattle.hail_machine.specs.Jobs.{Kind, PutJob, GetJob, DropJob, AuditJob, RepairJob, UpgradeJob}
 use Rattle.hail_machine.specs.Refusals.{Refusal}
 use Rattle.hail_machine.specs.Answers.{Answer}
 
--- An event. Continue is a later call of the program: vault and jobs are given up, and jobs are numbered
--- from 1 again.
+-- An event. BeginAt is the begin of a put whose file has a profile of its own. Continue is a later call of
+-- the program: vault and jobs are given up, and jobs are numbered from 1 again.
 pub data Event : Type 0 where
   Init : (setup : Setup) → Event
   Begin : (kind : Kind) → Event
+  BeginAt : (profile : ℕ) (name bytes : List ℕ) → Event
+  BeginScrub : Event
+  BeginPack : Event
   Step : (job : ℕ) → Event
   Alter : (provider object stripe place symbol : ℕ) → Event
   Lose : (provider object stripe : ℕ) → Event
@@ -38,6 +41,7 @@ IsSpelledKind (GetJob name) = AreBytes name
 IsSpelledKind (DropJob name) = AreBytes name
 IsSpelledKind AuditJob = Unit {0}
 IsSpelledKind RepairJob = Unit {0}
+IsSpelledKind UpgradeJob = Unit {0}
 
 -- the numbers of an event fit their types
 abbrev pub IsSpelled : Event → Type 0
@@ -46,6 +50,9 @@ IsSpelled (Init s) =
     × (s.tolerance < 2 ^ 16)
     × IsTrue (is_master s.master)
 IsSpelled (Begin kind) = IsSpelledKind kind
+IsSpelled (BeginAt profile name bytes) = (profile < 256) × IsSpelledKind (PutJob name bytes)
+IsSpelled BeginScrub = Unit {0}
+IsSpelled BeginPack = Unit {0}
 IsSpelled (Step job) = job < 2 ^ 32
 IsSpelled (Alter provider object stripe place symbol) =
     (provider < 2 ^ 32) × (object < 2 ^ 64) × (stripe < 2 ^ 32) × (place < 2 ^ 32) × (symbol < 2 ^ 128)

@@ -9,6 +9,7 @@
 --   set_up                     == the start over a journal whose only record is the setup of four providers
 use Rattle.std.specs.Prelude.{ℕ, true, false, List, [], ◌∷◌, replicate, codes, None, Some}
 use Rattle.hail_records.specs.Records.{Setup, Record, SetUp, PutStart, PutDone, AuditStart, AuditDone}
+use Rattle.hail_records.specs.Areas.{A}
 use Rattle.hail_devices.specs.Providers.{Provider}
 use Rattle.hail_machine.specs.Jobs.{Kind, Job}
 use Rattle.hail_machine.specs.States.{State}
@@ -38,10 +39,14 @@ empty_provider =
 abbrev pub opened : List Record → List ℕ → State
 opened records bytes = record {
   records = records;
+  journal = records;
+  area = A;
+  is_switching = false;
   bytes = λ id. bytes;
   audits = λ number. 0;
   jobs = [];
   next_job = 1;
+  alone = None;
   append = None;
   doubt = None;
   providers = λ j. empty_provider;

@@ -8,6 +8,8 @@
 --   symbols_given given object stripe        == what the newest work on a stripe gave; no symbols where
 --                                          there was none
 --   file_given s given f                     == the bytes of a file that the work on all its stripes gave
+--   pinned_profile other pinned id           == the profile of the file of a number among those that a job
+--                                          works on; the other one where it works on none of that number
 --   pinned_size pinned id                    == the length of the file of a number among those that a job
 --                                          works on
 use Rattle.std.specs.Prelude.{ℕ, ◌==◌, ◌&&◌, List, [], ◌∷◌, length, map, take, Option, None, if◌then◌else◌}
@@ -57,3 +59,8 @@ file_given s given f =
 abbrev pub pinned_size : List Pinned → ℕ → ℕ
 pinned_size [] id = 0
 pinned_size (f ∷ fs) id = if f.id == id then length f.bytes else pinned_size fs id
+
+-- the profile of the file of a number among those that a job works on
+abbrev pub pinned_profile : ℕ → List Pinned → ℕ → ℕ
+pinned_profile other [] id = other
+pinned_profile other (f ∷ fs) id = if f.id == id then f.profile else pinned_profile other fs id

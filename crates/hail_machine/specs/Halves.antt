@@ -23,6 +23,7 @@ use Rattle.hail_machine.specs.Events.{Event, Begin, Step, Outcome, Refused, Ende
 use Rattle.hail_machine.specs.States.{State, IsStart, setup_in, file_object, file_in}
 use Rattle.hail_machine.specs.Runs.{Moment, now, first_moments, IsRun}
 use Rattle.hail_machine.specs.Calm.{IsCalm, since, relies}
+use Rattle.hail_machine.specs.Scrubs.{AreScrubsCalm}
 use Rattle.hail_machine.specs.Missed.{NoneMissed}
 use Rattle.hail_machine.specs.Given.{blocks_given}
 use Rattle.hail_machine.specs.Heard.{heard_by, given_to, HoldsForgery}
@@ -117,10 +118,11 @@ FirstHalfHolds =
 abbrev pub AllTell : State → Type 0
 AllTell w = (j : ℕ) → IsSome (w.providers j).held
 
--- the second half, of every calm run in which no audit missed damage
+-- the second half, of every calm run, with calm scrubs, in which no audit missed damage
 abbrev pub SecondHalfHolds : Type 0
 SecondHalfHolds = (limit : ℕ) (start : State) (ms : List Moment) → IsStart start → AllTell start →
-    IsRun limit start ms → IsCalm relies (since start) ms → NoneMissed start ms → SecondHalf start ms
+    IsRun limit start ms → IsCalm relies (since start) ms → AreScrubsCalm (since start) ms →
+    NoneMissed start ms → SecondHalf start ms
 
 -- a get gave the bytes that what it fetched opens to, of the file that was in effect under its name at its
 -- begin

@@ -1,8 +1,8 @@
 -- Jobs: what they are for, what they work on, and what their steps gave.
 --
 --   Kind                     == what a job is for: a put of bytes under a name, a get or a drop of a name,
---                               an audit, a repair
---   Pinned                   == a file that a job works on: its object number and its bytes
+--                               an audit, a repair, an upgrade of the journal to its second version
+--   Pinned                   == a file that a job works on: its object number, its profile and its bytes
 --   Given                    == what a step gave: a block or none, an answer or none, the symbols of a stripe
 --   Job                      == a running job
 --   job_of jobs number       == the job of that number; None where there is none
@@ -19,10 +19,12 @@ pub data Kind : Type 0 where
   DropJob : (name : List ℕ) → Kind
   AuditJob : Kind
   RepairJob : Kind
+  UpgradeJob : Kind
 
--- a file that a job works on: its object number and its bytes
+-- a file that a job works on: its object number, its profile and its bytes
 pub record Pinned : Type 0 where
   pub id : ℕ
+  pub profile : ℕ
   pub bytes : List ℕ
 
 -- what a Fetch, an Ask or a Work step gave
@@ -36,6 +38,7 @@ pub data Given : Type 0 where
 pub record Job : Type 0 where
   pub number : ℕ
   pub kind : Kind
+  pub profile : ℕ  -- of the file that a put stores
   pub begun : ℕ  -- how many events were before its begin
   pub pinned : List Pinned  -- at its begin, in ascending order of their numbers
   pub flagged : ℕ → Bool  -- the providers that a repair rewrites

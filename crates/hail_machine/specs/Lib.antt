@@ -10,6 +10,7 @@ pub mod Begins
 pub mod Given
 pub mod Audits
 pub mod Appends
+pub mod Alone
 pub mod Steps
 pub mod Left
 pub mod Openings
@@ -18,6 +19,7 @@ pub mod Machine
 pub mod Runs
 pub mod Calm
 pub mod Missed
+pub mod Scrubs
 pub mod Heard
 pub mod Lines
 pub mod Transcripts

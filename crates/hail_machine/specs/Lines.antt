@@ -54,6 +54,10 @@ refusal_text refusal.Already = codes "Already"
 refusal_text refusal.NotSetUp = codes "NotSetUp"
 refusal_text refusal.TooFewProviders = codes "TooFewProviders"
 refusal_text refusal.NoSuchJob = codes "NoSuchJob"
+refusal_text refusal.BadProfile = codes "BadProfile"
+refusal_text refusal.OldVersion = codes "OldVersion"
+refusal_text refusal.NewVersion = codes "NewVersion"
+refusal_text refusal.PackTooLong = codes "PackTooLong"
 
 -- the answer of a job
 abbrev pub answer_text : Answer → List ℕ
@@ -68,6 +72,11 @@ answer_text (answer.Lost stripe row) = codes "lost" ++ then_number stripe ++ the
 answer_text (answer.ProviderFault provider) = codes "provider fault" ++ then_number provider
 answer_text answer.DiskFault = codes "disk fault"
 answer_text answer.Memory = codes "memory"
+answer_text answer.Upgraded = codes "upgraded"
+answer_text (answer.Scrubbed stripes symbols blocks) =
+    codes "scrubbed" ++ then_number stripes ++ codes " symbols" ++ flat_map then_number symbols
+answer_text (answer.Packed before after) =
+    codes "packed" ++ then_number before ++ then_number after
 
 -- a file in effect
 abbrev pub file_line : File → List ℕ

@@ -5,11 +5,13 @@
 --   Happens limit moment old event outcome new   == from this state, after so many events, an event may
 --                                          have this outcome and leave this state; the limit is that of
 --                                          running jobs
-use Rattle.std.specs.Prelude.{◌≡◌, ℕ, Bool, true, false}
+use Rattle.std.specs.Prelude.{◌≡◌, ℕ, Bool, true, false, Some}
 use Rattle.hail_records.specs.Table.{files_of}
-use Rattle.hail_machine.specs.Events.{Event, Init, Begin, Step, Alter, Lose, Stop, Reopen, Names, Continue, Outcome, Listed, Closed}
+use Rattle.hail_machine.specs.Events.{Event, Init, Begin, BeginAt, BeginScrub, BeginPack, Step, Alter, Lose, Stop, Reopen, Names, Continue, Outcome, Listed, Closed}
 use Rattle.hail_machine.specs.States.{State}
-use Rattle.hail_machine.specs.Begins.{Begins}
+use Rattle.hail_machine.specs.Jobs.{PutJob}
+use Rattle.hail_machine.specs.Begins.{Begins, BeginsAt}
+use Rattle.hail_machine.specs.Alone.{BeginsScrub, BeginsPack}
 use Rattle.hail_machine.specs.Steps.{Steps}
 use Rattle.hail_machine.specs.Openings.{Stops, Reopens, Inits, Continues}
 use Rattle.hail_machine.specs.Replacements.{Alters, Loses}
@@ -24,6 +26,10 @@ Lists old is_open outcome new = ⊥
 abbrev pub Happens : ℕ → ℕ → State → Event → Outcome → State → Type 0
 Happens limit moment old (Init setup) outcome new = Inits old setup old.is_open outcome new
 Happens limit moment old (Begin kind) outcome new = Begins limit moment old kind outcome new
+Happens limit moment old (BeginAt profile name bytes) outcome new =
+    BeginsAt limit moment old (PutJob name bytes) (Some profile) outcome new
+Happens limit moment old BeginScrub outcome new = BeginsScrub moment old outcome new
+Happens limit moment old BeginPack outcome new = BeginsPack old outcome new
 Happens limit moment old (Step job) outcome new = Steps old job old.is_open outcome new
 Happens limit moment old (Alter j object stripe place symbol) outcome new =
     Alters old j object stripe place symbol outcome new

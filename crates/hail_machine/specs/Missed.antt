@@ -12,17 +12,17 @@ use Rattle.hail_columns.specs.Verdicts.{is_flagged}
 use Rattle.hail_records.specs.Records.{Record, AuditDone}
 use Rattle.hail_records.specs.Table.{File}
 use Rattle.hail_devices.specs.Providers.{Held}
-use Rattle.hail_machine.specs.States.{State, setup_in, object_in, file_in}
+use Rattle.hail_machine.specs.States.{State, setup_in, file_object, file_in}
 use Rattle.hail_machine.specs.Runs.{Moment, now, first_moments, is_replaced_since, came}
 
--- a provider that tells what it holds is wrong for the file of an object number
-abbrev pub is_wrong_told : State → ℕ → ℕ → Option Held → Bool
-is_wrong_told w id j None = false
-is_wrong_told w id j (Some held) = is_wrong (object_in w id) (w.bytes id) j (held id)
+-- a provider that tells what it holds is wrong for a file
+abbrev pub is_wrong_told : State → File → ℕ → Option Held → Bool
+is_wrong_told w f j None = false
+is_wrong_told w f j (Some held) = is_wrong (file_object w f) (w.bytes f.id) j (held f.id)
 
 -- a provider is wrong for a file now
 abbrev pub is_wrong_now : State → File → ℕ → Bool
-is_wrong_now w f j = is_wrong_told w f.id j (w.providers j).held
+is_wrong_now w f j = is_wrong_told w f j (w.providers j).held
 
 -- An audit with these counts, whose AuditDone comes into effect after these moments, missed a provider.
 pub record Misses (start : State) (ms : List Moment) (counts : List ℕ) (begun j : ℕ) : Type 0 where

@@ -1,15 +1,18 @@
 -- Stops, reopenings, inits, and later calls of the program.
 --
 --   IsSetUp w, IsNotSetUp w        == a setup is in effect, or none is
+--   MayHold old journal area       == what a disk may hold that is read again
 --   Rereads old mid                == the disk is read again, and a record in doubt is settled
 --   Stops old outcome new          == what a stop may come to
 --   Reopens old outcome new        == what a reopening may come to
 --   LeavesDoubt old s doubt        == what may be in doubt after an init that failed
 --   Inits old s is_open outcome new  == what an init may come to
 --   Continues old outcome new      == what a later call of the program comes to
-use Rattle.std.specs.Prelude.{◌≡◌, ◌⊎◌, ◌<◌, ◌≤◌, Bool, true, false, Option, None, Some, is_some}
-use Rattle.hail_records.specs.Records.{Setup, SetUp, is_setup}
+use Rattle.std.specs.Prelude.{◌≡◌, ◌⊎◌, ◌<◌, ◌≤◌, Bool, true, false, List, Option, None, Some, is_some}
+use Rattle.hail_records.specs.Records.{Setup, Record, SetUp, is_setup}
 use Rattle.hail_records.specs.Table.{setup_of}
+use Rattle.hail_records.specs.Packed.{packed}
+use Rattle.hail_records.specs.Areas.{Area, other_area}
 use Rattle.hail_machine.specs.Refusals.{Memory, BadSetup, DiskFault, Already, NotSetUp, TooFewProviders}
 use Rattle.hail_machine.specs.Events.{Outcome, Ready, Refused, Opened, Stopped, Continued}
 use Rattle.hail_machine.specs.States.{State, Doubt, setup_in, brought, given_up, continued, DiskCall, DiskFails, Settles}
@@ -22,9 +25,21 @@ IsSetUp w = is_some (setup_of w.records) ≡ true
 abbrev pub IsNotSetUp : State → Type 0
 IsNotSetUp w = is_some (setup_of w.records) ≡ false
 
+-- what a disk may hold that is read again: its journal, or the packed one in the other area where the switch
+-- was under way
+abbrev pub MayHold : State → List Record → Area → Type 0
+MayHold old journal area = ((journal ≡ old.journal) × (area ≡ old.area))
+    ⊎ ((old.is_switching ≡ true) × (journal ≡ packed old.journal) × (area ≡ other_area old.area))
+
+-- the jobs are given up, and the disk that is read again holds this
+abbrev pub reread : State → List Record → Area → State
+reread old journal area = record (given_up old) { journal = journal; area = area; is_switching = false }
+
 -- a disk is read again, with the jobs given up, and a record in doubt is settled
 abbrev pub Rereads : State → State → Type 0
-Rereads old mid = Settles (given_up old) mid
+Rereads old mid =
+    (journal : List Record) × (area : Area) × MayHold old journal area
+    × Settles (reread old journal area) mid
 
 -- a stop gives up the vault with its jobs, and settles a record in doubt
 abbrev pub Stops : State → Outcome → State → Type 0

@@ -24,6 +24,10 @@ pub data Refusal : Type 0 where
   NotSetUp : Refusal
   TooFewProviders : Refusal
   NoSuchJob : Refusal
+  BadProfile : Refusal
+  OldVersion : Refusal
+  NewVersion : Refusal
+  PackTooLong : Refusal
 
 -- a refusal where its cause applies
 pub record Cause : Type 0 where

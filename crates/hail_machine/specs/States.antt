@@ -4,11 +4,13 @@
 --                              done
 --   Doubt                   == a record in doubt, with the job that wrote it, if one did
 --   State                   == a state
---   setup_in, object_in, file_in  == the setup in effect, the object of a number, the file in effect under
---                                    a name
+--   Found, Scrub, Pack, Alone  == what a scrub has found, a scrub, a pack, and either of them
+--   setup_in, object_in, file_in  == the setup in effect, the object of a profile and a number, the file in
+--                                    effect under a name
 --   file_object w f         == the object of a file in effect
 --   pinned_object w f       == that of a file that a job works on
 --   put_object w job id     == the object under whose number a put stores
+--   object_among w files id == the object of a number among these files
 --   worked_object w job id  == the object of a number among those that a job works on
 --   going_on w job          == the state with this job in place of that of its number
 --   ended w job             == the state in which the job has ended
@@ -27,15 +29,22 @@
 -- The setup, the files in effect, the started puts, the next numbers and the audits that run or are due are
 -- what the records in effect fold to. Beside these a state keeps whose bytes an object number stands for,
 -- when an audit number was drawn, and which job wrote the record in doubt.
+--
+-- There are two lists of records. `records` is the one history: every record that came into effect, and it
+-- only grows. `journal` is what the disk holds: a pack puts the records of a packed journal in its place.
+-- Their tables are alike in every run, so that what a state says of files, numbers, audits and setup may be
+-- read off the history.
 use Rattle.std.specs.Prelude.{◌≡◌, ℕ, ◌==◌, ◌≤◌, ◌⊎◌, Bool, false, IsTrue, List, [], ◌∷◌, Option, None, Some, if◌then◌else◌}
 use Rattle.hail_columns.specs.Objects.{Object}
 use Rattle.hail_records.specs.Records.{Setup, Record, SetUp, is_in_grammar}
 use Rattle.hail_records.specs.Table.{File, setup_of, file_of}
-use Rattle.hail_records.specs.Journal.{text_size}
+use Rattle.hail_records.specs.Areas.{Area, A, end_in}
 use Rattle.hail_devices.specs.Faults.{Rose}
 use Rattle.hail_devices.specs.Providers.{Provider}
-use Rattle.hail_machine.specs.Jobs.{Pinned, Job, with_job, without_job}
-use Rattle.hail_machine.specs.Setups.{setup_or_none, object_of}
+use Rattle.hail_machine.specs.Jobs.{Pinned, Given, Job, with_job, without_job}
+use Rattle.hail_machine.specs.Actions.{Action}
+use Rattle.hail_machine.specs.Setups.{setup_or_none, profiled, object_of}
+use Rattle.hail_machine.specs.Given.{pinned_profile}
 
 -- an append in flight: its job, its record, and how many of its four moves are done
 pub record Append : Type 0 where
@@ -48,13 +57,43 @@ pub record Doubt : Type 0 where
   pub entry : Record
   pub maker : Option Job
 
+-- what a scrub has found: stripes opened, and of each provider the symbols and the blocks that differed
+pub record Found : Type 0 where
+  pub stripes : ℕ
+  pub symbols : ℕ → ℕ
+  pub blocks : ℕ → ℕ
+
+-- a scrub: the files of its begin, what it has still to do, and what its steps gave
+pub record Scrub : Type 0 where
+  pub number : ℕ
+  pub begun : ℕ  -- how many events were before its begin
+  pub files : List Pinned
+  pub todo : List Action
+  pub given : List Given  -- the newest first
+  pub found : Found
+
+-- a pack: how many of its four moves are made, and the length of the text at its begin
+pub record Pack : Type 0 where
+  pub number : ℕ
+  pub moves : ℕ
+  pub before : ℕ
+
+-- what runs alone, with no job beside it
+pub data Alone : Type 0 where
+  Scrubbing : (scrub : Scrub) → Alone
+  Packing : (pack : Pack) → Alone
+
 -- a state
 pub record State : Type 0 where
-  pub records : List Record  -- in effect, the newest first
+  pub records : List Record  -- every record that came into effect, the newest first
+  pub journal : List Record  -- what the disk holds of them, the newest first
+  pub area : Area  -- in which the disk holds it
+  pub is_switching : Bool  -- the byte that names the area may name the other one, with the packed journal
   pub bytes : ℕ → List ℕ  -- of the put that drew an object number last
   pub audits : ℕ → ℕ  -- the begin of the audit that drew a number last
   pub jobs : List Job  -- that run, in the order of their begins
   pub next_job : ℕ
+  pub alone : Option Alone
   pub append : Option Append
   pub doubt : Option Doubt
   pub providers : ℕ → Provider
@@ -67,25 +106,29 @@ pub record State : Type 0 where
 unfoldable pub setup_in : State → Setup
 setup_in w = setup_or_none (setup_of w.records)
 
--- the object of a number
-abbrev pub object_in : State → ℕ → Object
-object_in w id = object_of (setup_in w) id
+-- the object of a profile and a number
+abbrev pub object_in : State → ℕ → ℕ → Object
+object_in w profile id = object_of (profiled (setup_in w) profile) id
 
 -- the object of a file in effect
 abbrev pub file_object : State → File → Object
-file_object w f = object_in w f.id
+file_object w f = object_in w f.profile f.id
 
 -- the object of a file that a job works on
 abbrev pub pinned_object : State → Pinned → Object
-pinned_object w f = object_in w f.id
+pinned_object w f = object_in w f.profile f.id
 
 -- the object under whose number a put stores
 abbrev pub put_object : State → Job → ℕ → Object
-put_object w job id = object_in w id
+put_object w job id = object_in w job.profile id
+
+-- the object of a number among these files
+abbrev pub object_among : State → List Pinned → ℕ → Object
+object_among w files id = object_in w (pinned_profile (setup_in w).profile files id) id
 
 -- the object of a number among those that a job works on
 abbrev pub worked_object : State → Job → ℕ → Object
-worked_object w job id = object_in w id
+worked_object w job id = object_among w job.pinned id
 
 -- the file in effect under a name
 abbrev pub file_in : State → List ℕ → Option File
@@ -101,7 +144,7 @@ ended w job = record w { jobs = without_job w.jobs job.number }
 
 -- all jobs are given up and the vault is closed
 abbrev pub given_up : State → State
-given_up w = record w { jobs = []; append = None; is_open = false; is_barred = false }
+given_up w = record w { jobs = []; alone = None; append = None; is_open = false; is_barred = false }
 
 -- the state in which a later call of the program goes on
 abbrev pub continued : State → State
@@ -113,11 +156,11 @@ with_doubt w d = d.entry ∷ w.records
 
 -- a record has come into effect
 abbrev pub brought : State → Record → State
-brought w r = record w { records = r ∷ w.records }
+brought w r = record w { records = r ∷ w.records; journal = r ∷ w.journal }
 
 -- the offset past the gate that closes the journal
 abbrev pub journal_end : State → ℕ
-journal_end w = text_size w.records
+journal_end w = end_in w.area w.journal
 
 -- providers with another one at a place
 abbrev pub with_provider : (ℕ → Provider) → ℕ → Provider → ℕ → Provider
@@ -154,6 +197,10 @@ AreFirst records =
 -- stands for
 pub record IsStart (w : State) : Type 0 where
   pub records : AreFirst w.records
+  pub journal : w.journal ≡ w.records
+  pub first_area : w.area ≡ A
+  pub unswitched : w.is_switching ≡ false
+  pub none_alone : w.alone ≡ None
   pub jobs : w.jobs ≡ []
   pub first_job : w.next_job ≡ 1
   pub append : w.append ≡ None

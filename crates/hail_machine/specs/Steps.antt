@@ -14,15 +14,16 @@ use Rattle.hail_columns.specs.Challenges.{honest_answer}
 use Rattle.hail_columns.specs.Columns.{columns, column_of_symbols}
 use Rattle.hail_columns.specs.Opened.{GivesSymbols, LosesRow}
 use Rattle.hail_devices.specs.ProviderCalls.{Stores, FailsToStore, FindsNoMemory, Fetches, Asks, Removes}
-use Rattle.hail_machine.specs.Jobs.{Kind, PutJob, GetJob, DropJob, AuditJob, RepairJob, Pinned, Fetched, Answered, Worked, Job, job_of, advanced, advanced_with}
+use Rattle.hail_machine.specs.Jobs.{Kind, PutJob, GetJob, DropJob, AuditJob, RepairJob, UpgradeJob, Pinned, Fetched, Answered, Worked, Job, job_of, advanced, advanced_with}
 use Rattle.hail_machine.specs.Actions.{Action, WriteBody, Store, Fetch, Ask, Work, Remove, End, actions_of}
 use Rattle.hail_machine.specs.Refusals.{MustReopen, NoSuchJob}
-use Rattle.hail_machine.specs.Answers.{Answer, Put, Got, Dropped, Audited, Repaired, Lost, ProviderFault, Memory}
+use Rattle.hail_machine.specs.Answers.{Answer, Put, Got, Dropped, Audited, Repaired, Upgraded, Lost, ProviderFault, Memory}
 use Rattle.hail_machine.specs.Events.{Outcome, Refused, More, Waiting, Ended, Closed}
-use Rattle.hail_machine.specs.States.{State, Append, setup_in, put_object, worked_object, file_in, going_on, ended, ProviderCall}
+use Rattle.hail_machine.specs.States.{State, Append, Alone, setup_in, put_object, worked_object, file_in, going_on, ended, ProviderCall}
 use Rattle.hail_machine.specs.Given.{blocks_given, symbols_given, file_given}
 use Rattle.hail_machine.specs.Audits.{asked_challenge, HasSums}
 use Rattle.hail_machine.specs.Appends.{Moves}
+use Rattle.hail_machine.specs.Alone.{number_alone, StepsAlone}
 
 -- the block that a job stores: of a put's own bytes, or of the symbols that a repair's work gave
 abbrev pub block_to_store : State → Job → Kind → ℕ → ℕ → ℕ → List ℕ
@@ -43,6 +44,7 @@ Ends w job (DropJob name) Dropped = Unit {0}
 Ends w job AuditJob (Audited number undecided counts) =
     (number ≡ job.subject) × HasSums (setup_in w) job (record { counts = counts; undecided = undecided })
 Ends w job RepairJob (Repaired number) = number ≡ job.subject
+Ends w job UpgradeJob Upgraded = Unit {0}
 Ends w job kind answer = ⊥
 
 -- a fetch gives a block or none
@@ -118,11 +120,22 @@ StepsJob old None (Refused NoSuchJob) new = new ≡ old
 StepsJob old None outcome new = ⊥
 StepsJob old (Some job) outcome new = StepsOn old job (next_action old job) outcome new
 
+-- a step of what runs alone, by whether it has the number, or else of a job
+abbrev pub StepsMine : State → ℕ → Alone → Bool → Outcome → State → Type 0
+StepsMine old number alone true outcome new = StepsAlone old alone outcome new
+StepsMine old number alone false outcome new = StepsJob old (job_of old.jobs number) outcome new
+
+-- a step of what runs alone, if anything does, or of a job
+abbrev pub StepsOne : State → ℕ → Option Alone → Outcome → State → Type 0
+StepsOne old number None outcome new = StepsJob old (job_of old.jobs number) outcome new
+StepsOne old number (Some alone) outcome new =
+    StepsMine old number alone (number_alone alone == number) outcome new
+
 -- a step while a vault is open, by whether it has to be reopened
 abbrev pub StepsOpen : State → ℕ → Bool → Outcome → State → Type 0
 StepsOpen old number true (Refused MustReopen) new = new ≡ old
 StepsOpen old number true outcome new = ⊥
-StepsOpen old number false outcome new = StepsJob old (job_of old.jobs number) outcome new
+StepsOpen old number false outcome new = StepsOne old number old.alone outcome new
 
 -- a step, by whether a vault is open
 abbrev pub Steps : State → ℕ → Bool → Outcome → State → Type 0

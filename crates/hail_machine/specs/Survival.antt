@@ -13,7 +13,7 @@
 --
 -- With what the images of a disk stand for, every image at such a moment stands for records that have the
 -- file.
-use Rattle.std.specs.Prelude.{◌≡◌, ℕ, Bool, false, List, [], ◌∷◌, ◌++◌, length, Some}
+use Rattle.std.specs.Prelude.{◌≡◌, ℕ, ◌==◌, Bool, false, List, [], ◌∷◌, ◌++◌, length, Some}
 use Rattle.hail_records.specs.Records.{Record, SetUp, PutStart, PutDone, Drop, AuditStart, AuditDone, RepairDone, PutDoneIn, Version, Resume, InEffect, RepairDue}
 use Rattle.hail_records.specs.Table.{File, file_as, setup_of, profile_in, started_as, is_same_name, is_start_of, file_of}
 use Rattle.hail_machine.specs.Jobs.{PutJob, Job, job_of}
@@ -27,7 +27,7 @@ use Rattle.hail_machine.specs.Runs.{Moment, now, IsRun, came}
 pub record ComesIn (old new : State) (name : List ℕ) (file : File) : Type 0 where
   pub version : ℕ  -- as the put's end was written
   pub done : came old new ≡ Some (done_record version file.id file.size file.profile)
-  pub profiled : file.profile ≡ profile_in (setup_of old.records)
+  pub profiled : (version == 2) ≡ false → file.profile ≡ profile_in (setup_of old.records)
   pub started : started_as old.records file.id ≡ Some name
   pub named : file.name ≡ name
 
@@ -87,5 +87,4 @@ abbrev pub IsAcknowledged : Type 0
 IsAcknowledged =
     (limit : ℕ) (start : State) (m : Moment) (ms : List Moment) (job : Job) (name bytes : List ℕ) →
     IsStart start → IsRun limit start (m ∷ ms) → EndsPut start m ms job name bytes →
-    HasComeIn start ms name (file_as name job.subject (length bytes)
-    (profile_in (setup_of (now start ms).records)))
+    HasComeIn start ms name (file_as name job.subject (length bytes) job.profile)

@@ -55,11 +55,11 @@ pub fn steps_left()
 /// The room that a put reserves at its begin, once its first record is in effect, and once both are.
 #[tactic(auto, unfolding(crate::specs::Actions::actions_of, crate::specs::States::setup_in))]
 pub fn room()
-    ensures begun { reserved six (beginning_job (opened (SetUp six ∷ []) []) (PutJob (codes "a") hundred))
+    ensures begun { reserved 1 six (beginning_job (opened (SetUp six ∷ []) []) (PutJob (codes "a") hundred))
         ≡ 26 }
-    ensures started { reserved six (record (beginning_job (opened (SetUp six ∷ []) [])
+    ensures started { reserved 1 six (record (beginning_job (opened (SetUp six ∷ []) [])
         (PutJob (codes "a") hundred)) { place = 4 }) ≡ 14 }
-    ensures done { reserved six (record (beginning_job (opened (SetUp six ∷ []) [])
+    ensures done { reserved 1 six (record (beginning_job (opened (SetUp six ∷ []) [])
         (PutJob (codes "a") hundred)) { place = 14 }) ≡ 0 }
 {}
 

@@ -13,7 +13,7 @@ use Rattle.hail_records.specs.Records.{Record}
 use Rattle.hail_records.specs.Table.{File, file_of}
 use Rattle.hail_machine.specs.Events.{AreBytes}
 use Rattle.hail_machine.specs.States.{State}
-use Rattle.sound_states.specs.Sound.{IsAtRest}
+use Rattle.sound_states.specs.Sound.{IsWholeJournal, IsAtRest}
 
 -- the providers handed in are those of a state
 pub record AreHanded (providers : List Provider) (w : State) : Type 0 where
@@ -37,8 +37,10 @@ pub record IsJustOpened (w : State) (rs : List Record) (first faults : ℕ)
 -- a state whose vault was just opened over these records, told by its parts
 pub record IsOpenedOver (w : State) (rs : List Record) (faults : ℕ) (providers : List Provider) : Type 0 where
   pub records : w.records ≡ rs
+  pub whole : IsWholeJournal w
   pub jobs : w.jobs ≡ []
   pub next_job : w.next_job ≡ 1
+  pub none_alone : w.alone ≡ None
   pub append : w.append ≡ None
   pub doubt : w.doubt ≡ None
   pub is_open : w.is_open ≡ true

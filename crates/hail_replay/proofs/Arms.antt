@@ -1,5 +1,5 @@
 -- What each call of the client keeps, whatever the devices hold.
-use Rattle.std.proofs.Common.{◌≡◌, ℕ, ◌+◌, ◌≤◌, true, false, List, [], ◌∷◌, ◌++◌, length, Option, Some, None, Result, Ok, Err, inl, inr, refl, sym, ◌∙◌, arith}
+use Rattle.std.proofs.Common.{◌≡◌, ℕ, ◌≤◌, true, false, List, [], ◌∷◌, ◌++◌, length, Option, Some, None, Result, Ok, Err, inl, inr, refl, sym, ◌∙◌, arith}
 use Rattle.std.specs.Prelude.{OnOk, is_ok, is_some}
 use Rattle.std.proofs.lemmas.Bool.{cases_Bool, false≢true}
 use Rattle.hail_devices.specs.Cells.{Cells}
@@ -12,7 +12,7 @@ use Rattle.hail_machine.specs.States.{State}
 use Rattle.calm_laws.proofs.Onward.{onward}
 use Rattle.vault.specs.declared.turn.Turn.{Turn}
 use Rattle.vault.specs.declared.vault.Vault.{Vault}
-use Rattle.vault.specs.Devices.{Devices, devices}
+use Rattle.vault_open.specs.Devices.{Devices, devices}
 use Rattle.hail_client.specs.declared.client.Client.{Client}
 use Rattle.hail_client.specs.declared.fault.ReopenFault.{ReopenFault}
 use Rattle.hail_client.specs.Client.{is_open, client_next_job, next_job_by, client_coming, coming_by, IsSame, IsSameVault}

@@ -1,8 +1,8 @@
 -- A replay and a trial, event by event.
-use Rattle.std.proofs.Common.{◌≡◌, ◌≢◌, ℕ, ◌≤◌, List, [], ◌∷◌, ◌++◌, length, reverse, Option, Some, None, Result, Ok, Err, refl, ap, ap₂, sym, subst, ◌∙◌, arith}
+use Rattle.std.proofs.Common.{◌≡◌, ℕ, ◌≤◌, List, [], ◌∷◌, ◌++◌, reverse, Option, Result, Ok, Err, refl, ap, sym, subst, ◌∙◌}
 use Rattle.std.specs.Prelude.{OnOk, OnErr}
-use Rattle.std.proofs.lemmas.List.{append-nil, append_assoc, reverse-append}
-use Rattle.hail_commands.specs.Sinking.{Sinking, WritesLine}
+use Rattle.std.proofs.lemmas.List.{append_assoc, reverse-append}
+use Rattle.hail_commands.specs.Sinking.{WritesLine}
 use Rattle.hail_machine.specs.Failures.{Count, count_in, HasFailures, RoseBy}
 use Rattle.hail_machine.specs.Heard.{Entry, heard_in}
 use Rattle.hail_machine.specs.Lines.{lines_of}
@@ -11,9 +11,9 @@ use Rattle.hail_machine.specs.States.{State, IsStart, continued}
 use Rattle.hail_machine.specs.Transcripts.{Instruction, Once, RunJob, GoOn, CarriesOut}
 use Rattle.headline.specs.Headline.{Headline}
 use Rattle.sound_states.specs.Sound.{IsSound}
-use Rattle.trial_counts.specs.Counts.{TrialCounts, counts_of}
+use Rattle.trial_counts.specs.Counts.{TrialCounts}
 use Rattle.trial_counts.specs.Seen.{SeesOne}
-use Rattle.vault.specs.Devices.{Devices, AreDevices}
+use Rattle.vault_open.specs.Devices.{Devices, AreDevices}
 use Rattle.hail_client.specs.declared.client.Client.{Client}
 use Rattle.hail_client.specs.Stands.{ClientStands, IsReached}
 use Rattle.transcript_lines.specs.declared.came.Came.{Came}

@@ -1,25 +1,23 @@
 -- The loops over the events of a schedule and of a trial.
-use Rattle.std.proofs.Common.{◌≡◌, ◌≢◌, ◌⊎◌, inl, inr, ℕ, ◌+◌, ◌≤◌, true, false, List, [], ◌∷◌, ◌++◌, length, reverse, Option, Some, None, refl, ap, sym, subst, ◌∙◌, arith}
+use Rattle.std.proofs.Common.{◌≡◌, ◌≢◌, inr, ℕ, ◌+◌, ◌≤◌, false, List, [], ◌∷◌, ◌++◌, length, reverse, Option, refl, ap, sym, subst, ◌∙◌, arith}
 use Rattle.std.specs.Prelude.{IsSome, is_some}
 use Rattle.std.proofs.lemmas.Bool.{false≢true}
 use Rattle.std.proofs.lemmas.List.{append-nil, reverse-reverse}
-use Rattle.hail_devices.specs.Cells.{Cells}
 use Rattle.hail_commands.specs.Sinking.{Sinking, WritesLine}
 use Rattle.hail_machine.specs.Failures.{Count, count_in, HasFailures, RoseBy}
 use Rattle.hail_machine.specs.Heard.{Entry}
 use Rattle.hail_machine.specs.Runs.{Moment, now, IsRun}
-use Rattle.hail_machine.specs.Stands.{StandsForState}
 use Rattle.hail_machine.specs.States.{State, IsStart, continued}
 use Rattle.hail_machine.specs.Transcripts.{Instruction}
 use Rattle.headline.specs.Headline.{Headline}
-use Rattle.sound_states.specs.Sound.{IsSound}
+use Rattle.sound_states.specs.Sound.{IsLimit, IsSound}
 use Rattle.trial_maker.specs.Trials.{trial_bytes, trial_commands}
 use Rattle.trial_counts.specs.Counts.{TrialCounts, counts_of, trial_lines}
-use Rattle.vault.specs.Devices.{Devices, AreDevices}
+use Rattle.vault_open.specs.Devices.{Devices, AreDevices}
 use Rattle.hail_client.specs.declared.client.Client.{Client}
 use Rattle.hail_client.specs.Client.{is_open, client_next_job}
 use Rattle.hail_client.specs.Stands.{ClientStands}
-use Rattle.hail_replay.specs.Answers.{CarriedOut}
+use Rattle.hail_client.proofs.Settled.{same-images}
 use Rattle.hail_replay.specs.Performed.{StandsWhereOpen, NoCountFell, KeepsStanding}
 use Rattle.hail_replay.specs.Replayed.{CarriesOn, Replays}
 use Rattle.hail_replay.specs.Starts.{AreLeft, called_behind}
@@ -27,7 +25,7 @@ use Rattle.hail_replay.specs.Trials.{RunsTrial, RunsTo, CountsTo}
 use Rattle.hail_replay.specs.UnderWay.{HasDone, HasRun, HasCounted}
 use Rattle.hail_replay.proofs.Counts.{none-fell, then-fell}
 use Rattle.hail_replay.proofs.Course.{come-first, carries-on, next-done}
-use Rattle.hail_replay.proofs.Wrote.{sank, nothing-written, nothing-taken, written-out, ends-since}
+use Rattle.hail_replay.proofs.Wrote.{sank, nothing-written, nothing-taken, written-out}
 
 -- what does not hang on a run: of the commands all, these are left
 pub record IsOnCourse (all left : List Instruction) (c : Client) (old new : Devices) : Type 0 where
@@ -48,7 +46,7 @@ AreCounted expected all left c old new counts heard = (start : State) (before : 
 
 -- the laws that a run is judged by
 pub record Laws : Type 0 where
-  pub sound : (limit : ℕ) (start : State) (ms : List Moment) → IsStart start → IsRun limit start ms → IsSound limit (now start ms)
+  pub sound : (limit : ℕ) (start : State) (ms : List Moment) → IsLimit limit → IsStart start → IsRun limit start ms → IsSound limit (now start ms)
   pub headline : (limit : ℕ) (start : State) (ms : List Moment) → IsStart start → IsRun limit start ms → Headline start ms
   pub failures : (limit : ℕ) (start : State) (later ms : List Moment) (count : Count) (n : ℕ) → IsRun limit start (later ++ ms) →
       HasFailures count (now start ms) later n → RoseBy (count_in count (now start ms)) (count_in count (now start (later ++ ms))) n
@@ -84,7 +82,7 @@ none-done laws all c d first b begins start before told L = (
   record {
     later = [];
     lines = [];
-    come = come-first start before c d L (laws.sound 8 start before L.starts L.run) begins;
+    come = come-first start before c d L (laws.sound 8 start before (omega arith, omega arith) L.starts L.run) begins;
     wrote = nothing-written first b;
   },
 )
@@ -162,7 +160,7 @@ none-counted laws expected all c d counts begins is start before told L = (
   record {
     later = [];
     lines = [];
-    come = come-first start before c d L (laws.sound 8 start before L.starts L.run) begins;
+    come = come-first start before c d L (laws.sound 8 start before (omega arith, omega arith) L.starts L.run) begins;
     counts_are = is;
   },
 )
@@ -253,16 +251,9 @@ pub trial-cut : (number : ℕ) (start : State) (before : List Moment) (commands 
 trial-cut number start before commands heard d cs R = subst (λ (k : List Instruction). RunsTo start before k heard d) cs R
 
 -- the state of a later call has the same devices
-continued-images : (told : Option Cells) (w : State) → StandsForState told w → StandsForState told (continued w)
-continued-images None w h = tt
-continued-images (Some cells) w h = λ image is. elim (h image is) [
-  | inl s ↦ inl s
-  | inr D ↦ inr (record { doubt = D.doubt; in_doubt = D.in_doubt; stands = D.stands })
-]
-
 continued-devices : (d : Devices) (w : State) → AreDevices d w → AreDevices d (continued w)
 continued-devices d w A = record {
-  images = continued-images d.holds w A.images;
+  images = same-images d.holds w (continued w) refl refl refl refl A.images;
   faults = A.faults;
   providers = record { count = A.providers.count; each = A.providers.each };
 }

@@ -1,31 +1,30 @@
 -- The arms of a call that performs an event.
-use Rattle.std.proofs.Common.{◌≡◌, ℕ, ◌<◌, ◌^◌, Bool, true, false, List, [], ◌++◌, Option, Some, None, Result, inl, inr, refl, ap, sym, subst, ◌∙◌}
-use Rattle.std.specs.Prelude.{IsSome, IfSome, is_some}
-use Rattle.std.specs.Option.{option_map}
+use Rattle.std.proofs.Common.{◌≡◌, ℕ, ◌<◌, ◌^◌, Bool, true, false, List, [], ◌++◌, Option, Some, None, Result, inl, inr, refl, ap, sym, subst}
+use Rattle.std.specs.Prelude.{IfSome, is_some}
 use Rattle.std.proofs.lemmas.Bool.{cases_Bool}
 use Rattle.hail_devices.specs.Cells.{Cells}
 use Rattle.hail_devices.specs.Providers.{Provider}
-use Rattle.hail_machine.specs.Events.{Event, Init, Begin, Step, Names, Outcome}
+use Rattle.hail_machine.specs.Events.{Event, Begin, Step, Names}
 use Rattle.hail_machine.specs.Heard.{Entry, heard_by, heard_at, reported_after}
 use Rattle.hail_machine.specs.Jobs.{Kind, job_of}
 use Rattle.hail_machine.specs.Machine.{Happens}
 use Rattle.hail_machine.specs.Runs.{Moment}
 use Rattle.hail_machine.specs.States.{State}
-use Rattle.hail_machine.specs.Transcripts.{Instruction, Once, RunJob}
+use Rattle.hail_machine.specs.Transcripts.{Once, RunJob}
 use Rattle.schedule_text.specs.declared.event.Event.{Event as Read}
 use Rattle.schedule_text.specs.Events.{event_command}
 use Rattle.vault_core.specs.declared.wish.BeginFault.{BeginFault}
 use Rattle.vault.specs.declared.turn.Turn.{Turn}
-use Rattle.vault.specs.Devices.{Devices, devices}
+use Rattle.vault_open.specs.Devices.{Devices, devices}
 use Rattle.vault.specs.Outcomes.{IfEnded}
 use Rattle.hail_client.specs.declared.client.Client.{Client}
-use Rattle.hail_client.specs.Client.{is_open, client_next_job, client_coming, names_of, IsSame}
+use Rattle.hail_client.specs.Client.{is_open, client_coming, IsSame}
 use Rattle.hail_client.specs.Outcomes.{client_begin_outcome, step_outcome, replace_outcome}
 use Rattle.hail_client.specs.Stands.{ClientStands, MakesEvent, IsReached, RunsJobOn}
 use Rattle.vault_core.specs.Coming.{IsNoJob}
 use Rattle.transcript_lines.specs.declared.came.Came.{Came}
 use Rattle.transcript_lines.specs.declared.came.Came.TheVariants as came
-use Rattle.hail_replay.specs.Performed.{outcome_in, StandsWhereOpen, Performs, KeepsStanding, IsPerformed}
+use Rattle.hail_replay.specs.Performed.{StandsWhereOpen, KeepsStanding, IsPerformed}
 use Rattle.hail_replay.proofs.Same.{Same}
 use Rattle.hail_replay.proofs.Arms.{begun-kept, closed-kept, closed-coming, step-kept, run-kept, replaced-kept, same-kept}
 use Rattle.hail_replay.proofs.Behind.{once, run, not-run, turn-heard}

@@ -1,19 +1,21 @@
 -- What events leave of a state: how many providers are handed in, whether a vault is open, and the number of the next job.
-use Rattle.std.proofs.Common.{◌≡◌, ℕ, ◌+◌, ◌≤◌, Bool, true, false, List, [], ◌∷◌, ◌++◌, length, Option, Some, None, refl, ap, sym, ◌∙◌, subst, arith}
+use Rattle.std.proofs.Common.{◌≡◌, ℕ, ◌+◌, ◌≤◌, ◌==◌, Bool, true, false, List, [], ◌∷◌, ◌++◌, length, Option, Some, None, refl, ap, ◌∙◌, subst, arith}
 use Rattle.hail_devices.specs.Providers.{Held}
 use Rattle.hail_machine.specs.Jobs.{Kind, Job, job_of}
 use Rattle.hail_machine.specs.Actions.{Action, WriteBody, SyncBody, WriteGate, SyncGate, Store, Fetch, Ask, Work, Remove, End}
 use Rattle.hail_machine.specs.Refusals as refusal
 use Rattle.hail_machine.specs.Answers as answer
 use Rattle.hail_machine.specs.Events.{Event, Step, Outcome, Refused, Begun, More, Waiting, Ended, Replaced, NothingHeld, Closed}
-use Rattle.hail_machine.specs.States.{State, Append}
+use Rattle.hail_machine.specs.States.{State, Append, Alone}
 use Rattle.hail_machine.specs.Begins.{Begins}
 use Rattle.hail_machine.specs.Appends.{Moves}
-use Rattle.hail_machine.specs.Steps.{next_action, holder_of, Acts, ActsOrWaits, StepsOn, StepsJob, StepsOpen, Steps}
+use Rattle.hail_machine.specs.Steps.{next_action, holder_of, Acts, ActsOrWaits, StepsOn, StepsJob, StepsMine, StepsOne, StepsOpen, Steps}
+use Rattle.hail_machine.specs.Alone.{number_alone}
 use Rattle.hail_machine.specs.Replacements.{ReplacesAt, ReplacesIf}
 use Rattle.hail_machine.specs.Machine.{Happens}
 use Rattle.hail_machine.specs.Runs.{Moment, now, IsRun}
 use Rattle.hail_machine.specs.Transcripts.{GoOn}
+use Rattle.hail_machine.proofs.Asides.{steps_aside}
 
 -- none of the three changes
 pub record Same (old new : State) : Type 0 where
@@ -76,9 +78,17 @@ module _ (old : State) where
   steps_job (Some job) r new h = steps_on job (next_action old job) r new h
   steps_job None r new h = absurd h
 
+  steps_mine : (number : ℕ) (x : Alone) (mine : Bool) (r : Outcome) (new : State) → StepsMine old number x mine r new → Same old new
+  steps_mine number x true r new h = (let a = steps_aside old x r new h in record { handed = a.handed; is_open = a.is_open; next = a.next_job })
+  steps_mine number x false r new h = steps_job (job_of old.jobs number) r new h
+
+  steps_one : (number : ℕ) (alone : Option Alone) (r : Outcome) (new : State) → StepsOne old number alone r new → Same old new
+  steps_one number None r new h = steps_job (job_of old.jobs number) r new h
+  steps_one number (Some x) r new h = steps_mine number x (number_alone x == number) r new h
+
   steps_open : (number : ℕ) (is_barred : Bool) (r : Outcome) (new : State) → StepsOpen old number is_barred r new → Same old new
   steps_open number true (Refused refusal.MustReopen) new h = at old new h refl refl refl
-  steps_open number false r new h = steps_job (job_of old.jobs number) r new h
+  steps_open number false r new h = steps_one number old.alone r new h
   steps_open number true r new h = absurd h
 
   pub steps : (number : ℕ) (is_open : Bool) (r : Outcome) (new : State) → Steps old number is_open r new → Same old new

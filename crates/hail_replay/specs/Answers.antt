@@ -17,7 +17,7 @@ use Rattle.hail_machine.specs.Runs.{Moment}
 use Rattle.hail_machine.specs.States.{State}
 use Rattle.hail_machine.specs.Transcripts.{Instruction}
 use Rattle.schedule_text.specs.Schedules.{IsSchedule, IsFirstBadLine}
-use Rattle.vault.specs.Devices.{Devices, devices, devices_seen}
+use Rattle.vault_open.specs.Devices.{Devices, devices}
 use Rattle.hail_replay.specs.Starts.{AreLeft}
 use Rattle.hail_replay.specs.Replayed.{Replays}
 use Rattle.hail_replay.specs.Trials.{RunsTrial, RunsTo}

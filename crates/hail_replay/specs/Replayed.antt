@@ -15,7 +15,7 @@ use Rattle.hail_machine.specs.Runs.{Moment, now, IsRun}
 use Rattle.hail_machine.specs.States.{State}
 use Rattle.hail_machine.specs.Transcripts.{Instruction, CarriesOut}
 use Rattle.headline.specs.Headline.{Headline}
-use Rattle.vault.specs.Devices.{Devices, AreDevices}
+use Rattle.vault_open.specs.Devices.{Devices, AreDevices}
 use Rattle.hail_replay.specs.Starts.{called_behind}
 
 -- moments that carry out commands behind a later call of the program; commands and moments have the newest

@@ -15,7 +15,7 @@ use Rattle.hail_commands.specs.Sinking.{Sinking}
 use Rattle.hail_machine.specs.Events.{Continue, Continued}
 use Rattle.hail_machine.specs.Runs.{Moment, now, IsRun}
 use Rattle.hail_machine.specs.States.{State, IsStart, continued}
-use Rattle.vault.specs.Devices.{Devices, AreDevices, devices}
+use Rattle.vault_open.specs.Devices.{Devices, AreDevices, devices}
 use Rattle.provider_model.specs.Seen.{provider_seen}
 
 -- a disk and providers, by the members of their traits

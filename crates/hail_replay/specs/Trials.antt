@@ -14,7 +14,7 @@ use Rattle.hail_machine.specs.Transcripts.{Instruction}
 use Rattle.trial_counts.specs.Counts.{TrialCounts, counts_of}
 use Rattle.trial_counts.specs.Trials.{TellsTrial}
 use Rattle.trial_maker.specs.Trials.{trial_commands}
-use Rattle.vault.specs.Devices.{Devices}
+use Rattle.vault_open.specs.Devices.{Devices}
 use Rattle.hail_replay.specs.Replayed.{CarriesOn}
 
 -- a trial whose events were all done

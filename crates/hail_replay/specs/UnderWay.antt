@@ -15,7 +15,7 @@ use Rattle.hail_machine.specs.Runs.{Moment}
 use Rattle.hail_machine.specs.States.{State}
 use Rattle.hail_machine.specs.Transcripts.{Instruction, CarriesOut}
 use Rattle.trial_counts.specs.Counts.{TrialCounts, counts_of}
-use Rattle.vault.specs.Devices.{Devices}
+use Rattle.vault_open.specs.Devices.{Devices}
 use Rattle.hail_client.specs.declared.client.Client.{Client}
 use Rattle.hail_client.specs.Stands.{IsReached}
 

@@ -1,8 +1,8 @@
 -- What a job's answer tells, by its kind.
 use Rattle.std.proofs.Common.{◌≡◌, ℕ, List, take, Option, None, Some, refl, ap, sym, ◌∙◌, inl, inr, subst, arith, append-nil}
 use Rattle.hail_devices.specs.Told.{told_then, TakesFront}
-use Rattle.hail_machine.specs.Jobs.{Kind, PutJob, GetJob, DropJob, AuditJob, RepairJob}
-use Rattle.hail_machine.specs.Answers.{Answer, Put, Got, Dropped, Audited, Repaired, Lost, ProviderFault, DiskFault, Memory}
+use Rattle.hail_machine.specs.Jobs.{Kind, PutJob, GetJob, DropJob, AuditJob, RepairJob, UpgradeJob}
+use Rattle.hail_machine.specs.Answers.{Answer, Put, Got, Dropped, Audited, Repaired, Upgraded, Scrubbed, Packed, Lost, ProviderFault, DiskFault, Memory}
 use Rattle.hail_commands.specs.Sinking.{WritesLine}
 use Rattle.hail_commands.specs.Seen.{Seen, Ending, sinking}
 use Rattle.hail_commands.specs.Lines.{text_of, stored_line, dropped_line, audit_lines}
@@ -20,30 +20,38 @@ text-by_kind x s tolerance Put (GetJob name) text leaves subject is = absurd lea
 text-by_kind x s tolerance Put (DropJob name) text leaves subject is = absurd leaves.0
 text-by_kind x s tolerance Put AuditJob text leaves subject is = absurd leaves.gives
 text-by_kind x s tolerance Put RepairJob text leaves subject is = absurd leaves.0.gives
+text-by_kind x s tolerance Put UpgradeJob text leaves subject is = absurd leaves.0
 text-by_kind x s tolerance (Got got) (PutJob name bytes) text leaves subject is = absurd leaves.0
 text-by_kind x s tolerance (Got got) (GetJob name) text leaves subject is = is
 text-by_kind x s tolerance (Got got) (DropJob name) text leaves subject is = absurd leaves.0
 text-by_kind x s tolerance (Got got) AuditJob text leaves subject is = absurd leaves.gives
 text-by_kind x s tolerance (Got got) RepairJob text leaves subject is = absurd leaves.0.gives
+text-by_kind x s tolerance (Got got) UpgradeJob text leaves subject is = absurd leaves.0
 text-by_kind x s tolerance Dropped (PutJob name bytes) text leaves subject is = absurd leaves.0
 text-by_kind x s tolerance Dropped (GetJob name) text leaves subject is = absurd leaves.gives
 text-by_kind x s tolerance Dropped (DropJob name) text leaves subject is = is ∙ ap (λ (n : List ℕ). dropped_line n) subject
 text-by_kind x s tolerance Dropped AuditJob text leaves subject is = absurd leaves.gives
 text-by_kind x s tolerance Dropped RepairJob text leaves subject is = absurd leaves.0.gives
+text-by_kind x s tolerance Dropped UpgradeJob text leaves subject is = absurd leaves.0
 text-by_kind x s tolerance (Audited number undecided counts) (PutJob name bytes) text leaves subject is = absurd leaves.0
 text-by_kind x s tolerance (Audited number undecided counts) (GetJob name) text leaves subject is = absurd leaves.gives
 text-by_kind x s tolerance (Audited number undecided counts) (DropJob name) text leaves subject is = absurd leaves.0
 text-by_kind x s tolerance (Audited number undecided counts) AuditJob text leaves subject is = is ∙ ap (λ (t : ℕ). audit_lines t number undecided counts) subject
 text-by_kind x s tolerance (Audited number undecided counts) RepairJob text leaves subject is = absurd leaves.0.gives
+text-by_kind x s tolerance (Audited number undecided counts) UpgradeJob text leaves subject is = absurd leaves.0
 text-by_kind x s tolerance (Repaired number) (PutJob name bytes) text leaves subject is = absurd leaves.0
 text-by_kind x s tolerance (Repaired number) (GetJob name) text leaves subject is = absurd leaves.gives
 text-by_kind x s tolerance (Repaired number) (DropJob name) text leaves subject is = absurd leaves.0
 text-by_kind x s tolerance (Repaired number) AuditJob text leaves subject is = absurd leaves.gives
 text-by_kind x s tolerance (Repaired number) RepairJob text leaves subject is = is
+text-by_kind x s tolerance (Repaired number) UpgradeJob text leaves subject is = absurd leaves.0
 text-by_kind x s tolerance (Lost stripe row) kind text leaves subject is = absurd is
 text-by_kind x s tolerance (ProviderFault provider) kind text leaves subject is = absurd is
 text-by_kind x s tolerance DiskFault kind text leaves subject is = absurd is
 text-by_kind x s tolerance Memory kind text leaves subject is = absurd is
+text-by_kind x s tolerance Upgraded kind text leaves subject is = absurd is
+text-by_kind x s tolerance (Scrubbed stripes symbols blocks) kind text leaves subject is = absurd is
+text-by_kind x s tolerance (Packed before after) kind text leaves subject is = absurd is
 
 -- nothing was written
 pub front-none : (old new : Option (List ℕ)) (text : List ℕ) → new ≡ old → TakesFront old new text
@@ -65,6 +73,9 @@ written-ends s (Lost stripe row) text old new end is writes place = absurd is
 written-ends s (ProviderFault provider) text old new end is writes place = absurd is
 written-ends s DiskFault text old new end is writes place = absurd is
 written-ends s Memory text old new end is writes place = absurd is
+written-ends s Upgraded text old new end is writes place = absurd is
+written-ends s (Scrubbed stripes symbols blocks) text old new end is writes place = absurd is
+written-ends s (Packed before after) text old new end is writes place = absurd is
 
 -- an answer of which nothing was written
 fault-ends : (answer : Answer) (text : List ℕ) (old new : Seen) (end : Ending) → IsFaultEnd answer end.status end.at → new.sink ≡ old.sink → EndsByAnswer text answer old new end
@@ -77,6 +88,9 @@ fault-ends (Lost stripe row) text old new end fault silent = record { status_is 
 fault-ends (ProviderFault provider) text old new end fault silent = record { status_is = fault.0; place = fault.1; sink = silent }
 fault-ends DiskFault text old new end fault silent = record { status_is = fault.0; place = fault.1; sink = silent }
 fault-ends Memory text old new end fault silent = record { status_is = fault.0; place = fault.1; sink = silent }
+fault-ends Upgraded text old new end fault silent = record { written = inr (inr (fault.0, front-none old.sink new.sink text silent)); place = fault.1 }
+fault-ends (Scrubbed stripes symbols blocks) text old new end fault silent = record { written = inr (inr (fault.0, front-none old.sink new.sink text silent)); place = fault.1 }
+fault-ends (Packed before after) text old new end fault silent = record { written = inr (inr (fault.0, front-none old.sink new.sink text silent)); place = fault.1 }
 
 -- how the command ends whose job's answer was told
 pub answer-ends : (x : Ran) (s : Subject) (tolerance : ℕ) (answer : Answer) (kind : Kind) (old new : Seen) (end : Ending) → LeavesBy x kind answer → TellsOf s tolerance kind

@@ -7,7 +7,8 @@ use Rattle.hail_machine.specs.Heard.{Entry}
 use Rattle.hail_machine.specs.Runs.{Moment}
 use Rattle.hail_machine.specs.States.{State}
 use Rattle.hail_machine.specs.Transcripts.{Instruction}
-use Rattle.vault.specs.Devices.{Devices, devices_seen}
+use Rattle.vault_open.specs.Devices.{Devices}
+use Rattle.vault.specs.Devices.{devices_seen}
 use Rattle.hail_replay.specs.Replayed.{Replays}
 use Rattle.hail_replay.specs.Trials.{RunsTrial, RunsTo}
 use Rattle.hail_replay.specs.Answers as answers

@@ -14,7 +14,7 @@ use Rattle.hail_commands.specs.Jobs as jobs
 use Rattle.hail_commands.specs.Jobs.{RunsAlone, LeftAlone, AnswersJob}
 use Rattle.vault_core.specs.declared.wish.BeginFault.{BeginFault}
 use Rattle.vault_core.specs.Carried.{refusal_of}
-use Rattle.vault.specs.Devices.{Devices}
+use Rattle.vault_open.specs.Devices.{Devices}
 use Rattle.vault.specs.Outcomes.{machine_answer}
 use Rattle.vault.specs.declared.turn.Ended.{Ended}
 use Rattle.command_jobs.specs.Ends.{IsSeenBefore, IsRefusedOver, NoFaultUndone, EndsOver}

@@ -8,7 +8,7 @@ use Rattle.hail_machine.specs.Jobs.{PutJob}
 use Rattle.hail_commands.specs.Seen.{Seen, Ending, KeepsDisk, IsSynced, ReadsAtMost, ReadsUpTo}
 use Rattle.hail_commands.specs.Opens.{IsOpened}
 use Rattle.hail_commands.specs.Commands.{AnswersPut, begun, source_fault, no_memory}
-use Rattle.vault.specs.Devices.{Devices}
+use Rattle.vault_open.specs.Devices.{Devices}
 use Rattle.command_jobs.specs.Ends.{IsSeenBefore}
 use Rattle.hail_top.specs.declared.reading.ReadFault.{ReadFault}
 use Rattle.hail_top.specs.declared.reading.ReadFault.TheVariants as read_fault

@@ -11,9 +11,9 @@ use Rattle.hail_commands.specs.Lines.{ready_line}
 use Rattle.hail_commands.specs.Inits.{InitsDisk, FailsToInit}
 use Rattle.hail_commands.specs.Inits as inits
 use Rattle.hail_openings.specs.Journals.{IsSetUpOn, IsResynced, MayBeLeft, journal_read}
-use Rattle.vault.specs.Causes.{IsInitFault, IsNoWrite}
-use Rattle.vault.specs.declared.fault.InitFault.{InitFault}
-use Rattle.vault.specs.declared.fault.InitFault.TheVariants as init_fault
+use Rattle.vault_open.specs.Causes.{IsInitFault, IsNoWrite}
+use Rattle.vault_open.specs.declared.fault.InitFault.{InitFault}
+use Rattle.vault_open.specs.declared.fault.InitFault.TheVariants as init_fault
 use Rattle.hail_top.specs.Endings.{ending_with}
 use Rattle.hail_top.specs.SetUps.{init_ending}
 

@@ -12,7 +12,8 @@ use Rattle.hail_machine.specs.Heard.{Entry}
 use Rattle.hail_machine.specs.Runs.{Moment}
 use Rattle.hail_machine.specs.States.{State}
 use Rattle.hail_machine.specs.Transcripts.{Instruction}
-use Rattle.vault.specs.Devices.{Devices, devices_seen}
+use Rattle.vault_open.specs.Devices.{Devices}
+use Rattle.vault.specs.Devices.{devices_seen}
 use Rattle.hail_replay.specs.Starts.{AreLeft}
 use Rattle.hail_replay.specs.Replayed.{CarriesOn}
 use Rattle.hail_replay.specs.Answers.{AnswersReplay, AnswersTrial, IsUndone, devices_of_seen}

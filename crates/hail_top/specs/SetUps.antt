@@ -10,8 +10,8 @@ use Rattle.hail_commands.specs.Inits.{setup_with}
 use Rattle.hail_commands.specs.Seen.{Ending}
 use Rattle.record_codec.specs.declared.setup.Setup.{Setup}
 use Rattle.record_codec.specs.Entries.{with_master}
-use Rattle.vault.specs.declared.fault.InitFault.{InitFault}
-use Rattle.vault.specs.declared.fault.InitFault.TheVariants as init_fault
+use Rattle.vault_open.specs.declared.fault.InitFault.{InitFault}
+use Rattle.vault_open.specs.declared.fault.InitFault.TheVariants as init_fault
 use Rattle.hail_top.specs.Endings.{ending_with}
 
 -- the numbers make this setup, and enough providers are handed in

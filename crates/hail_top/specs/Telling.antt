@@ -9,7 +9,7 @@
 --                                  has want of memory
 --   TellsAnswer s answer status at sink == the text of the answer is written or cut off, or its fault is told
 use Rattle.std.specs.Prelude.{◌≡◌, ◌⊎◌, ℕ, List, length}
-use Rattle.hail_machine.specs.Jobs.{Kind, PutJob, GetJob, DropJob, AuditJob, RepairJob}
+use Rattle.hail_machine.specs.Jobs.{Kind, PutJob, GetJob, DropJob, AuditJob, RepairJob, UpgradeJob}
 use Rattle.hail_machine.specs.Answers.{Answer, Put, Got, Dropped, Audited, Repaired, Lost, ProviderFault, DiskFault}
 use Rattle.hail_commands.specs.Lines.{stored_line, dropped_line, audit_lines, repaired_line}
 use Rattle.hail_commands.specs.Seen.{Ending}
@@ -42,6 +42,7 @@ TellsOf s tolerance (GetJob name) = Unit {0}
 TellsOf s tolerance (DropJob name) = s.name.now ≡ name
 TellsOf s tolerance AuditJob = s.tolerance ≡ tolerance
 TellsOf s tolerance RepairJob = Unit {0}
+TellsOf s tolerance UpgradeJob = Unit {0}
 
 -- there was no memory for a text
 abbrev pub no_memory : Fault

@@ -1,5 +1,5 @@
 -- The parts of the headline, of one run.
-use Rattle.std.proofs.Common.{◌≡◌, ℕ, List, [], ◌∷◌, ◌++◌, ap, sym, subst, ◌∙◌}
+use Rattle.std.proofs.Common.{◌≡◌, ℕ, List, ◌∷◌, ◌++◌, ap, sym, subst, ◌∙◌}
 use Rattle.std.proofs.lemmas.List.{append_assoc}
 use Rattle.hail_records.specs.Table.{File}
 use Rattle.hail_machine.specs.Jobs.{Job}
@@ -27,7 +27,7 @@ module _ (limit : ℕ) (start : State) (clean : IsStart start) where
   }
     where
       file : File
-      file = file_of_put (now start before) job name bytes
+      file = file_of_put job name bytes
 
       came : HasComeIn start before name file
       came = acknowledged limit start m before job name bytes clean (run_part limit start later (m ∷ before) run) ends
@@ -41,7 +41,7 @@ module _ (limit : ℕ) (start : State) (clean : IsStart start) where
 pub headline : (limit : ℕ) (start : State) (ms : List Moment) → IsStart start → IsRun limit start ms → Headline start ms
 headline limit start ms clean run = record {
   gets_are_right = first_half limit start ms clean run;
-  calm_gets_end_well = λ tell calm found. second_half limit start ms clean tell run calm found;
+  calm_gets_end_well = λ tell calm scrubs found. second_half limit start ms clean tell run calm scrubs found;
   acknowledged_files_survive = survive limit start clean ms run;
   one_put = λ begun other object g h. stored_once limit start ms clean run begun other object g h;
   one_audit = λ begun other number object round g h. asked_once limit start ms clean run begun other number object object round round g h;

@@ -22,7 +22,8 @@
 --   is a forgery            Forgeries)
 --   a calm run           == IsCalm relies (since start) (Calm): while a get or a repair runs, at most b
 --                           providers were replaced since the begin of the audit that was the last settled
---                           one at the job's begin
+--                           one at the job's begin; and the same while a scrub runs:
+--                           AreScrubsCalm (since start) (Scrubs)
 --   no audit missed      == NoneMissed (Missed): each audit whose last record came into effect flags each
 --                           provider
 --   damage                  that was wrong at its begin and was not replaced since
@@ -40,28 +41,29 @@
 --   numbers              == HasStored, HasAsked (Deeds): no two puts store under one number, no two audits
 --                           make one challenge
 use Rattle.std.specs.Prelude.{◌≡◌, ℕ, List, ◌∷◌, ◌++◌, length}
-use Rattle.hail_records.specs.Table.{File, file_as, setup_of, profile_in}
+use Rattle.hail_records.specs.Table.{File, file_as}
 use Rattle.hail_machine.specs.Jobs.{Job}
 use Rattle.hail_machine.specs.States.{State}
 use Rattle.hail_machine.specs.Runs.{Moment, now}
 use Rattle.hail_machine.specs.Calm.{IsCalm, since, relies}
 use Rattle.hail_machine.specs.Missed.{NoneMissed}
+use Rattle.hail_machine.specs.Scrubs.{AreScrubsCalm}
 use Rattle.hail_machine.specs.Halves.{AllTell, FirstHalf, SecondHalf}
 use Rattle.hail_machine.specs.Survival.{EndsPut, HasComeIn, NeverTakenOut, IsKept}
 use Rattle.hail_machine.specs.Deeds.{HasStored, HasAsked}
 
--- the file of a put that ends in a state; its profile is that of the setup
-abbrev pub file_of_put : State → Job → List ℕ → List ℕ → File
-file_of_put w job name bytes = file_as name job.subject (length bytes) (profile_in (setup_of w.records))
+-- the file of a put
+abbrev pub file_of_put : Job → List ℕ → List ℕ → File
+file_of_put job name bytes = file_as name job.subject (length bytes) job.profile
 
 -- What became of the file of a put that ended well by this moment: it had come in before the put ended, and
 -- is in effect now, in the records and in these with the one in doubt added, unless a record that takes it
 -- out has come to its third move since; and its object number stands for the bytes of the put.
 pub record IsSafe (start : State) (later : List Moment) (m : Moment) (before : List Moment) (job : Job)
     (name bytes : List ℕ) : Type 0 where
-  pub came : HasComeIn start before name (file_of_put (now start before) job name bytes)
+  pub came : HasComeIn start before name (file_of_put job name bytes)
   pub kept : NeverTakenOut name (later ++ m ∷ came.later) →
-      IsKept (now start (later ++ m ∷ before)) name (file_of_put (now start before) job name bytes)
+      IsKept (now start (later ++ m ∷ before)) name (file_of_put job name bytes)
   pub bytes_are : (now start (later ++ m ∷ before)).bytes job.subject ≡ bytes
 
 -- the first half: each get that ended with bytes gave those in effect under its name at its begin, unless a
@@ -69,11 +71,12 @@ pub record IsSafe (start : State) (later : List Moment) (m : Moment) (before : L
 abbrev pub GetsAreRight : State → List Moment → Type 0
 GetsAreRight start ms = FirstHalf start ms
 
--- the second half: in a calm run in which no audit missed damage, of providers that tell what they hold,
--- each get of a stored name ends well
+-- the second half: in a calm run, with calm scrubs, in which no audit missed damage, of providers that tell
+-- what they hold, each get of a stored name ends well
 abbrev pub CalmGetsEndWell : State → List Moment → Type 0
 CalmGetsEndWell start ms =
-    AllTell start → IsCalm relies (since start) ms → NoneMissed start ms → SecondHalf start ms
+    AllTell start → IsCalm relies (since start) ms → AreScrubsCalm (since start) ms → NoneMissed start ms
+    → SecondHalf start ms
 
 -- the file of each put that ended well is safe now
 abbrev pub AcknowledgedFilesSurvive : State → List Moment → Type 0

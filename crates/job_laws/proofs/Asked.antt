@@ -10,7 +10,7 @@ use Rattle.hail_codes.specs.Points.{upto}
 use Rattle.hail_records.specs.Records.{Setup}
 use Rattle.hail_records.specs.Table.{File}
 use Rattle.hail_machine.specs.Jobs.{Pinned, Given, Answered, Job}
-use Rattle.hail_machine.specs.Setups.{stripes_of}
+use Rattle.hail_machine.specs.Setups.{profiled, stripes_of}
 use Rattle.hail_machine.specs.Actions.{Action, Ask, rounds_of, ask_actions}
 use Rattle.hail_machine.specs.Begins.{pinned_file, pin, pin_all}
 use Rattle.hail_machine.specs.Given.{answer_given}
@@ -62,21 +62,21 @@ asks-rounds n f (round ∷ more) = ap (λ l. map (λ j. Ask j f.id round) (upto 
 
 -- the questions of files in this order
 abbrev pub questions_in : Setup → List File → List Question
-questions_in s fs = flat_map (λ (f : File). map (λ round. record { file = f; round = round }) (rounds_of s f.size)) fs
+questions_in s fs = flat_map (λ (f : File). map (λ round. record { file = f; round = round }) (rounds_of (profiled s f.profile) f.size)) fs
 
 asks-files : (s : Setup) (w : State) (fs : List File) → Each (λ (f : File). length (w.bytes f.id) ≡ f.size) fs →
-    flat_map (λ (f : Pinned). flat_map (λ round. map (λ j. Ask j f.id round) (upto s.n)) (rounds_of s (length f.bytes))) (map (pinned_file w) fs) ≡ asks_of s.n (questions_in s fs)
+    flat_map (λ (f : Pinned). flat_map (λ round. map (λ j. Ask j f.id round) (upto s.n)) (rounds_of (profiled s f.profile) (length f.bytes))) (map (pinned_file w) fs) ≡ asks_of s.n (questions_in s fs)
 asks-files s w [] h = refl
 asks-files s w (f ∷ fs) h =
-    (let one : flat_map (λ round. map (λ j. Ask j f.id round) (upto s.n)) (rounds_of s (length (w.bytes f.id))) ≡ asks_of s.n (map (λ round. record { file = f; round = round }) (rounds_of s f.size)) =
-    ap (λ size. flat_map (λ round. map (λ j. Ask j f.id round) (upto s.n)) (rounds_of s size)) h.0 ∙ asks-rounds s.n f (rounds_of s f.size) in
-    (λ i. one i ++ asks-files s w fs h.1 i) ∙ sym (flat_map-append (asks_one s.n) (map (λ round. record { file = f; round = round }) (rounds_of s f.size)) (questions_in s fs)))
+    (let one : flat_map (λ round. map (λ j. Ask j f.id round) (upto s.n)) (rounds_of (profiled s f.profile) (length (w.bytes f.id))) ≡ asks_of s.n (map (λ round. record { file = f; round = round }) (rounds_of (profiled s f.profile) f.size)) =
+    ap (λ size. flat_map (λ round. map (λ j. Ask j f.id round) (upto s.n)) (rounds_of (profiled s f.profile) size)) h.0 ∙ asks-rounds s.n f (rounds_of (profiled s f.profile) f.size) in
+    (λ i. one i ++ asks-files s w fs h.1 i) ∙ sym (flat_map-append (asks_one s.n) (map (λ round. record { file = f; round = round }) (rounds_of (profiled s f.profile) f.size)) (questions_in s fs)))
 
 -- the asks of an audit are those of its questions
 pub asks-questions : (s : Setup) (w : State) (job : Job) (files : List File) → job.pinned ≡ pin_all w files → Each (λ (f : File). length (w.bytes f.id) ≡ f.size) files →
     ask_actions s job ≡ asks_of s.n (questions s files)
 asks-questions s w job files pinned h =
-    ap (λ ps. flat_map (λ (f : Pinned). flat_map (λ round. map (λ j. Ask j f.id round) (upto s.n)) (rounds_of s (length f.bytes))) ps) (pinned ∙ pinned-by_number w files)
+    ap (λ ps. flat_map (λ (f : Pinned). flat_map (λ round. map (λ j. Ask j f.id round) (upto s.n)) (rounds_of (profiled s f.profile) (length f.bytes))) ps) (pinned ∙ pinned-by_number w files)
     ∙ asks-files s w (files_by_number files) (each-by_number (λ (f : File). length (w.bytes f.id) ≡ f.size) files h)
 
 -- ---- no two asks are the same
@@ -101,14 +101,14 @@ distinct-rounds s o size = by_stripes (stripes_of s size == 0)
     by_stripes false = distinct-range round_tag (λ round. map (λ j. Ask j o round) (upto s.n)) 0 s.rounds
         (λ k. each_map (λ x. round_tag x ≡ k) (λ j. Ask j o k) (upto s.n) (λ j. refl)) (λ k. distinct-map provider_tag (λ j. Ask j o k) 0 s.n (λ j. refl))
 
-of-object : (s : Setup) (f : Pinned) → Each (λ x. object_tag x ≡ f.id) (flat_map (λ round. map (λ j. Ask j f.id round) (upto s.n)) (rounds_of s (length f.bytes)))
-of-object s f = each_flat (λ x. object_tag x ≡ f.id) (λ round. map (λ j. Ask j f.id round) (upto s.n)) (rounds_of s (length f.bytes)) (λ r. each_map (λ x. object_tag x ≡ f.id) (λ j. Ask j f.id r) (upto s.n) (λ j. refl))
+of-object : (s : Setup) (f : Pinned) → Each (λ x. object_tag x ≡ f.id) (flat_map (λ round. map (λ j. Ask j f.id round) (upto s.n)) (rounds_of (profiled s f.profile) (length f.bytes)))
+of-object s f = each_flat (λ x. object_tag x ≡ f.id) (λ round. map (λ j. Ask j f.id round) (upto s.n)) (rounds_of (profiled s f.profile) (length f.bytes)) (λ r. each_map (λ x. object_tag x ≡ f.id) (λ j. Ask j f.id r) (upto s.n) (λ j. refl))
 
-above-low : (s : Setup) (low : ℕ) (pinned : List Pinned) → AreAscending low pinned → Each (λ x. low ≤ object_tag x) (flat_map (λ (f : Pinned). flat_map (λ round. map (λ j. Ask j f.id round) (upto s.n)) (rounds_of s (length f.bytes))) pinned)
+above-low : (s : Setup) (low : ℕ) (pinned : List Pinned) → AreAscending low pinned → Each (λ x. low ≤ object_tag x) (flat_map (λ (f : Pinned). flat_map (λ round. map (λ j. Ask j f.id round) (upto s.n)) (rounds_of (profiled s f.profile) (length f.bytes))) pinned)
 above-low s low [] h = tt
-above-low s low (f ∷ fs) h = each_append (λ x. low ≤ object_tag x) (flat_map (λ round. map (λ j. Ask j f.id round) (upto s.n)) (rounds_of s (length f.bytes))) (flat_map (λ (f : Pinned). flat_map (λ round. map (λ j. Ask j f.id round) (upto s.n)) (rounds_of s (length f.bytes))) fs)
-    (mono (flat_map (λ round. map (λ j. Ask j f.id round) (upto s.n)) (rounds_of s (length f.bytes))) (of-object s f))
-    (mono2 (flat_map (λ (f : Pinned). flat_map (λ round. map (λ j. Ask j f.id round) (upto s.n)) (rounds_of s (length f.bytes))) fs) (above-low s (f.id + 1) fs h.1))
+above-low s low (f ∷ fs) h = each_append (λ x. low ≤ object_tag x) (flat_map (λ round. map (λ j. Ask j f.id round) (upto s.n)) (rounds_of (profiled s f.profile) (length f.bytes))) (flat_map (λ (f : Pinned). flat_map (λ round. map (λ j. Ask j f.id round) (upto s.n)) (rounds_of (profiled s f.profile) (length f.bytes))) fs)
+    (mono (flat_map (λ round. map (λ j. Ask j f.id round) (upto s.n)) (rounds_of (profiled s f.profile) (length f.bytes))) (of-object s f))
+    (mono2 (flat_map (λ (f : Pinned). flat_map (λ round. map (λ j. Ask j f.id round) (upto s.n)) (rounds_of (profiled s f.profile) (length f.bytes))) fs) (above-low s (f.id + 1) fs h.1))
   where
     mono : (xs : List Action) → Each (λ x. object_tag x ≡ f.id) xs → Each (λ x. low ≤ object_tag x) xs
     mono [] e = tt
@@ -118,12 +118,12 @@ above-low s low (f ∷ fs) h = each_append (λ x. low ≤ object_tag x) (flat_ma
     mono2 [] e = tt
     mono2 (x ∷ xs) e = ((let a = e.0 in let b = h.0 in omega (arith, a, b)), mono2 xs e.1)
 
-pub distinct-asks : (s : Setup) (low : ℕ) (pinned : List Pinned) → AreAscending low pinned → AreDistinct (flat_map (λ (f : Pinned). flat_map (λ round. map (λ j. Ask j f.id round) (upto s.n)) (rounds_of s (length f.bytes))) pinned)
+pub distinct-asks : (s : Setup) (low : ℕ) (pinned : List Pinned) → AreAscending low pinned → AreDistinct (flat_map (λ (f : Pinned). flat_map (λ round. map (λ j. Ask j f.id round) (upto s.n)) (rounds_of (profiled s f.profile) (length f.bytes))) pinned)
 distinct-asks s low [] h = tt
-distinct-asks s low (f ∷ fs) h = distinct-append (flat_map (λ round. map (λ j. Ask j f.id round) (upto s.n)) (rounds_of s (length f.bytes))) (flat_map (λ (f : Pinned). flat_map (λ round. map (λ j. Ask j f.id round) (upto s.n)) (rounds_of s (length f.bytes))) fs)
-    (distinct-rounds s f.id (length f.bytes)) (distinct-asks s (f.id + 1) fs h.1)
-    (apart-by object_tag f.id (flat_map (λ round. map (λ j. Ask j f.id round) (upto s.n)) (rounds_of s (length f.bytes))) (flat_map (λ (f : Pinned). flat_map (λ round. map (λ j. Ask j f.id round) (upto s.n)) (rounds_of s (length f.bytes))) fs)
-    (of-object s f) (beyond (flat_map (λ (f : Pinned). flat_map (λ round. map (λ j. Ask j f.id round) (upto s.n)) (rounds_of s (length f.bytes))) fs) (above-low s (f.id + 1) fs h.1)))
+distinct-asks s low (f ∷ fs) h = distinct-append (flat_map (λ round. map (λ j. Ask j f.id round) (upto s.n)) (rounds_of (profiled s f.profile) (length f.bytes))) (flat_map (λ (f : Pinned). flat_map (λ round. map (λ j. Ask j f.id round) (upto s.n)) (rounds_of (profiled s f.profile) (length f.bytes))) fs)
+    (distinct-rounds (profiled s f.profile) f.id (length f.bytes)) (distinct-asks s (f.id + 1) fs h.1)
+    (apart-by object_tag f.id (flat_map (λ round. map (λ j. Ask j f.id round) (upto s.n)) (rounds_of (profiled s f.profile) (length f.bytes))) (flat_map (λ (f : Pinned). flat_map (λ round. map (λ j. Ask j f.id round) (upto s.n)) (rounds_of (profiled s f.profile) (length f.bytes))) fs)
+    (of-object s f) (beyond (flat_map (λ (f : Pinned). flat_map (λ round. map (λ j. Ask j f.id round) (upto s.n)) (rounds_of (profiled s f.profile) (length f.bytes))) fs) (above-low s (f.id + 1) fs h.1)))
   where
     beyond : (xs : List Action) → Each (λ x. f.id + 1 ≤ object_tag x) xs → Each (λ x. f.id < object_tag x) xs
     beyond [] e = tt

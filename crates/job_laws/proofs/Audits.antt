@@ -16,7 +16,7 @@ use Rattle.hail_devices.proofs.Lasting.{rose-before}
 use Rattle.hail_records.specs.Records.{Setup, Record, AuditStart, AuditDone}
 use Rattle.hail_records.specs.Table.{File, next_audit, files_of}
 use Rattle.hail_machine.specs.Jobs.{AuditJob, Pinned, Given, Answered, Job}
-use Rattle.hail_machine.specs.Setups.{object_of}
+use Rattle.hail_machine.specs.Setups.{profiled, object_of}
 use Rattle.hail_machine.specs.Actions.{Action, WriteBody, SyncBody, WriteGate, SyncGate, Store, Fetch, Ask, Work, Remove, End, append_actions, ask_actions, rounds_of, actions_of, actions_left, appends_left}
 use Rattle.hail_machine.specs.Answers as answer
 use Rattle.hail_machine.specs.Answers.{Answer}
@@ -52,9 +52,11 @@ use Rattle.job_laws.proofs.Lasts.{Faults, move-faults, NoRoom, move-memory, none
 use Rattle.job_laws.proofs.Moving.{IsMove, IsUnmoved, move-is, moved-first, moved-second}
 use Rattle.job_laws.proofs.Leaving.{counts-rise, others-stay}
 use Rattle.job_laws.proofs.Asked.{pinned-by_number, asks_of, asks-questions, distinct-asks, entries-questions, each-by_number}
+use Rattle.job_laws.proofs.Plain.{plain-files, made-plain}
 use Rattle.job_laws.proofs.Judged.{sums-one, files-questions}
 use Rattle.job_laws.proofs.Truth.{IsQuiet, asks-told}
-use Rattle.job_laws.proofs.Questions.{each-in, all-each, each-question, sizes-pinned, Fits, told-questions, lacks-questions}
+use Rattle.job_laws.proofs.Questions.{each-in, each-both, all-each, each-question, sizes-pinned, Fits, told-questions, lacks-questions}
+use Rattle.hail_columns.specs.Objects.{Object}
 
 -- ---- the actions of an audit
 
@@ -68,8 +70,8 @@ IsAuditing n (Remove j object) = ⊥
 IsAuditing n action = Unit {0}
 
 auditing-asks : (s : Setup) (job : Job) → Each (IsAuditing s.n) (ask_actions s job)
-auditing-asks s job = each_flat (IsAuditing s.n) (λ (f : Pinned). flat_map (λ round. map (λ j. Ask j f.id round) (upto s.n)) (rounds_of s (length f.bytes))) job.pinned
-    (λ f. each_flat (IsAuditing s.n) (λ round. map (λ j. Ask j f.id round) (upto s.n)) (rounds_of s (length f.bytes)) (λ round. each-upto (IsAuditing s.n) (λ j. Ask j f.id round) 0 s.n (λ k l. omega (arith, l))))
+auditing-asks s job = each_flat (IsAuditing s.n) (λ (f : Pinned). flat_map (λ round. map (λ j. Ask j f.id round) (upto s.n)) (rounds_of (profiled s f.profile) (length f.bytes))) job.pinned
+    (λ f. each_flat (IsAuditing s.n) (λ round. map (λ j. Ask j f.id round) (upto s.n)) (rounds_of (profiled s f.profile) (length f.bytes)) (λ round. each-upto (IsAuditing s.n) (λ j. Ask j f.id round) 0 s.n (λ k l. omega (arith, l))))
 
 auditing-list : (s : Setup) (job : Job) → Each (IsAuditing s.n) (append_actions ++ audit_rest s job)
 auditing-list s job = (tt, (tt, (tt, (tt, each_append (IsAuditing s.n) (ask_actions s job) (append_actions ++ End ∷ []) (auditing-asks s job) (tt, (tt, (tt, (tt, (tt, tt)))))))))
@@ -175,8 +177,8 @@ module _ (start : State) (O : IsOpenAtRest start 1) (w : State) (job : Job) (W :
   -- ---- an audit at a move of one of its appends
 
   unmoved-asks : Each IsUnmoved (ask_actions s job)
-  unmoved-asks = each_flat IsUnmoved (λ (f : Pinned). flat_map (λ round. map (λ j. Ask j f.id round) (upto s.n)) (rounds_of s (length f.bytes))) job.pinned
-      (λ f. each_flat IsUnmoved (λ round. map (λ j. Ask j f.id round) (upto s.n)) (rounds_of s (length f.bytes)) (λ round. each_map IsUnmoved (λ j. Ask j f.id round) (upto s.n) (λ j. (λ m. m))))
+  unmoved-asks = each_flat IsUnmoved (λ (f : Pinned). flat_map (λ round. map (λ j. Ask j f.id round) (upto s.n)) (rounds_of (profiled s f.profile) (length f.bytes))) job.pinned
+      (λ f. each_flat IsUnmoved (λ round. map (λ j. Ask j f.id round) (upto s.n)) (rounds_of (profiled s f.profile) (length f.bytes)) (λ round. each_map IsUnmoved (λ j. Ask j f.id round) (upto s.n) (λ j. (λ m. m))))
 
   module _ (action : Action) (next : next_action w job ≡ Some action) (n : action ≡ End → ⊥) (move : IsMove action) where
     here : slice_get (append_actions ++ (ask_actions s job ++ (append_actions ++ End ∷ []))) job.place ≡ Some action
@@ -298,19 +300,25 @@ module _ (start : State) (O : IsOpenAtRest start 1) (w : State) (job : Job) (W :
       abbrev honest : Held → Question → Option ℕ
       honest held q = honest_answer (challenge_at ran job.subject q) (held q.file.id)
 
-      files-known : Each (λ (q : Question). pinned_size x.pinned q.file.id ≡ q.file.size) asked
-      files-known = each-question s (λ (f : File). pinned_size x.pinned f.id ≡ f.size) (files_by_number files)
-          (subst (λ ps. Each (λ (f : File). pinned_size ps f.id ≡ f.size) (files_by_number files)) (sym (pinned-by_number start files))
+      files-known : Each (λ (q : Question). (pinned_size x.pinned q.file.id ≡ q.file.size) × (q.file.profile ≡ s.profile)) asked
+      files-known = each-question s (λ (f : File). (pinned_size x.pinned f.id ≡ f.size) × (f.profile ≡ s.profile)) (files_by_number files)
+          (each-both (λ (f : File). pinned_size x.pinned f.id ≡ f.size) (λ (f : File). f.profile ≡ s.profile) (files_by_number files) (subst (λ ps. Each (λ (f : File). pinned_size ps f.id ≡ f.size) (files_by_number files)) (sym (pinned-by_number start files))
           (sizes-pinned start (files_by_number files) (each-by_number (λ (f : File). length (start.bytes f.id) ≡ f.size) files sizes)))
+          (each-by_number (λ (f : File). f.profile ≡ s.profile) files (plain-files start O)))
 
       fits : (held : Held) (j : ℕ) (below : j < s.n) → Each (Fits x job.given held j s.n below (gave j) (honest held)) asked
       unfolding setup_in
       fits held j below = known asked files-known
         where
-          one : (q : Question) → pinned_size x.pinned q.file.id ≡ q.file.size → Fits x job.given held j s.n below (gave j) (honest held) q
-          one q e = (answer-heard 1 job.given q.file.id q.round j, ap (λ size. honest_answer (challenge_of (object_of s q.file.id) size s.picks job.subject q.round) (held q.file.id)) (sym e))
+          one : (q : Question) → (pinned_size x.pinned q.file.id ≡ q.file.size) × (q.file.profile ≡ s.profile) → Fits x job.given held j s.n below (gave j) (honest held) q
+          one q e = (
+            answer-heard 1 job.given q.file.id q.round j,
+            ap (λ p. honest_answer (challenge_of (object_of (profiled s p) q.file.id) q.file.size s.picks job.subject q.round) (held q.file.id)) e.1
+                ∙ (ap (λ size. honest_answer (challenge_of (object_of s q.file.id) size s.picks job.subject q.round) (held q.file.id)) (sym e.0)
+                ∙ ap (λ (z : Object). honest_answer (challenge_of z (pinned_size x.pinned q.file.id) s.picks job.subject q.round) (held q.file.id)) (sym (made-plain start O AuditJob job q.file.id))),
+          )
 
-          known : (qs : List Question) → Each (λ (q : Question). pinned_size x.pinned q.file.id ≡ q.file.size) qs → Each (Fits x job.given held j s.n below (gave j) (honest held)) qs
+          known : (qs : List Question) → Each (λ (q : Question). (pinned_size x.pinned q.file.id ≡ q.file.size) × (q.file.profile ≡ s.profile)) qs → Each (Fits x job.given held j s.n below (gave j) (honest held)) qs
           known [] h = tt
           known (q ∷ qs) h = (one q h.0, known qs h.1)
 
@@ -341,8 +349,8 @@ module _ (start : State) (O : IsOpenAtRest start 1) (w : State) (job : Job) (W :
           (each-by_number (λ (f : File). length (start.bytes f.id) ≡ f.size) files sizes)
           (subst (λ ps. JudgesFiles s job ps (no_sums ran) sums) (W.pinned ∙ pinned-by_number start files) (subst (λ (t : Setup). HasSums t job sums) W.setup has))
         where
-          one : (q : Question) (old now : Sums) → Judges (object_of s q.file.id) (challenge_in s job q.file.id q.file.size q.round) (answers_given job.given s.n q.file.id q.round) old now → JudgesOne ran job.subject q old now
-          one q old now h = subst (λ (g : ℕ → Option ℕ). Judges (object_of s q.file.id) (challenge_in s job q.file.id q.file.size q.round) (map g (upto s.n)) old now)
+          one : (q : Question) (old now : Sums) → Judges (object_of (profiled s q.file.profile) q.file.id) (challenge_in (profiled s q.file.profile) job q.file.id q.file.size q.round) (answers_given job.given s.n q.file.id q.round) old now → JudgesOne ran job.subject q old now
+          one q old now h = subst (λ (g : ℕ → Option ℕ). Judges (object_of (profiled s q.file.profile) q.file.id) (challenge_in (profiled s q.file.profile) job q.file.id q.file.size q.round) (map g (upto s.n)) old now)
               (λ i j. sym (answer-heard 1 job.given q.file.id q.round j) i) h
 
       whole : next_action w job ≡ Some End → (sums : Sums) → HasSums (setup_in w) job sums → new.records ≡ w.records → new.doubt ≡ w.doubt → IsWhole ran (audit_records start.records sums.undecided sums.counts)

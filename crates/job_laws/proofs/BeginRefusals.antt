@@ -1,26 +1,30 @@
 -- Where no job runs, a begin of the machine is refused as that of a command.
-use Rattle.std.proofs.Common.{◌≡◌, ◌+◌, ◌||◌, Bool, false, List, [], ◌∷◌, refl, ap, sym, subst, not, length, add-zero, sum}
+use Rattle.std.proofs.Common.{◌≡◌, ◌+◌, ◌==◌, ◌||◌, Option, None, ◌∙◌, Bool, false, List, [], ◌∷◌, refl, ap, sym, subst, not, length, add-zero, sum}
 use Rattle.std.specs.Prelude.{is_some, nat_lt}
-use Rattle.hail_records.specs.Records.{is_name, largest_file, largest_journal}
+use Rattle.hail_records.specs.Records.{Record, is_name, largest_file, largest_journal}
 use Rattle.hail_records.specs.Journal.{text_size}
-use Rattle.hail_records.specs.Table.{file_of, due_of}
-use Rattle.hail_machine.specs.Jobs.{Kind, PutJob, GetJob, DropJob, AuditJob, RepairJob, Job}
+use Rattle.hail_records.specs.Table.{version_of, file_of, due_of}
+use Rattle.hail_records.specs.Areas.{Area, A, end_in}
+use Rattle.hail_records.proofs.AreaLaws.{text_size-end}
+use Rattle.hail_machine.specs.Jobs.{Kind, PutJob, GetJob, DropJob, AuditJob, RepairJob, UpgradeJob, Job}
 use Rattle.hail_machine.specs.Refusals as refusal
 use Rattle.hail_machine.specs.Refusals.{first_refusal}
-use Rattle.hail_machine.specs.States.{State, setup_in}
+use Rattle.hail_machine.specs.States.{State, Alone, setup_in}
 use Rattle.hail_machine.specs.Space.{append_sizes}
 use Rattle.hail_machine.specs.Begins.{begin_refusal}
+use Rattle.sound_states.specs.Sound.{IsWholeJournal}
 use Rattle.hail_commands.specs.Opens.{setup_in_effect}
 use Rattle.hail_commands.specs.Refusals as commands
 use Rattle.hail_commands.specs.Refusals.{has_no_number, is_crowded_by}
 
 module _ (w : State) where
-  -- the state with no job, in which jobs go on
+  -- the state with no job, in which jobs go on, over the whole history
   abbrev alone : State
-  alone = record w { jobs = []; is_barred = false }
+  alone = record w { journal = w.records; area = A; jobs = []; alone = None; is_barred = false }
 
-  room-alone : (kind : Kind) → nat_lt largest_journal (text_size w.records + 0 + sum (append_sizes (setup_in_effect w.records) kind)) ≡ nat_lt largest_journal (text_size w.records + sum (append_sizes (setup_in_effect w.records) kind))
-  room-alone kind = ap (λ n. nat_lt largest_journal (n + sum (append_sizes (setup_in_effect w.records) kind))) (add-zero (text_size w.records))
+  room-alone : (kind : Kind) → nat_lt largest_journal (end_in A w.records + 0 + sum (append_sizes (version_of w.records) (setup_in_effect w.records) kind))
+      ≡ nat_lt largest_journal (text_size w.records + sum (append_sizes (version_of w.records) (setup_in_effect w.records) kind))
+  room-alone kind = ap (λ n. nat_lt largest_journal (n + sum (append_sizes (version_of w.records) (setup_in_effect w.records) kind))) (add-zero (end_in A w.records) ∙ text_size-end w.records)
 
   refusal-alone : (kind : Kind) → begin_refusal 8 alone kind ≡ commands.refusal_over w.records kind
   unfolding setup_in
@@ -40,9 +44,15 @@ module _ (w : State) where
   refusal-alone RepairJob = ap (λ (b : Bool). first_refusal (
       record { applies = not (is_some (due_of w.records)); refusal = refusal.NothingDue }
       ∷ record { applies = b || has_no_number w.records RepairJob; refusal = refusal.JournalFull } ∷ [])) (room-alone RepairJob)
+  refusal-alone UpgradeJob = ap (λ (b : Bool). first_refusal (
+      record { applies = version_of w.records == 2; refusal = refusal.NewVersion }
+      ∷ record { applies = b || has_no_number w.records UpgradeJob; refusal = refusal.JournalFull } ∷ [])) (room-alone UpgradeJob)
 
   -- where no job runs, a begin is refused as a command's
-  pub refusal-of : (kind : Kind) → w.jobs ≡ [] → w.is_barred ≡ false → begin_refusal 8 w kind ≡ commands.refusal_over w.records kind
-  refusal-of kind none unbarred =
-      subst (λ (b : Bool). begin_refusal 8 (record w { jobs = w.jobs; is_barred = b }) kind ≡ commands.refusal_over w.records kind) (sym unbarred)
-      (subst (λ (js : List Job). begin_refusal 8 (record w { jobs = js; is_barred = false }) kind ≡ commands.refusal_over w.records kind) (sym none) (refusal-alone kind))
+  pub refusal-of : (kind : Kind) → w.jobs ≡ [] → w.alone ≡ None → w.is_barred ≡ false → IsWholeJournal w → begin_refusal 8 w kind ≡ commands.refusal_over w.records kind
+  refusal-of kind none lone unbarred whole =
+      subst (λ (b : Bool). begin_refusal 8 (record w { is_barred = b }) kind ≡ commands.refusal_over w.records kind) (sym unbarred)
+      (subst (λ (js : List Job). begin_refusal 8 (record w { jobs = js; is_barred = false }) kind ≡ commands.refusal_over w.records kind) (sym none)
+      (subst (λ (x : Option Alone). begin_refusal 8 (record w { jobs = []; alone = x; is_barred = false }) kind ≡ commands.refusal_over w.records kind) (sym lone)
+      (subst (λ (a : Area). begin_refusal 8 (record w { area = a; jobs = []; alone = None; is_barred = false }) kind ≡ commands.refusal_over w.records kind) (sym whole.area)
+      (subst (λ (rs : List Record). begin_refusal 8 (record w { journal = rs; area = A; jobs = []; alone = None; is_barred = false }) kind ≡ commands.refusal_over w.records kind) (sym whole.journal) (refusal-alone kind)))))

@@ -18,7 +18,7 @@ use Rattle.column_laws.proofs.UniqueLaws.{profile-room}
 use Rattle.hail_devices.specs.Faults.{Rose, last_count}
 use Rattle.hail_devices.specs.Providers.{Held, sized}
 use Rattle.hail_records.specs.Table.{File, file_of}
-use Rattle.hail_machine.specs.Setups.{object_of, stripes_of}
+use Rattle.hail_machine.specs.Setups.{profiled, stripes_of}
 use Rattle.hail_machine.specs.Answers as answer
 use Rattle.hail_machine.specs.Answers.{Answer}
 use Rattle.hail_machine.specs.Events.{AreBytes}
@@ -29,8 +29,9 @@ use Rattle.run_laws.proofs.Files.{file_or_forged}
 use Rattle.hail_commands.specs.Gets.{block_heard, blocks_heard, HearsStripes, GetGives, GetLeaves}
 use Rattle.hail_commands.specs.Puts.{PutLeaves}
 use Rattle.hail_commands.specs.Drops.{DropLeaves}
+use Rattle.hail_commands.specs.Upgrades.{UpgradeLeaves}
 use Rattle.hail_commands.specs.Audits.{AuditGives}
-use Rattle.hail_commands.specs.Ran.{Ran, ran_from, setup_at_begin, job_number}
+use Rattle.hail_commands.specs.Ran.{Ran, ran_from, setup_at_begin, object_at_begin, stripes_at_begin, job_number}
 use Rattle.hail_commands.specs.Truthful.{missing, IsTruthful}
 use Rattle.sound_states.proofs.Given.{valid-shape}
 use Rattle.sound_states.proofs.Written.{setup-valid}
@@ -122,14 +123,14 @@ given-held given held m before now T calm t l =
 
 module _ (x : Ran) (file : File) (bytes : List ℕ) where
   abbrev o : Object
-  o = object_of (setup_at_begin x) file.id
+  o = object_at_begin x file
 
-  good-block : (m j : ℕ) → HearsStripes x file m → j < (setup_at_begin x).n → is_bad x file.id bytes j ≡ false → (t : ℕ) → t < m → t < stripes o (length bytes) →
+  good-block : (m j : ℕ) → HearsStripes x file m → j < (setup_at_begin x).n → is_bad x file bytes j ≡ false → (t : ℕ) → t < m → t < stripes o (length bytes) →
       is_wrong_block o bytes j t (block_at (blocks_heard x file.id t) j) ≡ false
   good-block m j H below good t l k = by_held (x.old j).held good (H.truthful j below)
     where
       by_held : (h : Option Held) → is_bad_with o bytes j (x.old j) (x.new j) h ≡ false →
-          IfSome h (λ held. IsTruthful (λ s. block_heard x file.id s j) (λ s. sized (object_of (setup_at_begin x) file.id).profile.size (held file.id s)) (upto m) (x.old j).other_faults (x.new j).other_faults) →
+          IfSome h (λ held. IsTruthful (λ s. block_heard x file.id s j) (λ s. sized o.profile.size (held file.id s)) (upto m) (x.old j).other_faults (x.new j).other_faults) →
           is_wrong_block o bytes j t (block_at (blocks_heard x file.id t) j) ≡ false
       by_held None g T = absurd (false≢true (sym g))
       by_held (Some held) g T =
@@ -138,8 +139,8 @@ module _ (x : Ran) (file : File) (bytes : List ℕ) where
           ap (is_wrong_block o bytes j t) (block_at-map (block_heard x file.id t) (setup_at_begin x).n j below ∙ same) ∙ (wrong-sized o bytes j t (held file.id t) ∙ not-wrong-each o bytes j (held file.id) p.0 t k))
 
   -- a provider that gave a wrong block is bad
-  pub bad-block : (m t : ℕ) → HearsStripes x file m → t < m → t < stripes o (length bytes) → (j : ℕ) → j < 0 + (setup_at_begin x).n → is_wrong_block o bytes j t (block_at (blocks_heard x file.id t) j) ≡ true → is_bad x file.id bytes j ≡ true
-  bad-block m t H l k j below wrong = elim (cases_Bool (is_bad x file.id bytes j)) [
+  pub bad-block : (m t : ℕ) → HearsStripes x file m → t < m → t < stripes o (length bytes) → (j : ℕ) → j < 0 + (setup_at_begin x).n → is_wrong_block o bytes j t (block_at (blocks_heard x file.id t) j) ≡ true → is_bad x file bytes j ≡ true
+  bad-block m t H l k j below wrong = elim (cases_Bool (is_bad x file bytes j)) [
     | inl y ↦ y
     | inr n ↦ absurd (false≢true (sym (good-block m j H (omega (arith, below)) n t l k) ∙ wrong))
   ]
@@ -147,37 +148,37 @@ module _ (x : Ran) (file : File) (bytes : List ℕ) where
   module _ (shape : IsShape (setup_at_begin x).n (setup_at_begin x).l (setup_at_begin x).b) (size : length bytes ≡ file.size) where
     -- what was heard opens to the file, or holds a forgery
     pub right-or-forged : (got : List ℕ) → AreBytes bytes → GetGives x file (answer.Got got) → (got ≡ bytes) ⊎ ((stripe : ℕ) × (place : ℕ) × IsForgery o bytes (blocks_heard x file.id) stripe place)
-    right-or-forged got fits gives = file_or_forged o bytes (setup_at_begin x).profile refl shape (blocks_heard x file.id) got fits (subst (λ n. OpensFile o n (blocks_heard x file.id) got) (sym size) gives.1)
+    right-or-forged got fits gives = file_or_forged o bytes file.profile refl shape (blocks_heard x file.id) got fits (subst (λ n. OpensFile o n (blocks_heard x file.id) got) (sym size) gives.1)
 
     -- a forgery needs two more wrong providers than may be
-    pub few-right : (got : List ℕ) → AreBytes bytes → GetGives x file (answer.Got got) → bad_count x file.id bytes ≤ (setup_at_begin x).b + 1 → got ≡ bytes
+    pub few-right : (got : List ℕ) → AreBytes bytes → GetGives x file (answer.Got got) → bad_count x file bytes ≤ (setup_at_begin x).b + 1 → got ≡ bytes
     few-right got fits gives few = elim (right-or-forged got fits gives) [
       | inl same ↦ same
       | inr forged ↦ absurd (let F = forged.2 in
           let many = F.forged.wrong_ones in
-          let within = count_of-within (λ j. is_agreeing o F.opened forged.1 F.row j && is_wrong o bytes j (λ s. block_at (blocks_heard x file.id s) j)) (is_bad x file.id bytes) 0 (setup_at_begin x).n
+          let within = count_of-within (λ j. is_agreeing o F.opened forged.1 F.row j && is_wrong o bytes j (λ s. block_at (blocks_heard x file.id s) j)) (is_bad x file bytes) 0 (setup_at_begin x).n
           (λ j l e. bad j l (and_parts (is_agreeing o F.opened forged.1 F.row j) (is_wrong o bytes j (λ s. block_at (blocks_heard x file.id s) j)) e).1) in
           omega (arith, many, within, few))
     ]
       where
-        hears : HearsStripes x file (stripes_of (setup_at_begin x) file.size)
+        hears : HearsStripes x file (stripes_at_begin x file)
         hears = gives.0
 
-        bad : (j : ℕ) → j < 0 + (setup_at_begin x).n → is_wrong o bytes j (λ s. block_at (blocks_heard x file.id s) j) ≡ true → is_bad x file.id bytes j ≡ true
-        bad j l wrong = elim (cases_Bool (is_bad x file.id bytes j)) [
+        bad : (j : ℕ) → j < 0 + (setup_at_begin x).n → is_wrong o bytes j (λ s. block_at (blocks_heard x file.id s) j) ≡ true → is_bad x file bytes j ≡ true
+        bad j l wrong = elim (cases_Bool (is_bad x file bytes j)) [
           | inl y ↦ y
           | inr n ↦ absurd (false≢true (sym (each-not-wrong o bytes j (λ s. block_at (blocks_heard x file.id s) j)
-              (λ t k. good-block (stripes_of (setup_at_begin x) file.size) j hears (omega (arith, l)) n t (subst (λ z. t < stripes_of (setup_at_begin x) z) size k) k)) ∙ wrong))
+              (λ t k. good-block (stripes_at_begin x file) j hears (omega (arith, l)) n t (subst (λ z. t < stripes_of (profiled (setup_at_begin x) file.profile) z) size k) k)) ∙ wrong))
         ]
 
     -- and as few as may be leave no row lost
-    pub few-kept : (stripe row : ℕ) → GetGives x file (answer.Lost stripe row) → bad_count x file.id bytes ≤ (setup_at_begin x).b → ⊥
+    pub few-kept : (stripe row : ℕ) → GetGives x file (answer.Lost stripe row) → bad_count x file bytes ≤ (setup_at_begin x).b → ⊥
     few-kept stripe row L few =
-        (let k : stripe < stripes o (length bytes) = subst (λ z. stripe < stripes_of (setup_at_begin x) z) (sym size) L.within in
-        let within = count_of-within (λ j. is_wrong_block o bytes j stripe (block_at (blocks_heard x file.id stripe) j)) (is_bad x file.id bytes) 0 (setup_at_begin x).n (bad-block (stripe + 1) stripe L.hears (omega arith) k) in
+        (let k : stripe < stripes o (length bytes) = subst (λ z. stripe < stripes_of (profiled (setup_at_begin x) file.profile) z) (sym size) L.within in
+        let within = count_of-within (λ j. is_wrong_block o bytes j stripe (block_at (blocks_heard x file.id stripe) j)) (is_bad x file bytes) 0 (setup_at_begin x).n (bad-block (stripe + 1) stripe L.hears (omega arith) k) in
         L.loses.lost (row_polynomial o (symbols_in o bytes stripe) L.loses.place)
-        (row-right o bytes (setup_at_begin x).profile stripe L.loses.place (blocks_heard x file.id stripe) L.loses.opened refl shape (omega (arith, within, few)) L.loses.opens
-        (let a = L.loses.kept in let b = profile-room o (setup_at_begin x).profile refl in omega (arith, a, b))))
+        (row-right o bytes file.profile stripe L.loses.place (blocks_heard x file.id stripe) L.loses.opened refl shape (omega (arith, within, few)) L.loses.opens
+        (let a = L.loses.kept in let b = profile-room o file.profile refl in omega (arith, a, b))))
 
 -- ---- the same of a run
 
@@ -190,21 +191,21 @@ module _ (x : Ran) (name bytes : List ℕ) (file : File) (shape : IsShape (setup
   pub gives-file : (how : Answer) → GetLeaves x name how → GetGives x file how
   gives-file how L = subst (λ f. GetGives x f how) (same_value (file_of x.records name) L.file file L.in_effect in_effect) L.gives
 
-  pub get-complete : (how : Answer) → GetLeaves x name how → bad_count x file.id bytes ≤ (setup_at_begin x).b → how ≡ answer.Got bytes
+  pub get-complete : (how : Answer) → GetLeaves x name how → bad_count x file bytes ≤ (setup_at_begin x).b → how ≡ answer.Got bytes
   get-complete (answer.Got got) L few = ap answer.Got (few-right x file bytes shape size got fits (gives-file (answer.Got got) L) (omega (arith, few)))
   get-complete (answer.Lost stripe row) L few = absurd (few-kept x file bytes shape size stripe row (gives-file (answer.Lost stripe row) L) few)
   get-complete how L few = absurd L.gives
 
-  pub get-right : (got : List ℕ) → GetLeaves x name (answer.Got got) → bad_count x file.id bytes ≤ (setup_at_begin x).b + 1 → got ≡ bytes
+  pub get-right : (got : List ℕ) → GetLeaves x name (answer.Got got) → bad_count x file bytes ≤ (setup_at_begin x).b + 1 → got ≡ bytes
   get-right got L few = few-right x file bytes shape size got fits (gives-file (answer.Got got) L) few
 
-  pub get-forged : (got : List ℕ) → GetLeaves x name (answer.Got got) → (got ≡ bytes) ⊎ HoldsForgery (object_of (setup_at_begin x) file.id) bytes job_number x.heard
+  pub get-forged : (got : List ℕ) → GetLeaves x name (answer.Got got) → (got ≡ bytes) ⊎ HoldsForgery (object_at_begin x file) bytes job_number x.heard
   get-forged got L = elim (right-or-forged x file bytes shape size got fits (gives-file (answer.Got got) L)) [
     | inl same ↦ inl same
     | inr forged ↦ inr (record { stripe = forged.0; place = forged.1; forgery = forged.2 })
   ]
 
--- ---- puts and drops
+-- ---- puts, drops, audits and upgrades
 
 -- a put that ended otherwise than for want of memory stored the file, unless a count of the disk or of a store rose
 pub put-end : (x : Ran) (name bytes : List ℕ) (how : Answer) → PutLeaves x name bytes how → (Rose x.disk_before x.disk_after → ⊥) →
@@ -226,3 +227,9 @@ audit-end x (answer.Audited number undecided counts) L disk = inl (number, undec
 audit-end x answer.Memory L disk = inr refl
 audit-end x answer.DiskFault L disk = absurd (disk L.0)
 audit-end x how L disk = absurd L
+
+pub upgrade-end : (x : Ran) (how : Answer) → UpgradeLeaves x how → (Rose x.disk_before x.disk_after → ⊥) → (how ≡ answer.Upgraded) ⊎ (how ≡ answer.Memory)
+upgrade-end x answer.Upgraded L disk = inl refl
+upgrade-end x answer.Memory L disk = inr refl
+upgrade-end x answer.DiskFault L disk = absurd (disk L.0)
+upgrade-end x how L disk = absurd L

@@ -17,7 +17,7 @@ use Rattle.hail_devices.specs.ProviderCalls.{Fetches, FetchGives, FailsToGive}
 use Rattle.hail_records.specs.Records.{Setup, Record}
 use Rattle.hail_records.specs.Table.{File}
 use Rattle.hail_machine.specs.Jobs.{GetJob, Given, Fetched, Worked, Job}
-use Rattle.hail_machine.specs.Setups.{object_of, stripes_of}
+use Rattle.hail_machine.specs.Setups.{profiled, object_of, stripes_of}
 use Rattle.hail_machine.specs.Actions.{Action, WriteBody, SyncBody, WriteGate, SyncGate, Store, Fetch, Ask, Work, Remove, End, on_each_provider, open_actions, read_actions, actions_by, actions_of, actions_left}
 use Rattle.hail_machine.specs.Answers as answer
 use Rattle.hail_machine.specs.Answers.{Answer}
@@ -25,7 +25,7 @@ use Rattle.hail_machine.specs.Begins.{pinned_file, pin_one}
 use Rattle.hail_machine.specs.Events.{Ended}
 use Rattle.hail_machine.specs.Given.{block_given, blocks_given, symbols_given, file_given}
 use Rattle.hail_machine.specs.Heard.{Entry, entries_of, given_to, heard_by_kind}
-use Rattle.hail_machine.specs.States.{State, Doubt, setup_in, file_in}
+use Rattle.hail_machine.specs.States.{State, Doubt, setup_in, file_in, worked_object}
 use Rattle.hail_machine.specs.Steps as step
 use Rattle.hail_machine.specs.Steps.{Acts, GotBytes}
 use Rattle.hail_machine.proofs.JobLists.{cond_true, cond_false}
@@ -34,11 +34,11 @@ use Rattle.hail_machine.proofs.Numbers.{next_by, next_is_by}
 use Rattle.hail_machine.proofs.Given.{symbols_given-newest}
 use Rattle.hail_commands.specs.Gets.{block_heard, blocks_heard, HearsStripes, GetGives, GetLeaves}
 use Rattle.hail_commands.specs.Jobs.{Leaves}
-use Rattle.hail_commands.specs.Ran.{Ran, ran_from, setup_at_begin}
+use Rattle.hail_commands.specs.Ran.{Ran, ran_from, object_at_begin, stripes_at_begin}
 use Rattle.hail_commands.specs.Truthful.{missing, IsTruthful}
 use Rattle.sound_states.specs.Orders.{moves_made}
 use Rattle.sound_states.proofs.Orders.{appends-order, get-none}
-use Rattle.lone_laws.specs.Made.{With, Did, Made}
+use Rattle.lone_laws.specs.Made.{With, Did, Made, object_made}
 use Rattle.hail_openings.specs.Opened.{IsOpenAtRest}
 use Rattle.lone_laws.specs.Walked.{RecordsAre, with_job_of, Walked}
 use Rattle.lone_laws.proofs.Lists.{made-split, take-append-add}
@@ -49,6 +49,7 @@ use Rattle.job_laws.proofs.Providers.{Called, made-keeps}
 use Rattle.job_laws.proofs.Heard.{IsOver, AreDistinct, block-later, block-newest, symbols-later, distinct-append, distinct-range, distinct-map, entry_for, entries-made, IsNot}
 use Rattle.job_laws.proofs.Truth.{call-hit, call-miss, made-rises, lacks, range-hit, lacks-same, lacks-few}
 use Rattle.job_laws.proofs.Questions.{all-each, each-at}
+use Rattle.job_laws.proofs.Plain.{profiled-same, plain-file, made-plain, worked-plain}
 use Rattle.job_laws.proofs.Lasts.{none-moving}
 use Rattle.job_laws.proofs.Leaving.{counts-rise, others-stay}
 
@@ -209,7 +210,7 @@ IsWork action = ⊥
 module _ (x : With) (j : ℕ) (held : Held) (now : List Given) where
   -- what is held of a stripe, if it has the size
   abbrev pub has : ℕ → ℕ → Option (List ℕ)
-  has o t = sized (object_of x.setup o).profile.size (held o t)
+  has o t = sized (object_made x o).profile.size (held o t)
 
   -- the block that a fetch from provider j gave, if the action is one, is what it holds, or none
   abbrev pub IsToldBlock : Action → Type 0
@@ -229,7 +230,7 @@ module _ (x : With) (j : ℕ) (held : Held) (now : List Given) where
   still-step : (a : Action) (p q : Provider) → IsToldBlock a → lack_block a ≡ 0 → q ≡ p → p.held ≡ Some held → ReadStep a p q
   still-step a p q told none e h = record { told = told; held_is = ap (λ (z : Provider). z.held) e ∙ h; count = λ l. (let f = ap (λ (z : Provider). z.other_faults) e in omega (arith, f, none)) }
 
-  fetch-step : (k o t : ℕ) (block : Option (List ℕ)) (p q : Provider) → k ≡ j → block_given now o t k ≡ block → p.held ≡ Some held → Fetches (object_of x.setup o).profile.size o t p block q → ReadStep (Fetch k o t) p q
+  fetch-step : (k o t : ℕ) (block : Option (List ℕ)) (p q : Provider) → k ≡ j → block_given now o t k ≡ block → p.held ≡ Some held → Fetches (object_made x o).profile.size o t p block q → ReadStep (Fetch k o t) p q
   fetch-step k o t block p q hit is h c = record {
     told = λ e. elim gives [ inl g ↦ inl (is ∙ g) | inr f ↦ inr (is ∙ f.0) ];
     held_is = c.held ∙ h;
@@ -241,16 +242,16 @@ module _ (x : With) (j : ℕ) (held : Held) (now : List Given) where
   }
     where
       gives : (block ≡ has o t) ⊎ FailsToGive p block q
-      gives = elim c.gives [ inl g ↦ inl (subst (λ hs. FetchGives (object_of x.setup o).profile.size o t hs block) h g) | inr f ↦ inr f ]
+      gives = elim c.gives [ inl g ↦ inl (subst (λ hs. FetchGives (object_made x o).profile.size o t hs block) h g) | inr f ↦ inr f ]
 
   read-step : (a : Action) (actions : List Action) (old mid new : ℕ → Provider) (given so_far : List Given) → IsReading a → IsOver a actions → Did x a old mid given so_far → Made x actions mid new so_far now → (old j).held ≡ Some held →
       ReadStep a (old j) (mid j)
   read-step (Fetch k o t) actions old mid new given so_far reading over (block, called, is) rest h = elim (cases_eq k j) [
     | inl hit ↦ fetch-step k o t block (old j) (mid j) hit
         (block-later x actions mid new so_far now k o t rest over ∙ (ap (λ g. block_given g o t k) is ∙ block-newest k o t block given)) h
-        (subst (λ n. Fetches (object_of x.setup o).profile.size o t (old n) block (mid n)) hit (call-hit old k (λ p q. Fetches (object_of x.setup o).profile.size o t p block q) mid called))
+        (subst (λ n. Fetches (object_made x o).profile.size o t (old n) block (mid n)) hit (call-hit old k (λ p q. Fetches (object_made x o).profile.size o t p block q) mid called))
     | inr miss ↦ still-step (Fetch k o t) (old j) (mid j) (λ e. absurd (miss e)) (cond_false (k == j) (lacks (block_given now o t k) (has o t)) 0 (ne_eqb k j miss))
-        (call-miss old k (λ p q. Fetches (object_of x.setup o).profile.size o t p block q) mid j miss called) h
+        (call-miss old k (λ p q. Fetches (object_made x o).profile.size o t p block q) mid j miss called) h
   ]
   read-step (Work o t) actions old mid new given so_far reading over (symbols, gives, still, is) rest h = still-step (Work o t) (old j) (mid j) tt refl (ap (λ f. f j) still) h
   read-step (Ask k o r) actions old mid new given so_far reading over did rest h = absurd reading
@@ -334,7 +335,7 @@ module _ (x : With) (id : ℕ) (now : List Given) where
 
   -- the stripe a was worked on, and what comes then is of later stripes
   open-gives : (a : ℕ) (rest : List Action) (old new : ℕ → Provider) (given : List Given) → Each (IsFrom (a + 1)) rest → Made x (open_actions x.setup id a ++ rest) old new given now →
-      GivesSymbols (object_of x.setup id) a (blocks_given now x.setup.n id a) (symbols_given now id a)
+      GivesSymbols (object_made x id) a (blocks_given now x.setup.n id a) (symbols_given now id a)
   open-gives a rest old new given later m =
       (let p = made-split x (open_actions x.setup id a) rest old new given now m in
       let q = made-split x (fetches x.setup id a) (Work id a ∷ []) old p.0 given p.1 p.2 in
@@ -346,18 +347,18 @@ module _ (x : With) (id : ℕ) (now : List Given) where
       ∙ (ap (λ g. block_given g id a j) (given_is ∙ now_is))) in
       let symbols : symbols_given now id a ≡ did.0 = symbols-later x rest p.0 new p.1 now id a p.3 (each-not (a + 1) (Work id a) rest (λ l. omega (arith, l)) later)
       ∙ (ap (λ g. symbols_given g id a) (given_is ∙ now_is) ∙ symbols_given-newest id a did.0 q.1) in
-      subst (λ z. GivesSymbols (object_of x.setup id) a (blocks_given now x.setup.n id a) z) (sym symbols)
-      (subst (λ (g : ℕ → Option (List ℕ)). GivesSymbols (object_of x.setup id) a (map g (upto x.setup.n)) did.0) (λ i j. sym (blocks j) i) did.1))
+      subst (λ z. GivesSymbols (object_made x id) a (blocks_given now x.setup.n id a) z) (sym symbols)
+      (subst (λ (g : ℕ → Option (List ℕ)). GivesSymbols (object_made x id) a (map g (upto x.setup.n)) did.0) (λ i j. sym (blocks j) i) did.1))
 
   pub reads-give : (rest : List Action) (n a : ℕ) (old new : ℕ → Provider) (given : List Given) → Each (IsFrom (a + n)) rest → Made x (reads x.setup id a n ++ rest) old new given now → (t : ℕ) → a ≤ t → t < a + n →
-      GivesSymbols (object_of x.setup id) t (blocks_given now x.setup.n id t) (symbols_given now id t)
+      GivesSymbols (object_made x id) t (blocks_given now x.setup.n id t) (symbols_given now id t)
   reads-give rest zero a old new given from m t l u = absurd (omega (arith, l, u))
   reads-give rest (suc n) a old new given from m t l u =
       (let list = append_assoc (open_actions x.setup id a) (reads x.setup id (a + 1) n) rest in
       let made : Made x (open_actions x.setup id a ++ (reads x.setup id (a + 1) n ++ rest)) old new given now = subst (λ xs. Made x xs old new given now) list m in
       let onward : Each (IsFrom (a + 1 + n)) rest = subst (λ k. Each (IsFrom k) rest) (let e : a + suc n ≡ a + 1 + n = omega arith in e) from in
       elim (cases_eq t a) [
-        | inl e ↦ subst (λ k. GivesSymbols (object_of x.setup id) k (blocks_given now x.setup.n id k) (symbols_given now id k)) (sym e)
+        | inl e ↦ subst (λ k. GivesSymbols (object_made x id) k (blocks_given now x.setup.n id k) (symbols_given now id k)) (sym e)
             (open-gives a (reads x.setup id (a + 1) n ++ rest) old new given
             (each_append (IsFrom (a + 1)) (reads x.setup id (a + 1) n) rest (from-reads (a + 1) (a + 1) n (omega arith)) (lower rest onward)) made)
         | inr o ↦ (let p = made-split x (open_actions x.setup id a) (reads x.setup id (a + 1) n ++ rest) old new given now made in
@@ -441,10 +442,17 @@ module _ (start new : State) (name : List ℕ) (how : Answer) (heard : List Entr
 
   module _ (file : File) (in_effect : file_in start name ≡ Some file) where
     abbrev o : Object
-    o = object_of (setup_in start) file.id
+    o = object_of (profiled (setup_in start) file.profile) file.id
 
     abbrev count : ℕ
-    count = stripes_of (setup_in start) (length (start.bytes file.id))
+    count = stripes_of (profiled (setup_in start) file.profile) (length (start.bytes file.id))
+
+    -- its object is that of the setup
+    plain-is : object_of (setup_in start) file.id ≡ o
+    plain-is = ap (λ (t : Setup). object_of t file.id) (sym (profiled-same (setup_in start) file.profile (plain-file start O name file in_effect)))
+
+    o-is : object_made x file.id ≡ o
+    o-is = made-plain start O (GetJob name) E.job file.id ∙ plain-is
 
     size-is : length (start.bytes file.id) ≡ file.size
     size-is = (O.rest.files name file in_effect).1
@@ -483,12 +491,12 @@ module _ (start new : State) (name : List ℕ) (how : Answer) (heard : List Entr
           silent (End ∷ ys) h = absurd h.0
 
       truth : (j : ℕ) → j < (setup_in start).n → IfSome (start.providers j).held (λ held.
-          IsTruthful (λ t. block_heard ran file.id t j) (λ t. sized (object_of (setup_in start) file.id).profile.size (held file.id t)) (upto m) (start.providers j).other_faults (new.providers j).other_faults)
+          IsTruthful (λ t. block_heard ran file.id t j) (λ t. sized o.profile.size (held file.id t)) (upto m) (start.providers j).other_faults (new.providers j).other_faults)
       truth j below = by_held (start.providers j).held refl
         where
           tells : (held : Held) → (start.providers j).held ≡ Some held →
-              IsTruthful (λ t. block_heard ran file.id t j) (λ t. sized (object_of (setup_in start) file.id).profile.size (held file.id t)) (upto m) (start.providers j).other_faults (new.providers j).other_faults
-          tells held e =
+              IsTruthful (λ t. block_heard ran file.id t j) (λ t. sized o.profile.size (held file.id t)) (upto m) (start.providers j).other_faults (new.providers j).other_faults
+          tells held e = subst (λ (z : Object). IsTruthful (λ t. block_heard ran file.id t j) (λ t. sized z.profile.size (held file.id t)) (upto m) (start.providers j).other_faults (new.providers j).other_faults) o-is
               (let t = blocks-told x j held E.job.given xs start.providers E.before.providers [] reading distinct made e in
               let v = works-told x j held E.job.given ws works in
               let all : Each (IsToldBlock x j held E.job.given) (reads (setup_in start) file.id 0 m) = subst (Each (IsToldBlock x j held E.job.given)) (sym whole) (each_append (IsToldBlock x j held E.job.given) xs ws t.0 v.0) in
@@ -503,7 +511,7 @@ module _ (start new : State) (name : List ℕ) (how : Answer) (heard : List Entr
               })
 
           by_held : (h : Option Held) → (start.providers j).held ≡ h →
-              IfSome h (λ held. IsTruthful (λ t. block_heard ran file.id t j) (λ t. sized (object_of (setup_in start) file.id).profile.size (held file.id t)) (upto m) (start.providers j).other_faults (new.providers j).other_faults)
+              IfSome h (λ held. IsTruthful (λ t. block_heard ran file.id t j) (λ t. sized o.profile.size (held file.id t)) (upto m) (start.providers j).other_faults (new.providers j).other_faults)
           by_held None e = tt
           by_held (Some held) e = tells held e
 
@@ -543,19 +551,19 @@ module _ (start new : State) (name : List ℕ) (how : Answer) (heard : List Entr
         by_answer : (a : Answer) → step.Ends E.before E.job (GetJob name) a → Gives a
         by_answer (answer.Got bytes) got = ((all_heard, opens), providers, ap (λ (v : State). v.records) is, ap (λ (v : State). v.doubt) is)
           where
-            all_heard : HearsStripes ran file (stripes_of (setup_at_begin ran) file.size)
-            all_heard = subst (λ size. HearsStripes ran file (stripes_of (setup_in start) size)) size-is
+            all_heard : HearsStripes ran file (stripes_at_begin ran file)
+            all_heard = subst (λ size. HearsStripes ran file (stripes_of (profiled (setup_in start) file.profile) size)) size-is
                 (hears providers count (reads (setup_in start) file.id 0 count) [] (sym (append-nil (reads (setup_in start) file.id 0 count))) tt made (distinct-reads (setup_in start) file.id 0 count) (reading-reads 0 count))
 
             bytes-are : bytes ≡ file_given (setup_in start) E.job.given (pinned_file start file)
             bytes-are = subst (λ (t : Setup). bytes ≡ file_given t E.job.given (pinned_file start file)) E.walked.setup (subst (λ ps. GotBytes E.before E.job ps bytes) pinned-is got)
 
-            opens : OpensFile (object_of (setup_at_begin ran) file.id) file.size (blocks_heard ran file.id) bytes
-            opens = subst (λ size. OpensFile (object_of (setup_in start) file.id) size (blocks_heard ran file.id) bytes) size-is (record {
+            opens : OpensFile (object_at_begin ran file) file.size (blocks_heard ran file.id) bytes
+            opens = subst (λ size. OpensFile o size (blocks_heard ran file.id) bytes) size-is (record {
               symbols = symbols_given E.job.given file.id;
-              given = λ t l. heard-blocks (λ bs. GivesSymbols (object_of (setup_in start) file.id) t bs (symbols_given E.job.given file.id t)) t
-                  (reads-give x file.id E.job.given [] count 0 start.providers E.before.providers [] tt
-                  (subst (λ xs. Made x xs start.providers E.before.providers [] E.job.given) (sym (append-nil (reads (setup_in start) file.id 0 count))) made) t (omega arith) (omega (arith, l)));
+              given = λ t l. heard-blocks (λ bs. GivesSymbols o t bs (symbols_given E.job.given file.id t)) t
+                  (subst (λ (z : Object). GivesSymbols z t (blocks_given E.job.given (setup_in start).n file.id t) (symbols_given E.job.given file.id t)) o-is (reads-give x file.id E.job.given [] count 0 start.providers E.before.providers [] tt
+                  (subst (λ xs. Made x xs start.providers E.before.providers [] E.job.given) (sym (append-nil (reads (setup_in start) file.id 0 count))) made) t (omega arith) (omega (arith, l))));
               cut = bytes-are;
             })
         by_answer a h = absurd h
@@ -581,22 +589,23 @@ module _ (start new : State) (name : List ℕ) (how : Answer) (heard : List Entr
         providers : new.providers ≡ E.before.providers
         providers = ap (λ (v : State). v.providers) is
 
-        few : t < stripes_of (setup_at_begin ran) file.size
-        few = subst (λ size. t < stripes_of (setup_in start) size) size-is (omega (arith, within, same))
+        few : t < stripes_at_begin ran file
+        few = subst (λ size. t < stripes_of (profiled (setup_in start) file.profile) size) size-is (omega (arith, within, same))
 
         all_heard : HearsStripes ran file (suc k)
         all_heard = hears providers (suc k) (reads (setup_in start) file.id 0 k ++ fetches (setup_in start) file.id (0 + k)) (Work file.id (0 + k) ∷ []) (reads-last (setup_in start) file.id 0 k) (tt, tt) made
             (distinct-cut (setup_in start) file.id 0 k) (each_append IsReading (reads (setup_in start) file.id 0 k) (fetches (setup_in start) file.id (0 + k)) (reading-reads 0 k) (reading-fetches (0 + k)))
 
-        gave : (i : ℕ) → i < k → GivesSymbols (object_of (setup_at_begin ran) file.id) i (blocks_heard ran file.id i) (symbols_given E.job.given file.id i)
-        gave i l = heard-blocks (λ bs. GivesSymbols (object_of (setup_in start) file.id) i bs (symbols_given E.job.given file.id i)) i
-            (reads-give x file.id E.job.given (fetches (setup_in start) file.id (0 + k)) k 0 start.providers E.before.providers []
-            (from-fetches x file.id E.job.given (0 + k) (0 + k) (omega arith)) made i (omega arith) (omega (arith, l)))
+        gave : (i : ℕ) → i < k → GivesSymbols (object_at_begin ran file) i (blocks_heard ran file.id i) (symbols_given E.job.given file.id i)
+        gave i l = heard-blocks (λ bs. GivesSymbols o i bs (symbols_given E.job.given file.id i)) i
+            (subst (λ (z : Object). GivesSymbols z i (blocks_given E.job.given (setup_in start).n file.id i) (symbols_given E.job.given file.id i)) o-is (reads-give x file.id E.job.given (fetches (setup_in start) file.id (0 + k)) k 0 start.providers E.before.providers []
+            (from-fetches x file.id E.job.given (0 + k) (0 + k) (omega arith)) made i (omega arith) (omega (arith, l))))
 
-        lost : LosesRow (object_of (setup_at_begin ran) file.id) t (blocks_heard ran file.id t) row
-        lost = heard-blocks (λ bs. LosesRow (object_of (setup_in start) file.id) t bs row) t
-            (subst (λ (u : Setup). LosesRow (object_of u file.id) t (blocks_given E.job.given u.n file.id t) row) E.walked.setup
-            (subst (λ i. LosesRow (object_of (setup_in E.before) file.id) i (blocks_given E.job.given (setup_in E.before).n file.id i) row) (sym same) loses))
+        lost : LosesRow (object_at_begin ran file) t (blocks_heard ran file.id t) row
+        lost = heard-blocks (λ bs. LosesRow o t bs row) t
+            (subst (λ (z : Object). LosesRow z t (blocks_given E.job.given (setup_in start).n file.id t) row) (worked-plain start O (GetJob name) E.before E.job E.walked file.id ∙ plain-is)
+            (subst (λ n. LosesRow (worked_object E.before E.job file.id) t (blocks_given E.job.given n file.id t) row) (ap (λ (u : Setup). u.n) E.walked.setup)
+            (subst (λ i. LosesRow (worked_object E.before E.job file.id) i (blocks_given E.job.given (setup_in E.before).n file.id i) row) (sym same) loses)))
     at-work a k within front h = absurd h
 
     at-fetch : (a : Answer) (j t : ℕ) → Acts E.before E.job (Fetch j file.id t) (Ended a) new → Gives a

@@ -12,7 +12,7 @@ use Rattle.column_laws.proofs.UniqueLaws.{often_same}
 use Rattle.hail_records.specs.Records.{Setup}
 use Rattle.hail_records.specs.Table.{File}
 use Rattle.hail_machine.specs.Jobs.{Pinned, Job}
-use Rattle.hail_machine.specs.Setups.{object_of}
+use Rattle.hail_machine.specs.Setups.{profiled, object_of}
 use Rattle.hail_machine.specs.Actions.{rounds_of}
 use Rattle.hail_machine.specs.Audits.{challenge_in, JudgesRounds, JudgesFiles, HasSums}
 use Rattle.hail_machine.specs.Begins.{pinned_file}
@@ -50,13 +50,13 @@ module _ (s : Setup) (job : Job) (shape : IsShape s.n s.l s.b) where
   rounds-one : (f : Pinned) (rounds : List ℕ) (old a b : Sums) → JudgesRounds s job f rounds old a → JudgesRounds s job f rounds old b → a ≡ b
   rounds-one f [] old a b ha hb = ha ∙ sym hb
   rounds-one f (round ∷ more) old a b (ma, ja, ra) (mb, jb, rb) =
-      (let same : ma ≡ mb = judges-one (object_of s f.id) (challenge_in s job f.id (length f.bytes) round) (answers_given job.given s.n f.id round) old ma mb shape ja jb in
+      (let same : ma ≡ mb = judges-one (object_of (profiled s f.profile) f.id) (challenge_in (profiled s f.profile) job f.id (length f.bytes) round) (answers_given job.given s.n f.id round) old ma mb shape ja jb in
       rounds-one f more mb a b (subst (λ m. JudgesRounds s job f more m a) same ra) rb)
 
   files-one : (fs : List Pinned) (old a b : Sums) → JudgesFiles s job fs old a → JudgesFiles s job fs old b → a ≡ b
   files-one [] old a b ha hb = ha ∙ sym hb
   files-one (f ∷ fs) old a b (ma, ja, ra) (mb, jb, rb) =
-      (let same : ma ≡ mb = rounds-one f (rounds_of s (length f.bytes)) old ma mb ja jb in files-one fs mb a b (subst (λ m. JudgesFiles s job fs m a) same ra) rb)
+      (let same : ma ≡ mb = rounds-one f (rounds_of (profiled s f.profile) (length f.bytes)) old ma mb ja jb in files-one fs mb a b (subst (λ m. JudgesFiles s job fs m a) same ra) rb)
 
   pub sums-one : (a b : Sums) → HasSums s job a → HasSums s job b → a ≡ b
   sums-one a b ha hb = files-one job.pinned (record { counts = replicate s.n 0; undecided = 0 }) a b ha hb
@@ -69,16 +69,16 @@ judges-append x number (q ∷ qs) more old mid new (m, one, rest) h = (m, one, j
 
 module _ (x : Ran) (s : Setup) (w : State) (job : Job) where
   -- a round of a file is judged as its question
-  round-question : (judged : (q : Question) (old new : Sums) → Judges (object_of s q.file.id) (challenge_in s job q.file.id q.file.size q.round) (answers_given job.given s.n q.file.id q.round) old new → JudgesOne x job.subject q old new) →
+  round-question : (judged : (q : Question) (old new : Sums) → Judges (object_of (profiled s q.file.profile) q.file.id) (challenge_in (profiled s q.file.profile) job q.file.id q.file.size q.round) (answers_given job.given s.n q.file.id q.round) old new → JudgesOne x job.subject q old new) →
       (f : File) (rounds : List ℕ) (old new : Sums) → length (w.bytes f.id) ≡ f.size → JudgesRounds s job (pinned_file w f) rounds old new → JudgesAll x job.subject (map (λ round. record { file = f; round = round }) rounds) old new
   round-question judged f [] old new size h = h
   round-question judged f (round ∷ more) old new size (mid, one, rest) =
-      (mid, judged (record { file = f; round = round }) old mid (subst (λ n. Judges (object_of s f.id) (challenge_in s job f.id n round) (answers_given job.given s.n f.id round) old mid) size one), round-question judged f more mid new size rest)
+      (mid, judged (record { file = f; round = round }) old mid (subst (λ n. Judges (object_of (profiled s f.profile) f.id) (challenge_in (profiled s f.profile) job f.id n round) (answers_given job.given s.n f.id round) old mid) size one), round-question judged f more mid new size rest)
 
-  pub files-questions : (judged : (q : Question) (old new : Sums) → Judges (object_of s q.file.id) (challenge_in s job q.file.id q.file.size q.round) (answers_given job.given s.n q.file.id q.round) old new → JudgesOne x job.subject q old new) →
+  pub files-questions : (judged : (q : Question) (old new : Sums) → Judges (object_of (profiled s q.file.profile) q.file.id) (challenge_in (profiled s q.file.profile) job q.file.id q.file.size q.round) (answers_given job.given s.n q.file.id q.round) old new → JudgesOne x job.subject q old new) →
       (fs : List File) (old new : Sums) → Each (λ (f : File). length (w.bytes f.id) ≡ f.size) fs → JudgesFiles s job (map (pinned_file w) fs) old new → JudgesAll x job.subject (questions_in s fs) old new
   files-questions judged [] old new sizes h = h
   files-questions judged (f ∷ fs) old new sizes (mid, one, rest) =
-      judges-append x job.subject (map (λ round. record { file = f; round = round }) (rounds_of s f.size)) (questions_in s fs) old mid new
-      (round-question judged f (rounds_of s f.size) old mid sizes.0 (subst (λ n. JudgesRounds s job (pinned_file w f) (rounds_of s n) old mid) sizes.0 one))
+      judges-append x job.subject (map (λ round. record { file = f; round = round }) (rounds_of (profiled s f.profile) f.size)) (questions_in s fs) old mid new
+      (round-question judged f (rounds_of (profiled s f.profile) f.size) old mid sizes.0 (subst (λ n. JudgesRounds s job (pinned_file w f) (rounds_of (profiled s f.profile) n) old mid) sizes.0 one))
       (files-questions judged fs mid new sizes.1 rest)

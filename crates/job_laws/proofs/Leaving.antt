@@ -8,8 +8,8 @@ use Rattle.hail_codes.specs.Points.{upto}
 use Rattle.hail_devices.specs.Providers.{Provider}
 use Rattle.hail_devices.specs.ProviderCalls.{StoreCounts}
 use Rattle.hail_records.specs.Records.{Setup}
-use Rattle.hail_machine.specs.Jobs.{Kind, PutJob, GetJob, DropJob, AuditJob, RepairJob, Pinned, Job}
-use Rattle.hail_machine.specs.Setups.{stripes_of}
+use Rattle.hail_machine.specs.Jobs.{Kind, PutJob, GetJob, DropJob, AuditJob, RepairJob, UpgradeJob, Pinned, Job}
+use Rattle.hail_machine.specs.Setups.{profiled, stripes_of}
 use Rattle.hail_machine.specs.Actions.{Action, WriteBody, SyncBody, WriteGate, SyncGate, Store, Fetch, Ask, Work, Remove, End, append_actions, on_each_provider, on_each_stripe, open_actions, store_actions, read_actions, rewrite_actions, repair_actions, rounds_of, ask_actions, remove_actions, actions_by, actions_of}
 use Rattle.hail_machine.specs.Answers as answer
 use Rattle.hail_machine.specs.Answers.{Answer}
@@ -57,15 +57,15 @@ below-by s job (PutJob name bytes) = (
       (
         tt,
         each_append (IsBelow s.n) (store_actions s job bytes) _
-            (each_flat (IsBelow s.n) (λ stripe. on_each_provider s (λ j. Store j job.subject stripe)) (upto (stripes_of s (length bytes))) (λ stripe. each-upto (IsBelow s.n) (λ j. Store j job.subject stripe) 0 s.n (λ k l. omega (arith, l))))
+            (each_flat (IsBelow s.n) (λ stripe. on_each_provider s (λ j. Store j job.subject stripe)) (upto (stripes_of (profiled s job.profile) (length bytes))) (λ stripe. each-upto (IsBelow s.n) (λ j. Store j job.subject stripe) 0 s.n (λ k l. omega (arith, l))))
             (tt, (tt, (tt, (tt, each_append (IsBelow s.n) (remove_actions s job) (End ∷ []) (below-removals s job) (tt, tt))))),
       ),
     ),
   ),
 )
 below-by s job (GetJob name) = each_append (IsBelow s.n) (read_actions s job.pinned) (End ∷ [])
-    (each_flat (IsBelow s.n) (λ (f : Pinned). on_each_stripe s (length f.bytes) (open_actions s f.id)) job.pinned
-    (λ f. each_flat (IsBelow s.n) (open_actions s f.id) (upto (stripes_of s (length f.bytes))) (λ stripe. below-open s f.id stripe))) (tt, tt)
+    (each_flat (IsBelow s.n) (λ (f : Pinned). on_each_stripe (profiled s f.profile) (length f.bytes) (open_actions s f.id)) job.pinned
+    (λ f. each_flat (IsBelow s.n) (open_actions s f.id) (upto (stripes_of (profiled s f.profile) (length f.bytes))) (λ stripe. below-open s f.id stripe))) (tt, tt)
 below-by s job (DropJob name) = (tt, (tt, (tt, (tt, each_append (IsBelow s.n) (remove_actions s job) (End ∷ []) (below-removals s job) (tt, tt)))))
 below-by s job AuditJob = (
   tt,
@@ -76,18 +76,19 @@ below-by s job AuditJob = (
       (
         tt,
         each_append (IsBelow s.n) (ask_actions s job) (append_actions ++ End ∷ [])
-            (each_flat (IsBelow s.n) (λ (f : Pinned). flat_map (λ round. on_each_provider s (λ j. Ask j f.id round)) (rounds_of s (length f.bytes))) job.pinned
-            (λ f. each_flat (IsBelow s.n) (λ round. on_each_provider s (λ j. Ask j f.id round)) (rounds_of s (length f.bytes)) (λ round. each-upto (IsBelow s.n) (λ j. Ask j f.id round) 0 s.n (λ k l. omega (arith, l)))))
+            (each_flat (IsBelow s.n) (λ (f : Pinned). flat_map (λ round. on_each_provider s (λ j. Ask j f.id round)) (rounds_of (profiled s f.profile) (length f.bytes))) job.pinned
+            (λ f. each_flat (IsBelow s.n) (λ round. on_each_provider s (λ j. Ask j f.id round)) (rounds_of (profiled s f.profile) (length f.bytes)) (λ round. each-upto (IsBelow s.n) (λ j. Ask j f.id round) 0 s.n (λ k l. omega (arith, l)))))
             (tt, (tt, (tt, (tt, (tt, tt))))),
       ),
     ),
   ),
 )
 below-by s job RepairJob = each_append (IsBelow s.n) (repair_actions s job) (append_actions ++ End ∷ [])
-    (each_flat (IsBelow s.n) (λ (f : Pinned). on_each_stripe s (length f.bytes) (λ stripe. open_actions s f.id stripe ++ rewrite_actions s job f.id stripe)) job.pinned
-    (λ f. each_flat (IsBelow s.n) (λ stripe. open_actions s f.id stripe ++ rewrite_actions s job f.id stripe) (upto (stripes_of s (length f.bytes)))
+    (each_flat (IsBelow s.n) (λ (f : Pinned). on_each_stripe (profiled s f.profile) (length f.bytes) (λ stripe. open_actions s f.id stripe ++ rewrite_actions s job f.id stripe)) job.pinned
+    (λ f. each_flat (IsBelow s.n) (λ stripe. open_actions s f.id stripe ++ rewrite_actions s job f.id stripe) (upto (stripes_of (profiled s f.profile) (length f.bytes)))
     (λ stripe. each_append (IsBelow s.n) (open_actions s f.id stripe) (rewrite_actions s job f.id stripe) (below-open s f.id stripe) (below-rewrites s job f.id stripe))))
     (tt, (tt, (tt, (tt, (tt, tt)))))
+below-by s job UpgradeJob = (tt, (tt, (tt, (tt, (tt, tt)))))
 
 pub below : (s : Setup) (job : Job) → Each (IsBelow s.n) (actions_of s job)
 unfolding actions_of

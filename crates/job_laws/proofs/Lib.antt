@@ -9,6 +9,8 @@ pub mod Asked
 pub mod Judged
 pub mod Truth
 pub mod Questions
+pub mod Plain
+pub mod Whole
 pub mod Audits
 pub mod Leaving
 pub mod Rewritten
@@ -20,6 +22,7 @@ pub mod Removals
 pub mod Puts
 pub mod Refused
 pub mod Drops
+pub mod Upgrades
 pub mod Complete
 pub mod Telling
 pub mod Mended

@@ -1,5 +1,5 @@
 -- Few providers that are wrong or fail lose a repair no row.
-use Rattle.std.proofs.Common.{◌≡◌, ℕ, zero, suc, ◌+◌, ◌<◌, ◌≤◌, ◌&&◌, ◌⊎◌, true, false, cond, List, [], ◌∷◌, ◌++◌, length, map, get_or, Option, None, Some, refl, ap, sym, subst, ◌∙◌, inl, inr, arith}
+use Rattle.std.proofs.Common.{◌≡◌, ℕ, zero, suc, ◌+◌, ◌<◌, ◌≤◌, ◌&&◌, ◌⊎◌, Bool, true, false, cond, List, [], ◌∷◌, ◌++◌, length, map, get_or, Option, None, Some, refl, ap, sym, subst, ◌∙◌, inl, inr, arith}
 use Rattle.std.specs.Prelude.{IfSome, is_some, is_none}
 use Rattle.std.specs.List.{flat_map, range_with_len}
 use Rattle.std.proofs.lemmas.Bool.{cases_Bool, false≢true, or_parts}
@@ -10,6 +10,7 @@ use Rattle.hail_codes.specs.Points.{upto}
 use Rattle.hail_columns.specs.Objects.{Object, stripes, symbols_in}
 use Rattle.hail_columns.specs.Columns.{is_wrong_block, is_wrong, row_polynomial}
 use Rattle.hail_columns.specs.Opened.{LosesRow, block_at}
+use Rattle.hail_columns.specs.Forgeries.{count_of}
 use Rattle.column_laws.proofs.Counts.{count_of-within}
 use Rattle.column_laws.proofs.RightRows.{row-right}
 use Rattle.column_laws.proofs.UniqueLaws.{profile-room}
@@ -17,18 +18,20 @@ use Rattle.hail_devices.specs.Faults.{Rose}
 use Rattle.hail_devices.specs.Providers.{Held}
 use Rattle.hail_records.specs.Records.{Setup}
 use Rattle.hail_records.specs.Table.{File, Due, file_of, files_of}
-use Rattle.hail_machine.specs.Setups.{object_of, stripes_of}
+use Rattle.hail_records.specs.Acceptance.{AreAccepted}
+use Rattle.hail_machine.specs.Setups.{profiled, stripes_of}
 use Rattle.hail_machine.specs.Answers as answer
 use Rattle.hail_machine.specs.Answers.{Answer}
 use Rattle.hail_machine.proofs.JobLists.{cond_true}
 use Rattle.hail_machine.proofs.RecordFacts.{listed_file}
 use Rattle.hail_commands.specs.Audits.{files_by_number}
-use Rattle.hail_commands.specs.Ran.{Ran, setup_at_begin}
+use Rattle.hail_commands.specs.Ran.{Ran, setup_at_begin, object_at_begin, object_numbered, profile_among}
 use Rattle.hail_commands.specs.Repairs.{Place, blocks_at, held_at, LosesAtPlace, RepairLeaves}
 use Rattle.hail_commands.specs.Truthful.{missing, IsTruthful}
-use Rattle.job_laws.specs.Failing.{has_risen, is_bad_with, is_bad, bad_count}
+use Rattle.job_laws.specs.Failing.{has_risen, is_bad_with, is_bad_for, bad_count}
 use Rattle.job_laws.proofs.Asked.{each-by_number}
 use Rattle.job_laws.proofs.Questions.{each-in}
+use Rattle.job_laws.proofs.Plain.{numbered-file}
 use Rattle.job_laws.proofs.Complete.{block_at-map, wrong-sized, not-wrong-each, not-risen}
 
 -- ---- the last of what was asked
@@ -61,24 +64,28 @@ last-held given held xs z before now T calm =
 
 module _ (s : Setup) (P : File → Type 0) where
   abbrev Fits : Place → Type 0
-  Fits p = (f : File) × P f × (f.id ≡ p.object) × (p.stripe < stripes_of s f.size)
+  Fits p = (f : File) × P f × (f.id ≡ p.object) × (p.stripe < stripes_of (profiled s f.profile) f.size)
 
-  fits-range : (f : File) (a n : ℕ) → P f → a + n ≤ stripes_of s f.size → Each Fits (map (λ stripe. record { object = f.id; stripe = stripe }) (range_with_len a n))
+  fits-range : (f : File) (a n : ℕ) → P f → a + n ≤ stripes_of (profiled s f.profile) f.size → Each Fits (map (λ stripe. record { object = f.id; stripe = stripe }) (range_with_len a n))
   fits-range f a zero h l = tt
   fits-range f a (suc n) h l = ((f, h, refl, omega (arith, l)), fits-range f (a + 1) n h (omega (arith, l)))
 
-  fits-places : (fs : List File) → Each P fs → Each Fits (flat_map (λ (f : File). map (λ stripe. record { object = f.id; stripe = stripe }) (upto (stripes_of s f.size))) fs)
+  fits-places : (fs : List File) → Each P fs → Each Fits (flat_map (λ (f : File). map (λ stripe. record { object = f.id; stripe = stripe }) (upto (stripes_of (profiled s f.profile) f.size))) fs)
   fits-places [] h = tt
-  fits-places (f ∷ fs) h = each_append Fits (map (λ stripe. record { object = f.id; stripe = stripe }) (upto (stripes_of s f.size))) (flat_map (λ (f : File). map (λ stripe. record { object = f.id; stripe = stripe }) (upto (stripes_of s f.size))) fs)
-      (fits-range f 0 (stripes_of s f.size) h.0 (omega arith)) (fits-places fs h.1)
+  fits-places (f ∷ fs) h = each_append Fits (map (λ stripe. record { object = f.id; stripe = stripe }) (upto (stripes_of (profiled s f.profile) f.size))) (flat_map (λ (f : File). map (λ stripe. record { object = f.id; stripe = stripe }) (upto (stripes_of (profiled s f.profile) f.size))) fs)
+      (fits-range f 0 (stripes_of (profiled s f.profile) f.size) h.0 (omega arith)) (fits-places fs h.1)
 
 -- ---- a place that is lost
 
 module _ (x : Ran) (shape : IsShape (setup_at_begin x).n (setup_at_begin x).l (setup_at_begin x).b) (due : Due) (stripe row : ℕ) (L : LosesAtPlace x due stripe row) (bytes : List ℕ) where
   abbrev o : Object
-  o = object_of (setup_at_begin x) L.place.object
+  o = object_numbered x L.place.object
 
-  good-place : (j : ℕ) → j < (setup_at_begin x).n → is_bad x L.place.object bytes j ≡ false → L.place.stripe < stripes o (length bytes) → is_wrong_block o bytes j L.place.stripe (block_at (blocks_at x L.gave L.place) j) ≡ false
+  -- a provider is wrong for it, or failed
+  abbrev is_bad_here : ℕ → Bool
+  is_bad_here j = is_bad_for o bytes j (x.old j) (x.new j)
+
+  good-place : (j : ℕ) → j < (setup_at_begin x).n → is_bad_here j ≡ false → L.place.stripe < stripes o (length bytes) → is_wrong_block o bytes j L.place.stripe (block_at (blocks_at x L.gave L.place) j) ≡ false
   good-place j below good k = by_held (x.old j).held good (L.truth j below)
     where
       by_held : (h : Option Held) → is_bad_with o bytes j (x.old j) (x.new j) h ≡ false →
@@ -91,36 +98,41 @@ module _ (x : Ran) (shape : IsShape (setup_at_begin x).n (setup_at_begin x).l (s
           ap (is_wrong_block o bytes j L.place.stripe) (block_at-map (λ i. L.gave i L.place) (setup_at_begin x).n j below ∙ same)
           ∙ (wrong-sized o bytes j L.place.stripe (held L.place.object L.place.stripe) ∙ not-wrong-each o bytes j (held L.place.object) p.0 L.place.stripe k))
 
-  bad-place : L.place.stripe < stripes o (length bytes) → (j : ℕ) → j < 0 + (setup_at_begin x).n → is_wrong_block o bytes j L.place.stripe (block_at (blocks_at x L.gave L.place) j) ≡ true → is_bad x L.place.object bytes j ≡ true
-  bad-place k j below wrong = elim (cases_Bool (is_bad x L.place.object bytes j)) [
+  bad-place : L.place.stripe < stripes o (length bytes) → (j : ℕ) → j < 0 + (setup_at_begin x).n → is_wrong_block o bytes j L.place.stripe (block_at (blocks_at x L.gave L.place) j) ≡ true → is_bad_here j ≡ true
+  bad-place k j below wrong = elim (cases_Bool (is_bad_here j)) [
     | inl y ↦ y
     | inr n ↦ absurd (false≢true (sym (good-place j (omega (arith, below)) n k) ∙ wrong))
   ]
 
-  pub few-mended : L.place.stripe < stripes o (length bytes) → bad_count x L.place.object bytes ≤ (setup_at_begin x).b → ⊥
+  pub few-mended : L.place.stripe < stripes o (length bytes) → count_of is_bad_here (upto (setup_at_begin x).n) ≤ (setup_at_begin x).b → ⊥
   few-mended k few =
       (let lost : LosesRow o L.place.stripe (blocks_at x L.gave L.place) row = subst (λ t. LosesRow o t (blocks_at x L.gave L.place) row) (sym L.stripe_is) L.loses in
-      let within = count_of-within (λ j. is_wrong_block o bytes j L.place.stripe (block_at (blocks_at x L.gave L.place) j)) (is_bad x L.place.object bytes) 0 (setup_at_begin x).n (bad-place k) in
+      let within = count_of-within (λ j. is_wrong_block o bytes j L.place.stripe (block_at (blocks_at x L.gave L.place) j)) is_bad_here 0 (setup_at_begin x).n (bad-place k) in
       lost.lost (row_polynomial o (symbols_in o bytes L.place.stripe) lost.place)
-      (row-right o bytes (setup_at_begin x).profile L.place.stripe lost.place (blocks_at x L.gave L.place) lost.opened refl shape (omega (arith, within, few)) lost.opens
-      (let a = lost.kept in let b = profile-room o (setup_at_begin x).profile refl in omega (arith, a, b))))
+      (row-right o bytes (profile_among (setup_at_begin x).profile (files_of x.records) L.place.object) L.place.stripe lost.place (blocks_at x L.gave L.place) lost.opened refl shape (omega (arith, within, few)) lost.opens
+      (let a = lost.kept in let b = profile-room o (profile_among (setup_at_begin x).profile (files_of x.records) L.place.object) refl in omega (arith, a, b))))
 
 -- ---- the repair
 
-module _ (x : Ran) (shape : IsShape (setup_at_begin x).n (setup_at_begin x).l (setup_at_begin x).b) (bytes : ℕ → List ℕ) where
+module _ (x : Ran) (accepted : AreAccepted x.records) (shape : IsShape (setup_at_begin x).n (setup_at_begin x).l (setup_at_begin x).b) (bytes : ℕ → List ℕ) where
   -- a file whose bytes few providers are wrong for
   abbrev pub IsSafe : File → Type 0
-  IsSafe f = (length (bytes f.id) ≡ f.size) × (bad_count x f.id (bytes f.id) ≤ (setup_at_begin x).b)
+  IsSafe f = (length (bytes f.id) ≡ f.size) × (bad_count x f (bytes f.id) ≤ (setup_at_begin x).b)
+
+  -- and whose object is that of its number
+  abbrev IsFound : File → Type 0
+  IsFound f = IsSafe f × (object_numbered x f.id ≡ object_at_begin x f)
 
   lost-none : (due : Due) (stripe row : ℕ) → ((name : List ℕ) (file : File) → file_of x.records name ≡ Some file → IsSafe file) → LosesAtPlace x due stripe row → ⊥
   lost-none due stripe row safe L =
-      (let all : Each IsSafe (files_by_number (files_of x.records)) = each-by_number IsSafe (files_of x.records) (each-in IsSafe (files_of x.records) (λ f i. safe f.name f (listed_file x.records f i))) in
-      let fits = each_middle (Fits (setup_at_begin x) IsSafe) L.done L.place L.rest (subst (Each (Fits (setup_at_begin x) IsSafe)) L.part.parts (fits-places (setup_at_begin x) IsSafe (files_by_number (files_of x.records)) all)) in
+      (let all : Each IsFound (files_by_number (files_of x.records)) = each-by_number IsFound (files_of x.records)
+      (each-in IsFound (files_of x.records) (λ f i. (safe f.name f (listed_file x.records f i), numbered-file x accepted f i))) in
+      let fits = each_middle (Fits (setup_at_begin x) IsFound) L.done L.place L.rest (subst (Each (Fits (setup_at_begin x) IsFound)) L.part.parts (fits-places (setup_at_begin x) IsFound (files_by_number (files_of x.records)) all)) in
       let file = fits.0 in
-      let at : file.id ≡ L.place.object = fits.2 in
+      let at : object_at_begin x file ≡ object_numbered x L.place.object = sym fits.1.1 ∙ ap (object_numbered x) fits.2 in
       few-mended x shape due stripe row L (bytes file.id)
-      (subst (λ n. L.place.stripe < stripes_of (setup_at_begin x) n) (sym fits.1.0) fits.3)
-      (subst (λ i. bad_count x i (bytes file.id) ≤ (setup_at_begin x).b) at fits.1.1))
+      (subst (λ (z : Object). L.place.stripe < stripes z (length (bytes file.id))) at (subst (λ n. L.place.stripe < stripes_of (profiled (setup_at_begin x) file.profile) n) (sym fits.1.0.0) fits.3))
+      (subst (λ (z : Object). count_of (λ j. is_bad_for z (bytes file.id) j (x.old j) (x.new j)) (upto (setup_at_begin x).n) ≤ (setup_at_begin x).b) at fits.1.0.1))
 
   pub repair-end : (how : Answer) → RepairLeaves x how → (Rose x.disk_before x.disk_after → ⊥) → ((j : ℕ) → j < (setup_at_begin x).n → Rose (x.old j).store_faults (x.new j).store_faults → ⊥) →
       ((name : List ℕ) (file : File) → file_of x.records name ≡ Some file → IsSafe file) → ((number : ℕ) × (how ≡ answer.Repaired number)) ⊎ (how ≡ answer.Memory)

@@ -12,14 +12,13 @@ use Rattle.hail_columns.specs.Opened.{SeenBlock, GivesSymbols}
 use Rattle.hail_devices.specs.Providers.{Held, sized}
 use Rattle.hail_records.specs.Records.{Setup}
 use Rattle.hail_machine.specs.Jobs.{RepairJob, Given, Job}
-use Rattle.hail_machine.specs.Setups.{object_of}
 use Rattle.hail_machine.specs.Actions.{Action, WriteBody, SyncBody, WriteGate, SyncGate, Store, Fetch, Ask, Work, Remove, End, open_actions, rewrite_actions}
 use Rattle.hail_machine.specs.Given.{block_given, blocks_given, symbols_given}
 use Rattle.hail_machine.proofs.JobLists.{cond_true, cond_false}
 use Rattle.hail_machine.proofs.ActionLists.{split_get}
 use Rattle.hail_commands.specs.Repairs.{Place}
 use Rattle.hail_commands.specs.Truthful.{missing}
-use Rattle.lone_laws.specs.Made.{With}
+use Rattle.lone_laws.specs.Made.{With, object_made}
 use Rattle.lone_laws.proofs.Lists.{take-append-add}
 use Rattle.job_laws.proofs.Heard.{IsNot}
 use Rattle.job_laws.proofs.Truth.{lacks, range-hit}
@@ -65,7 +64,7 @@ module _ (x : With) (repairs : x.kind ≡ RepairJob) (last : List Given) (j : �
   gave p = block_given last p.object p.stripe j
 
   abbrev had : Place → SeenBlock
-  had p = sized (object_of x.setup p.object).profile.size (held p.object p.stripe)
+  had p = sized (object_made x p.object).profile.size (held p.object p.stripe)
 
   pub told-places : (ps : List Place) (acts : List Action) → FetchesAll x.setup ps acts → Each (IsToldBlock x repairs last j held) acts → Each (λ p. (gave p ≡ had p) ⊎ (gave p ≡ None)) ps
   told-places [] acts h t = tt
@@ -84,7 +83,7 @@ module _ (x : With) (repairs : x.kind ≡ RepairJob) (last : List Given) (j : �
       let e = lacks-places ps rest r in omega (arith, a, b, c, d, e))
 
 pub gives-places : (x : With) (last : List Given) (ps : List Place) (acts : List Action) → OpensAll x.setup ps acts → Each (HasOpened x last) acts →
-    Each (λ (p : Place). GivesSymbols (object_of x.setup p.object) p.stripe (blocks_given last x.setup.n p.object p.stripe) (symbols_given last p.object p.stripe)) ps
+    Each (λ (p : Place). GivesSymbols (object_made x p.object) p.stripe (blocks_given last x.setup.n p.object p.stripe) (symbols_given last p.object p.stripe)) ps
 gives-places x last [] acts h t = tt
 gives-places x last (p ∷ ps) acts (stores, rest, is, r) t =
     (let a = each-parts (HasOpened x last) (open_actions x.setup p.object p.stripe ++ stores) rest (subst (Each (HasOpened x last)) is t) in

@@ -10,7 +10,7 @@ use Rattle.hail_codes.specs.Points.{upto}
 use Rattle.hail_records.specs.Records.{Setup}
 use Rattle.hail_records.specs.Table.{File}
 use Rattle.hail_machine.specs.Jobs.{Pinned, Job}
-use Rattle.hail_machine.specs.Setups.{stripes_of}
+use Rattle.hail_machine.specs.Setups.{profiled, stripes_of}
 use Rattle.hail_machine.specs.Actions.{Action, WriteBody, SyncBody, WriteGate, SyncGate, Store, Fetch, Ask, Work, Remove, End, on_each_stripe, open_actions, rewrite_actions, repair_actions}
 use Rattle.hail_machine.specs.Begins.{pinned_file, pin_all}
 use Rattle.hail_machine.specs.States.{State}
@@ -34,24 +34,24 @@ actions_at s job p = open_actions s p.object p.stripe ++ rewrite_actions s job p
 
 -- the places of files in this order
 abbrev pub places_in : Setup → List File → List Place
-places_in s fs = flat_map (λ (f : File). map (λ stripe. record { object = f.id; stripe = stripe }) (upto (stripes_of s f.size))) fs
+places_in s fs = flat_map (λ (f : File). map (λ stripe. record { object = f.id; stripe = stripe }) (upto (stripes_of (profiled s f.profile) f.size))) fs
 
 stripes-places : (s : Setup) (job : Job) (id : ℕ) (stripes : List ℕ) → flat_map (λ stripe. open_actions s id stripe ++ rewrite_actions s job id stripe) stripes ≡ flat_map (actions_at s job) (map (λ stripe. record { object = id; stripe = stripe }) stripes)
 stripes-places s job id [] = refl
 stripes-places s job id (t ∷ ts) = ap (λ l. (open_actions s id t ++ rewrite_actions s job id t) ++ l) (stripes-places s job id ts)
 
 files-places : (s : Setup) (w : State) (job : Job) (fs : List File) → Each (λ (f : File). length (w.bytes f.id) ≡ f.size) fs →
-    flat_map (λ (f : Pinned). on_each_stripe s (length f.bytes) (λ stripe. open_actions s f.id stripe ++ rewrite_actions s job f.id stripe)) (map (pinned_file w) fs) ≡ flat_map (actions_at s job) (places_in s fs)
+    flat_map (λ (f : Pinned). on_each_stripe (profiled s f.profile) (length f.bytes) (λ stripe. open_actions s f.id stripe ++ rewrite_actions s job f.id stripe)) (map (pinned_file w) fs) ≡ flat_map (actions_at s job) (places_in s fs)
 files-places s w job [] h = refl
 files-places s w job (f ∷ fs) h =
-    (let one : flat_map (λ stripe. open_actions s f.id stripe ++ rewrite_actions s job f.id stripe) (upto (stripes_of s (length (w.bytes f.id)))) ≡ flat_map (actions_at s job) (map (λ stripe. record { object = f.id; stripe = stripe }) (upto (stripes_of s f.size))) =
-    ap (λ n. flat_map (λ stripe. open_actions s f.id stripe ++ rewrite_actions s job f.id stripe) (upto (stripes_of s n))) h.0 ∙ stripes-places s job f.id (upto (stripes_of s f.size)) in
-    (λ i. one i ++ files-places s w job fs h.1 i) ∙ sym (flat_map-append (actions_at s job) (map (λ stripe. record { object = f.id; stripe = stripe }) (upto (stripes_of s f.size))) (places_in s fs)))
+    (let one : flat_map (λ stripe. open_actions s f.id stripe ++ rewrite_actions s job f.id stripe) (upto (stripes_of (profiled s f.profile) (length (w.bytes f.id)))) ≡ flat_map (actions_at s job) (map (λ stripe. record { object = f.id; stripe = stripe }) (upto (stripes_of (profiled s f.profile) f.size))) =
+    ap (λ n. flat_map (λ stripe. open_actions s f.id stripe ++ rewrite_actions s job f.id stripe) (upto (stripes_of (profiled s f.profile) n))) h.0 ∙ stripes-places s job f.id (upto (stripes_of (profiled s f.profile) f.size)) in
+    (λ i. one i ++ files-places s w job fs h.1 i) ∙ sym (flat_map-append (actions_at s job) (map (λ stripe. record { object = f.id; stripe = stripe }) (upto (stripes_of (profiled s f.profile) f.size))) (places_in s fs)))
 
 pub repairs-places : (s : Setup) (w : State) (job : Job) (files : List File) → job.pinned ≡ pin_all w files → Each (λ (f : File). length (w.bytes f.id) ≡ f.size) files →
     repair_actions s job ≡ flat_map (actions_at s job) (places s files)
 repairs-places s w job files pinned h =
-    ap (λ ps. flat_map (λ (f : Pinned). on_each_stripe s (length f.bytes) (λ stripe. open_actions s f.id stripe ++ rewrite_actions s job f.id stripe)) ps) (pinned ∙ pinned-by_number w files)
+    ap (λ ps. flat_map (λ (f : Pinned). on_each_stripe (profiled s f.profile) (length f.bytes) (λ stripe. open_actions s f.id stripe ++ rewrite_actions s job f.id stripe)) ps) (pinned ∙ pinned-by_number w files)
     ∙ files-places s w job (files_by_number files) (each-by_number (λ (f : File). length (w.bytes f.id) ≡ f.size) files h)
 
 -- ---- no place comes twice
@@ -77,14 +77,14 @@ apart-stripes id a (suc n) = (above (a + 1) n (omega arith), apart-stripes id (a
 
 places-above : (s : Setup) (w : State) (low : ℕ) (fs : List File) → AreAscending low (map (pinned_file w) fs) → Each (λ (p : Place). low ≤ p.object) (places_in s fs)
 places-above s w low [] h = tt
-places-above s w low (f ∷ fs) h = each_append (λ (p : Place). low ≤ p.object) (map (λ stripe. record { object = f.id; stripe = stripe }) (upto (stripes_of s f.size))) (places_in s fs)
-    (each_map (λ (p : Place). low ≤ p.object) (λ stripe. record { object = f.id; stripe = stripe }) (upto (stripes_of s f.size)) (λ t. h.0))
+places-above s w low (f ∷ fs) h = each_append (λ (p : Place). low ≤ p.object) (map (λ stripe. record { object = f.id; stripe = stripe }) (upto (stripes_of (profiled s f.profile) f.size))) (places_in s fs)
+    (each_map (λ (p : Place). low ≤ p.object) (λ stripe. record { object = f.id; stripe = stripe }) (upto (stripes_of (profiled s f.profile) f.size)) (λ t. h.0))
     (each_mono (λ (p : Place). f.id + 1 ≤ p.object) (λ (p : Place). low ≤ p.object) (places_in s fs) (λ p l. (let a = h.0 in omega (arith, l, a))) (places-above s w (f.id + 1) fs h.1))
 
 places-apart : (s : Setup) (w : State) (low : ℕ) (fs : List File) → AreAscending low (map (pinned_file w) fs) → AreApart (places_in s fs)
 places-apart s w low [] h = tt
-places-apart s w low (f ∷ fs) h = apart-append (map (λ stripe. record { object = f.id; stripe = stripe }) (upto (stripes_of s f.size))) (places_in s fs) (apart-stripes f.id 0 (stripes_of s f.size)) (places-apart s w (f.id + 1) fs h.1)
-    (each_map (λ p. Each (IsElse p) (places_in s fs)) (λ stripe. record { object = f.id; stripe = stripe }) (upto (stripes_of s f.size))
+places-apart s w low (f ∷ fs) h = apart-append (map (λ stripe. record { object = f.id; stripe = stripe }) (upto (stripes_of (profiled s f.profile) f.size))) (places_in s fs) (apart-stripes f.id 0 (stripes_of (profiled s f.profile) f.size)) (places-apart s w (f.id + 1) fs h.1)
+    (each_map (λ p. Each (IsElse p) (places_in s fs)) (λ stripe. record { object = f.id; stripe = stripe }) (upto (stripes_of (profiled s f.profile) f.size))
     (λ t. each_mono (λ (p : Place). f.id + 1 ≤ p.object) (IsElse (record { object = f.id; stripe = t })) (places_in s fs) (λ p l e. (let a = e.0 in omega (arith, l, a))) (places-above s w (f.id + 1) fs h.1)))
 
 pub all-apart : (s : Setup) (w : State) (files : List File) → AreAscending 0 (pin_all w files) → AreApart (places s files)

@@ -7,16 +7,15 @@ use Rattle.hail_columns.specs.Challenges.{honest_answer}
 use Rattle.hail_devices.specs.Providers.{Provider}
 use Rattle.hail_devices.specs.ProviderCalls.{Stores, Fetches, Asks, Removes}
 use Rattle.hail_machine.specs.Jobs.{Given, Fetched, Answered}
-use Rattle.hail_machine.specs.Setups.{object_of}
 use Rattle.hail_machine.specs.Actions.{Action, WriteBody, SyncBody, WriteGate, SyncGate, Store, Fetch, Ask, Work, Remove, End}
 use Rattle.hail_machine.proofs.JobLists.{cond_true, cond_false}
-use Rattle.lone_laws.specs.Made.{With, block_stored, challenge_made, CallsOne, Did, Made}
+use Rattle.lone_laws.specs.Made.{With, block_stored, challenge_made, CallsOne, Did, Made, object_made}
 
 -- what an action did to the provider that it called, if that is the one of this number
 abbrev pub Called : With → Action → List Given → List Given → ℕ → Provider → Provider → Type 0
 Called x (Store j object stripe) given now i p q = (i ≡ j) × Stores object stripe (block_stored x x.kind given j object stripe) p q × (now ≡ given)
 Called x (Fetch j object stripe) given now i p q =
-    (i ≡ j) × ((block : Option (List ℕ)) × Fetches (object_of x.setup object).profile.size object stripe p block q × (now ≡ Fetched j object stripe block ∷ given))
+    (i ≡ j) × ((block : Option (List ℕ)) × Fetches (object_made x object).profile.size object stripe p block q × (now ≡ Fetched j object stripe block ∷ given))
 Called x (Ask j object round) given now i p q =
     (i ≡ j) × ((symbol : Option ℕ) × Asks (honest_answer (challenge_made x object round)) object p symbol q × (now ≡ Answered j object round symbol ∷ given))
 Called x (Remove j object) given now i p q = (i ≡ j) × Removes object p q × (now ≡ given)
@@ -31,7 +30,7 @@ calls-at old j call new i (p, made, is) = elim (cases_Bool (i == j)) [
 
 pub did-at : (x : With) (a : Action) (old new : ℕ → Provider) (given now : List Given) (i : ℕ) → Did x a old new given now → (new i ≡ old i) ⊎ Called x a given now i (old i) (new i)
 did-at x (Store j o s) old new given now i (called, is) = elim (calls-at old j (Stores o s (block_stored x x.kind given j o s)) new i called) [ inl e ↦ inl e | inr c ↦ inr (c.0, c.1, is) ]
-did-at x (Fetch j o s) old new given now i (block, called, is) = elim (calls-at old j (λ p q. Fetches (object_of x.setup o).profile.size o s p block q) new i called) [ inl e ↦ inl e | inr c ↦ inr (c.0, (block, c.1, is)) ]
+did-at x (Fetch j o s) old new given now i (block, called, is) = elim (calls-at old j (λ p q. Fetches (object_made x o).profile.size o s p block q) new i called) [ inl e ↦ inl e | inr c ↦ inr (c.0, (block, c.1, is)) ]
 did-at x (Ask j o r) old new given now i (symbol, called, is) = elim (calls-at old j (λ p q. Asks (honest_answer (challenge_made x o r)) o p symbol q) new i called) [ inl e ↦ inl e | inr c ↦ inr (c.0, (symbol, c.1, is)) ]
 did-at x (Work o s) old new given now i (symbols, gives, still, is) = inl (ap (λ f. f i) still)
 did-at x (Remove j o) old new given now i (called, is) = elim (calls-at old j (Removes o) new i called) [ inl e ↦ inl e | inr c ↦ inr (c.0, c.1, is) ]

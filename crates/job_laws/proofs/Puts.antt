@@ -19,7 +19,7 @@ use Rattle.hail_devices.proofs.Lasting.{rose-before}
 use Rattle.hail_records.specs.Records.{Setup, Record, PutStart, PutDone}
 use Rattle.hail_records.specs.Table.{File, file_of, next_id}
 use Rattle.hail_machine.specs.Jobs.{PutJob, Pinned, Given, Job}
-use Rattle.hail_machine.specs.Setups.{object_of, stripes_of}
+use Rattle.hail_machine.specs.Setups.{profiled, object_of, stripes_of}
 use Rattle.hail_machine.specs.Actions.{Action, WriteBody, SyncBody, WriteGate, SyncGate, Store, Fetch, Ask, Work, Remove, End, append_actions, on_each_provider, store_actions, remove_actions, actions_of, actions_left, appends_left}
 use Rattle.hail_machine.specs.Answers as answer
 use Rattle.hail_machine.specs.Answers.{Answer}
@@ -48,6 +48,7 @@ use Rattle.lone_laws.proofs.Walk.{Wrote, wrote, runs, left-start, first-body}
 use Rattle.job_laws.proofs.Runs.{Ends}
 use Rattle.job_laws.proofs.Providers.{Called, IsBelow, made-keeps}
 use Rattle.job_laws.proofs.Truth.{made-rises}
+use Rattle.job_laws.proofs.Plain.{done-plain}
 use Rattle.job_laws.proofs.Lasts.{Faults, move-faults, NoRoom, move-memory, none-moving}
 use Rattle.job_laws.proofs.Moving.{IsMove, IsUnmoved, move-is, moved-first, moved-second}
 use Rattle.job_laws.proofs.Leaving.{below, LastCall, last-call, counts-rise, others-stay}
@@ -71,7 +72,7 @@ with_block-cases o t block p i u = elim (cases_Bool ((i == o) && (u == t))) [
 
 module _ (s : Setup) (name bytes : List ℕ) (subject id : ℕ) (pinned : List Pinned) (j : ℕ) where
   abbrev x : With
-  x = record { setup = s; kind = PutJob name bytes; subject = subject; pinned = pinned }
+  x = record { setup = s; kind = PutJob name bytes; profile = s.profile; subject = subject; pinned = pinned }
 
   abbrev block : ℕ → List ℕ
   block t = columns (object_of s id) bytes j t
@@ -218,7 +219,7 @@ writing-put s job name bytes kind = subst (Each IsWriting) (sym (put-list s job 
       (
         tt,
         each_append IsWriting (store_actions s job bytes) _
-            (each_flat IsWriting (λ t. on_each_provider s (λ k. Store k job.subject t)) (upto (stripes_of s (length bytes))) (λ t. each_map IsWriting (λ k. Store k job.subject t) (upto s.n) (λ k. tt))) (
+            (each_flat IsWriting (λ t. on_each_provider s (λ k. Store k job.subject t)) (upto (stripes_of (profiled s job.profile) (length bytes))) (λ t. each_map IsWriting (λ k. Store k job.subject t) (upto s.n) (λ k. tt))) (
               tt,
               (
                 tt,
@@ -267,6 +268,10 @@ module _ (start new : State) (name bytes : List ℕ) (how : Answer) (heard : Lis
   abbrev ran : Ran
   ran = ran_from start new heard
 
+  -- the stripes are those of the setup's profile
+  count-same : stripes_of (profiled (setup_in start) E.job.profile) (length bytes) ≡ stripes (object_of (setup_in start) (next_id start.records)) (length bytes)
+  count-same = ap (λ p. stripes_of (profiled (setup_in start) p) (length bytes)) E.walked.profile_is
+
   nothing-heard : heard ≡ []
   nothing-heard = E.heard_is ∙ ap (heard_by_kind E.job) E.walked.kind_is
 
@@ -294,7 +299,7 @@ module _ (start new : State) (name bytes : List ℕ) (how : Answer) (heard : Lis
         (
           tt,
           each_append (IsStoring (setup_in start) name bytes E.job.subject E.job.subject [] 0) (store_actions (setup_in start) E.job bytes) append_actions
-              (each_flat (IsStoring (setup_in start) name bytes E.job.subject E.job.subject [] 0) (λ t. on_each_provider (setup_in start) (λ k. Store k E.job.subject t)) (upto (stripes_of (setup_in start) (length bytes)))
+              (each_flat (IsStoring (setup_in start) name bytes E.job.subject E.job.subject [] 0) (λ t. on_each_provider (setup_in start) (λ k. Store k E.job.subject t)) (upto (stripes_of (profiled (setup_in start) E.job.profile) (length bytes)))
               (λ t. each_map (IsStoring (setup_in start) name bytes E.job.subject E.job.subject [] 0) (λ k. Store k E.job.subject t) (upto (setup_in start).n) (λ k. refl))) (tt, (tt, (tt, (tt, tt)))),
         ),
       ),
@@ -352,7 +357,7 @@ module _ (start new : State) (name bytes : List ℕ) (how : Answer) (heard : Lis
   -- ---- a move of an append that failed
 
   unmoved-stores : Each IsUnmoved (store_actions (setup_in start) E.job bytes)
-  unmoved-stores = each_flat IsUnmoved (λ t. on_each_provider (setup_in start) (λ k. Store k E.job.subject t)) (upto (stripes_of (setup_in start) (length bytes)))
+  unmoved-stores = each_flat IsUnmoved (λ t. on_each_provider (setup_in start) (λ k. Store k E.job.subject t)) (upto (stripes_of (profiled (setup_in start) E.job.profile) (length bytes)))
       (λ t. each_map IsUnmoved (λ k. Store k E.job.subject t) (upto (setup_in start).n) (λ k. (λ m. m)))
 
   unmoved-tail : Each IsUnmoved (remove_actions (setup_in start) E.job ++ End ∷ [])
@@ -385,10 +390,10 @@ module _ (start new : State) (name bytes : List ℕ) (how : Answer) (heard : Lis
     stores-made l = moved-second put_with (store_actions (setup_in start) E.job bytes) (remove_actions (setup_in start) E.job ++ End ∷ []) E.job.place action move unmoved-stores unmoved-tail start.providers E.before.providers E.job.given here made-so-far l
 
     all-goes : 4 ≤ E.job.place → (j : ℕ) → j < (setup_in start).n → Goes (StoredOn (object_of (setup_in start) (next_id start.records)) bytes None ⊥ j) (start.providers j).held (E.before.providers j).held
-    all-goes l j below = goes-mono (StoresRange (setup_in start) name bytes E.job.subject (next_id start.records) [] j 0 (stripes_of (setup_in start) (length bytes))) (StoredOn (object_of (setup_in start) (next_id start.records)) bytes None ⊥ j)
-        (λ h k R. whole-none (setup_in start) name bytes E.job.subject (next_id start.records) (stripes_of (setup_in start) (length bytes)) [] j ⊥ h k k refl R refl) (start.providers j).held (E.before.providers j).held
-        (stores-go (setup_in start) name bytes E.job.subject (next_id start.records) [] j (stripes_of (setup_in start) (length bytes)) 0 start.providers E.before.providers [] E.job.given below
-        (subst (λ i. Made put_with (flat_map (λ t. on_each_provider (setup_in start) (λ k. Store k i t)) (upto (stripes_of (setup_in start) (length bytes)))) start.providers E.before.providers [] E.job.given) (subject-is (omega (arith, l))) (stores-made l)))
+    all-goes l j below = goes-mono (StoresRange (setup_in start) name bytes E.job.subject (next_id start.records) [] j 0 (stripes_of (profiled (setup_in start) E.job.profile) (length bytes))) (StoredOn (object_of (setup_in start) (next_id start.records)) bytes None ⊥ j)
+        (λ h k R. whole-none (setup_in start) name bytes E.job.subject (next_id start.records) (stripes_of (profiled (setup_in start) E.job.profile) (length bytes)) [] j ⊥ h k k count-same R refl) (start.providers j).held (E.before.providers j).held
+        (stores-go (setup_in start) name bytes E.job.subject (next_id start.records) [] j (stripes_of (profiled (setup_in start) E.job.profile) (length bytes)) 0 start.providers E.before.providers [] E.job.given below
+        (subst (λ i. Made put_with (flat_map (λ t. on_each_provider (setup_in start) (λ k. Store k i t)) (upto (stripes_of (profiled (setup_in start) E.job.profile) (length bytes)))) start.providers E.before.providers [] E.job.given) (subject-is (omega (arith, l))) (stores-made l)))
 
     stores-all : 4 ≤ E.job.place → new.providers ≡ E.before.providers → StoresAll ran bytes
     unfolding setup_in
@@ -408,7 +413,7 @@ module _ (start new : State) (name bytes : List ℕ) (how : Answer) (heard : Lis
       | inl none ↦ inl (ap (option_map (λ (d : Doubt). d.entry)) none)
       | inr (d, in_doubt, writes) ↦ elim (wrote start O (PutJob name bytes) E.before E.job E.walked d.entry F.left writes) [
         | Wrote.first l is entry ↦ absurd (omega (arith, l, one))
-        | Wrote.second l is sec ↦ inr (ap (option_map (λ (z : Doubt). z.entry)) in_doubt ∙ ap Some sec)
+        | Wrote.second l is sec ↦ inr (ap (option_map (λ (z : Doubt). z.entry)) in_doubt ∙ ap Some (sec ∙ done-plain start O (next_id start.records) (length bytes) E.job.profile))
       ]
     ]
 
@@ -543,7 +548,7 @@ module _ (start new : State) (name bytes : List ℕ) (how : Answer) (heard : Lis
     drawn = subject-is ((first-body start O (PutJob name bytes) E.before E.job E.walked E.action E.next (λ e. (let f : End ≡ WriteBody = sym at ∙ e in cc)) (PutJob name bytes) refl).0 name bytes refl)
 
     abbrev count : ℕ
-    count = stripes_of (setup_in start) (length bytes)
+    count = stripes_of (profiled (setup_in start) E.job.profile) (length bytes)
 
     range-go : (j : ℕ) → j < (setup_in start).n → Goes (StoresRange (setup_in start) name bytes E.job.subject (next_id start.records) [] j 0 count) (start.providers j).held (stored.mid j).held
     range-go j l = stores-go (setup_in start) name bytes E.job.subject (next_id start.records) [] j count 0 start.providers stored.mid stored.given stored.now l
@@ -554,10 +559,10 @@ module _ (start new : State) (name bytes : List ℕ) (how : Answer) (heard : Lis
         Goes (StoredOn (object_of (setup_in start) (next_id start.records)) bytes o rose j) (start.providers j).held q.held
     stored-on None j p q apart rose up range older = subst (Goes (StoredOn (object_of (setup_in start) (next_id start.records)) bytes None rose j) (start.providers j).held) (sym older)
         (goes-mono (StoresRange (setup_in start) name bytes E.job.subject (next_id start.records) [] j 0 count) (StoredOn (object_of (setup_in start) (next_id start.records)) bytes None rose j)
-        (λ h k R. whole-none (setup_in start) name bytes E.job.subject (next_id start.records) count [] j rose h k k refl R refl) (start.providers j).held p.held range)
+        (λ h k R. whole-none (setup_in start) name bytes E.job.subject (next_id start.records) count [] j rose h k k count-same R refl) (start.providers j).held p.held range)
     stored-on (Some f) j p q apart rose up range older = goes-more (StoresRange (setup_in start) name bytes E.job.subject (next_id start.records) [] j 0 count) (DroppedFrom f.id (Rose p.other_faults q.other_faults))
         (StoredOn (object_of (setup_in start) (next_id start.records)) bytes (Some f) rose j)
-        (λ h k r R D. whole-some (setup_in start) name bytes E.job.subject (next_id start.records) count [] j rose f h k r refl (apart f refl) R (dropped-over f.id (Rose p.other_faults q.other_faults) rose k r up D))
+        (λ h k r R D. whole-some (setup_in start) name bytes E.job.subject (next_id start.records) count [] j rose f h k r count-same (apart f refl) R (dropped-over f.id (Rose p.other_faults q.other_faults) rose k r up D))
         (start.providers j).held p.held q.held range older
 
     stores-file : new.providers ≡ E.before.providers → StoresFile ran name bytes
@@ -580,7 +585,7 @@ module _ (start new : State) (name bytes : List ℕ) (how : Answer) (heard : Lis
         by_records : (rs : List Record) → E.before.records ≡ rs → RecordsAre start (PutJob name bytes) E.job rs → E.before.records ≡ PutDone (next_id start.records) (length bytes) ∷ PutStart (next_id start.records) name ∷ start.records
         by_records rs e (RecordsAre.none l is) = absurd (let c = no-append in omega (arith, l, c))
         by_records rs e (RecordsAre.one l is) = absurd (let c = no-append in omega (arith, l, c))
-        by_records rs e (RecordsAre.two entry l sec is) = e ∙ (is ∙ ap (λ (r : Record). r ∷ PutStart (next_id start.records) name ∷ start.records) sec)
+        by_records rs e (RecordsAre.two entry l sec is) = e ∙ (is ∙ ap (λ (r : Record). r ∷ PutStart (next_id start.records) name ∷ start.records) (sec ∙ done-plain start O (next_id start.records) (length bytes) E.job.profile))
 
     end-sure : E.before.doubt ≡ None
     end-sure = (none-moving start O (PutJob name bytes) E.before E.job E.walked end-order.0).1

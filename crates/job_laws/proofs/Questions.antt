@@ -11,6 +11,7 @@ use Rattle.hail_devices.specs.Providers.{Held}
 use Rattle.hail_records.specs.Records.{Setup}
 use Rattle.hail_records.specs.Table.{File}
 use Rattle.hail_machine.specs.Jobs.{Given}
+use Rattle.hail_machine.specs.Setups.{profiled}
 use Rattle.hail_machine.specs.Actions.{Action, Ask, rounds_of}
 use Rattle.hail_machine.specs.Begins.{pinned_file}
 use Rattle.hail_machine.specs.Given.{answer_given, pinned_size}
@@ -27,6 +28,10 @@ use Rattle.job_laws.proofs.Truth.{lacks, IsTold, lack_at, range-hit}
 pub each-in : {X : Type 0} (P : X → Type 0) (xs : List X) → ((x : X) → In x xs → P x) → Each P xs
 each-in P [] h = tt
 each-in P (x ∷ xs) h = (h x (inl refl), each-in P xs (λ y i. h y (inr i)))
+
+pub each-both : {X : Type 0} (P Q : X → Type 0) (xs : List X) → Each P xs → Each Q xs → Each (λ x. P x × Q x) xs
+each-both P Q [] a b = tt
+each-both P Q (x ∷ xs) a b = ((a.0, b.0), each-both P Q xs a.1 b.1)
 
 pub all-each : {X : Type 0} (P : X → Type 0) (xs : List X) → Each P xs → All P xs
 all-each P [] h = λ k d l. absurd (omega (arith, l))
@@ -46,8 +51,8 @@ each-parts P (x ∷ xs) ys h = (let r = each-parts P xs ys h.1 in ((h.0, r.0), r
 -- what holds of each file holds of each question's
 pub each-question : (s : Setup) (P : File → Type 0) (fs : List File) → Each P fs → Each (λ (q : Question). P q.file) (questions_in s fs)
 each-question s P [] h = tt
-each-question s P (f ∷ fs) h = each_append (λ (q : Question). P q.file) (map (λ round. record { file = f; round = round }) (rounds_of s f.size)) (questions_in s fs)
-    (each_map (λ (q : Question). P q.file) (λ round. record { file = f; round = round }) (rounds_of s f.size) (λ r. h.0)) (each-question s P fs h.1)
+each-question s P (f ∷ fs) h = each_append (λ (q : Question). P q.file) (map (λ round. record { file = f; round = round }) (rounds_of (profiled s f.profile) f.size)) (questions_in s fs)
+    (each_map (λ (q : Question). P q.file) (λ round. record { file = f; round = round }) (rounds_of (profiled s f.profile) f.size) (λ r. h.0)) (each-question s P fs h.1)
 
 -- ---- the size of a pinned file
 

@@ -9,9 +9,10 @@ use Rattle.plain_facts.specs.Lists.{Each, In}
 use Rattle.plain_facts.proofs.Each.{each_get, each_append, each_map, each_mono, each_take, in_contains}
 use Rattle.plain_facts.proofs.Lists.{drop-get}
 use Rattle.hail_codes.specs.Points.{upto}
-use Rattle.hail_columns.specs.Opened.{LosesRow}
+use Rattle.hail_columns.specs.Objects.{Object}
+use Rattle.hail_columns.specs.Opened.{GivesSymbols, LosesRow}
 use Rattle.hail_devices.specs.Faults.{Rose}
-use Rattle.hail_devices.specs.Providers.{Held, Provider}
+use Rattle.hail_devices.specs.Providers.{Held, Provider, sized}
 use Rattle.hail_devices.specs.ProviderCalls.{FailsToStore, FindsNoMemory, StoreCounts}
 use Rattle.hail_devices.specs.Told.{Goes}
 use Rattle.hail_devices.proofs.Lasting.{rose-before}
@@ -26,7 +27,7 @@ use Rattle.hail_machine.specs.Begins.{due_number, due_flags}
 use Rattle.hail_machine.specs.Events.{Ended}
 use Rattle.hail_machine.specs.Given.{block_given, blocks_given, symbols_given}
 use Rattle.hail_machine.specs.Heard.{Entry, heard_by_kind}
-use Rattle.hail_machine.specs.States.{State, Doubt, setup_in, object_in, with_provider, ended}
+use Rattle.hail_machine.specs.States.{State, Doubt, setup_in, worked_object, with_provider, ended}
 use Rattle.hail_machine.specs.Appends.{Moves}
 use Rattle.hail_machine.specs.Steps.{next_action, holder_of, Acts, Ends as EndsAs}
 use Rattle.hail_machine.proofs.ActionLists.{split_get}
@@ -36,21 +37,22 @@ use Rattle.hail_machine.proofs.RecordFacts.{listed_file}
 use Rattle.hail_machine.proofs.NextActions.{next_stands}
 use Rattle.hail_commands.specs.JobRuns.{RunsJob}
 use Rattle.hail_commands.specs.Jobs.{Leaves}
-use Rattle.hail_commands.specs.Ran.{Ran, ran_from, setup_at_begin, EachHeldGoes, IsWhole, IsCut}
-use Rattle.hail_commands.specs.Repairs.{Place, places, Gave, held_at, IsTruth, GivesPlace, RewrittenOn, PartlyRewrittenOn, IfFlagged, flags, RewritesAll, RewritesPart, RewritesSome, LosesAtPlace, RepairGives}
+use Rattle.hail_commands.specs.Ran.{Ran, ran_from, object_numbered, EachHeldGoes, IsWhole, IsCut}
+use Rattle.hail_commands.specs.Repairs.{Place, places, Gave, blocks_at, held_at, IsTruth, GivesPlace, RewrittenOn, PartlyRewrittenOn, IfFlagged, flags, RewritesAll, RewritesPart, RewritesSome, LosesAtPlace, RepairGives}
 use Rattle.hail_commands.specs.Truthful.{IsTruthful}
 use Rattle.sound_states.specs.Orders.{moves_made, moves_before, IsInOrder, AreAscending}
 use Rattle.sound_states.proofs.Begun.{begun-repair}
 use Rattle.sound_states.proofs.Events.{moves-next}
 use Rattle.sound_states.proofs.Orders.{appends_in, appends-cons}
 use Rattle.sound_states.proofs.Records.{is_some-at}
-use Rattle.lone_laws.specs.Made.{With, Made}
+use Rattle.lone_laws.specs.Made.{With, Made, object_made}
 use Rattle.hail_openings.specs.Opened.{IsOpenAtRest}
 use Rattle.lone_laws.specs.Walked.{RecordsAre, with_job_of, Walked}
 use Rattle.lone_laws.proofs.Prefixes.{repair-list, audit-within}
 use Rattle.lone_laws.proofs.Walk.{Wrote, wrote, runs, left-start}
 use Rattle.job_laws.proofs.Runs.{Ends, job-ends}
 use Rattle.job_laws.proofs.Providers.{Called, calls-at, made-keeps}
+use Rattle.job_laws.proofs.Plain.{made-plain, worked-plain, numbered-plain}
 use Rattle.job_laws.proofs.Lasts.{InDoubt, Faults, move-faults, NoRoom, move-memory, none-moving}
 use Rattle.job_laws.proofs.Truth.{made-rises}
 use Rattle.job_laws.proofs.Leaving.{counts-rise, others-stay}
@@ -165,6 +167,14 @@ module _ (start : State) (O : IsOpenAtRest start 1) (w : State) (job : Job) (W :
     abbrev symbols : Place → List ℕ
     symbols p = symbols_given job.given p.object p.stripe
 
+    abbrev plain : ℕ → Object
+    plain = object_made x
+
+    -- the objects of the files are those of the setup
+    objects-are : plain ≡ object_numbered ran
+    unfolding setup_in
+    objects-are i id = (made-plain start O RepairJob job id ∙ sym (numbered-plain start O ran refl id)) i
+
     -- the flagged providers are those of the due audit
     flagged-is : (j : ℕ) → job.flagged j ≡ flags ran due j
     unfolding setup_in
@@ -178,9 +188,9 @@ module _ (start : State) (O : IsOpenAtRest start 1) (w : State) (job : Job) (W :
     truth ps f = λ j below. by_held j below (start.providers j).held refl
       where
         tells : (j : ℕ) → j < s.n → (held : Held) → (start.providers j).held ≡ Some held → IsTruthful (gave j) (held_at ran held) ps (start.providers j).other_faults (new.providers j).other_faults
-        tells j below held e =
+        tells j below held e = subst (λ (objs : ℕ → Object). IsTruthful (gave j) (λ p. sized (objs p.object).profile.size (held p.object p.stripe)) ps (start.providers j).other_faults (new.providers j).other_faults) objects-are
             (let t = told j held e in record {
-              each = all-each (λ p. (gave j p ≡ held_at ran held p) ⊎ (gave j p ≡ None)) ps (told-places x refl job.given j held below ps acts f t.told);
+              each = all-each (λ p. (gave j p ≡ sized (plain p.object).profile.size (held p.object p.stripe)) ⊎ (gave j p ≡ None)) ps (told-places x refl job.given j held below ps acts f t.told);
               few = λ l. (let same = count-same j in let c = t.count (omega (arith, l, same)) in let m = lacks-places x refl job.given j held below ps acts f in omega (arith, c, m, same));
             })
 
@@ -190,7 +200,8 @@ module _ (start : State) (O : IsOpenAtRest start 1) (w : State) (job : Job) (W :
 
     opened : (ps : List Place) → OpensAll s ps acts → All (GivesPlace ran gave symbols) ps
     unfolding setup_in
-    opened ps o = all-each (GivesPlace ran gave symbols) ps (gives-places x job.given ps acts o (works-opened x acts start.providers w.providers [] job.given ordered-acts made-acts))
+    opened ps o = subst (λ (objs : ℕ → Object). All (λ p. GivesSymbols (objs p.object) p.stripe (blocks_at ran gave p) (symbols p)) ps) objects-are
+        (all-each (λ p. GivesSymbols (plain p.object) p.stripe (blocks_at ran gave p) (symbols p)) ps (gives-places x job.given ps acts o (works-opened x acts start.providers w.providers [] job.given ordered-acts made-acts)))
 
     -- what a provider holds now
     now-held : (j : ℕ) (held : Held) → (start.providers j).held ≡ Some held → (new.providers j).held ≡ Some (after x job.given j acts held)
@@ -210,16 +221,16 @@ module _ (start : State) (O : IsOpenAtRest start 1) (w : State) (job : Job) (W :
     same-elsewhere ps st j held p n = after-none x job.given j acts held p.object p.stripe (no-stores job s.n ps j p.object p.stripe acts (λ h. n (in_contains ps p h.1)) st)
 
     -- some places are rewritten
-    rewritten-part : (ps : List Place) → Each (IsStoreOf job s.n ps) acts → EachHeldGoes ran (λ j. IfFlagged (flags ran due j) (PartlyRewrittenOn (setup_at_begin ran) symbols ps j))
+    rewritten-part : (ps : List Place) → Each (IsStoreOf job s.n ps) acts → EachHeldGoes ran (λ j. IfFlagged (flags ran due j) (PartlyRewrittenOn (object_numbered ran) symbols ps j))
     unfolding setup_in
-    rewritten-part ps st = goes-by (λ j. IfFlagged (flags ran due j) (PartlyRewrittenOn (setup_at_begin ran) symbols ps j))
-        (λ j held below. by_flag j held (flags ran due j) (flagged-is j))
+    rewritten-part ps st = subst (λ (objs : ℕ → Object). EachHeldGoes ran (λ j. IfFlagged (flags ran due j) (PartlyRewrittenOn objs symbols ps j))) objects-are
+        (goes-by (λ j. IfFlagged (flags ran due j) (PartlyRewrittenOn plain symbols ps j)) (λ j held below. by_flag j held (flags ran due j) (flagged-is j)))
       where
         each-place : (j : ℕ) (held : Held) (qs : List Place) → Each (λ (p : Place). (after x job.given j acts held p.object p.stripe ≡ held p.object p.stripe) ⊎ (after x job.given j acts held p.object p.stripe ≡ Some (column_at x job.given j p.object p.stripe))) qs
         each-place j held [] = tt
         each-place j held (p ∷ qs) = (after-either x job.given j acts held p.object p.stripe, each-place j held qs)
 
-        by_flag : (j : ℕ) (held : Held) (b : Bool) → job.flagged j ≡ b → IfFlagged b (PartlyRewrittenOn (setup_at_begin ran) symbols ps j) held (after x job.given j acts held)
+        by_flag : (j : ℕ) (held : Held) (b : Bool) → job.flagged j ≡ b → IfFlagged b (PartlyRewrittenOn plain symbols ps j) held (after x job.given j acts held)
         by_flag j held true f = record {
           stored = all-each (λ (p : Place). (after x job.given j acts held p.object p.stripe ≡ held p.object p.stripe) ⊎ (after x job.given j acts held p.object p.stripe ≡ Some (column_at x job.given j p.object p.stripe))) ps (each-place j held ps);
           others = λ p n. same-elsewhere ps st j held p n;
@@ -246,7 +257,8 @@ module _ (start : State) (O : IsOpenAtRest start 1) (w : State) (job : Job) (W :
       symbols = symbols;
       truth = truth all (opens-fetches s all acts opens);
       gives = opened all opens;
-      held = goes-by (λ j. IfFlagged (flags ran due j) (RewrittenOn (setup_at_begin ran) symbols all j)) (λ j held below. by_flag j held below (flags ran due j) (flagged-is j));
+      held = subst (λ (objs : ℕ → Object). EachHeldGoes ran (λ j. IfFlagged (flags ran due j) (RewrittenOn objs symbols all j))) objects-are
+          (goes-by (λ j. IfFlagged (flags ran due j) (RewrittenOn plain symbols all j)) (λ j held below. by_flag j held below (flags ran due j) (flagged-is j)));
     }
       where
         opens : OpensAll s all acts
@@ -255,7 +267,7 @@ module _ (start : State) (O : IsOpenAtRest start 1) (w : State) (job : Job) (W :
         st : Each (IsStoreOf job s.n all) acts
         st = subst (Each (IsStoreOf job s.n all)) (sym e) (each_append (IsStoreOf job s.n all) (flat_map (actions_at s job) all) behind (stores-all s job all) b)
 
-        by_flag : (j : ℕ) (held : Held) → j < s.n → (b : Bool) → job.flagged j ≡ b → IfFlagged b (RewrittenOn (setup_at_begin ran) symbols all j) held (after x job.given j acts held)
+        by_flag : (j : ℕ) (held : Held) → j < s.n → (b : Bool) → job.flagged j ≡ b → IfFlagged b (RewrittenOn plain symbols all j) held (after x job.given j acts held)
         by_flag j held below true f = record {
           stored = all-each (λ (p : Place). after x job.given j acts held p.object p.stripe ≡ Some (column_at x job.given j p.object p.stripe)) all
               (each-in (λ (p : Place). after x job.given j acts held p.object p.stripe ≡ Some (column_at x job.given j p.object p.stripe)) all
@@ -347,7 +359,7 @@ module _ (start new : State) (how : Answer) (heard : List Entry) (O : IsOpenAtRe
     ]
 
     -- at a work all blocks of the place were fetched
-    lost-at : (o t row : ℕ) → slice_get (actions_of sx E.job) E.job.place ≡ Some (Work o t) → LosesRow (object_in E.before o) t (blocks_given E.job.given (setup_in E.before).n o t) row → LosesAtPlace (ran_from start new heard) due t row
+    lost-at : (o t row : ℕ) → slice_get (actions_of sx E.job) E.job.place ≡ Some (Work o t) → LosesRow (worked_object E.before E.job o) t (blocks_given E.job.given (setup_in E.before).n o t) row → LosesAtPlace (ran_from start new heard) due t row
     unfolding setup_in
     lost-at o t row h loses = elim (cut-next start O E.before E.job E.walked (Work o t) h) [
       | Cut.behind q at front ↦ absurd (each_get IsNoWork (append_actions ++ End ∷ []) q (Work o t) (tt, (tt, (tt, (tt, (tt, tt))))) at)
@@ -368,7 +380,11 @@ module _ (start new : State) (how : Answer) (heard : List Entry) (O : IsOpenAtRe
             truth = truth start O E.before E.job E.walked new heard held-same count-same due is-due (done ++ place ∷ [])
                 (subst (FetchesAll sx (done ++ place ∷ [])) (sym is) (fetches-done sx E.job done (place ∷ []) (fetches_at sx place) ([], [], sym (append-nil (fetches_at sx place ++ []) ∙ append-nil (fetches_at sx place)), tt)));
             stripe_is = sym c.2;
-            loses = subst (λ m. LosesRow (object_of sx place.object) t (blocks_given E.job.given sx.n place.object m) row) c.2 (subst (λ n. LosesRow (object_of sx n) t (blocks_given E.job.given sx.n n t) row) c.1 (subst (λ (u : Setup). LosesRow (object_of u o) t (blocks_given E.job.given u.n o t) row) E.walked.setup loses));
+            loses = subst (λ m. LosesRow (object_numbered (ran_from start new heard) place.object) t (blocks_given E.job.given sx.n place.object m) row) c.2
+                (subst (λ (z : Object). LosesRow z t (blocks_given E.job.given sx.n place.object t) row) (sym (numbered-plain start O (ran_from start new heard) refl place.object))
+                (subst (λ n. LosesRow (object_of sx n) t (blocks_given E.job.given sx.n n t) row) c.1
+                (subst (λ (z : Object). LosesRow z t (blocks_given E.job.given sx.n o t) row) (worked-plain start O RepairJob E.before E.job E.walked o)
+                (subst (λ n. LosesRow (worked_object E.before E.job o) t (blocks_given E.job.given n o t) row) (ap (λ (u : Setup). u.n) E.walked.setup) loses))));
           })
     ]
 
@@ -441,7 +457,7 @@ module _ (start new : State) (how : Answer) (heard : List Entry) (O : IsOpenAtRe
       (cut-none (none-done (ap (λ (v : State). v.records) is) left) (ap (λ (v : State). v.doubt) is ∙ sure (Store j o t) at refl), store-some (λ k. (kept k).0) (λ k. (kept k).1) j o t h))
 
   -- a row was lost
-  work-loses : (o t row : ℕ) → E.action ≡ Work o t → LosesRow (object_in E.before o) t (blocks_given E.job.given (setup_in E.before).n o t) row → new ≡ ended E.before E.job → Gives (answer.Lost t row)
+  work-loses : (o t row : ℕ) → E.action ≡ Work o t → LosesRow (worked_object E.before E.job o) t (blocks_given E.job.given (setup_in E.before).n o t) row → new ≡ ended E.before E.job → Gives (answer.Lost t row)
   work-loses o t row at loses is =
       (let h = listed (Work o t) at (λ e. cc) in
       let e : new.providers ≡ E.before.providers = ap (λ (v : State). v.providers) is in
@@ -536,7 +552,7 @@ pub repairs-leave : (start new : State) (moment : ℕ) (how : Answer) (heard : L
 unfolding setup_in
 repairs-leave start new moment how heard O r =
     (let E = job-ends start new moment RepairJob how heard O tt r in
-    let due = is_some-at (due_of start.records) (begun-repair 8 start RepairJob r.begins.1 refl) in
+    let due = is_some-at (due_of start.records) (begun-repair 8 start RepairJob None r.begins.1 refl) in
     record {
       by_kind = (record { due = due.0; is_due = due.1; gives = repair-gives start new how heard O E due.0 due.1 }, repair-silent start new how heard O E due.0 due.1);
       counts = counts-rise start new RepairJob how heard O E;

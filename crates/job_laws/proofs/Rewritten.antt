@@ -12,12 +12,11 @@ use Rattle.hail_devices.specs.Faults.{last_count}
 use Rattle.hail_devices.specs.Providers.{Held, Provider, sized, with_block}
 use Rattle.hail_devices.specs.ProviderCalls.{Stores, Fetches, FetchGives, FailsToGive}
 use Rattle.hail_machine.specs.Jobs.{RepairJob, Given}
-use Rattle.hail_machine.specs.Setups.{object_of}
 use Rattle.hail_machine.specs.Actions.{Action, WriteBody, SyncBody, WriteGate, SyncGate, Store, Fetch, Ask, Work, Remove, End}
 use Rattle.hail_machine.specs.Given.{block_given, blocks_given, symbols_given}
 use Rattle.hail_machine.proofs.JobLists.{cond_true, cond_false}
 use Rattle.hail_machine.proofs.Given.{symbols_given-newest}
-use Rattle.lone_laws.specs.Made.{With, block_stored, Did, Made}
+use Rattle.lone_laws.specs.Made.{With, block_stored, Did, Made, object_made}
 use Rattle.job_laws.proofs.Heard.{IsNot, block-later, block-newest, symbols-later}
 use Rattle.job_laws.proofs.Truth.{call-hit, call-miss, lacks, lacks-same, lacks-few, made-rises}
 
@@ -75,7 +74,7 @@ none-work o s End h e = cc
 module _ (x : With) (last : List Given) where
   -- the column that is stored, as the symbols are looked up in the end
   abbrev pub column_at : ℕ → ℕ → ℕ → List ℕ
-  column_at j o s = column_of_symbols (object_of x.setup o) (symbols_given last o s) j s
+  column_at j o s = column_of_symbols (object_made x o) (symbols_given last o s) j s
 
   -- what provider j holds after these actions
   abbrev pub after : ℕ → List Action → Held → Held
@@ -161,12 +160,12 @@ module _ (x : With) (last : List Given) where
 module _ (x : With) (repairs : x.kind ≡ RepairJob) (last : List Given) (j : ℕ) where
   -- a fetch of provider j is told what it held at the begin, or nothing
   abbrev pub IsToldBlock : Held → Action → Type 0
-  IsToldBlock begin (Fetch k o s) = k ≡ j → (block_given last o s k ≡ sized (object_of x.setup o).profile.size (begin o s)) ⊎ (block_given last o s k ≡ None)
+  IsToldBlock begin (Fetch k o s) = k ≡ j → (block_given last o s k ≡ sized (object_made x o).profile.size (begin o s)) ⊎ (block_given last o s k ≡ None)
   IsToldBlock begin action = Unit {0}
 
   -- 1 where it is nothing though something of the size was held
   abbrev pub lack_block : Held → Action → ℕ
-  lack_block begin (Fetch k o s) = cond (k == j) (lacks (block_given last o s k) (sized (object_of x.setup o).profile.size (begin o s))) 0
+  lack_block begin (Fetch k o s) = cond (k == j) (lacks (block_given last o s k) (sized (object_made x o).profile.size (begin o s))) 0
   lack_block begin action = 0
 
   -- the places that are still to be fetched are held as at the begin
@@ -183,21 +182,21 @@ module _ (x : With) (repairs : x.kind ≡ RepairJob) (last : List Given) (j : �
   still begin held a p q told none same e h = record { told = told; held_is = ap (λ (z : Provider). z.held) e ∙ (h ∙ ap Some (sym same)); count = λ l. (let f = ap (λ (z : Provider). z.other_faults) e in omega (arith, f, none)) }
 
   fetch-step : (begin held : Held) (k o s : ℕ) (block : Option (List ℕ)) (p q : Provider) → k ≡ j → held o s ≡ begin o s → block_given last o s k ≡ block → p.held ≡ Some held →
-      Fetches (object_of x.setup o).profile.size o s p block q → Step begin held (Fetch k o s) p q
+      Fetches (object_made x o).profile.size o s p block q → Step begin held (Fetch k o s) p q
   fetch-step begin held k o s block p q hit kept is h c = record {
     told = λ e. elim gives [ inl g ↦ inl (is ∙ g) | inr f ↦ inr (is ∙ f.0) ];
     held_is = c.held ∙ h;
-    count = λ l. (let one : lack_block begin (Fetch k o s) ≡ lacks block (sized (object_of x.setup o).profile.size (begin o s)) =
-        cond_true (k == j) (lacks (block_given last o s k) (sized (object_of x.setup o).profile.size (begin o s))) 0 (eq-eqb k j hit) ∙ ap (λ g. lacks g (sized (object_of x.setup o).profile.size (begin o s))) is in
+    count = λ l. (let one : lack_block begin (Fetch k o s) ≡ lacks block (sized (object_made x o).profile.size (begin o s)) =
+        cond_true (k == j) (lacks (block_given last o s k) (sized (object_made x o).profile.size (begin o s))) 0 (eq-eqb k j hit) ∙ ap (λ g. lacks g (sized (object_made x o).profile.size (begin o s))) is in
         elim gives [
-          | inl g ↦ (let z = lacks-same block (sized (object_of x.setup o).profile.size (begin o s)) g in let low = c.counts.other_faults in omega (arith, one, z, low))
-          | inr f ↦ (let z = lacks-few block (sized (object_of x.setup o).profile.size (begin o s)) in let low = c.counts.other_faults in let up = f.1 (omega (arith, low, l)) in omega (arith, one, z, up))
+          | inl g ↦ (let z = lacks-same block (sized (object_made x o).profile.size (begin o s)) g in let low = c.counts.other_faults in omega (arith, one, z, low))
+          | inr f ↦ (let z = lacks-few block (sized (object_made x o).profile.size (begin o s)) in let low = c.counts.other_faults in let up = f.1 (omega (arith, low, l)) in omega (arith, one, z, up))
         ]);
   }
     where
-      gives : (block ≡ sized (object_of x.setup o).profile.size (begin o s)) ⊎ FailsToGive p block q
+      gives : (block ≡ sized (object_made x o).profile.size (begin o s)) ⊎ FailsToGive p block q
       gives = elim c.gives [
-        | inl g ↦ inl (subst (λ t. FetchGives (object_of x.setup o).profile.size o s t block) h g ∙ ap (sized (object_of x.setup o).profile.size) kept)
+        | inl g ↦ inl (subst (λ t. FetchGives (object_made x o).profile.size o s t block) h g ∙ ap (sized (object_made x o).profile.size) kept)
         | inr f ↦ inr f
       ]
 
@@ -206,15 +205,15 @@ module _ (x : With) (repairs : x.kind ≡ RepairJob) (last : List Given) (j : �
   one-step begin held (Fetch k o s) actions old mid new given so_far fit order kept (block, called, is) rest h = elim (cases_eq k j) [
     | inl hit ↦ fetch-step begin held k o s block (old j) (mid j) hit (kept hit)
         (block-later x actions mid new so_far last k o s rest order ∙ (ap (λ g. block_given g o s k) is ∙ block-newest k o s block given)) h
-        (subst (λ n. Fetches (object_of x.setup o).profile.size o s (old n) block (mid n)) hit (call-hit old k (λ p q. Fetches (object_of x.setup o).profile.size o s p block q) mid called))
-    | inr miss ↦ still begin held (Fetch k o s) (old j) (mid j) (λ e. absurd (miss e)) (cond_false (k == j) (lacks (block_given last o s k) (sized (object_of x.setup o).profile.size (begin o s))) 0 (ne_eqb k j miss)) refl
-        (call-miss old k (λ p q. Fetches (object_of x.setup o).profile.size o s p block q) mid j miss called) h
+        (subst (λ n. Fetches (object_made x o).profile.size o s (old n) block (mid n)) hit (call-hit old k (λ p q. Fetches (object_made x o).profile.size o s p block q) mid called))
+    | inr miss ↦ still begin held (Fetch k o s) (old j) (mid j) (λ e. absurd (miss e)) (cond_false (k == j) (lacks (block_given last o s k) (sized (object_made x o).profile.size (begin o s))) 0 (ne_eqb k j miss)) refl
+        (call-miss old k (λ p q. Fetches (object_made x o).profile.size o s p block q) mid j miss called) h
   ]
   one-step begin held (Store k o s) actions old mid new given so_far fit order kept (called, is) rest h = elim (cases_eq k j) [
     | inl hit ↦ (let c = subst (λ n. Stores o s (block_stored x x.kind given k o s) (old n) (mid n)) hit (call-hit old k (Stores o s (block_stored x x.kind given k o s)) mid called) in
         let symbols : symbols_given given o s ≡ symbols_given last o s = sym (ap (λ g. symbols_given g o s) is) ∙ sym (symbols-later x actions mid new so_far last o s rest (each_mono (IsNoneOf o s) (IsNot (Work o s)) actions (λ y u. none-work o s y u) order)) in
         let block : block_stored x x.kind given k o s ≡ column_at x last j o s =
-        ap (λ kd. block_stored x kd given k o s) repairs ∙ (ap (λ ss. column_of_symbols (object_of x.setup o) ss k s) symbols ∙ ap (λ n. column_of_symbols (object_of x.setup o) (symbols_given last o s) n s) hit) in
+        ap (λ kd. block_stored x kd given k o s) repairs ∙ (ap (λ ss. column_of_symbols (object_made x o) ss k s) symbols ∙ ap (λ n. column_of_symbols (object_made x o) (symbols_given last o s) n s) hit) in
         record {
           told = tt;
           held_is = c.held ∙ (ap (option_map (with_block o s (block_stored x x.kind given k o s))) h ∙ (ap (λ b. Some (with_block o s b held)) block
@@ -326,7 +325,7 @@ module _ (x : With) (repairs : x.kind ≡ RepairJob) (last : List Given) (j : �
 
 -- the blocks that were given open to the symbols that were given, as both are looked up in the end
 abbrev pub HasOpened : With → List Given → Action → Type 0
-HasOpened x last (Work o s) = GivesSymbols (object_of x.setup o) s (blocks_given last x.setup.n o s) (symbols_given last o s)
+HasOpened x last (Work o s) = GivesSymbols (object_made x o) s (blocks_given last x.setup.n o s) (symbols_given last o s)
 HasOpened x last action = Unit {0}
 
 pub works-opened : (x : With) (actions : List Action) (old new : ℕ → Provider) (given last : List Given) → AreOrdered actions → Made x actions old new given last → Each (HasOpened x last) actions
@@ -337,8 +336,8 @@ works-opened x (a ∷ actions) old new given last order (mid, so_far, did, rest)
     one (Work o s) order (symbols, gives, same, is) =
         (let found : symbols_given last o s ≡ symbols = symbols-later x actions mid new so_far last o s rest (each_mono (IsNoneOf o s) (IsNot (Work o s)) actions (λ y u. none-work o s y u) order) ∙ (ap (λ g. symbols_given g o s) is ∙ symbols_given-newest o s symbols given) in
         let blocks : (k : ℕ) → block_given given o s k ≡ block_given last o s k = (λ k. sym (ap (λ g. block_given g o s k) is) ∙ sym (block-later x actions mid new so_far last k o s rest (each_mono (IsNoneOf o s) (IsNot (Fetch k o s)) actions (λ y u. none-fetch k o s y u) order))) in
-        subst (λ ss. GivesSymbols (object_of x.setup o) s (blocks_given last x.setup.n o s) ss) (sym found)
-        (subst (λ bs. GivesSymbols (object_of x.setup o) s bs symbols) (λ i. map (λ k. blocks k i) (upto x.setup.n)) gives))
+        subst (λ ss. GivesSymbols (object_made x o) s (blocks_given last x.setup.n o s) ss) (sym found)
+        (subst (λ bs. GivesSymbols (object_made x o) s bs symbols) (λ i. map (λ k. blocks k i) (upto x.setup.n)) gives))
     one (Fetch k o s) order did = tt
     one (Store k o s) order did = tt
     one (Ask k o r) order did = tt

@@ -61,8 +61,9 @@ pub opened-over : (w : State) (records : List Record) (faults : ℕ) (providers 
 unfolding setup_in
 opened-over w records faults providers o accepted spelled room up enough = record {
   rest = record {
-    idle = (o.jobs, o.append, o.unbarred);
+    idle = (o.jobs, o.append, o.unbarred, o.none_alone);
     undoubted = o.doubt;
+    whole = o.whole;
     accepted = subst AreAccepted (sym o.records) accepted;
     in_grammar = subst (λ rs. IsTrue (list_all is_in_grammar rs)) (sym o.records) spelled;
     room = subst (λ rs. text_size rs ≤ largest_journal) (sym o.records) room;

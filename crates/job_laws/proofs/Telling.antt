@@ -11,13 +11,14 @@ use Rattle.hail_devices.specs.Providers.{Provider}
 use Rattle.hail_records.specs.Records.{Record, SetUp, PutStart, PutDone, Drop, AuditStart, AuditDone, RepairDone, PutDoneIn, Version, Resume, InEffect, RepairDue}
 use Rattle.hail_records.specs.Table.{File, file_as, profile_in, file_of, started_as, is_start_of, is_same_name, setup_of}
 use Rattle.hail_records.specs.Acceptance.{AreAccepted}
+use Rattle.hail_records.specs.Areas.{A}
 use Rattle.hail_records.specs.Journal.{StandsFor, StandsOrIsEmpty}
-use Rattle.hail_machine.specs.Jobs.{Kind, PutJob, GetJob, DropJob, AuditJob, RepairJob}
+use Rattle.hail_machine.specs.Jobs.{Kind, PutJob, GetJob, DropJob, AuditJob, RepairJob, UpgradeJob}
 use Rattle.hail_machine.specs.Answers.{Answer}
 use Rattle.hail_machine.specs.Events.{IsSpelledKind}
 use Rattle.hail_machine.specs.Heard.{Entry}
 use Rattle.hail_machine.specs.States.{State, Doubt}
-use Rattle.hail_machine.specs.Stands.{StandsWithDoubt}
+use Rattle.hail_machine.specs.Stands.{StandsPlain, StandsWithDoubt, StandsSwitched}
 use Rattle.hail_machine.proofs.JobLists.{cond_true, cond_false, same_value}
 use Rattle.hail_machine.proofs.Given.{zeros-bytes}
 use Rattle.hail_commands.specs.Seen.{Seen, nobody, provider_at}
@@ -27,12 +28,15 @@ use Rattle.hail_openings.specs.Opened.{IsOpenedOver, IsOpenAtRest}
 use Rattle.hail_commands.specs.JobRuns.{RunsJob}
 use Rattle.hail_commands.specs.Jobs.{Leaves, LeftAlone, RanAlone, RunsAlone}
 use Rattle.sound_states.proofs.Records.{none-set_up, sound-accepted, start-named}
+use Rattle.sound_states.specs.Sound.{IsWholeJournal}
 use Rattle.job_laws.proofs.Runs.{job-ends, opened-over}
+use Rattle.job_laws.proofs.Whole.{runs-whole}
 use Rattle.job_laws.proofs.Audits.{audits-leave}
 use Rattle.job_laws.proofs.Repairs.{repairs-leave}
 use Rattle.job_laws.proofs.Gets.{all-leaves}
 use Rattle.job_laws.proofs.Puts.{put-leaves}
 use Rattle.job_laws.proofs.Drops.{drop-leaves}
+use Rattle.job_laws.proofs.Upgrades.{upgrade-leaves}
 use Rattle.job_laws.proofs.Refused.{drop-has}
 
 -- ---- a state that was opened over records that a start read
@@ -151,10 +155,14 @@ size-file (RepairDue number counts ∷ rs) a name f h = size-file rs a.1 name f 
 abbrev pub opened_state : List Record → ℕ → List Provider → State
 opened_state records faults providers = record {
   records = records;
+  journal = records;
+  area = A;
+  is_switching = false;
   bytes = λ id. replicate (size_put records id) 0;
   audits = λ number. 0;
   jobs = [];
   next_job = 1;
+  alone = None;
   append = None;
   doubt = None;
   providers = provider_at providers;
@@ -177,8 +185,10 @@ get-none (p ∷ ps) (suc j) l = get-none ps j (omega (arith, l))
 pub state-over : (records : List Record) (faults : ℕ) (providers : List Provider) → AreAccepted records → IsOpenedOver (opened_state records faults providers) records faults providers
 state-over records faults providers accepted = record {
   records = refl;
+  whole = record { journal = refl; area = refl; unswitched = refl };
   jobs = refl;
   next_job = refl;
+  none_alone = refl;
   append = refl;
   doubt = refl;
   is_open = refl;
@@ -190,7 +200,8 @@ state-over records faults providers accepted = record {
 
 -- ---- what is left of the run
 
-module _ (records : List Record) (kind : Kind) (answer : Answer) (old new : Seen) (heard : List Entry) (law : (w last : State) (moment : ℕ) → IsOpenAtRest w 1 → RunsJob w moment kind answer heard last → Leaves (ran_from w last heard) kind answer)
+module _ (records : List Record) (kind : Kind) (answer : Answer) (old new : Seen) (heard : List Entry) (spelled : IsSpelledKind kind)
+    (law : (w last : State) (moment : ℕ) → IsOpenAtRest w 1 → RunsJob w moment kind answer heard last → Leaves (ran_from w last heard) kind answer)
     (R : opens.IsOpened old records) (same : length new.providers ≡ length old.providers) (A : RunsAlone records kind answer old new heard) where
   abbrev w : State
   w = opened_state records A.faults old.providers
@@ -214,12 +225,19 @@ module _ (records : List Record) (kind : Kind) (answer : Answer) (old new : Seen
   abbrev entry_in : Doubt → Record
   entry_in d = d.entry
 
-  image-stands : (image : List ℕ) → StandsOrIsEmpty image ran.last.records ⊎ StandsWithDoubt ran.last image →
-      StandsOrIsEmpty image ran.last.records ⊎ IsSomeAnd (option_map (λ (d : Doubt). d.entry) ran.last.doubt) (λ entry. StandsFor image (entry ∷ ran.last.records))
-  image-stands image (inl h) = inl h
-  image-stands image (inr h) = inr (subst (λ (d : Option Doubt). IsSomeAnd (option_map (λ (d : Doubt). d.entry) d) (λ entry. StandsFor image (entry ∷ ran.last.records))) (sym h.in_doubt) h.stands)
+  -- the disk holds the whole history
+  whole : IsWholeJournal ran.last
+  whole = runs-whole w (over-opened w old records A.faults R over) kind ran.last 1 answer heard spelled ran.runs
 
-  images-stand : (told : Option Cells) → EachImage told (λ image. StandsOrIsEmpty image ran.last.records ⊎ StandsWithDoubt ran.last image) →
+  image-stands : (image : List ℕ) → StandsPlain ran.last image ⊎ (StandsWithDoubt ran.last image ⊎ StandsSwitched ran.last image) →
+      StandsOrIsEmpty image ran.last.records ⊎ IsSomeAnd (option_map (λ (d : Doubt). d.entry) ran.last.doubt) (λ entry. StandsFor image (entry ∷ ran.last.records))
+  image-stands image (inl (inl h)) = inl (inl (subst (StandsFor image) whole.journal h.1))
+  image-stands image (inl (inr h)) = inl (inr (sym whole.journal ∙ h.0, h.1))
+  image-stands image (inr (inl h)) = inr (subst (λ (d : Option Doubt). IsSomeAnd (option_map (λ (d : Doubt). d.entry) d) (λ entry. StandsFor image (entry ∷ ran.last.records))) (sym h.in_doubt)
+      (subst (λ rs. StandsFor image (h.doubt.entry ∷ rs)) whole.journal h.stands.1))
+  image-stands image (inr (inr h)) = absurd (false≢true (sym whole.unswitched ∙ h.switching))
+
+  images-stand : (told : Option Cells) → EachImage told (λ image. StandsPlain ran.last image ⊎ (StandsWithDoubt ran.last image ⊎ StandsSwitched ran.last image)) →
       EachImage told (λ image. StandsOrIsEmpty image ran.last.records ⊎ IsSomeAnd (option_map (λ (d : Doubt). d.entry) ran.last.doubt) (λ entry. StandsFor image (entry ∷ ran.last.records)))
   images-stand None h = tt
   images-stand (Some cells) h = λ image is. image-stands image (h image is)
@@ -245,3 +263,4 @@ jobs-leave (DropJob name) w last moment answer heard spelled O r =
     (let f = drop-has 8 w name r.begins.1 in drop-leaves w last name answer heard O (job-ends w last moment (DropJob name) answer heard O spelled r) f.0 f.1)
 jobs-leave AuditJob w last moment answer heard spelled O r = audits-leave w last moment answer heard O r
 jobs-leave RepairJob w last moment answer heard spelled O r = repairs-leave w last moment answer heard O r
+jobs-leave UpgradeJob w last moment answer heard spelled O r = upgrade-leaves w last answer heard O (job-ends w last moment UpgradeJob answer heard O spelled r)

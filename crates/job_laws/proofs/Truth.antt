@@ -11,11 +11,10 @@ use Rattle.hail_devices.specs.Faults.{last_count}
 use Rattle.hail_devices.specs.Providers.{Held, Provider}
 use Rattle.hail_devices.specs.ProviderCalls.{Fetches, Asks, AskGives, FailsToGive}
 use Rattle.hail_machine.specs.Jobs.{Given}
-use Rattle.hail_machine.specs.Setups.{object_of}
 use Rattle.hail_machine.specs.Actions.{Action, WriteBody, SyncBody, WriteGate, SyncGate, Store, Fetch, Ask, Work, Remove, End}
 use Rattle.hail_machine.specs.Given.{answer_given}
 use Rattle.hail_machine.proofs.JobLists.{cond_true, cond_false}
-use Rattle.lone_laws.specs.Made.{With, challenge_made, CallsOne, Did, Made}
+use Rattle.lone_laws.specs.Made.{With, challenge_made, CallsOne, Did, Made, object_made}
 use Rattle.job_laws.proofs.Providers.{Rises, rises-same, rises-more, called-rises, made-keeps}
 use Rattle.job_laws.proofs.Heard.{IsOver, AreDistinct, answer-later, answer-newest}
 
@@ -109,9 +108,9 @@ module _ (x : With) (j : ℕ) (held : Held) (now : List Given) where
     | inr miss ↦ other-ask k o r (old j) (mid j) miss (call-miss old k (λ p q. Asks (honest_answer (challenge_made x o r)) o p symbol q) mid j miss called) h
   ]
   one-step (Fetch k o s) actions old mid new given so_far quiet over (block, called, is) rest h = elim (cases_eq k j) [
-    | inl hit ↦ (let c = subst (λ n. Fetches (object_of x.setup o).profile.size o s (old n) block (mid n)) hit (call-hit old k (λ p q. Fetches (object_of x.setup o).profile.size o s p block q) mid called) in
+    | inl hit ↦ (let c = subst (λ n. Fetches (object_made x o).profile.size o s (old n) block (mid n)) hit (call-hit old k (λ p q. Fetches (object_made x o).profile.size o s p block q) mid called) in
         record { told = tt; held_is = c.held ∙ h; count = λ l. (let low = c.counts.other_faults in omega (arith, low)) })
-    | inr miss ↦ same-step (Fetch k o s) (old j) (mid j) tt refl (call-miss old k (λ p q. Fetches (object_of x.setup o).profile.size o s p block q) mid j miss called) h
+    | inr miss ↦ same-step (Fetch k o s) (old j) (mid j) tt refl (call-miss old k (λ p q. Fetches (object_made x o).profile.size o s p block q) mid j miss called) h
   ]
   one-step (Store k o s) actions old mid new given so_far quiet over did rest h = absurd quiet
   one-step (Remove k o) actions old mid new given so_far quiet over did rest h = absurd quiet

@@ -4,9 +4,9 @@
 --   is_bad_for o bytes j old new  == provider j, seen so at the begin and at the end, held a wrong block of
 --                                an object of these bytes at the begin, or its count of failed calls rose;
 --                                so is one that does not tell what it holds
---   is_bad x id bytes j       == the same of a provider of a run
---   bad_count x id bytes      == how many providers of the setup are so in a run
---   bad_seen records old new id bytes  == how many providers of the setup are so, as the devices are seen
+--   is_bad x file bytes j     == the same of a provider of a run, for a file of these bytes
+--   bad_count x file bytes    == how many providers of the setup are so in a run
+--   bad_seen records old new file bytes  == how many providers of the setup are so, as the devices are seen
 use Rattle.std.specs.Prelude.{ℕ, ◌||◌, Bool, true, List, Option, None, Some, nat_lt, nat_le}
 use Rattle.hail_codes.specs.Points.{upto}
 use Rattle.hail_columns.specs.Objects.{Object}
@@ -15,10 +15,10 @@ use Rattle.hail_columns.specs.Forgeries.{count_of}
 use Rattle.hail_devices.specs.Faults.{last_count}
 use Rattle.hail_devices.specs.Providers.{Held, Provider}
 use Rattle.hail_records.specs.Records.{Record}
-use Rattle.hail_machine.specs.Setups.{object_of}
+use Rattle.hail_records.specs.Table.{File}
 use Rattle.hail_commands.specs.Seen.{Seen, provider_at}
-use Rattle.hail_commands.specs.Opens.{setup_in_effect}
-use Rattle.hail_commands.specs.Ran.{Ran, setup_at_begin}
+use Rattle.hail_commands.specs.Opens.{setup_in_effect, object_in_effect}
+use Rattle.hail_commands.specs.Ran.{Ran, setup_at_begin, object_at_begin}
 
 -- a count rose, or it stands at its last value
 abbrev pub has_risen : ℕ → ℕ → Bool
@@ -34,16 +34,16 @@ is_bad_with o bytes j old new (Some held) =
 abbrev pub is_bad_for : Object → List ℕ → ℕ → Provider → Provider → Bool
 is_bad_for o bytes j old new = is_bad_with o bytes j old new old.held
 
--- a provider is wrong for an object of these bytes, or failed in the run
-abbrev pub is_bad : Ran → ℕ → List ℕ → ℕ → Bool
-is_bad x id bytes j = is_bad_for (object_of (setup_at_begin x) id) bytes j (x.old j) (x.new j)
+-- a provider is wrong for a file of these bytes, or failed in the run
+abbrev pub is_bad : Ran → File → List ℕ → ℕ → Bool
+is_bad x file bytes j = is_bad_for (object_at_begin x file) bytes j (x.old j) (x.new j)
 
 -- how many providers of the setup are so
-abbrev pub bad_count : Ran → ℕ → List ℕ → ℕ
-bad_count x id bytes = count_of (is_bad x id bytes) (upto (setup_at_begin x).n)
+abbrev pub bad_count : Ran → File → List ℕ → ℕ
+bad_count x file bytes = count_of (is_bad x file bytes) (upto (setup_at_begin x).n)
 
 -- how many providers of the setup are so, as the devices are seen
-abbrev pub bad_seen : List Record → Seen → Seen → ℕ → List ℕ → ℕ
-bad_seen records old new id bytes =
-    count_of (λ j. is_bad_for (object_of (setup_in_effect records) id) bytes j (provider_at old.providers j)
+abbrev pub bad_seen : List Record → Seen → Seen → File → List ℕ → ℕ
+bad_seen records old new file bytes =
+    count_of (λ j. is_bad_for (object_in_effect records file) bytes j (provider_at old.providers j)
     (provider_at new.providers j)) (upto (setup_in_effect records).n)

@@ -1,11 +1,11 @@
-//! What gets, puts and drops leave that run alone, and when jobs end well, from a state whose vault was just opened.
+//! What gets, puts, drops and upgrades leave that run alone, and when jobs end well, from a state whose vault was just opened.
 ghost use Rattle.std.specs.Prelude.{◌≡◌, ◌⊎◌, ℕ, ◌+◌, ◌<◌, ◌≤◌, List, length, Some};
 ghost use Rattle.hail_devices.specs.Faults.{Rose};
 ghost use Rattle.hail_records.specs.Table.{File};
-ghost use Rattle.hail_machine.specs.Jobs.{PutJob, GetJob, DropJob, AuditJob, RepairJob};
-ghost use Rattle.hail_machine.specs.Answers.{Answer, Put, Got, Dropped, Audited, Repaired, Memory};
+ghost use Rattle.hail_machine.specs.Jobs.{PutJob, GetJob, DropJob, AuditJob, RepairJob, UpgradeJob};
+ghost use Rattle.hail_machine.specs.Answers.{Answer, Put, Got, Dropped, Audited, Repaired, Upgraded, Memory};
 ghost use Rattle.hail_machine.specs.Events.{IsSpelledKind, AreBytes};
-ghost use Rattle.hail_machine.specs.States.{State, setup_in, object_in, file_in};
+ghost use Rattle.hail_machine.specs.States.{State, setup_in, file_object, file_in};
 ghost use Rattle.hail_machine.specs.Heard.{Entry, HoldsForgery};
 ghost use Rattle.hail_commands.specs.Ran.{ran_from};
 ghost use Rattle.hail_commands.specs.JobRuns.{RunsJob};
@@ -36,25 +36,32 @@ pub fn drops_leave()
         → Leaves (ran_from w new heard) (DropJob name) answer }
 {}
 
+/// What an upgrade leaves, however it ends: the journal has its second version, and providers hold what they held.
+pub fn upgrades_leave()
+    ensures { (w new : State) (moment : ℕ) (answer : Answer) (heard : List Entry) → IsOpenAtRest w 1
+        → RunsJob w moment UpgradeJob answer heard new →
+        Leaves (ran_from w new heard) UpgradeJob answer }
+{}
+
 /// What follows for a get from how many providers are wrong for the file, or failed, as the run began and went.
 pub fn few_bad_providers_give_file()
     ensures complete { (w new : State) (moment : ℕ) (name bytes : List ℕ) (answer : Answer)
         (heard : List Entry) (file : File) → IsOpenAtRest w 1 →
         IsSpelledKind (GetJob name) → RunsJob w moment (GetJob name) answer heard new
         → file_in w name ≡ Some file → AreBytes bytes →
-        length bytes ≡ file.size → bad_count (ran_from w new heard) file.id bytes ≤ (setup_in w).b
+        length bytes ≡ file.size → bad_count (ran_from w new heard) file bytes ≤ (setup_in w).b
         → answer ≡ Got bytes }
     ensures right { (w new : State) (moment : ℕ) (name bytes got : List ℕ) (heard : List Entry)
         (file : File) → IsOpenAtRest w 1 →
         IsSpelledKind (GetJob name) → RunsJob w moment (GetJob name) (Got got) heard new
         → file_in w name ≡ Some file → AreBytes bytes →
-        length bytes ≡ file.size → bad_count (ran_from w new heard) file.id bytes ≤ (setup_in w).b + 1
+        length bytes ≡ file.size → bad_count (ran_from w new heard) file bytes ≤ (setup_in w).b + 1
         → got ≡ bytes }
     ensures forged { (w new : State) (moment : ℕ) (name bytes got : List ℕ) (heard : List Entry)
         (file : File) → IsOpenAtRest w 1 →
         IsSpelledKind (GetJob name) → RunsJob w moment (GetJob name) (Got got) heard new
         → file_in w name ≡ Some file → AreBytes bytes →
-        length bytes ≡ file.size → (got ≡ bytes) ⊎ HoldsForgery (object_in w file.id) bytes 1 heard }
+        length bytes ≡ file.size → (got ≡ bytes) ⊎ HoldsForgery (file_object w file) bytes 1 heard }
 {}
 
 /// A put stores the file, or found no memory, unless a count of faults rose: the disk's, or that of a provider's stores.
@@ -75,6 +82,13 @@ pub fn drops_end_well()
         → (answer ≡ Dropped) ⊎ (answer ≡ Memory) }
 {}
 
+/// An upgrade gives the journal its second version, or found no memory, unless the disk's count of faults rose.
+pub fn upgrades_end_well()
+    ensures { (w new : State) (moment : ℕ) (answer : Answer) (heard : List Entry) → IsOpenAtRest w 1
+        → RunsJob w moment UpgradeJob answer heard new →
+        (Rose w.disk_faults new.disk_faults → ⊥) → (answer ≡ Upgraded) ⊎ (answer ≡ Memory) }
+{}
+
 /// An audit gives its sums, or found no memory, unless the disk's count of faults rose, whatever providers do.
 pub fn audits_end_well()
     ensures { (w new : State) (moment : ℕ) (answer : Answer) (heard : List Entry) → IsOpenAtRest w 1
@@ -93,6 +107,6 @@ pub fn repairs_end_well()
         ((j : ℕ) → j < (setup_in w).n → Rose (w.providers j).store_faults (new.providers j).store_faults
         → ⊥) →
         ((name : List ℕ) (file : File) → file_in w name ≡ Some file → (length (bytes file.id) ≡ file.size) ×
-        (bad_count (ran_from w new heard) file.id (bytes file.id) ≤ (setup_in w).b)) →
+        (bad_count (ran_from w new heard) file (bytes file.id) ≤ (setup_in w).b)) →
         ((number : ℕ) × (answer ≡ Repaired number)) ⊎ (answer ≡ Memory) }
 {}

@@ -1,45 +1,57 @@
 -- One step of reading a journal.
-use Rattle.std.proofs.Common.{◌≡◌, ◌≢◌, inl, inr, ℕ, suc, ◌+◌, ◌-◌, ◌<◌, ◌≤◌, List, [], ◌∷◌, ◌++◌, length, get_or, take, drop, map, replicate, sym, ap, ◌∙◌, arith, append_assoc, take-append-drop, length-take}
-use Rattle.std.specs.Prelude.{IsTrue, reverse}
-use Rattle.std.specs.List.{list_all}
+use Rattle.std.proofs.Common.{◌≡◌, ◌≢◌, inl, inr, ℕ, suc, ◌+◌, ◌-◌, ◌<◌, ◌≤◌, List, [], ◌∷◌, ◌++◌, length, ◌&&◌, refl, length-drop, get_or, take, drop, map, replicate, sym, ap, ◌∙◌, arith, append_assoc, take-append-drop, length-take}
+use Rattle.std.specs.Prelude.{reverse}
 use Rattle.std.proofs.lemmas.List.{drop-replicate, drop_more, take_more, take_all, map-append, reverse-append}
 use Rattle.std.proofs.Math.Seq.{take-add, take-append-add}
-use Rattle.hail_records.specs.Records.{Record as Entry, is_in_grammar}
-use Rattle.hail_records.specs.Spellings.{spelling}
+use Rattle.hail_records.specs.Records.{Record as Entry}
+use Rattle.hail_records.specs.Spellings.{spelling, Spells}
 use Rattle.hail_records.specs.Journal.{before_gate, StandsFor, SpellsNone, IsBadAt}
 use Rattle.record_codec.specs.declared.records.Record.{Record}
 use Rattle.record_codec.specs.Entries.{entry_of}
 use Rattle.journal_core.specs.Lists.{newest_first}
+use Rattle.journal_core.specs.Gates.{IsReadTo, StopsAt}
 
 -- one record more is the newest
 pub newest_push : (records : List Record) (r : Record) → newest_first (records ++ r ∷ []) ≡ entry_of r ∷ newest_first records
 newest_push records r = ap reverse (map-append entry_of records (r ∷ [])) ∙ reverse-append (map entry_of records) (entry_of r ∷ [])
 
-module _ (bytes : List ℕ) (rs : List Entry) (at : ℕ) (inside : at < length bytes) (all : IsTrue (list_all is_in_grammar rs)) (so_far : take at bytes ≡ before_gate rs) where
-  -- what is read, the gate, and what is behind it
-  split : bytes ≡ before_gate rs ++ (get_or bytes at 0 ∷ drop (at + 1) bytes)
-  split = sym (take-append-drop at bytes) ∙ ap (λ (l : List ℕ). take at bytes ++ l) (drop_more bytes at 0 inside) ∙ ap (λ (l : List ℕ). l ++ (get_or bytes at 0 ∷ drop (at + 1) bytes)) so_far
+module _ (bytes : List ℕ) (rs : List Entry) (gate : ℕ) (is : IsReadTo bytes rs gate) where
+  -- the bytes end at a gate
+  pub stops-end : length bytes ≤ gate → StopsAt bytes rs gate
+  stops-end out =
+      let w = is.within in
+      inl (record { records = rs; in_grammar = is.in_grammar; bytes_are = sym (take_all gate bytes out) ∙ is.so_far; place = omega (arith, out, w) }, refl)
 
-  pub StandsFor-at : get_or bytes at 0 ≢ 1 → StandsFor bytes rs
-  StandsFor-at shut = record { in_grammar = all; gate = get_or bytes at 0; rest = drop (at + 1) bytes; closed = shut; bytes_are = split }
+  module _ (inside : gate < length bytes) where
+    -- what is read, the gate, and what is behind it
+    split : bytes ≡ before_gate rs ++ (get_or bytes gate 0 ∷ drop (gate + 1) bytes)
+    split = sym (take-append-drop gate bytes) ∙ ap (λ (l : List ℕ). take gate bytes ++ l) (drop_more bytes gate 0 inside) ∙ ap (λ (l : List ℕ). l ++ (get_or bytes gate 0 ∷ drop (gate + 1) bytes)) is.so_far
 
-  pub IsBadAt-behind : get_or bytes at 0 ≡ 1 → SpellsNone (drop (at + 1) bytes) → IsBadAt bytes (at + 1)
-  IsBadAt-behind opened none =
-      let size : at + 1 ≡ length (before_gate rs) + 1 = omega (arith, ap length so_far, length-take at bytes) in
-      inr (inr (record { records = rs; rest = drop (at + 1) bytes; in_grammar = all; bytes_are = split ∙ ap (λ (g : ℕ). before_gate rs ++ (g ∷ drop (at + 1) bytes)) opened; none = none; place = size }))
+    pub StandsFor-at : get_or bytes gate 0 ≢ 1 → StandsFor bytes rs
+    StandsFor-at shut = record { in_grammar = is.in_grammar; gate = get_or bytes gate 0; rest = drop (gate + 1) bytes; closed = shut; bytes_are = split }
 
-  pub reads_on : (r : Entry) (size : ℕ) → get_or bytes at 0 ≡ 1 → take size (drop (at + 1) bytes) ≡ spelling r → take (at + 1 + size) bytes ≡ before_gate (r ∷ rs)
-  reads_on r size opened found =
-      take-add (at + 1) size bytes
-      ∙ ap (λ (l : List ℕ). l ++ take size (drop (at + 1) bytes)) (take_more bytes at 0 inside)
-      ∙ ap (λ (l : List ℕ). (take at bytes ++ (get_or bytes at 0 ∷ [])) ++ l) found
-      ∙ append_assoc (take at bytes) (get_or bytes at 0 ∷ []) (spelling r)
-      ∙ (λ i. so_far i ++ (opened i ∷ spelling r))
+    -- no record stands behind the open gate
+    pub stops-behind : get_or bytes gate 0 ≡ 1 → SpellsNone (drop (gate + 1) bytes) → StopsAt bytes rs (gate + 1)
+    stops-behind opened none =
+        let size : gate + 1 ≡ length (before_gate rs) + 1 = omega (arith, ap length is.so_far, length-take gate bytes) in
+        inr (record { records = rs; rest = drop (gate + 1) bytes; in_grammar = is.in_grammar; bytes_are = split ∙ ap (λ (g : ℕ). before_gate rs ++ (g ∷ drop (gate + 1) bytes)) opened; none = none; place = size }, refl)
 
--- bytes that end at a gate
-pub IsBadAt-end : (bytes : List ℕ) (rs : List Entry) (at : ℕ) → length bytes ≡ at → IsTrue (list_all is_in_grammar rs) → take at bytes ≡ before_gate rs → IsBadAt bytes at
-IsBadAt-end bytes rs at size all so_far =
-    inr (inl (record { records = rs; in_grammar = all; bytes_are = sym (take_all at bytes (omega (arith, size))) ∙ so_far; place = sym size }))
+    -- one record more
+    pub read-more : (r : Entry) (size : ℕ) → get_or bytes gate 0 ≡ 1 → size ≤ length (drop (gate + 1) bytes) → Spells (take size (drop (gate + 1) bytes)) r → IsReadTo bytes (r ∷ rs) (gate + 1 + size)
+    read-more r size opened small found = record {
+      within = omega (arith, small, length-drop (gate + 1) bytes, inside);
+      in_grammar = (λ k. found.in_grammar k && is.in_grammar k);
+      so_far = take-add (gate + 1) size bytes
+          ∙ ap (λ (l : List ℕ). l ++ take size (drop (gate + 1) bytes)) (take_more bytes gate 0 inside)
+          ∙ ap (λ (l : List ℕ). (take gate bytes ++ (get_or bytes gate 0 ∷ [])) ++ l) found.bytes_are
+          ∙ append_assoc (take gate bytes) (get_or bytes gate 0 ∷ []) (spelling r)
+          ∙ (λ i. is.so_far i ++ (opened i ∷ spelling r));
+    }
+
+-- where the records stop, the bytes are bad
+pub stops-bad : (bytes : List ℕ) (rs : List Entry) (at : ℕ) → StopsAt bytes rs at → IsBadAt bytes at
+stops-bad bytes rs at (inl end) = inr (inl end.0)
+stops-bad bytes rs at (inr break) = inr (inr break.0)
 
 -- a body as it is kept: the spelling, and a closed gate out of the zeros behind it
 pub body_made : (text all : List ℕ) (n : ℕ) → length text ≤ 80 → n ≡ length text → all ≡ text ++ drop (length text) (replicate 81 0) → take (n + 1) all ≡ text ++ (0 ∷ [])

@@ -2,4 +2,5 @@ pub mod Lists
 pub mod Moves
 pub mod Appends
 pub mod Faults
+pub mod Gates
 pub mod Firm

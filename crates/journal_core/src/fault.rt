@@ -18,6 +18,14 @@ pub enum JournalFault {
     Memory,
 }
 
+impl From<BadJournal> for JournalFault {
+    ghost from_gives = { λ bad e. e ≡ journal_fault.Bad bad };
+
+    fn from(bad: BadJournal) -> Self {
+        JournalFault::Bad(bad)
+    }
+}
+
 impl From<AllocError> for JournalFault {
     ghost from_gives = { λ _ e. e ≡ journal_fault.Memory };
 

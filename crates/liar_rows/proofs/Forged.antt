@@ -13,7 +13,7 @@ use Rattle.hail_machine.specs.Heard.{HoldsForgery}
 use Rattle.hail_machine.specs.Setups.{object_of}
 use Rattle.hail_commands.specs.Forms.{GetOf}
 use Rattle.hail_commands.specs.Seen.{Seen, Ending}
-use Rattle.hail_commands.specs.Opens.{setup_in_effect}
+use Rattle.hail_commands.specs.Opens.{object_in_effect}
 use Rattle.hail_commands.specs.Commands.{Answers}
 use Rattle.command_laws.specs.Ends.{IsKnown}
 use Rattle.command_laws.proofs.Knowing.{known-good}
@@ -61,7 +61,7 @@ known s old cells is reads_are enough = known-good (setup_numbers s) old cells (
 abbrev pub WritesOrForged : Type 0
 WritesOrForged = (name bytes : List ℕ) (records : List Record) (file : File) (old new : Seen) (end : Ending) → Answers (GetOf name) old new end →
     IsKnown old records → file_of records name ≡ Some file → AreBytes bytes → length bytes ≡ file.size → end.status ≡ 0 →
-    (new.sink ≡ told_then old.sink bytes) ⊎ HoldsForgery (object_of (setup_in_effect records) file.id) bytes 1 end.heard
+    (new.sink ≡ told_then old.sink bytes) ⊎ HoldsForgery (object_in_effect records file) bytes 1 end.heard
 
 pub other-forged : (s : Stored) (old new : Seen) (end : Ending) (cells : Cells) (written : List ℕ) → WritesOrForged → Answers (GetOf name_of_file) old new end →
     old.disk ≡ Some cells → reads cells ≡ text (records_of s) → (setup_numbers s).n ≤ length old.providers → old.sink ≡ Some [] → new.sink ≡ Some written →

@@ -4,7 +4,8 @@ use Rattle.std.specs.Prelude.{slice_get}
 use Rattle.std.proofs.Math.Seq.{drop-append-add}
 use Rattle.std.proofs.lemmas.Bool.{cases_lt}
 use Rattle.hail_records.specs.Records.{Setup}
-use Rattle.hail_machine.specs.Jobs.{Kind, PutJob, GetJob, DropJob, AuditJob, RepairJob, Job}
+use Rattle.hail_records.specs.Table.{version_of}
+use Rattle.hail_machine.specs.Jobs.{Kind, PutJob, GetJob, DropJob, AuditJob, RepairJob, UpgradeJob, Job}
 use Rattle.hail_machine.specs.Actions.{Action, SyncBody, WriteGate, SyncGate, End, append_actions, store_actions, ask_actions, repair_actions, actions_by, actions_of, appends_left}
 use Rattle.hail_machine.specs.States.{State, setup_in}
 use Rattle.hail_machine.specs.Space.{append_sizes}
@@ -13,7 +14,7 @@ use Rattle.hail_machine.proofs.ActionLists.{split_get}
 use Rattle.hail_machine.proofs.Fair.{gate_place}
 use Rattle.hail_machine.proofs.NextActions.{next_stands}
 use Rattle.sound_states.proofs.Orders.{others-repairs, put_rest, drop_rest, audit_rest, put-list, audit-list, appends_in, appends-append, appends-move, appends-others, appends-removals, put-first, audit-first, get-none}
-use Rattle.sound_states.proofs.Gates.{decided, drop-list, drop-gate, audit-same, repair-same}
+use Rattle.sound_states.proofs.Gates.{decided, drop-list, drop-gate, audit-same, repair-same, upgrade-same}
 use Rattle.lone_laws.proofs.Lists.{take-append-add}
 
 -- behind the second append of a put nothing of the part before depends on what is taken away
@@ -58,15 +59,20 @@ module _ (w : State) (job : Job) (older : List ℕ) (next : next_action w job �
   same-front (DropJob name) kind n h = drop-front name kind
   same-front AuditJob kind n h = ap (take (job.place + 1)) (audit-same (setup_in w) job older kind)
   same-front RepairJob kind n h = ap (take (job.place + 1)) (repair-same (setup_in w) job older kind)
+  same-front UpgradeJob kind n h = ap (take (job.place + 1)) (upgrade-same (setup_in w) job older kind)
 
 -- ---- how many appends a job has left at its begin
+
+upgrade-list : (s : Setup) (job : Job) → job.kind ≡ UpgradeJob → actions_of s job ≡ append_actions ++ End ∷ []
+unfolding actions_of
+upgrade-list s job kind = ap (actions_by s job) kind
 
 pub repair-list : (s : Setup) (job : Job) → job.kind ≡ RepairJob → actions_of s job ≡ repair_actions s job ++ (append_actions ++ End ∷ [])
 unfolding actions_of
 repair-list s job kind = ap (actions_by s job) kind
 
 -- as many as its kind appends
-pub appends-whole : (w : State) (job : Job) (kind : Kind) → job.kind ≡ kind → job.place ≡ 0 → appends_left (setup_in w) job ≡ length (append_sizes (setup_in w) kind)
+pub appends-whole : (w : State) (job : Job) (kind : Kind) → job.kind ≡ kind → job.place ≡ 0 → appends_left (setup_in w) job ≡ length (append_sizes (version_of w.records) (setup_in w) kind)
 appends-whole w job (PutJob name bytes) kind first = put-first (setup_in w) job name bytes kind (omega (arith, first))
 appends-whole w job (GetJob name) kind first = get-none (setup_in w) job name kind
 appends-whole w job (DropJob name) kind first =
@@ -76,6 +82,8 @@ appends-whole w job AuditJob kind first = audit-first (setup_in w) job kind (ome
 appends-whole w job RepairJob kind first =
     ap (λ p. appends_in (drop p (actions_of (setup_in w) job))) first ∙ (ap appends_in (repair-list (setup_in w) job kind)
     ∙ (appends-append (repair_actions (setup_in w) job) (append_actions ++ End ∷ []) ∙ (let a = appends-others (repair_actions (setup_in w) job) (others-repairs (setup_in w) job) in let b = appends-move (End ∷ []) in omega (arith, a, b))))
+appends-whole w job UpgradeJob kind first =
+    ap (λ p. appends_in (drop p (actions_of (setup_in w) job))) first ∙ (ap appends_in (upgrade-list (setup_in w) job kind) ∙ appends-move (End ∷ []))
 
 -- ---- an audit whose appends are done
 

@@ -4,32 +4,33 @@ use Rattle.std.specs.Prelude.{slice_get}
 use Rattle.std.specs.List.{list_any}
 use Rattle.std.proofs.lemmas.Bool.{cases_lt, cases_eq, eq-eqb}
 use Rattle.plain_facts.proofs.Options.{some-not-none}
+use Rattle.hail_columns.specs.Objects.{Object}
 use Rattle.hail_columns.specs.Challenges.{honest_answer}
 use Rattle.hail_columns.specs.Columns.{columns, column_of_symbols}
 use Rattle.hail_columns.specs.Opened.{GivesSymbols}
 use Rattle.hail_columns.specs.Verdicts.{Sums}
-use Rattle.hail_records.specs.Records.{Setup, Record, PutStart, PutDone, AuditStart, AuditDone, RepairDone}
-use Rattle.hail_records.specs.Table.{File, next_id, next_audit, file_of}
+use Rattle.hail_records.specs.Records.{Setup, Record, PutStart, AuditStart, AuditDone, RepairDone}
+use Rattle.hail_records.specs.Table.{File, version_of, next_id, next_audit, file_of}
 use Rattle.hail_devices.specs.Providers.{Provider}
 use Rattle.hail_devices.specs.ProviderCalls.{Stores, Fetches, Asks}
-use Rattle.hail_machine.specs.Jobs.{Kind, PutJob, GetJob, DropJob, AuditJob, RepairJob, Pinned, Given, Fetched, Answered, Worked, Job, job_of, with_job, advanced}
-use Rattle.hail_machine.specs.Setups.{object_of}
+use Rattle.hail_machine.specs.Jobs.{Kind, PutJob, GetJob, DropJob, AuditJob, RepairJob, UpgradeJob, Pinned, Given, Fetched, Answered, Worked, Job, job_of, with_job, advanced}
+use Rattle.hail_machine.specs.Setups.{profiled, object_of}
 use Rattle.hail_machine.specs.Actions.{Action, WriteBody, SyncBody, WriteGate, SyncGate, Store, Fetch, Ask, Work, Remove, End, append_actions, ends_append, actions_of, appends_left}
-use Rattle.hail_machine.specs.Audits.{challenge_in, HasSums}
-use Rattle.hail_machine.specs.Given.{blocks_given, symbols_given, pinned_size}
+use Rattle.hail_machine.specs.Audits.{challenge_in, asked_challenge, HasSums}
+use Rattle.hail_machine.specs.Given.{blocks_given, symbols_given, pinned_size, pinned_profile}
 use Rattle.hail_machine.specs.Answers as answer
 use Rattle.hail_machine.specs.Events.{Step, Begun, More, Ended, Waiting, IsSpelledKind, Outcome}
-use Rattle.hail_machine.specs.States.{State, Append, Doubt, setup_in, file_in, with_provider, going_on}
-use Rattle.hail_machine.specs.Begins.{Begins, pinned_for, new_job}
-use Rattle.hail_machine.specs.Appends.{Writes, is_pinned, removable, taken_out, subject_drawn, is_first_append, begun_append, done_append, Moves}
-use Rattle.hail_machine.specs.Steps.{block_to_store, next_action, holder_of, Acts, ActsOrWaits, StepsOn, StepsJob, StepsOpen, Steps}
+use Rattle.hail_machine.specs.States.{State, Append, Doubt, Alone, worked_object, setup_in, file_in, with_provider, going_on}
+use Rattle.hail_machine.specs.Begins.{Begins, BeginsAt, pinned_for, chosen, beginning, new_job}
+use Rattle.hail_machine.specs.Appends.{Writes, done_record, is_pinned, removable, taken_out, subject_drawn, is_first_append, begun_append, done_append, Moves}
+use Rattle.hail_machine.specs.Steps.{block_to_store, next_action, holder_of, Acts, ActsOrWaits, StepsOn, StepsJob, StepsOne, StepsOpen, Steps}
 use Rattle.hail_machine.specs.Machine.{Happens}
-use Rattle.hail_machine.proofs.JobLists.{cond_true, cond_false, same_value}
+use Rattle.hail_machine.proofs.JobLists.{cond_true, cond_false, same_value, found_none}
 use Rattle.hail_machine.proofs.Numbers.{next_by, next_is_by, first_above, first_below, drawn_later}
 use Rattle.hail_machine.proofs.PinFacts.{setup_same}
 use Rattle.hail_machine.proofs.NextActions.{next_stands}
 use Rattle.sound_states.specs.Sound.{IsSound}
-use Rattle.sound_states.proofs.Orders.{gates, body-within, put_rest, audit_rest, put-list, audit-list, put-first, put-later, audit-first, audit-later, drop-first, repair-first}
+use Rattle.sound_states.proofs.Orders.{gates, body-within, put_rest, audit_rest, put-list, audit-list, put-first, put-later, audit-first, audit-later, drop-first, repair-first, upgrade-first}
 use Rattle.sound_states.proofs.Records.{setup-more}
 use Rattle.sound_states.proofs.Written.{body-left}
 use Rattle.sound_states.proofs.Moves.{body-order}
@@ -40,9 +41,9 @@ use Rattle.sound_states.proofs.Going.{onward, actions-onward, count-onward}
 use Rattle.sound_states.proofs.Begun.{begun-job}
 use Rattle.sound_states.proofs.Resting.{rest-sound}
 use Rattle.sound_states.proofs.Events.{events-sound}
-use Rattle.lone_laws.specs.Made.{block_stored, Did, Made}
+use Rattle.lone_laws.specs.Made.{object_made, block_stored, challenge_made, Did, Made}
 use Rattle.hail_openings.specs.Opened.{IsOpenAtRest}
-use Rattle.lone_laws.specs.Walked.{appends_of, first_record, IsSecondRecord, HasSubject, RecordsAre, with_job_of, TakesAway, Walked}
+use Rattle.lone_laws.specs.Walked.{appends_of, first_record, IsSecondRecord, HasSubject, RecordsAre, with_job_at, TakesAway, WalkedAt, Walked}
 use Rattle.lone_laws.proofs.Lists.{take-more, made-append, made-one}
 use Rattle.lone_laws.proofs.Prefixes.{same-front, appends-whole, audit-over}
 
@@ -51,56 +52,74 @@ use Rattle.lone_laws.proofs.Prefixes.{same-front, appends-whole, audit-over}
 pub opened-sound : (start : State) → IsOpenAtRest start 1 → IsSound 8 start
 opened-sound start O = rest-sound 8 start O.rest
 
-pub walk-begin : (moment number : ℕ) (start new : State) (kind : Kind) → IsOpenAtRest start 1 → IsSpelledKind kind → Begins 8 moment start kind (Begun number) new →
-    (number ≡ 1) × Walked start kind new (new_job start moment kind)
-walk-begin moment number start new kind O spelled (opened, allowed, is_number, is) = (
+-- a begin, of a put also with a profile of its own
+pub walk-begin_at : (moment number : ℕ) (start new : State) (kind : Kind) (wish : Option ℕ) → ((p : ℕ) → wish ≡ Some p → (name : List ℕ) × (bytes : List ℕ) × (kind ≡ PutJob name bytes)) →
+    IsOpenAtRest start 1 → IsSpelledKind kind → BeginsAt 8 moment start kind wish (Begun number) new →
+    (number ≡ 1) × WalkedAt start kind (chosen (setup_in start) wish) new (beginning start moment kind wish)
+walk-begin_at moment number start new kind wish named O spelled (opened, allowed, is_number, is) = (
   is_number ∙ O.next,
-  subst (λ (w : State). Walked start kind w (new_job start moment kind)) (sym is) (record {
-    sound = begun-job 8 moment start (opened-sound start O) kind opened allowed spelled;
+  subst (λ (w : State). WalkedAt start kind (chosen (setup_in start) wish) w (beginning start moment kind wish)) (sym is) (record {
+    sound = begun-job 8 moment start (opened-sound start O) kind wish named opened allowed spelled (omega arith, omega arith);
     opened = opened;
     unbarred = O.rest.idle.2;
-    setup = setup_same (record start { jobs = start.jobs ++ new_job start moment kind ∷ []; next_job = start.next_job + 1 }) start refl;
-    jobs = ap (λ (js : List Job). js ++ new_job start moment kind ∷ []) O.rest.idle.0;
+    setup = setup_same (record start { jobs = start.jobs ++ beginning start moment kind wish ∷ []; next_job = start.next_job + 1 }) start refl;
+    jobs = ap (λ (js : List Job). js ++ beginning start moment kind wish ∷ []) O.rest.idle.0;
     number = O.next;
     kind_is = refl;
+    profile_is = refl;
     pinned = refl;
     flagged = refl;
     subject = subject kind;
     older = older kind;
-    records = RecordsAre.none (appends-whole start (new_job start moment kind) kind refl refl) refl;
+    records = RecordsAre.none (appends-whole start (beginning start moment kind wish) kind refl refl) refl;
     made = (refl, refl);
     handed = refl;
     disk = omega arith;
   }),
 )
   where
-    subject : (kd : Kind) → HasSubject start kd (new_job start moment kd)
+    subject : (kd : Kind) → HasSubject start kd (beginning start moment kd wish)
     subject (PutJob name bytes) = λ l. absurd (omega (arith, l))
     subject (GetJob name) = tt
     subject (DropJob name) = tt
     subject AuditJob = λ l. absurd (omega (arith, l))
     subject RepairJob = refl
+    subject UpgradeJob = tt
 
-    older : (kd : Kind) → TakesAway start kd (new_job start moment kd)
-    older (PutJob name bytes) = λ none. absurd (let e = appends-whole start (new_job start moment (PutJob name bytes)) (PutJob name bytes) refl refl in omega (arith, none, e))
+    older : (kd : Kind) → TakesAway start kd (beginning start moment kd wish)
+    older (PutJob name bytes) = λ none. absurd (let e = appends-whole start (beginning start moment (PutJob name bytes) wish) (PutJob name bytes) refl refl in omega (arith, none, e))
     older (GetJob name) = tt
-    older (DropJob name) = λ none. absurd (let e = appends-whole start (new_job start moment (DropJob name)) (DropJob name) refl refl in omega (arith, none, e))
+    older (DropJob name) = λ none. absurd (let e = appends-whole start (beginning start moment (DropJob name) wish) (DropJob name) refl refl in omega (arith, none, e))
     older AuditJob = tt
     older RepairJob = tt
+    older UpgradeJob = tt
+
+pub walk-begin : (moment number : ℕ) (start new : State) (kind : Kind) → IsOpenAtRest start 1 → IsSpelledKind kind → Begins 8 moment start kind (Begun number) new →
+    (number ≡ 1) × Walked start kind new (new_job start moment kind)
+walk-begin moment number start new kind O spelled h = walk-begin_at moment number start new kind None (λ p e. absurd (let f : None ≡ Some p = e in cc)) O spelled h
 
 -- ---- steps
 
-module _ (start : State) (O : IsOpenAtRest start 1) (kind : Kind) (w : State) (job : Job) (W : Walked start kind w job) where
+module _ (start : State) (O : IsOpenAtRest start 1) (kind : Kind) {profile : ℕ} (w : State) (job : Job) (W : WalkedAt start kind profile w job) where
   pub runs : job_of w.jobs job.number ≡ Some job
   runs = ap (λ js. job_of js job.number) W.jobs ∙ cond_true (job.number == job.number) (Some job) None (eq-eqb job.number job.number refl)
 
   pub found : job_of w.jobs 1 ≡ Some job
   found = subst (λ n. job_of w.jobs n ≡ Some job) W.number runs
 
+  -- nothing else runs
+  none-alone : w.alone ≡ None
+  none-alone = by w.alone refl
+    where
+      by : (o : Option Alone) → w.alone ≡ o → o ≡ None
+      by None e = refl
+      by (Some x) e = absurd (found_none w.jobs 1 job (W.sound.lone x e) found)
+
   -- what a step of it may come to
   pub step-acts : (r : Outcome) (new : State) → ((holder : ℕ) → r ≡ Waiting holder → ⊥) → Steps w 1 w.is_open r new → (action : Action) × (next_action w job ≡ Some action) × (holder_of w.append action ≡ None) × Acts w job action r new
   step-acts r new not_waiting h =
-      on (next_action w job) refl (subst (λ (o : Option Job). StepsJob w o r new) found (subst (λ b. StepsOpen w 1 b r new) W.unbarred (subst (λ b. Steps w 1 b r new) W.opened h)))
+      on (next_action w job) refl (subst (λ (o : Option Job). StepsJob w o r new) found
+      (subst (λ (o : Option Alone). StepsOne w 1 o r new) none-alone (subst (λ b. StepsOpen w 1 b r new) W.unbarred (subst (λ b. Steps w 1 b r new) W.opened h))))
     where
       waits : (action : Action) (holder : Option ℕ) (r : Outcome) → ((n : ℕ) → r ≡ Waiting n → ⊥) → next_action w job ≡ Some action → holder_of w.append action ≡ holder → ActsOrWaits w job action holder r new →
           (a : Action) × (next_action w job ≡ Some a) × (holder_of w.append a ≡ None) × Acts w job a r new
@@ -128,9 +147,9 @@ module _ (start : State) (O : IsOpenAtRest start 1) (kind : Kind) (w : State) (j
   )
 
   walked-next : (new : State) (next : Job) → IsSound 8 new → new.is_open ≡ w.is_open → new.is_barred ≡ w.is_barred → setup_in new ≡ setup_in w → new.jobs ≡ with_job w.jobs next →
-      next.number ≡ job.number → next.kind ≡ job.kind → next.pinned ≡ job.pinned → next.flagged ≡ job.flagged → HasSubject start kind next → TakesAway start kind next → RecordsAre start kind next new.records →
-      Made (with_job_of start kind next) (take next.place (actions_of (setup_in start) next)) start.providers new.providers [] next.given → new.handed ≡ w.handed → w.disk_faults ≤ new.disk_faults → Walked start kind new next
-  walked-next new next sound opened barred setup jobs number kd pinned flagged subject older records made handed disk = record {
+      next.number ≡ job.number → next.kind ≡ job.kind → next.profile ≡ job.profile → next.pinned ≡ job.pinned → next.flagged ≡ job.flagged → HasSubject start kind next → TakesAway start kind next → RecordsAre start kind next new.records →
+      Made (with_job_at start kind profile next) (take next.place (actions_of (setup_in start) next)) start.providers new.providers [] next.given → new.handed ≡ w.handed → w.disk_faults ≤ new.disk_faults → WalkedAt start kind profile new next
+  walked-next new next sound opened barred setup jobs number kd profile_is pinned flagged subject older records made handed disk = record {
     sound = sound;
     opened = opened ∙ W.opened;
     unbarred = barred ∙ W.unbarred;
@@ -138,6 +157,7 @@ module _ (start : State) (O : IsOpenAtRest start 1) (kind : Kind) (w : State) (j
     jobs = jobs ∙ (ap (λ js. with_job js next) W.jobs ∙ cond_true (job.number == next.number) (next ∷ []) (job ∷ []) (eq-eqb job.number next.number (sym number)));
     number = number ∙ W.number;
     kind_is = kd ∙ W.kind_is;
+    profile_is = profile_is ∙ W.profile_is;
     pinned = pinned ∙ W.pinned;
     flagged = flagged ∙ W.flagged;
     subject = subject;
@@ -150,15 +170,15 @@ module _ (start : State) (O : IsOpenAtRest start 1) (kind : Kind) (w : State) (j
 
   -- the actions made, with one more
   made-on : (action : Action) (next : Job) (given : List Given) (providers : ℕ → Provider) → next_action w job ≡ Some action → (action ≡ End → ⊥) → next.place ≡ job.place + 1 → next.subject ≡ job.subject →
-      take (job.place + 1) (actions_of (setup_in start) next) ≡ take (job.place + 1) (actions_of (setup_in start) job) → Did (with_job_of start kind job) action w.providers providers job.given given →
-      Made (with_job_of start kind next) (take next.place (actions_of (setup_in start) next)) start.providers providers [] given
+      take (job.place + 1) (actions_of (setup_in start) next) ≡ take (job.place + 1) (actions_of (setup_in start) job) → Did (with_job_at start kind profile job) action w.providers providers job.given given →
+      Made (with_job_at start kind profile next) (take next.place (actions_of (setup_in start) next)) start.providers providers [] given
   made-on action next given providers is not_end place subject front did =
       (let listed : slice_get (actions_of (setup_in start) job) job.place ≡ Some action = subst (λ (s : Setup). slice_get (actions_of s job) job.place ≡ Some action) W.setup (next_stands w job action is not_end) in
-      subst (λ n. Made (record { setup = setup_in start; kind = kind; subject = n; pinned = pinned_for start kind }) (take next.place (actions_of (setup_in start) next)) start.providers providers [] given) (sym subject)
-      (subst (λ xs. Made (with_job_of start kind job) xs start.providers providers [] given)
+      subst (λ n. Made (record { setup = setup_in start; kind = kind; profile = profile; subject = n; pinned = pinned_for start kind }) (take next.place (actions_of (setup_in start) next)) start.providers providers [] given) (sym subject)
+      (subst (λ xs. Made (with_job_at start kind profile job) xs start.providers providers [] given)
       (sym (ap (λ n. take n (actions_of (setup_in start) next)) place ∙ (front ∙ take-more (actions_of (setup_in start) job) job.place action listed)))
-      (made-append (with_job_of start kind job) (take job.place (actions_of (setup_in start) job)) (action ∷ []) start.providers w.providers providers [] job.given given W.made
-      (made-one (with_job_of start kind job) action w.providers providers job.given given did))))
+      (made-append (with_job_at start kind profile job) (take job.place (actions_of (setup_in start) job)) (action ∷ []) start.providers w.providers providers [] job.given given W.made
+      (made-one (with_job_at start kind profile job) action w.providers providers job.given given did))))
 
   -- ---- actions that put no record in effect and draw no number
 
@@ -176,6 +196,7 @@ module _ (start : State) (O : IsOpenAtRest start 1) (kind : Kind) (w : State) (j
     on-subject (DropJob name) e h = tt
     on-subject AuditJob e h = λ l. h ((first-body action next not_body AuditJob e).1 refl)
     on-subject RepairJob e h = h
+    on-subject UpgradeJob e h = tt
 
     on-older : (kd : Kind) → TakesAway start kd job → TakesAway start kd later
     on-older (PutJob name bytes) h = λ none. h (sym count-same ∙ none)
@@ -183,6 +204,7 @@ module _ (start : State) (O : IsOpenAtRest start 1) (kind : Kind) (w : State) (j
     on-older (DropJob name) h = λ none. h (sym count-same ∙ none)
     on-older AuditJob h = tt
     on-older RepairJob h = tt
+    on-older UpgradeJob h = tt
 
     on-second : (kd : Kind) (entry : Record) → kind ≡ kd → appends_left (setup_in start) job + 2 ≡ appends_of start kd → IsSecondRecord start job kd entry → IsSecondRecord start later kd entry
     on-second (PutJob name bytes) entry e left h = h
@@ -191,18 +213,19 @@ module _ (start : State) (O : IsOpenAtRest start 1) (kind : Kind) (w : State) (j
     on-second AuditJob entry e left h = absurd (audit-over w job action (W.kind_is ∙ e)
         (ap (λ (s : Setup). appends_left s job) W.setup ∙ (omega (arith, left))) next not_end)
     on-second RepairJob entry e left h = h
+    on-second UpgradeJob entry e left h = h
 
     on-records : (rs : List Record) → RecordsAre start kind job rs → RecordsAre start kind later rs
     on-records rs (RecordsAre.none left is) = RecordsAre.none (count-same ∙ left) is
     on-records rs (RecordsAre.one left is) = RecordsAre.one (ap (λ n. n + 1) count-same ∙ left) is
     on-records rs (RecordsAre.two entry left second is) = RecordsAre.two entry (ap (λ n. n + 2) count-same ∙ left) (on-second kind entry refl left second) is
 
-    pub on-walk : (flight : Option Append) (doubt : Option Doubt) (providers : ℕ → Provider) (faults : ℕ) → w.disk_faults ≤ faults → Did (with_job_of start kind job) action w.providers providers job.given given →
+    pub on-walk : (flight : Option Append) (doubt : Option Doubt) (providers : ℕ → Provider) (faults : ℕ) → w.disk_faults ≤ faults → Did (with_job_at start kind profile job) action w.providers providers job.given given →
         IsSound 8 (record (going_on w later) { append = flight; doubt = doubt; providers = providers; disk_faults = faults }) →
-        Walked start kind (record (going_on w later) { append = flight; doubt = doubt; providers = providers; disk_faults = faults }) later
+        WalkedAt start kind profile (record (going_on w later) { append = flight; doubt = doubt; providers = providers; disk_faults = faults }) later
     on-walk flight doubt providers faults low did sound =
         walked-next (record (going_on w later) { append = flight; doubt = doubt; providers = providers; disk_faults = faults }) later sound refl refl
-        (setup_same (record (going_on w later) { append = flight; doubt = doubt; providers = providers; disk_faults = faults }) w refl) refl refl refl refl refl
+        (setup_same (record (going_on w later) { append = flight; doubt = doubt; providers = providers; disk_faults = faults }) w refl) refl refl refl refl refl refl
         (on-subject kind refl W.subject) (on-older kind W.older) (on-records w.records W.records)
         (made-on action later given providers next not_end refl refl (ap (take (job.place + 1)) (actions-onward (setup_in start) job given)) did) refl low
 
@@ -245,6 +268,7 @@ module _ (start : State) (O : IsOpenAtRest start 1) (kind : Kind) (w : State) (j
   placed (GetJob name) e h l = (λ n b f. absurd (let g : GetJob name ≡ PutJob n b = f in cc), λ f. absurd (let g : GetJob name ≡ AuditJob = f in cc))
   placed (DropJob name) e h l = (λ n b f. absurd (let g : DropJob name ≡ PutJob n b = f in cc), λ f. absurd (let g : DropJob name ≡ AuditJob = f in cc))
   placed RepairJob e h l = (λ n b f. absurd (let g : RepairJob ≡ PutJob n b = f in cc), λ f. absurd (let g : RepairJob ≡ AuditJob = f in cc))
+  placed UpgradeJob e h l = (λ n b f. absurd (let g : UpgradeJob ≡ PutJob n b = f in cc), λ f. absurd (let g : UpgradeJob ≡ AuditJob = f in cc))
 
   pub wrote : (entry : Record) → 0 < appends_left (setup_in w) job → Writes w job job.kind entry → Wrote entry
   wrote entry left h = by_kind kind refl (subst (λ kd. Writes w job kd entry) W.kind_is h)
@@ -257,7 +281,9 @@ module _ (start : State) (O : IsOpenAtRest start 1) (kind : Kind) (w : State) (j
             (put-writes_first w job name bytes entry l h ∙ (ap (λ rs. PutStart (next_id rs) name) same ∙ sym (ap (first_record start) e))))
         | inr l ↦ (let c : appends_left (setup_in w) job ≡ 1 = (let b = put-later (setup_in w) job name bytes (W.kind_is ∙ e) l in omega (arith, b, left)) in
             Wrote.second (ap (λ n. n + 1) c ∙ sym (ap (appends_of start) e)) (one-left (PutJob name bytes) 1 e refl c)
-            (subst (λ kd. IsSecondRecord start job kd entry) (sym e) (put-writes_later w job name bytes entry l h ∙ ap (λ n. PutDone n (length bytes)) ((placed (PutJob name bytes) e (subst (λ kd. HasSubject start kd job) e W.subject) l).0 name bytes refl))))
+            (subst (λ kd. IsSecondRecord start job kd entry) (sym e) (put-writes_later w job name bytes entry l h
+            ∙ (ap (λ v. done_record v job.subject (length bytes) job.profile) (ap version_of (one-left (PutJob name bytes) 1 e refl c) ∙ ap (λ kd. version_of (first_record start kd ∷ start.records)) e)
+            ∙ ap (λ n. done_record (version_of start.records) n (length bytes) job.profile) ((placed (PutJob name bytes) e (subst (λ kd. HasSubject start kd job) e W.subject) l).0 name bytes refl)))))
       ]
       by_kind (GetJob name) e h = absurd h
       by_kind (DropJob name) e h = (let c : appends_left (setup_in w) job ≡ 1 = (let b = drop-first (setup_in w) job name (W.kind_is ∙ e) in omega (arith, b, left)) in
@@ -276,6 +302,8 @@ module _ (start : State) (O : IsOpenAtRest start 1) (kind : Kind) (w : State) (j
       ]
       by_kind RepairJob e h = (let c : appends_left (setup_in w) job ≡ 1 = (let b = repair-first (setup_in w) job (W.kind_is ∙ e) in omega (arith, b, left)) in
           Wrote.first (c ∙ sym (ap (appends_of start) e)) (all-left RepairJob 1 e refl c) (h ∙ (ap RepairDone (subst (λ kd. HasSubject start kd job) e W.subject) ∙ sym (ap (first_record start) e))))
+      by_kind UpgradeJob e h = (let c : appends_left (setup_in w) job ≡ 1 = (let b = upgrade-first (setup_in w) job (W.kind_is ∙ e) in omega (arith, b, left)) in
+          Wrote.first (c ∙ sym (ap (appends_of start) e)) (all-left UpgradeJob 1 e refl c) (h ∙ sym (ap (first_record start) e)))
 
   -- ---- the first move of an append
 
@@ -297,6 +325,7 @@ module _ (start : State) (O : IsOpenAtRest start 1) (kind : Kind) (w : State) (j
   few-appends (DropJob name) = omega arith
   few-appends AuditJob = omega arith
   few-appends RepairJob = omega arith
+  few-appends UpgradeJob = omega arith
 
   module _ (next : next_action w job ≡ Some WriteBody) where
     abbrev drawn : Job
@@ -328,6 +357,7 @@ module _ (start : State) (O : IsOpenAtRest start 1) (kind : Kind) (w : State) (j
       | inr l ↦ drawn-later l ∙ h (omega (arith, l))
     ]
     body-subject RepairJob e h = drawn-kind RepairJob e ∙ h
+    body-subject UpgradeJob e h = tt
 
     body-older : (kd : Kind) → TakesAway start kd job → TakesAway start kd drawn
     body-older (PutJob name bytes) h = λ none. h (sym body-count ∙ none)
@@ -335,6 +365,7 @@ module _ (start : State) (O : IsOpenAtRest start 1) (kind : Kind) (w : State) (j
     body-older (DropJob name) h = λ none. h (sym body-count ∙ none)
     body-older AuditJob h = tt
     body-older RepairJob h = tt
+    body-older UpgradeJob h = tt
 
     body-records : (rs : List Record) → RecordsAre start kind job rs → RecordsAre start kind drawn rs
     body-records rs (RecordsAre.none left is) = RecordsAre.none (body-count ∙ left) is
@@ -342,18 +373,18 @@ module _ (start : State) (O : IsOpenAtRest start 1) (kind : Kind) (w : State) (j
     body-records rs (RecordsAre.two entry left sec is) = absurd (let a = few-appends kind in let b = left-start (appends_left (setup_in w) job) refl in let c = body-some in omega (arith, left, a, b, c))
 
     -- a job that draws no number, or has it already
-    same-drawn : subject_drawn w job job.kind ≡ job.subject → Made (with_job_of start kind drawn) (take drawn.place (actions_of (setup_in start) drawn)) start.providers w.providers [] job.given
+    same-drawn : subject_drawn w job job.kind ≡ job.subject → Made (with_job_at start kind profile drawn) (take drawn.place (actions_of (setup_in start) drawn)) start.providers w.providers [] job.given
     same-drawn e = made-on WriteBody drawn job.given w.providers next (λ f. cc) refl e
         (ap (λ n. take (job.place + 1) (actions_of (setup_in start) (onward job n job.given))) e ∙ ap (take (job.place + 1)) (actions-onward (setup_in start) job job.given)) (refl, refl)
 
     -- the first action of all
-    first-drawn : (rest : List Action) → actions_of (setup_in start) drawn ≡ append_actions ++ rest → job.place ≡ 0 → Made (with_job_of start kind drawn) (take drawn.place (actions_of (setup_in start) drawn)) start.providers w.providers [] job.given
+    first-drawn : (rest : List Action) → actions_of (setup_in start) drawn ≡ append_actions ++ rest → job.place ≡ 0 → Made (with_job_at start kind profile drawn) (take drawn.place (actions_of (setup_in start) drawn)) start.providers w.providers [] job.given
     first-drawn rest list zero_place =
-        (let before : Made (with_job_of start kind job) [] start.providers w.providers [] job.given = subst (λ p. Made (with_job_of start kind job) (take p (actions_of (setup_in start) job)) start.providers w.providers [] job.given) zero_place W.made in
-        subst (λ xs. Made (with_job_of start kind drawn) xs start.providers w.providers [] job.given) (sym (ap (λ n. take n (actions_of (setup_in start) drawn)) (let f : job.place + 1 ≡ 1 = omega (arith, zero_place) in f) ∙ ap (take 1) list))
+        (let before : Made (with_job_at start kind profile job) [] start.providers w.providers [] job.given = subst (λ p. Made (with_job_at start kind profile job) (take p (actions_of (setup_in start) job)) start.providers w.providers [] job.given) zero_place W.made in
+        subst (λ xs. Made (with_job_at start kind profile drawn) xs start.providers w.providers [] job.given) (sym (ap (λ n. take n (actions_of (setup_in start) drawn)) (let f : job.place + 1 ≡ 1 = omega (arith, zero_place) in f) ∙ ap (take 1) list))
         (w.providers, job.given, before, (refl, refl)))
 
-    body-made : (kd : Kind) → kind ≡ kd → Made (with_job_of start kind drawn) (take drawn.place (actions_of (setup_in start) drawn)) start.providers w.providers [] job.given
+    body-made : (kd : Kind) → kind ≡ kd → Made (with_job_at start kind profile drawn) (take drawn.place (actions_of (setup_in start) drawn)) start.providers w.providers [] job.given
     body-made (PutJob name bytes) e = elim (cases_lt job.place 4) [
       | inl l ↦ first-drawn (put_rest (setup_in start) drawn bytes) (put-list (setup_in start) drawn name bytes (W.kind_is ∙ e))
           (body-within (put_rest (setup_in w) job bytes) job.place l (ap (λ xs. slice_get xs job.place) (sym (put-list (setup_in w) job name bytes (W.kind_is ∙ e))) ∙ next_stands w job WriteBody next (λ f. cc)))
@@ -367,11 +398,12 @@ module _ (start : State) (O : IsOpenAtRest start 1) (kind : Kind) (w : State) (j
       | inr l ↦ same-drawn (drawn-later l)
     ]
     body-made RepairJob e = same-drawn (drawn-kind RepairJob e)
+    body-made UpgradeJob e = same-drawn (drawn-kind UpgradeJob e)
 
     pub body-walk : (entry : Record) (faults : ℕ) → w.disk_faults ≤ faults → IsSound 8 (record (begun_append w job entry) { disk_faults = faults }) →
-        Walked start kind (record (begun_append w job entry) { disk_faults = faults }) drawn
+        WalkedAt start kind profile (record (begun_append w job entry) { disk_faults = faults }) drawn
     body-walk entry faults low sound =
-        walked-next (record (begun_append w job entry) { disk_faults = faults }) drawn sound refl refl (setup_same (record (begun_append w job entry) { disk_faults = faults }) w refl) refl refl refl refl refl
+        walked-next (record (begun_append w job entry) { disk_faults = faults }) drawn sound refl refl (setup_same (record (begun_append w job entry) { disk_faults = faults }) w refl) refl refl refl refl refl refl
         (body-subject kind refl W.subject) (body-older kind W.older) (body-records w.records W.records) (body-made kind refl) refl low
 
   -- ---- the fourth move of an append
@@ -403,6 +435,7 @@ module _ (start : State) (O : IsOpenAtRest start 1) (kind : Kind) (w : State) (j
         on-done (DropJob name) h = h
         on-done AuditJob h = h
         on-done RepairJob h = h
+        on-done UpgradeJob h = h
 
     gate-subject : (kd : Kind) → kind ≡ kd → HasSubject start kd job → HasSubject start kd done
     gate-subject (PutJob name bytes) e h = λ l. h ((first-body SyncGate next (λ f. cc) (PutJob name bytes) e).0 name bytes refl)
@@ -410,6 +443,7 @@ module _ (start : State) (O : IsOpenAtRest start 1) (kind : Kind) (w : State) (j
     gate-subject (DropJob name) e h = tt
     gate-subject AuditJob e h = λ l. h ((first-body SyncGate next (λ f. cc) AuditJob e).1 refl)
     gate-subject RepairJob e h = h
+    gate-subject UpgradeJob e h = tt
 
     -- the file that the name has is that of the begin
     same-file : (name : List ℕ) → (w.records ≡ start.records) ⊎ ((r : Record) × (w.records ≡ r ∷ start.records) × (file_of (r ∷ start.records) name ≡ file_of start.records name)) → file_in w name ≡ file_in start name
@@ -433,6 +467,7 @@ module _ (start : State) (O : IsOpenAtRest start 1) (kind : Kind) (w : State) (j
         ∙ ap (removable start) (same-file name (inl (all-left (DropJob name) 1 e refl one)))))
     gate-older AuditJob e = tt
     gate-older RepairJob e = tt
+    gate-older UpgradeJob e = tt
 
     gate-front : take (job.place + 1) (actions_of (setup_in start) done) ≡ take (job.place + 1) (actions_of (setup_in start) job)
     gate-front = subst (λ (s : Setup). take (job.place + 1) (actions_of s done) ≡ take (job.place + 1) (actions_of s job)) W.setup
@@ -445,82 +480,96 @@ module _ (start : State) (O : IsOpenAtRest start 1) (kind : Kind) (w : State) (j
         first-older-same name bytes e l = ap (taken_out w job) e ∙ (cond_true (is_first_append job) [] (removable w (file_in w name)) (first_below job l)
             ∙ sym ((W.sound.jobs job.number job runs).undecided (let c = put-first (setup_in w) job name bytes e l in omega (arith, c))))
 
-    pub gate-walk : (faults : ℕ) → w.disk_faults ≤ faults → IsSound 8 (record (done_append w job a) { disk_faults = faults }) → Walked start kind (record (done_append w job a) { disk_faults = faults }) done
+    pub gate-walk : (faults : ℕ) → w.disk_faults ≤ faults → IsSound 8 (record (done_append w job a) { disk_faults = faults }) → WalkedAt start kind profile (record (done_append w job a) { disk_faults = faults }) done
     gate-walk faults low sound =
         walked-next (record (done_append w job a) { disk_faults = faults }) done sound refl refl
-        (setup_same (record (done_append w job a) { disk_faults = faults }) w (setup-more a.entry w.records (W.sound.set_up W.opened) (W.sound.append a flight).follows.accepted)) refl refl refl refl refl
+        (setup_same (record (done_append w job a) { disk_faults = faults }) w (setup-more a.entry w.records (W.sound.set_up W.opened) (W.sound.append a flight).follows.accepted)) refl refl refl refl refl refl
         (gate-subject kind refl W.subject) (gate-older kind refl) (gate-records gate-wrote)
         (made-on SyncGate done job.given w.providers next (λ f. cc) refl refl gate-front (refl, refl)) refl low
 
   -- ---- what each action did
 
-  block-same : (kd : Kind) (j object stripe : ℕ) → block_to_store w job kd j object stripe ≡ block_stored (with_job_of start kind job) kd job.given j object stripe
-  block-same (PutJob name bytes) j object stripe = ap (λ (s : Setup). columns (object_of s object) bytes j stripe) W.setup
-  block-same (GetJob name) j object stripe = ap (λ (s : Setup). column_of_symbols (object_of s object) (symbols_given job.given object stripe) j stripe) W.setup
-  block-same (DropJob name) j object stripe = ap (λ (s : Setup). column_of_symbols (object_of s object) (symbols_given job.given object stripe) j stripe) W.setup
-  block-same AuditJob j object stripe = ap (λ (s : Setup). column_of_symbols (object_of s object) (symbols_given job.given object stripe) j stripe) W.setup
-  block-same RepairJob j object stripe = ap (λ (s : Setup). column_of_symbols (object_of s object) (symbols_given job.given object stripe) j stripe) W.setup
+  object-made : (object : ℕ) → worked_object w job object ≡ object_made (with_job_at start kind profile job) object
+  object-made object = ap (λ (s : Setup). object_of (profiled s (pinned_profile s.profile job.pinned object)) object) W.setup
+      ∙ ap (λ ps. object_of (profiled (setup_in start) (pinned_profile (setup_in start).profile ps object)) object) W.pinned
 
-  pub block-stored : (j object stripe : ℕ) → block_to_store w job job.kind j object stripe ≡ block_stored (with_job_of start kind job) kind job.given j object stripe
+  block-same : (kd : Kind) (j object stripe : ℕ) → block_to_store w job kd j object stripe ≡ block_stored (with_job_at start kind profile job) kd job.given j object stripe
+  block-same (PutJob name bytes) j object stripe = ap (λ (s : Setup). columns (object_of (profiled s job.profile) object) bytes j stripe) W.setup
+      ∙ ap (λ p. columns (object_of (profiled (setup_in start) p) object) bytes j stripe) W.profile_is
+  block-same (GetJob name) j object stripe = ap (λ o. column_of_symbols o (symbols_given job.given object stripe) j stripe) (object-made object)
+  block-same (DropJob name) j object stripe = ap (λ o. column_of_symbols o (symbols_given job.given object stripe) j stripe) (object-made object)
+  block-same AuditJob j object stripe = ap (λ o. column_of_symbols o (symbols_given job.given object stripe) j stripe) (object-made object)
+  block-same RepairJob j object stripe = ap (λ o. column_of_symbols o (symbols_given job.given object stripe) j stripe) (object-made object)
+  block-same UpgradeJob j object stripe = ap (λ o. column_of_symbols o (symbols_given job.given object stripe) j stripe) (object-made object)
+
+  pub block-stored : (j object stripe : ℕ) → block_to_store w job job.kind j object stripe ≡ block_stored (with_job_at start kind profile job) kind job.given j object stripe
   block-stored j object stripe = ap (λ kd. block_to_store w job kd j object stripe) W.kind_is ∙ block-same kind j object stripe
+
+  challenge-made : (object round : ℕ) → asked_challenge (setup_in w) job object round ≡ challenge_made (with_job_at start kind profile job) object round
+  challenge-made object round = ap (λ (s : Setup). asked_challenge s job object round) W.setup
+      ∙ ap (λ ps. challenge_in (profiled (setup_in start) (pinned_profile (setup_in start).profile ps object)) job object (pinned_size ps object) round) W.pinned
 
   -- a step that goes on
   abbrev GoesOn : State → Type 0
-  GoesOn new = (next : Job) × Walked start kind new next
+  GoesOn new = (next : Job) × WalkedAt start kind profile new next
 
   called : (action : Action) (given : List Given) (providers : ℕ → Provider) (new : State) → next_action w job ≡ Some action → (action ≡ End → ⊥) → (action ≡ WriteBody → ⊥) → ends_append action ≡ false →
-      Did (with_job_of start kind job) action w.providers providers job.given given → IsSound 8 new → new ≡ record (going_on w (onward job job.subject given)) { providers = providers } → GoesOn new
+      Did (with_job_at start kind profile job) action w.providers providers job.given given → IsSound 8 new → new ≡ record (going_on w (onward job job.subject given)) { providers = providers } → GoesOn new
   called action given providers new next n m plain did sound is = (
     onward job job.subject given,
-    subst (λ v. Walked start kind v (onward job job.subject given)) (sym is)
+    subst (λ v. WalkedAt start kind profile v (onward job job.subject given)) (sym is)
         (on-walk action given next n m plain w.append w.doubt providers w.disk_faults (omega arith) did (subst (IsSound 8) is sound)),
   )
 
   moved-on : (action : Action) (flight : Option Append) (doubt : Option Doubt) (faults : ℕ) (new : State) → next_action w job ≡ Some action → (action ≡ End → ⊥) → (action ≡ WriteBody → ⊥) → ends_append action ≡ false →
-      Did (with_job_of start kind job) action w.providers w.providers job.given job.given → w.disk_faults ≤ faults → IsSound 8 new →
+      Did (with_job_at start kind profile job) action w.providers w.providers job.given job.given → w.disk_faults ≤ faults → IsSound 8 new →
       new ≡ record (going_on w (onward job job.subject job.given)) { append = flight; doubt = doubt; disk_faults = faults } → GoesOn new
   moved-on action flight doubt faults new next n m plain did low sound is = (
     onward job job.subject job.given,
-    subst (λ v. Walked start kind v (onward job job.subject job.given)) (sym is)
+    subst (λ v. WalkedAt start kind profile v (onward job job.subject job.given)) (sym is)
         (on-walk action job.given next n m plain flight doubt w.providers faults low did (subst (IsSound 8) is sound)),
   )
 
   moves-walk : (action : Action) (flight : Option Append) (new : State) → w.append ≡ flight → next_action w job ≡ Some action → holder_of flight action ≡ None → Moves w job action flight More new → IsSound 8 new → GoesOn new
   moves-walk WriteBody None new flight next free (entry, writes, (faults, low, is)) sound =
-      (onward job (subject_drawn w job job.kind) job.given, subst (λ v. Walked start kind v (onward job (subject_drawn w job job.kind) job.given)) (sym is) (body-walk next entry faults low (subst (IsSound 8) is sound)))
+      (onward job (subject_drawn w job job.kind) job.given, subst (λ v. WalkedAt start kind profile v (onward job (subject_drawn w job job.kind) job.given)) (sym is) (body-walk next entry faults low (subst (IsSound 8) is sound)))
   moves-walk WriteBody (Some a) new flight next free h sound = absurd (some-not-none (Some a.job) a.job refl free)
   moves-walk SyncBody (Some a) new flight next free (at, (faults, low, is)) sound =
       moved-on SyncBody (Some (record a { moves = a.moves + 1 })) w.doubt faults new next (λ e. cc) (λ e. cc) refl (refl, refl) low sound is
   moves-walk WriteGate (Some a) new flight next free (at, (faults, low, is)) sound =
       moved-on WriteGate (Some (record a { moves = a.moves + 1 })) (Some (record { entry = a.entry; maker = Some (advanced job) })) faults new next (λ e. cc) (λ e. cc) refl (refl, refl) low sound is
   moves-walk SyncGate (Some a) new flight next free (at, (faults, low, is)) sound =
-      (decided job (taken_out w job job.kind), subst (λ v. Walked start kind v (decided job (taken_out w job job.kind))) (sym is) (gate-walk next a flight at.0 at.1 faults low (subst (IsSound 8) is sound)))
+      (decided job (taken_out w job job.kind), subst (λ v. WalkedAt start kind profile v (decided job (taken_out w job job.kind))) (sym is) (gate-walk next a flight at.0 at.1 faults low (subst (IsSound 8) is sound)))
   moves-walk action flight new e next free h sound = absurd h
 
   acts-walk : (action : Action) (new : State) → next_action w job ≡ Some action → holder_of w.append action ≡ None → Acts w job action More new → IsSound 8 new → GoesOn new
   acts-walk (Store j object stripe) new next free (p, call, is) sound = called (Store j object stripe) job.given (with_provider w.providers j p) new next (λ e. cc) (λ e. cc) refl
       ((p, subst (λ b. Stores object stripe b (w.providers j) p) (block-stored j object stripe) call, refl), refl) sound is
   acts-walk (Fetch j object stripe) new next free (block, (p, call, is)) sound = called (Fetch j object stripe) (Fetched j object stripe block ∷ job.given) (with_provider w.providers j p) new next (λ e. cc) (λ e. cc) refl
-      (block, (p, subst (λ (s : Setup). Fetches (object_of s object).profile.size object stripe (w.providers j) block p) W.setup call, refl), refl) sound is
+      (block, (p, subst (λ (o : Object). Fetches o.profile.size object stripe (w.providers j) block p) (object-made object) call, refl), refl) sound is
   acts-walk (Ask j object round) new next free (symbol, (p, call, is)) sound = called (Ask j object round) (Answered j object round symbol ∷ job.given) (with_provider w.providers j p) new next (λ e. cc) (λ e. cc) refl (
     symbol,
     (
       p,
-      subst (λ ps. Asks (honest_answer (challenge_in (setup_in start) job object (pinned_size ps object) round)) object (w.providers j) symbol p) W.pinned
-          (subst (λ (s : Setup). Asks (honest_answer (challenge_in s job object (pinned_size job.pinned object) round)) object (w.providers j) symbol p) W.setup call),
+      subst (λ c. Asks (honest_answer c) object (w.providers j) symbol p) (challenge-made object round) call,
       refl,
     ),
     refl,
   ) sound is
-  acts-walk (Work object stripe) new next free (symbols, gives, is) sound = called (Work object stripe) (Worked object stripe symbols ∷ job.given) w.providers new next (λ e. cc) (λ e. cc) refl
-      (symbols, subst (λ (s : Setup). GivesSymbols (object_of s object) stripe (blocks_given job.given s.n object stripe) symbols) W.setup gives, refl, refl) sound is
+  acts-walk (Work object stripe) new next free (symbols, gives, is) sound = called (Work object stripe) (Worked object stripe symbols ∷ job.given) w.providers new next (λ e. cc) (λ e. cc) refl (
+    symbols,
+    subst (λ (s : Setup). GivesSymbols (object_made (with_job_at start kind profile job) object) stripe (blocks_given job.given s.n object stripe) symbols) W.setup
+        (subst (λ (o : Object). GivesSymbols o stripe (blocks_given job.given (setup_in w).n object stripe) symbols) (object-made object) gives),
+    refl,
+    refl,
+  ) sound is
   acts-walk (Remove j object) new next free (p, call, is) sound = called (Remove j object) job.given (with_provider w.providers j p) new next (λ e. cc) (λ e. cc) refl ((p, call, refl), refl) sound is
   acts-walk action new next free h sound = moves-walk action w.append new refl next free h sound
 
   pub walk-step : (moment : ℕ) (new : State) → Happens 8 moment w (Step 1) More new → GoesOn new
   walk-step moment new h =
       (let a = step-acts More new (λ n e. absurd (let f : More ≡ Waiting n = e in cc)) h in
-      acts-walk a.0 new a.1 a.2 a.3 (events-sound 8 moment w W.sound (Step 1) More new (omega arith) h))
+      acts-walk a.0 new a.1 a.2 a.3 (events-sound 8 moment w W.sound (omega arith, omega arith) (Step 1) More new (omega arith) h))
 
   pub walk-last : (moment : ℕ) (new : State) (how : answer.Answer) → Happens 8 moment w (Step 1) (Ended how) new → (action : Action) × (next_action w job ≡ Some action) × (holder_of w.append action ≡ None) × Acts w job action (Ended how) new
   walk-last moment new how h = (let a = step-acts (Ended how) new (λ n e. absurd (let f : Ended how ≡ Waiting n = e in cc)) h in (a.0, a.1, a.2, a.3))

@@ -1,7 +1,10 @@
 -- What actions do to providers, and what they give the job that makes them, where no other job runs.
 --
 --   With                     == what the actions of a job are made with: the setup, the job's kind, the
---                               number that its challenges are of, and the files that it works on
+--                               profile of the file that a put stores, the number that its challenges are
+--                               of, and the files that it works on
+--   put_made x object        == the object under whose number a put stores
+--   object_made x object     == the object of a number among those that a job works on
 --   block_stored x given j object stripe  == the block that a job stores: of a put's bytes, or of the
 --                                          symbols that its work gave
 --   challenge_made x object round         == the challenge of an ask
@@ -10,6 +13,7 @@
 --                                          before and after it
 --   Made x actions old new given now      == these actions went on, one after the other, the first one first
 use Rattle.std.specs.Prelude.{◌≡◌, ℕ, List, [], ◌∷◌, Option}
+use Rattle.hail_columns.specs.Objects.{Object}
 use Rattle.hail_columns.specs.Challenges.{Challenge, challenge_of, honest_answer}
 use Rattle.hail_columns.specs.Columns.{columns, column_of_symbols}
 use Rattle.hail_columns.specs.Opened.{GivesSymbols}
@@ -17,28 +21,38 @@ use Rattle.hail_records.specs.Records.{Setup}
 use Rattle.hail_devices.specs.Providers.{Provider}
 use Rattle.hail_devices.specs.ProviderCalls.{Stores, Fetches, Asks, Removes}
 use Rattle.hail_machine.specs.Jobs.{Kind, PutJob, Pinned, Given, Fetched, Answered, Worked}
-use Rattle.hail_machine.specs.Setups.{object_of}
+use Rattle.hail_machine.specs.Setups.{profiled, object_of}
 use Rattle.hail_machine.specs.Actions.{Action, Store, Fetch, Ask, Work, Remove}
 use Rattle.hail_machine.specs.States.{with_provider}
-use Rattle.hail_machine.specs.Given.{blocks_given, symbols_given, pinned_size}
+use Rattle.hail_machine.specs.Given.{blocks_given, symbols_given, pinned_size, pinned_profile}
 
 -- what the actions of a job are made with
 pub record With : Type 0 where
   pub setup : Setup
   pub kind : Kind
+  pub profile : ℕ
   pub subject : ℕ
   pub pinned : List Pinned
 
+-- the object under whose number a put stores
+abbrev pub put_made : With → ℕ → Object
+put_made x object = object_of (profiled x.setup x.profile) object
+
+-- the object of a number among those that a job works on
+abbrev pub object_made : With → ℕ → Object
+object_made x object =
+    object_of (profiled x.setup (pinned_profile x.setup.profile x.pinned object)) object
+
 -- the block that a job stores
 abbrev pub block_stored : With → Kind → List Given → ℕ → ℕ → ℕ → List ℕ
-block_stored x (PutJob name bytes) given j object stripe = columns (object_of x.setup object) bytes j stripe
+block_stored x (PutJob name bytes) given j object stripe = columns (put_made x object) bytes j stripe
 block_stored x kind given j object stripe =
-    column_of_symbols (object_of x.setup object) (symbols_given given object stripe) j stripe
+    column_of_symbols (object_made x object) (symbols_given given object stripe) j stripe
 
 -- the challenge of an ask
 abbrev pub challenge_made : With → ℕ → ℕ → Challenge
 challenge_made x object round =
-    challenge_of (object_of x.setup object) (pinned_size x.pinned object) x.setup.picks x.subject round
+    challenge_of (object_made x object) (pinned_size x.pinned object) x.setup.picks x.subject round
 
 -- one provider was called, and all others are as before
 abbrev pub CallsOne : (ℕ → Provider) → ℕ → (Provider → Provider → Type 0) → (ℕ → Provider) → Type 0
@@ -49,7 +63,7 @@ abbrev pub Did : With → Action → (ℕ → Provider) → (ℕ → Provider) �
 Did x (Store j object stripe) old new given now =
     CallsOne old j (Stores object stripe (block_stored x x.kind given j object stripe)) new × (now ≡ given)
 Did x (Fetch j object stripe) old new given now =
-    (block : Option (List ℕ)) × CallsOne old j (λ p q. Fetches (object_of x.setup object).profile.size
+    (block : Option (List ℕ)) × CallsOne old j (λ p q. Fetches (object_made x object).profile.size
     object stripe p block q) new
     × (now ≡ Fetched j object stripe block ∷ given)
 Did x (Ask j object round) old new given now =
@@ -57,7 +71,7 @@ Did x (Ask j object round) old new given now =
     (λ p q. Asks (honest_answer (challenge_made x object round)) object p symbol q) new
     × (now ≡ Answered j object round symbol ∷ given)
 Did x (Work object stripe) old new given now =
-    (symbols : List ℕ) × GivesSymbols (object_of x.setup object) stripe
+    (symbols : List ℕ) × GivesSymbols (object_made x object) stripe
     (blocks_given given x.setup.n object stripe) symbols
     × (new ≡ old) × (now ≡ Worked object stripe symbols ∷ given)
 Did x (Remove j object) old new given now = CallsOne old j (Removes object) new × (now ≡ given)

@@ -8,37 +8,42 @@
 --                               that of a repair
 --   RecordsAre w kind job rs == of the job's records those are in effect whose appends are done
 --   TakesAway w kind job     == the object that a put or a drop takes away, once its last append is done
---   with_job_of w kind job   == what the actions of a job of this kind are made with that began in this state
---   Walked start kind w job  == this is the state, and the job in it, after some steps that went on, since
---                               the job began in `start`
+--   with_job_at w kind profile job  == what the actions of a job of this kind are made with that began in
+--                               this state, and whose file has this profile
+--   with_job_of w kind job   == the same where it has the setup's
+--   WalkedAt start kind profile w job == this is the state, and the job in it, after some steps that went
+--                               on, since the job began in `start`, with this profile
+--   Walked start kind w job  == the same of a job with the setup's profile
 use Rattle.std.specs.Prelude.{◌≡◌, ℕ, ◌+◌, ◌≤◌, true, false, List, [], ◌∷◌, length, take}
 use Rattle.hail_columns.specs.Verdicts.{Sums}
-use Rattle.hail_records.specs.Records.{Record, PutStart, PutDone, Drop, AuditStart, AuditDone, RepairDone}
-use Rattle.hail_records.specs.Table.{next_id, next_audit, due_of}
-use Rattle.hail_machine.specs.Jobs.{Kind, PutJob, DropJob, AuditJob, RepairJob, Job}
+use Rattle.hail_records.specs.Records.{Record, PutStart, Drop, AuditStart, AuditDone, RepairDone, Version}
+use Rattle.hail_records.specs.Table.{version_of, next_id, next_audit, due_of}
+use Rattle.hail_machine.specs.Jobs.{Kind, PutJob, DropJob, AuditJob, RepairJob, UpgradeJob, Job}
 use Rattle.hail_machine.specs.Actions.{actions_of, appends_left}
 use Rattle.hail_machine.specs.States.{State, setup_in, file_in}
 use Rattle.hail_machine.specs.Space.{append_sizes}
 use Rattle.hail_machine.specs.Begins.{due_number, due_flags, pinned_for}
 use Rattle.hail_machine.specs.Audits.{HasSums}
-use Rattle.hail_machine.specs.Appends.{removable}
+use Rattle.hail_machine.specs.Appends.{done_record, removable}
 use Rattle.sound_states.specs.Sound.{IsSound}
 use Rattle.lone_laws.specs.Made.{With, Made}
 
 -- how many records a job of this kind appends
 abbrev pub appends_of : State → Kind → ℕ
-appends_of w kind = length (append_sizes (setup_in w) kind)
+appends_of w kind = length (append_sizes (version_of w.records) (setup_in w) kind)
 
 -- the first record of a job of this kind
 abbrev pub first_record : State → Kind → Record
 first_record w (PutJob name bytes) = PutStart (next_id w.records) name
 first_record w (DropJob name) = Drop name
 first_record w AuditJob = AuditStart (next_audit w.records)
+first_record w UpgradeJob = Version
 first_record w kind = RepairDone (due_number (due_of w.records))
 
 -- the second record of a put or an audit
 abbrev pub IsSecondRecord : State → Job → Kind → Record → Type 0
-IsSecondRecord w job (PutJob name bytes) entry = entry ≡ PutDone (next_id w.records) (length bytes)
+IsSecondRecord w job (PutJob name bytes) entry =
+    entry ≡ done_record (version_of w.records) (next_id w.records) (length bytes) job.profile
 IsSecondRecord w job AuditJob entry =
     (sums : Sums) × HasSums (setup_in w) job sums
     × (entry ≡ AuditDone (next_audit w.records) sums.undecided sums.counts)
@@ -60,10 +65,20 @@ pub data RecordsAre (w : State) (kind : Kind) (job : Job) (rs : List Record) : T
       → IsSecondRecord w job kind entry →
       rs ≡ entry ∷ first_record w kind ∷ w.records → RecordsAre w kind job rs
 
--- what the actions of a job are made with
+-- what the actions of a job with this profile are made with
+abbrev pub with_job_at : State → Kind → ℕ → Job → With
+with_job_at w kind profile job =
+    record {
+      setup = setup_in w;
+      kind = kind;
+      profile = profile;
+      subject = job.subject;
+      pinned = pinned_for w kind;
+    }
+
+-- what those of a job with the setup's profile are made with
 abbrev pub with_job_of : State → Kind → Job → With
-with_job_of w kind job =
-    record { setup = setup_in w; kind = kind; subject = job.subject; pinned = pinned_for w kind }
+with_job_of w kind job = with_job_at w kind (setup_in w).profile job
 
 -- the object that a job takes away: that of the file that its name had at its begin, once its last append
 -- is done
@@ -73,8 +88,8 @@ TakesAway w (PutJob name bytes) job =
 TakesAway w (DropJob name) job = appends_left (setup_in w) job ≡ 0 → job.older ≡ removable w (file_in w name)
 TakesAway w kind job = Unit {0}
 
--- the state, and the job in it, after some steps that went on
-pub record Walked (start : State) (kind : Kind) (w : State) (job : Job) : Type 0 where
+-- the state, and the job in it, after some steps that went on since it began with this profile
+pub record WalkedAt (start : State) (kind : Kind) (profile : ℕ) (w : State) (job : Job) : Type 0 where
   pub sound : IsSound 8 w
   pub opened : w.is_open ≡ true
   pub unbarred : w.is_barred ≡ false
@@ -82,12 +97,17 @@ pub record Walked (start : State) (kind : Kind) (w : State) (job : Job) : Type 0
   pub jobs : w.jobs ≡ job ∷ []
   pub number : job.number ≡ 1
   pub kind_is : job.kind ≡ kind
+  pub profile_is : job.profile ≡ profile
   pub pinned : job.pinned ≡ pinned_for start kind
   pub flagged : job.flagged ≡ due_flags (setup_in start).tolerance (due_of start.records)
   pub subject : HasSubject start kind job
   pub older : TakesAway start kind job
   pub records : RecordsAre start kind job w.records
-  pub made : Made (with_job_of start kind job) (take job.place (actions_of (setup_in start) job))
+  pub made : Made (with_job_at start kind profile job) (take job.place (actions_of (setup_in start) job))
       start.providers w.providers [] job.given
   pub handed : w.handed ≡ start.handed
   pub disk : start.disk_faults ≤ w.disk_faults
+
+-- the same of a job with the setup's profile
+abbrev pub Walked : State → Kind → State → Job → Type 0
+Walked start kind w job = WalkedAt start kind (setup_in start).profile w job

@@ -9,7 +9,7 @@ ghost use Rattle.hail_machine.specs.Begins.{Begins};
 ghost use Rattle.hail_machine.specs.Steps.{next_action, holder_of, Acts};
 ghost use Rattle.hail_machine.specs.Machine.{Happens};
 ghost use Rattle.hail_openings.specs.Opened.{IsOpenAtRest};
-ghost use Rattle.lone_laws.specs.Walked.{Walked};
+ghost use Rattle.lone_laws.specs.Walked.{WalkedAt, Walked};
 
 /// A job that begins in a state whose vault was just opened has made no step.
 pub fn begins_walk()
@@ -21,15 +21,15 @@ pub fn begins_walk()
 
 /// A step that goes on goes one on.
 pub fn steps_walk()
-    ensures { (moment : ℕ) (start w new : State) (kind : Kind) (job : Job) → IsOpenAtRest start 1
-        → Walked start kind w job →
-        Happens 8 moment w (Step 1) More new → (next : Job) × Walked start kind new next }
+    ensures { (moment profile : ℕ) (start w new : State) (kind : Kind) (job : Job) → IsOpenAtRest start 1
+        → WalkedAt start kind profile w job →
+        Happens 8 moment w (Step 1) More new → (next : Job) × WalkedAt start kind profile new next }
 {}
 
 /// A step that ends the job makes its next action.
 pub fn last_steps_act()
-    ensures { (moment : ℕ) (start w new : State) (kind : Kind) (job : Job) (answer : Answer)
-        → IsOpenAtRest start 1 → Walked start kind w job →
+    ensures { (moment profile : ℕ) (start w new : State) (kind : Kind) (job : Job) (answer : Answer)
+        → IsOpenAtRest start 1 → WalkedAt start kind profile w job →
         Happens 8 moment w (Step 1) (Ended answer) new →
         (job_of w.jobs 1 ≡ Some job)
         × ((action : Action) × (next_action w job ≡ Some action) × (holder_of w.append action ≡ None)

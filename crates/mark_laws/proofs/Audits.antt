@@ -8,9 +8,9 @@ use Rattle.hail_records.specs.Records.{Record, Setup, SetUp, PutStart, PutDone, 
 use Rattle.hail_records.specs.Table.{File, Due, setup_of, next_id, next_audit, file_of, due_of}
 use Rattle.hail_machine.specs.Jobs.{AuditJob, RepairJob, Job, job_of}
 use Rattle.hail_machine.specs.Actions.{Action, WriteBody, SyncGate, Store, actions_of}
-use Rattle.hail_machine.specs.Setups.{stripes_of}
+use Rattle.hail_machine.specs.Setups.{profiled, stripes_of}
 use Rattle.hail_machine.specs.States.{State, Doubt, IsStart, setup_in, file_in}
-use Rattle.hail_machine.specs.Begins.{begin_refusal, pinned_file, due_number, due_flags, new_job}
+use Rattle.hail_machine.specs.Begins.{refusal_of_begin, pinned_file, due_number, due_flags, beginning}
 use Rattle.hail_machine.specs.Appends.{subject_drawn}
 use Rattle.hail_machine.specs.Steps.{next_action, block_to_store}
 use Rattle.hail_machine.specs.Runs.{Moment, now, first_moments, is_replaced_since, came, IsRun}
@@ -32,7 +32,7 @@ use Rattle.step_laws.proofs.Places.{store_stands, gate_behind}
 use Rattle.mark_laws.proofs.Places.{next_repairs, same_actions}
 use Rattle.mark_laws.proofs.Files.{all_pinned}
 use Rattle.mark_laws.proofs.Points as pt
-use Rattle.mark_laws.proofs.Points.{Facts}
+use Rattle.mark_laws.proofs.Points.{Facts, ScrubsRight, rows_right}
 use Rattle.mark_laws.proofs.EveryRun as ev
 use Rattle.mark_laws.proofs.EveryRun.{Always, repair_due}
 
@@ -46,12 +46,12 @@ pub record Audited (start : State) (ms : List Moment) : Type 0 where
   pub repair_doubt : (d : Doubt) (number : ℕ) → (now start ms).doubt ≡ Some d → d.entry ≡ RepairDone number → IsClear start ms ((now start ms).audits number) Never
 
 module _ (limit : ℕ) (mark : Mark) (start : State) (m : Moment) (ms : List Moment) (clean : IsStart start) (run : IsRun limit start ms) (A : All start ms) (U : num.Facts audits start ms) (I : eff.Facts (now start ms))
-    (E : Always start ms) (F : Facts mark start ms) (G : Audited start ms) (X : Changes limit (length ms) (now start ms) m.event m.outcome m.state) (T : Turns (now start ms) m.state) where
+    (E : Always start ms) (F : Facts mark start ms) (R : ScrubsRight (now start ms)) (G : Audited start ms) (X : Changes limit (length ms) (now start ms) m.event m.outcome m.state) (T : Turns (now start ms) m.state) where
   on : (from : ℕ) (Old New : ℕ → ℕ → ℕ → Type 0) → PrecedesPuts start ms from → IsClear start ms from Old →
       ((q : List ℕ) (f : File) (i s : ℕ) → file_in (now start ms) q ≡ Some f → file_in m.state q ≡ Some f → setup_in m.state ≡ setup_in (now start ms) → i < (setup_in m.state).n →
-      s < stripes_of (setup_in m.state) (length (m.state.bytes f.id)) → IsBad m.state f.id i s → Old i f.id s → IsReplaced from i (m ∷ ms) ⊎ New i f.id s) →
+      s < stripes_of (profiled (setup_in m.state) f.profile) (length (m.state.bytes f.id)) → IsBad m.state f.profile f.id i s → Old i f.id s → IsReplaced from i (m ∷ ms) ⊎ New i f.id s) →
       IsClear start (m ∷ ms) from New
-  on = pt.clear_on limit mark start m ms clean run A U I E F X T
+  on = pt.clear_on limit mark start m ms clean run A U I E X T (rows_right mark start ms F) R
 
   audits_below : (number : ℕ) → number < next_audit (now start ms).records → m.state.audits number ≡ (now start ms).audits number
   audits_below = ev.audits_below limit start m ms A U I E X T
@@ -84,8 +84,8 @@ module _ (limit : ℕ) (mark : Mark) (start : State) (m : Moment) (ms : List Mom
       (let stood : file_in (now start ms) q ≡ Some f = ap (λ rs. file_of rs q) (sym rec) ∙ h in
       let setup = setup_same m.state (now start ms) (ap setup_of rec) in
       let below = file_below q f stood in
-      let n = ev.bounds limit start m ms A U I E X T f.id i s setup below l b in
-      elim (pt.bad_before limit mark start m ms clean run A U I E F X T f.id i s setup below (ev.no_remover limit start m ms A U I E X T q f stood) bad) [
+      let n = ev.bounds limit start m ms A U I E X T f.profile f.id i s setup below l b in
+      elim (pt.file_bad limit mark start m ms clean run A U I E X T (rows_right mark start ms F) R q f i s stood setup bad) [
         | inl old ↦ inr (subst (λ hs. WasWrong (now start hs) i f.id) (sym (first_more (length ms) m ms (omega arith) ∙ first_all ms))
             (record { name = q; file = f; in_effect = stood; id_is = refl; was = bad_wrong (now start ms) f i s n.1 old }))
         | inr r ↦ inl (since_now (length ms) i m ms r (omega arith))
@@ -94,7 +94,7 @@ module _ (limit : ℕ) (mark : Mark) (start : State) (m : Moment) (ms : List Mom
   pub audit_step : (k : ℕ) (j : Job) → job_of m.state.jobs k ≡ Some j → j.kind ≡ AuditJob → IsClear start (m ∷ ms) j.begun (WrongAt start (m ∷ ms) j.begun)
   audit_step k j h kind = elim (pins_is limit start m ms A.numbers A.pins X k j h) [
     | Pins_is.had x runs pinned kind_x begun g ↦ (let kx = sym kind_x ∙ kind in subst (λ n. IsClear start (m ∷ ms) n (WrongAt start (m ∷ ms) n)) (sym begun) (audit_on x.begun (E.audit k x runs kx) (G.audit k x runs kx)))
-    | Pins_is.new_one kd is k_is allowed rec ↦ subst (λ n. IsClear start (m ∷ ms) n (WrongAt start (m ∷ ms) n)) (sym (ap (λ (x : Job). x.begun) is)) (audit_new rec)
+    | Pins_is.new_one kd wish is k_is allowed rec ↦ subst (λ n. IsClear start (m ∷ ms) n (WrongAt start (m ∷ ms) n)) (sym (ap (λ (x : Job). x.begun) is)) (audit_new rec)
   ]
 
   -- ---- repairs
@@ -112,14 +112,15 @@ module _ (limit : ℕ) (mark : Mark) (start : State) (m : Moment) (ms : List Mom
       at_number = subst (λ n. job_of (now start ms).jobs n ≡ Some x) (sym (number_of (now start ms).jobs k x runs)) runs
 
       more : (q : List ℕ) (f : File) (i s : ℕ) → file_in (now start ms) q ≡ Some f → file_in m.state q ≡ Some f → setup_in m.state ≡ setup_in (now start ms) → i < (setup_in m.state).n →
-          s < stripes_of (setup_in m.state) (length (m.state.bytes f.id)) → IsBad m.state f.id i s → Remains (now start ms) x i f.id s →
+          s < stripes_of (profiled (setup_in m.state) f.profile) (length (m.state.bytes f.id)) → IsBad m.state f.profile f.id i s → Remains (now start ms) x i f.id s →
           IsReplaced ((now start ms).audits x.subject) i (m ∷ ms) ⊎ Remains m.state j i f.id s
       more q f i s stood h setup l b bad (marked, (p, low, at)) = elim (cases_eq p x.place) [
         | inl here ↦
             (let act : action ≡ Store i f.id s = same_value (next_action (now start ms) x) action (Store i f.id s) next_is
             (next_repairs (now start ms) x kx ∙ subst (λ n. slice_get (actions_of (setup_in (now start ms)) x) n ≡ Some (Store i f.id s)) here at) in
-            absurd (pt.stored_right limit mark start m ms clean run A U I E F X T x i f.id s bad.0 at_number (next_is ∙ ap Some act) (stores i f.id s bad.0 act bad.1)
-            (pt.wrong_old limit mark start m ms clean run A U I E F X T f.id i s bad.0 setup (X.bytes f.id (file_below q f stood)) bad.2)))
+            absurd (pt.stored_right limit mark start m ms clean run A U I E X T (rows_right mark start ms F) f.profile x i f.id s bad.0 at_number (next_is ∙ ap Some act)
+            (A.pins.sound.file q f stood).1 (λ g in_g e. E.pin_file x.number x g q f at_number in_g stood e) (stores i f.id s bad.0 act bad.1)
+            (pt.wrong_old limit mark start m ms clean run A U I E X T f.profile f.id i s bad.0 setup (X.bytes f.id (file_below q f stood)) bad.2)))
         | inr other ↦ inr (
           ap (λ g. g i) flagged ∙ marked,
           (
@@ -131,24 +132,24 @@ module _ (limit : ℕ) (mark : Mark) (start : State) (m : Moment) (ms : List Mom
       ]
 
   -- a repair that has just begun
-  repair_new : (j : Job) → j ≡ new_job (now start ms) (length ms) RepairJob → begin_refusal limit (now start ms) RepairJob ≡ None → m.state.records ≡ (now start ms).records →
+  repair_new : (j : Job) (wish : Option ℕ) → j ≡ beginning (now start ms) (length ms) RepairJob wish → refusal_of_begin limit (now start ms) RepairJob wish ≡ None → m.state.records ≡ (now start ms).records →
       IsClear start (m ∷ ms) (m.state.audits j.subject) (Remains m.state j)
-  repair_new j is allowed rec =
-      (let u = repair_due limit (now start ms) (due_of (now start ms).records) refl allowed in
+  repair_new j wish is allowed rec =
+      (let u = repair_due limit (now start ms) wish (due_of (now start ms).records) refl allowed in
       let P = E.due u.0 u.1 in
       let subject : j.subject ≡ u.0.number = ap (λ (x : Job). x.subject) is ∙ ap due_number u.1 in
       subst (λ n. IsClear start (m ∷ ms) n (Remains m.state j)) (sym (ap m.state.audits subject ∙ audits_below u.0.number P.0))
       (on ((now start ms).audits u.0.number) (IsFlaggedBy (now start ms) u.0.counts) (Remains m.state j) P.1 (G.due u.0 u.1) (more u.0 u.1)))
     where
       more : (u : Due) → due_of (now start ms).records ≡ Some u → (q : List ℕ) (f : File) (i s : ℕ) → file_in (now start ms) q ≡ Some f → file_in m.state q ≡ Some f → setup_in m.state ≡ setup_in (now start ms) → i < (setup_in m.state).n →
-          s < stripes_of (setup_in m.state) (length (m.state.bytes f.id)) → IsBad m.state f.id i s → IsFlaggedBy (now start ms) u.counts i f.id s →
+          s < stripes_of (profiled (setup_in m.state) f.profile) (length (m.state.bytes f.id)) → IsBad m.state f.profile f.id i s → IsFlaggedBy (now start ms) u.counts i f.id s →
           IsReplaced ((now start ms).audits u.number) i (m ∷ ms) ⊎ Remains m.state j i f.id s
       more u due q f i s stood h setup l b bad marked =
           (let flagged : j.flagged i ≡ true = ap (λ (x : Job). x.flagged i) is ∙ (ap (λ o. due_flags (setup_in (now start ms)).tolerance o i) due ∙ marked) in
           let bytes : m.state.bytes f.id ≡ (now start ms).bytes f.id = X.bytes f.id (file_below q f stood) in
           let st = store_stands (setup_in m.state) j (pinned_file (now start ms) f) i s (ap (λ (x : Job). x.kind) is)
           (subst (λ (x : Job). In (pinned_file (now start ms) f) x.pinned) (sym is) (all_pinned (now start ms) q f stood)) flagged l
-          (subst (λ (y : List ℕ). s < stripes_of (setup_in m.state) (length y)) bytes b) in
+          (subst (λ (y : List ℕ). s < stripes_of (profiled (setup_in m.state) f.profile) (length y)) bytes b) in
           inr (flagged, (st.0, (let z : j.place ≡ 0 = ap (λ (x : Job). x.place) is in omega arith), st.1)))
 
   pub repair_step : (k : ℕ) (j : Job) → job_of m.state.jobs k ≡ Some j → j.kind ≡ RepairJob → IsClear start (m ∷ ms) (m.state.audits j.subject) (Remains m.state j)
@@ -157,8 +158,8 @@ module _ (limit : ℕ) (mark : Mark) (start : State) (m : Moment) (ms : List Mom
         subst (λ n. IsClear start (m ∷ ms) n (Remains m.state j)) (sym (audits_below j.subject P.0))
         (on ((now start ms).audits j.subject) (Remains (now start ms) j) (Remains m.state j) P.1 (G.repair k j r kind)
         (λ q f i s stood h2 setup l b bad x. inr (x.0, (x.1.0, x.1.1, ap (λ (t : Setup). slice_get (actions_of t j) x.1.0) setup ∙ x.1.2)))))
-    | Job_is.begun kd is k_is allowed rec ↦ (let kd_is : kd ≡ RepairJob = sym (ap (λ (x : Job). x.kind) is) ∙ kind in
-        repair_new j (is ∙ ap (new_job (now start ms) (length ms)) kd_is) (subst (λ kk. begin_refusal limit (now start ms) kk ≡ None) kd_is allowed) rec)
+    | Job_is.begun kd wish is k_is allowed rec ↦ (let kd_is : kd ≡ RepairJob = sym (ap (λ (x : Job). x.kind) is) ∙ kind in
+        repair_new j wish (is ∙ ap (λ kk. beginning (now start ms) (length ms) kk wish) kd_is) (subst (λ kk. refusal_of_begin limit (now start ms) kk wish ≡ None) kd_is allowed) rec)
     | Job_is.plain x action runs next_is is_plain goes rec st ↦ rest_on x j k action runs next_is (sym goes.kind ∙ kind) kind goes.pinned goes.flagged goes.subject goes.place st
     | Job_is.drew x runs next_is free is rec ↦ (let kx : x.kind ≡ RepairJob = sym (ap (λ (y : Job). y.kind) is) ∙ kind in
         rest_on x j k WriteBody runs next_is kx kind (ap (λ (y : Job). y.pinned) is) (ap (λ (y : Job). y.flagged) is) (ap (λ (y : Job). y.subject) is ∙ ap (subject_drawn (now start ms) x) kx) (ap (λ (y : Job). y.place) is)
@@ -204,7 +205,7 @@ module _ (limit : ℕ) (mark : Mark) (start : State) (m : Moment) (ms : List Mom
 
     new_due : (u : Due) (d : Doubt) (und : ℕ) → (now start ms).doubt ≡ Some d → d.entry ≡ AuditDone u.number und u.counts →
         ((q : List ℕ) (f : File) (i s : ℕ) → file_in (now start ms) q ≡ Some f → file_in m.state q ≡ Some f → setup_in m.state ≡ setup_in (now start ms) → i < (setup_in m.state).n →
-        s < stripes_of (setup_in m.state) (length (m.state.bytes f.id)) → IsBad m.state f.id i s → u.number < next_audit (now start ms).records → WrongAt start ms ((now start ms).audits u.number) i f.id s →
+        s < stripes_of (profiled (setup_in m.state) f.profile) (length (m.state.bytes f.id)) → IsBad m.state f.profile f.id i s → u.number < next_audit (now start ms).records → WrongAt start ms ((now start ms).audits u.number) i f.id s →
         IsReplaced ((now start ms).audits u.number) i (m ∷ ms) ⊎ IsFlaggedBy m.state u.counts i f.id s) →
         IsClear start (m ∷ ms) (m.state.audits u.number) (IsFlaggedBy m.state u.counts)
     new_due u d und at e more = (let P = E.audit_doubt d u.number und u.counts at e in

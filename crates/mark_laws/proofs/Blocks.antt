@@ -13,14 +13,16 @@ use Rattle.hail_columns.proofs.ForgeryLaws.{wrong-block}
 use Rattle.hail_records.specs.Records.{Record, Setup, SetUp, PutStart, PutDone, Drop, AuditStart, AuditDone, RepairDone, PutDoneIn, Version, Resume, InEffect, RepairDue}
 use Rattle.hail_records.specs.Table.{File, Due, file_as, setup_of, profile_in, started_as, is_start_of, is_same_name, file_of, due_of, exceeds}
 use Rattle.hail_devices.specs.Providers.{Held, sized}
-use Rattle.hail_machine.specs.States.{State, AreFirst, object_in, file_object}
+use Rattle.hail_machine.specs.States.{State, AreFirst, file_object}
+use Rattle.hail_machine.specs.Appends.{done_record}
 use Rattle.hail_machine.specs.Runs.{Moment, is_replacement, is_replaced_since}
 use Rattle.hail_machine.specs.Missed.{is_wrong_told, is_wrong_now}
 use Rattle.hail_machine.specs.Deeds.{told_block}
 use Rattle.hail_machine.proofs.JobLists.{cond_true, cond_false}
 use Rattle.hail_machine.proofs.Written.{IsAppended}
-use Rattle.hail_machine.proofs.Done.{put_ended}
+use Rattle.hail_machine.proofs.Done.{put_ended, done-ended}
 use Rattle.mark_laws.specs.Damage.{IsBad, IsReplaced}
+use Rattle.mark_laws.specs.Marks.{IsEndOfPut}
 
 -- ---- replacements
 
@@ -63,28 +65,58 @@ telling w i o s b h = go (w.providers i).held refl h
     go (Some held) is e = (held, is, (let f : Some (held o s) ≡ Some b = e in cc))
 
 -- a provider with a bad block of a file is wrong for it
-pub bad_wrong : (w : State) (f : File) (i s : ℕ) → s < stripes (file_object w f) (length (w.bytes f.id)) → IsBad w f.id i s → is_wrong_now w f i ≡ true
+pub bad_wrong : (w : State) (f : File) (i s : ℕ) → s < stripes (file_object w f) (length (w.bytes f.id)) → IsBad w f.profile f.id i s → is_wrong_now w f i ≡ true
 bad_wrong w f i s below (b, told, wrong) =
     (let t = telling w i f.id s b told in
-    ap (is_wrong_told w f.id i) t.1
+    ap (is_wrong_told w f i) t.1
     ∙ wrong-block (file_object w f) (w.bytes f.id) i s (t.0 f.id) below (subst (λ x. is_wrong_block (file_object w f) (w.bytes f.id) i s x ≡ true) (sym t.2) wrong))
 
 -- ---- records
 
 -- a file that stands is the one that a put brings in, or stood before
 done_put : (b : Bool) (rest : Option File) (x f : File) → cond b (Some x) rest ≡ Some f →
-    (rest ≡ Some f) ⊎ (Some x.id ≡ Some f.id)
-done_put true rest x f h = (let same : x ≡ f = cc in inr (ap (λ (z : File). Some z.id) same))
+    (rest ≡ Some f) ⊎ (x ≡ f)
+done_put true rest x f h = (let same : x ≡ f = cc in inr same)
 done_put false rest x f h = inl h
+
+-- a record that ends a put, of the first version and of the second
+ends_first : (rs : List Record) (k size : ℕ) (q : List ℕ) (f : File) → file_as q k size (profile_in (setup_of rs)) ≡ f →
+    IsEndOfPut rs (PutDone k size) f.id f.size f.profile
+ends_first rs k size q f e = subst (λ (x : File). IsEndOfPut rs (PutDone k size) x.id x.size x.profile) e
+    (record { version = 1; entry_is = refl; profiled = λ first. refl })
+
+ends_second : (rs : List Record) (k size profile : ℕ) (q : List ℕ) (f : File) → file_as q k size profile ≡ f →
+    IsEndOfPut rs (PutDoneIn k size profile) f.id f.size f.profile
+ends_second rs k size profile q f e = subst (λ (x : File). IsEndOfPut rs (PutDoneIn k size profile) x.id x.size x.profile) e
+    (record { version = 2; entry_is = refl; profiled = λ first. absurd (false≢true (sym first)) })
+
+-- it ends the put of its number
+pub ends_ended : (rs : List Record) (r : Record) (id size profile : ℕ) → IsEndOfPut rs r id size profile → put_ended r ≡ Some id
+ends_ended rs r id size profile e = ap put_ended e.entry_is ∙ done-ended e.version id size profile
+
+-- its profile is told by the record, or by the setup
+pub same_profile : (rs : List Record) (v w a b size length p q : ℕ) → done_record v a size p ≡ done_record w b length q →
+    ((v == 2) ≡ false → p ≡ profile_in (setup_of rs)) → ((w == 2) ≡ false → q ≡ profile_in (setup_of rs)) → p ≡ q
+same_profile rs v w a b size length p q e first second = elim (cases_Bool (v == 2)) [
+  | inl t ↦ elim (cases_Bool (w == 2)) [
+    | inl u ↦ (let same : PutDoneIn a size p ≡ PutDoneIn b length q = sym (cond_true (v == 2) (PutDoneIn a size p) (PutDone a size) t) ∙ (e ∙ cond_true (w == 2) (PutDoneIn b length q) (PutDone b length) u) in
+        let r : p ≡ q = cc in r)
+    | inr u ↦ absurd (let same : PutDoneIn a size p ≡ PutDone b length = sym (cond_true (v == 2) (PutDoneIn a size p) (PutDone a size) t) ∙ (e ∙ cond_false (w == 2) (PutDoneIn b length q) (PutDone b length) u) in cc)
+  ]
+  | inr t ↦ elim (cases_Bool (w == 2)) [
+    | inl u ↦ absurd (let same : PutDone a size ≡ PutDoneIn b length q = sym (cond_false (v == 2) (PutDoneIn a size p) (PutDone a size) t) ∙ (e ∙ cond_true (w == 2) (PutDoneIn b length q) (PutDone b length) u) in cc)
+    | inr u ↦ first t ∙ sym (second u)
+  ]
+]
 
 -- a file in effect was so before, or is that of a put's end
 pub file_done : (r : Record) (rs : List Record) (q : List ℕ) (f : File) → IsAppended r →
-    file_of (r ∷ rs) q ≡ Some f → (file_of rs q ≡ Some f) ⊎ (put_ended r ≡ Some f.id)
+    file_of (r ∷ rs) q ≡ Some f → (file_of rs q ≡ Some f) ⊎ IsEndOfPut rs r f.id f.size f.profile
 file_done (SetUp s) rs q f good h = inl h
 file_done (PutStart k name) rs q f good h = inl h
 file_done (PutDone k size) rs q f good h =
-    done_put (is_start_of q (started_as rs k)) (file_of rs q)
-    (file_as q k size (profile_in (setup_of rs))) f h
+    elim (done_put (is_start_of q (started_as rs k)) (file_of rs q)
+    (file_as q k size (profile_in (setup_of rs))) f h) [ inl was ↦ inl was | inr e ↦ inr (ends_first rs k size q f e) ]
 file_done (Drop name) rs q f good h = elim (cases_Bool (is_same_name name q)) [
   | inl t ↦ absurd (some-not-none (file_of (Drop name ∷ rs) q) f h (cond_true (is_same_name name q) None (file_of rs q) t))
   | inr o ↦ inl (sym (cond_false (is_same_name name q) None (file_of rs q) o) ∙ h)
@@ -93,7 +125,10 @@ file_done (AuditStart number) rs q f good h = inl h
 file_done (AuditDone number undecided counts) rs q f good h = inl h
 file_done (RepairDone number) rs q f good h = inl h
 file_done (PutDoneIn k size profile) rs q f good h =
-    done_put (is_start_of q (started_as rs k)) (file_of rs q) (file_as q k size profile) f h
+    elim (done_put (is_start_of q (started_as rs k)) (file_of rs q) (file_as q k size profile) f h) [
+      | inl was ↦ inl was
+      | inr e ↦ inr (ends_second rs k size profile q f e)
+    ]
 file_done Version rs q f good h = inl h
 file_done (Resume next audit) rs q f good h = absurd good
 file_done (InEffect k size profile kept) rs q f good h = absurd good
@@ -118,7 +153,7 @@ setup_left (RepairDue number counts) rs other = refl
 pub up_before : (r : Record) (rs : List Record) (q : List ℕ) (f : File) → IsAppended r →
     file_of (r ∷ rs) q ≡ Some f → (file_of rs q ≡ Some f → is_some (setup_of rs) ≡ true) →
     (put_ended r ≡ Some f.id → is_some (setup_of rs) ≡ true) → is_some (setup_of rs) ≡ true
-up_before r rs q f good h old new = elim (file_done r rs q f good h) [ inl was ↦ old was | inr e ↦ new e ]
+up_before r rs q f good h old new = elim (file_done r rs q f good h) [ inl was ↦ old was | inr e ↦ new (ends_ended rs r f.id f.size f.profile e) ]
 
 pub up_more : (r : Record) (rs : List Record) → is_some (setup_of rs) ≡ true → setup_of (r ∷ rs) ≡ None → ⊥
 up_more (SetUp s) rs h e = (let f : Some s ≡ None = e in cc)

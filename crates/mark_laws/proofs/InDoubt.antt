@@ -9,15 +9,16 @@ use Rattle.hail_records.specs.Records.{Setup}
 use Rattle.hail_records.specs.Table.{setup_of, next_id, started_as}
 use Rattle.hail_machine.specs.Jobs.{AuditJob, RepairJob, Pinned, Job, job_of, advanced}
 use Rattle.hail_machine.specs.Actions.{WriteGate, Store, Remove, actions_of}
-use Rattle.hail_machine.specs.Setups.{object_of}
-use Rattle.hail_machine.specs.States.{State, Doubt, IsStart, setup_in, object_in}
+use Rattle.hail_machine.specs.Setups.{object_of, profiled}
+use Rattle.hail_machine.specs.Given.{pinned_profile}
+use Rattle.hail_machine.specs.States.{State, Doubt, Scrubbing, IsStart, setup_in, object_among, worked_object}
 use Rattle.hail_machine.specs.Begins.{is_check}
 use Rattle.hail_machine.specs.Steps.{next_action}
 use Rattle.hail_machine.specs.Runs.{Moment, now, first_moments, is_replacement, is_replaced_since, IsRun}
 use Rattle.hail_machine.specs.Calm.{Mark, IsCalm, relies}
 use Rattle.hail_machine.specs.Halves.{AllTell}
 use Rattle.hail_machine.specs.Deeds.{told_block, HasMadeStore}
-use Rattle.hail_machine.proofs.JobLists.{same_value}
+use Rattle.hail_machine.proofs.JobLists.{same_value, found_none}
 use Rattle.hail_machine.proofs.Changes.{Block_is, Changes}
 use Rattle.hail_machine.proofs.Events.{changes}
 use Rattle.hail_machine.proofs.Numbers.{audits}
@@ -69,6 +70,7 @@ module _ (limit : ℕ) (start : State) (m : Moment) (ms : List Moment) (A : All 
           let e : y ≡ x = same_value _ y x (subst (λ z. job_of (now start ms).jobs z ≡ Some y) n runs_y) runs in
           let z : RepairJob ≡ AuditJob = sym repairs ∙ (ap (λ (q : Job). q.kind) e ∙ kind) in cc)
     ])
+    | Block_is.scrubbed scrub rest at next_is is ↦ absurd (found_none (now start ms).jobs x.number x (A.numbers.idle.lone (Scrubbing scrub) at) runs)
     | Block_is.removed y runs_y next_y ↦ absurd (A.pins.older_free y.number x.number y x f.id f runs_y (remove_kinds y y.kind i f.id refl (is_fair (now start ms) y (Remove i f.id) next_y)) runs in_f refl)
   ]
 
@@ -137,7 +139,7 @@ kept limit start clean (m ∷ ms) run =
 
 abbrev pub Rewritten : State → List Moment → Type 0
 Rewritten start ms = (d : Doubt) (job : Job) (i o s : ℕ) (b : Option (List ℕ)) → (now start ms).doubt ≡ Some d → d.maker ≡ Some job → job.kind ≡ RepairJob → HasMadeStore (setup_in (now start ms)) job i o s →
-    is_replaced_since job.begun i ms ≡ false → told_block (now start ms) i o s ≡ Some b → b ≡ Some (columns (object_in (now start ms) o) ((now start ms).bytes o) i s)
+    is_replaced_since job.begun i ms ≡ false → told_block (now start ms) i o s ≡ Some b → b ≡ Some (columns (worked_object (now start ms) job o) ((now start ms).bytes o) i s)
 
 -- the stores of a repair before its third move were made before
 made_before : (t : Setup) (w : State) (x job : Job) (i o s : ℕ) → t ≡ setup_in w → job ≡ advanced x → next_action w x ≡ Some WriteGate → HasMadeStore t job i o s → HasMadeStore (setup_in w) x i o s
@@ -169,15 +171,15 @@ rewritten limit mark start clean tell (m ∷ ms) run calm marks = step (rewritte
 
     -- while the repair runs
     while_running : (x : Job) (i o s : ℕ) (b : Option (List ℕ)) → job_of (now start ms).jobs x.number ≡ Some x → x.kind ≡ RepairJob → HasMadeStore (setup_in (now start ms)) x i o s → is_replaced_since x.begun i (m ∷ ms) ≡ false →
-        told_block m.state i o s ≡ Some b → b ≡ Some (columns (object_in (now start ms) o) ((now start ms).bytes o) i s)
+        told_block m.state i o s ≡ Some b → b ≡ Some (columns (worked_object (now start ms) x o) ((now start ms).bytes o) i s)
     while_running x i o s b runs kind made none told =
         rd.carry limit mark start m ms clean run.2 A (num.facts audits limit start clean ms run.2) (eff.facts limit start ms clean run.2) E (marked_facts limit mark start clean tell ms run.2 calm.1 marks.1) X
-        (turns (now start ms) limit (length ms) m.event m.outcome m.state run.1) (walked (length ms) (now start ms) limit m.event m.outcome m.state run.1) (run_onward limit start m ms run) (all_tell limit start ms tell run.2) (calm_now mark start clean ms calm.1) x.number x i o s b runs kind made none told
+        (turns (now start ms) limit (length ms) m.event m.outcome m.state run.1) (walked (length ms) (now start ms) limit m.event m.outcome m.state (all limit start clean ms run.2).numbers.idle.lone run.1) (run_onward limit start m ms run) (all_tell limit start ms tell run.2) (calm_now mark start clean ms calm.1) x.number x i o s b runs kind made none told
 
     pin : (x : Job) (i o s : ℕ) → x.kind ≡ RepairJob → HasMadeStore (setup_in (now start ms)) x i o s → HasPin x o
     pin x i o s kind made =
         rd.made_pin limit mark start m ms clean run.2 A (num.facts audits limit start clean ms run.2) (eff.facts limit start ms clean run.2) E (marked_facts limit mark start clean tell ms run.2 calm.1 marks.1) X
-        (turns (now start ms) limit (length ms) m.event m.outcome m.state run.1) (walked (length ms) (now start ms) limit m.event m.outcome m.state run.1) (run_onward limit start m ms run) (all_tell limit start ms tell run.2) (calm_now mark start clean ms calm.1) x i o s kind made
+        (turns (now start ms) limit (length ms) m.event m.outcome m.state run.1) (walked (length ms) (now start ms) limit m.event m.outcome m.state (all limit start clean ms run.2).numbers.idle.lone run.1) (run_onward limit start m ms run) (all_tell limit start ms tell run.2) (calm_now mark start clean ms calm.1) x i o s kind made
 
     step : Rewritten start ms → Rewritten start (m ∷ ms)
     step before d job i o s b h maker kind made none told = elim ((turns (now start ms) limit (length ms) m.event m.outcome m.state run.1).doubt d h) [
@@ -203,9 +205,11 @@ rewritten limit mark start clean tell (m ∷ ms) run calm marks = step (rewritte
           let old = made_before (setup_in m.state) (now start ms) x job i o s setup e next_is made in
           let p = pin x i o s kx old in
           let below : o < next_id (now start ms).records = subst (λ n. n < next_id (now start ms).records) p.id_is (A.pins.pins x.number x p.file runs p.pinned).0 in
-          on below setup (while_running x i o s b runs kx old (subst (λ n. is_replaced_since n i (m ∷ ms) ≡ false) begun none) told))
+          on below setup (while_running x i o s b runs kx old (subst (λ n. is_replaced_since n i (m ∷ ms) ≡ false) begun none) told
+          ∙ ap (λ ps. Some (columns (object_among (now start ms) ps o) ((now start ms).bytes o) i s)) (sym (ap (λ (y : Job). y.pinned) e))))
       | Doubt_now.set_up t entry_is bare none_up closed ↦ absurd (some-not-none d.maker job maker bare)
     ]
       where
-        on : o < next_id (now start ms).records → setup_in m.state ≡ setup_in (now start ms) → b ≡ Some (columns (object_in (now start ms) o) ((now start ms).bytes o) i s) → b ≡ Some (columns (object_in m.state o) (m.state.bytes o) i s)
-        on below setup e = e ∙ (ap (λ y. Some (columns (object_in (now start ms) o) y i s)) (sym (X.bytes o below)) ∙ ap (λ t. Some (columns (object_of t o) (m.state.bytes o) i s)) (sym setup))
+        on : o < next_id (now start ms).records → setup_in m.state ≡ setup_in (now start ms) → b ≡ Some (columns (worked_object (now start ms) job o) ((now start ms).bytes o) i s) → b ≡ Some (columns (worked_object m.state job o) (m.state.bytes o) i s)
+        on below setup e = e ∙ (ap (λ y. Some (columns (worked_object (now start ms) job o) y i s)) (sym (X.bytes o below))
+            ∙ ap (λ (t : Setup). Some (columns (object_of (profiled t (pinned_profile t.profile job.pinned o)) o) (m.state.bytes o) i s)) (sym setup))

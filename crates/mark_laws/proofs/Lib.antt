@@ -1,5 +1,6 @@
 pub mod Turns
 pub mod Quiet
+pub mod Scrubbing
 pub mod Blocks
 pub mod Places
 pub mod Files
@@ -7,7 +8,10 @@ pub mod EveryRun
 pub mod Points
 pub mod Audits
 pub mod Readers
+pub mod ScrubFacts
+pub mod Swept
 pub mod NoForgery
 pub mod SecondHalf
 pub mod InRuns
 pub mod InDoubt
+pub mod Finished

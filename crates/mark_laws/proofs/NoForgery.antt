@@ -7,8 +7,8 @@ use Rattle.hail_columns.specs.Opened.{SeenBlock, AllOpen}
 use Rattle.hail_records.specs.Records.{Setup}
 use Rattle.hail_records.specs.Table.{File}
 use Rattle.hail_machine.specs.Jobs.{GetJob, Job, job_of}
-use Rattle.hail_machine.specs.Setups.{object_of}
-use Rattle.hail_machine.specs.States.{State, IsStart, setup_in, object_in, file_object, file_in}
+use Rattle.hail_machine.specs.Setups.{object_of, profiled}
+use Rattle.hail_machine.specs.States.{State, IsStart, setup_in, file_object, file_in}
 use Rattle.hail_machine.specs.Begins.{pinned_file}
 use Rattle.hail_machine.specs.Given.{blocks_given}
 use Rattle.hail_machine.specs.Runs.{Moment, now, first_moments, IsRun}
@@ -30,7 +30,7 @@ pub no_forgery : (limit : ℕ) (mark : Mark) (start : State) (ms : List Moment) 
     (number : ℕ) (job : Job) (name : List ℕ) (file : File) → job_of (now start ms).jobs number ≡ Some job → job.kind ≡ GetJob name → file_in (begin_of start ms job) name ≡ Some file →
     HoldsForgery (file_object (begin_of start ms job) file) ((begin_of start ms job).bytes file.id) job.number (heard_by (Some job)) → ⊥
 no_forgery limit mark start ms clean run F calm number job name file runs kind in_effect forged =
-    of_now (subst (λ (t : Setup). HoldsForgery (object_of t file.id) ((now start ms).bytes file.id) job.number (heard_by (Some job))) (sym setup)
+    of_now (subst (λ (t : Setup). HoldsForgery (object_of (profiled t file.profile) file.id) ((now start ms).bytes file.id) job.number (heard_by (Some job))) (sym setup)
     (subst (λ (y : List ℕ). HoldsForgery (file_object (begin_of start ms job) file) y job.number (heard_by (Some job))) own_bytes forged))
   where
     H : HasFile (begin_of start ms job) (now start ms) job name
@@ -57,7 +57,7 @@ no_forgery limit mark start ms clean run F calm number job name file runs kind i
     of_now h =
         (let f = h.forgery in
         let few = few_there mark start ms F calm number job (pinned_file (begin_of start ms job) file) h.stripe runs (ap relies kind) in_file f.row_in.stripe_in in
-        f.forged.other (own_row (file_object (now start ms) file) ((now start ms).bytes file.id) (setup_in (now start ms)).profile h.stripe h.place
+        f.forged.other (own_row (file_object (now start ms) file) ((now start ms).bytes file.id) file.profile h.stripe h.place
         (blocks_given job.given (setup_in (now start ms)).n file.id h.stripe) f.opened f.row refl shape f.row_in few
         (subst (λ (seen : List SeenBlock). AllOpen (file_object (now start ms) file) h.stripe 0 seen f.opened) (heard_blocks job name (setup_in (now start ms)).n file.id h.stripe kind) f.opens)
         f.forged.accepted))

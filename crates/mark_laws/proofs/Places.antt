@@ -9,9 +9,9 @@ use Rattle.plain_facts.proofs.Lists.{get_behind}
 use Rattle.hail_codes.specs.Points.{upto}
 use Rattle.hail_records.specs.Records.{Setup}
 use Rattle.hail_records.specs.Table.{setup_of, file_of}
-use Rattle.hail_machine.specs.Jobs.{Kind, PutJob, GetJob, DropJob, AuditJob, RepairJob, Pinned, Job, advanced}
+use Rattle.hail_machine.specs.Jobs.{Kind, PutJob, GetJob, DropJob, AuditJob, RepairJob, UpgradeJob, Pinned, Job, advanced}
 use Rattle.hail_machine.specs.Actions.{Action, WriteBody, SyncBody, WriteGate, SyncGate, Store, Fetch, Work, Remove, End, append_actions, on_each_provider, on_each_stripe, open_actions, store_actions, read_actions, remove_actions, repair_actions, ask_actions, actions_by, actions_of}
-use Rattle.hail_machine.specs.Setups.{stripes_of, pinned_stripes}
+use Rattle.hail_machine.specs.Setups.{profiled, pinned_stripes}
 use Rattle.hail_machine.specs.States.{State, setup_in, file_in}
 use Rattle.hail_machine.specs.Steps.{next_action, is_idle_drop}
 use Rattle.hail_machine.specs.Calm.{relies}
@@ -87,7 +87,7 @@ pub read_within : (w : State) (job : Job) (name : List ℕ) (o s : ℕ) → job.
 read_within w job name o s kind h =
     each_get (IsWithin (setup_in w) job) (actions_by (setup_in w) job (GetJob name)) job.place (Work o s)
     (each_append (IsWithin (setup_in w) job) (read_actions (setup_in w) job.pinned) (End ∷ [])
-    (each_flat_in (IsWithin (setup_in w) job) (λ (f : Pinned). on_each_stripe (setup_in w) (length f.bytes) (open_actions (setup_in w) f.id)) job.pinned
+    (each_flat_in (IsWithin (setup_in w) job) (λ (f : Pinned). on_each_stripe (profiled (setup_in w) f.profile) (length f.bytes) (open_actions (setup_in w) f.id)) job.pinned
     (λ f i. each_flat_in (IsWithin (setup_in w) job) (open_actions (setup_in w) f.id) (upto (pinned_stripes (setup_in w) f))
     (λ st l. each_append (IsWithin (setup_in w) job) (on_each_provider (setup_in w) (λ j. Fetch j f.id st)) (Work f.id st ∷ []) (each_map (IsWithin (setup_in w) job) (λ j. Fetch j f.id st) (upto (setup_in w).n) (λ j. tt))
     ((f, i, refl, upto_in (pinned_stripes (setup_in w) f) st l), tt))))
@@ -101,11 +101,12 @@ works_within w job o s RepairJob is reads h = work_within w job o s is h
 works_within w job o s (PutJob name bytes) is reads h = absurd (false≢true reads)
 works_within w job o s (DropJob name) is reads h = absurd (false≢true reads)
 works_within w job o s AuditJob is reads h = absurd (false≢true reads)
+works_within w job o s UpgradeJob is reads h = absurd (false≢true reads)
 
 -- the actions of a repair hang on its files and on what it flags
 abbrev repair_list : Setup → (ℕ → Bool) → List Pinned → List Action
 repair_list t flagged pinned =
-    flat_map (λ (f : Pinned). on_each_stripe t (length f.bytes) (λ stripe. open_actions t f.id stripe ++ flat_map (λ j. cond (flagged j) (Store j f.id stripe ∷ []) []) (upto t.n))) pinned ++ (append_actions ++ End ∷ [])
+    flat_map (λ (f : Pinned). on_each_stripe (profiled t f.profile) (length f.bytes) (λ stripe. open_actions t f.id stripe ++ flat_map (λ j. cond (flagged j) (Store j f.id stripe ∷ []) []) (upto t.n))) pinned ++ (append_actions ++ End ∷ [])
 
 repair_list_is : (t : Setup) (job : Job) → actions_by t job RepairJob ≡ repair_list t job.flagged job.pinned
 repair_list_is t job = refl
@@ -152,6 +153,7 @@ followed_by t job AuditJob =
 followed_by t job RepairJob =
     followed_append (repair_actions t job) _ (followed_none (repair_actions t job) (repairs_all t job NotGate (λ f st in_f l. (λ j. tt, tt, λ j. tt))))
     (followed_append append_actions (End ∷ []) followed_moves (followed_none (End ∷ []) (tt, tt)))
+followed_by t job UpgradeJob = followed_append append_actions (End ∷ []) followed_moves (followed_none (End ∷ []) (tt, tt))
 
 -- a job that has made an action is no idle drop
 not_idle : (w : State) (job : Job) (kind : Kind) → is_idle_drop w (advanced job) kind ≡ false
@@ -160,6 +162,7 @@ not_idle w job (GetJob name) = refl
 not_idle w job (DropJob name) = and_left (job.place + 1 == 0) (not (is_some (file_in w name))) (ne_eqb (job.place + 1) 0 (λ e. omega arith))
 not_idle w job AuditJob = refl
 not_idle w job RepairJob = refl
+not_idle w job UpgradeJob = refl
 
 pub gate_next : (w : State) (job : Job) → next_action w job ≡ Some WriteGate → next_action w (advanced job) ≡ Some SyncGate
 gate_next w job h =
@@ -178,6 +181,7 @@ same_by v w job (DropJob name) place e =
     ∙ ap (λ t. cond ((job.place == 0) && not (is_some (file_in w name))) (Some End) (slice_get (actions_by t job (DropJob name)) place)) (setup_same v w (ap setup_of e))
 same_by v w job AuditJob place e = ap (λ t. slice_get (actions_by t job AuditJob) place) (setup_same v w (ap setup_of e))
 same_by v w job RepairJob place e = ap (λ t. slice_get (actions_by t job RepairJob) place) (setup_same v w (ap setup_of e))
+same_by v w job UpgradeJob place e = refl
 
 pub next_same : (v w : State) (job : Job) → v.records ≡ w.records → next_action v job ≡ next_action w job
 next_same v w job e = next_is_by v job ∙ (same_by v w job job.kind job.place e ∙ sym (next_is_by w job))

@@ -6,13 +6,15 @@ use Rattle.std.proofs.lemmas.Bool.{cases_Bool, eqb-true, eq-eqb, false≢true}
 use Rattle.hail_records.specs.Records.{Setup, is_setup}
 use Rattle.hail_devices.specs.Providers.{Held, Provider, with_symbol, without_block, HasPlace}
 use Rattle.hail_devices.specs.ProviderCalls.{Replaces}
-use Rattle.hail_machine.specs.Jobs.{Kind}
+use Rattle.hail_machine.specs.Jobs.{Kind, PutJob}
 use Rattle.hail_machine.specs.Refusals as refusal
-use Rattle.hail_machine.specs.Events.{Event, Init, Begin, Step, Alter, Lose, Stop, Reopen, Names, Continue, Outcome, Ready, Refused, Opened, Begun, Replaced, NothingHeld, Stopped, Listed, Closed, Continued}
-use Rattle.hail_machine.specs.States.{State, with_provider, given_up, Settles}
-use Rattle.hail_machine.specs.Begins.{Begins}
+use Rattle.hail_machine.specs.Refusals.{Refusal}
+use Rattle.hail_machine.specs.Events.{Event, Init, Begin, BeginAt, BeginScrub, BeginPack, Step, Alter, Lose, Stop, Reopen, Names, Continue, Outcome, Ready, Refused, Opened, Begun, Replaced, NothingHeld, Stopped, Listed, Closed, Continued}
+use Rattle.hail_machine.specs.States.{State, Alone, with_provider, Settles}
+use Rattle.hail_machine.specs.Begins.{BeginsAt}
+use Rattle.hail_machine.specs.Alone.{BeginsAlone}
 use Rattle.hail_machine.specs.Steps.{StepsOpen, Steps}
-use Rattle.hail_machine.specs.Openings.{Stops, Reopens, InitsClosed, InitsBy, Inits, Continues}
+use Rattle.hail_machine.specs.Openings.{reread, Stops, Reopens, InitsClosed, InitsBy, Inits, Continues}
 use Rattle.hail_machine.specs.Replacements.{ReplacesAt, ReplacesIf}
 use Rattle.hail_machine.specs.Machine.{Lists, Happens}
 use Rattle.hail_machine.specs.Runs.{is_replacement}
@@ -53,24 +55,30 @@ module _ (old : State) where
   steps number true r new (inr barred) h = steps_open number old.is_barred r new barred h
   steps number false r new rest h = absurd h
 
-  begins : (limit moment : ℕ) (kind : Kind) (r : Outcome) (new : State) → Begins limit moment old kind r new → Quiet (Begin kind) r new
-  begins limit moment kind Closed new h = unchanged (Begin kind) Closed new h.1
-  begins limit moment kind (Refused why) new h = unchanged (Begin kind) (Refused why) new h.2
-  begins limit moment kind (Begun job) new h = same (Begin kind) (Begun job) new (ap (λ (w : State). w.providers) h.3)
-  begins limit moment kind r new h = absurd h
+  begins : (e : Event) (limit moment : ℕ) (kind : Kind) (profile : Option ℕ) (r : Outcome) (new : State) → BeginsAt limit moment old kind profile r new → Quiet e r new
+  begins e limit moment kind profile Closed new h = unchanged e Closed new h.1
+  begins e limit moment kind profile (Refused why) new h = unchanged e (Refused why) new h.2
+  begins e limit moment kind profile (Begun job) new h = same e (Begun job) new (ap (λ (w : State). w.providers) h.3)
+  begins e limit moment kind profile r new h = absurd h
+
+  begins_alone : (e : Event) (why : Option Refusal) (x : Alone) (r : Outcome) (new : State) → BeginsAlone old why x r new → Quiet e r new
+  begins_alone e why x Closed new h = unchanged e Closed new h.1
+  begins_alone e why x (Refused refused) new h = unchanged e (Refused refused) new h.2
+  begins_alone e why x (Begun job) new h = same e (Begun job) new (ap (λ (w : State). w.providers) h.3)
+  begins_alone e why x r new h = absurd h
 
   settled : (left mid : State) → left.providers ≡ old.providers → Settles left mid → mid.providers ≡ old.providers
   settled left mid e (inl is) = ap (λ (w : State). w.providers) is ∙ e
   settled left mid e (inr (d, at, is)) = ap (λ (w : State). w.providers) is ∙ e
 
   stops : (picks : List ℕ) (r : Outcome) (new : State) → Stops old r new → Quiet (Stop picks) r new
-  stops picks Stopped new h = same (Stop picks) Stopped new (settled (given_up old) new refl h)
+  stops picks Stopped new (journal, area, holds, h) = same (Stop picks) Stopped new (settled (reread old journal area) new refl h)
   stops picks r new h = absurd h
 
   reopens : (r : Outcome) (new : State) → Reopens old r new → new.providers ≡ old.providers
-  reopens Opened new (mid, s, up, enough, (faults, low, is)) = ap (λ (w : State). w.providers) is ∙ settled (given_up old) mid refl s
-  reopens (Refused refusal.NotSetUp) new (mid, s, none, (faults, low, is)) = ap (λ (w : State). w.providers) is ∙ settled (given_up old) mid refl s
-  reopens (Refused refusal.TooFewProviders) new (mid, s, up, few, (faults, low, is)) = ap (λ (w : State). w.providers) is ∙ settled (given_up old) mid refl s
+  reopens Opened new (mid, (journal, area, holds, s), up, enough, (faults, low, is)) = ap (λ (w : State). w.providers) is ∙ settled (reread old journal area) mid refl s
+  reopens (Refused refusal.NotSetUp) new (mid, (journal, area, holds, s), none, (faults, low, is)) = ap (λ (w : State). w.providers) is ∙ settled (reread old journal area) mid refl s
+  reopens (Refused refusal.TooFewProviders) new (mid, (journal, area, holds, s), up, few, (faults, low, is)) = ap (λ (w : State). w.providers) is ∙ settled (reread old journal area) mid refl s
   reopens (Refused refusal.DiskFault) new (faults, low, rose, is) = ap (λ (w : State). w.providers) is
   reopens (Refused refusal.Memory) new (faults, low, is) = ap (λ (w : State). w.providers) is
   reopens r new h = absurd h
@@ -127,7 +135,10 @@ module _ (old : State) where
 
   pub quiet_blocks : (limit moment : ℕ) (e : Event) (r : Outcome) (new : State) → IsAtRest old → Happens limit moment old e r new → Quiet e r new
   quiet_blocks limit moment (Init s) r new rest h = same (Init s) r new (inits s old.is_open r new h)
-  quiet_blocks limit moment (Begin kind) r new rest h = begins limit moment kind r new h
+  quiet_blocks limit moment (Begin kind) r new rest h = begins (Begin kind) limit moment kind None r new h
+  quiet_blocks limit moment (BeginAt profile name bytes) r new rest h = begins (BeginAt profile name bytes) limit moment (PutJob name bytes) (Some profile) r new h
+  quiet_blocks limit moment BeginScrub r new rest h = begins_alone BeginScrub _ _ r new h
+  quiet_blocks limit moment BeginPack r new rest h = begins_alone BeginPack _ _ r new h
   quiet_blocks limit moment (Step number) r new rest h = steps number old.is_open r new rest h
   quiet_blocks limit moment (Alter j object stripe place symbol) r new rest h =
       replaces_if (Alter j object stripe place symbol) (nat_lt j old.handed) j (λ held. HasPlace (held object stripe) place) (with_symbol object stripe place symbol) r new (eq-eqb j j refl) h

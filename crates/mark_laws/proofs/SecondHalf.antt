@@ -12,19 +12,20 @@ use Rattle.column_laws.proofs.Counts.{count_of-within}
 use Rattle.hail_records.specs.Records.{Setup}
 use Rattle.hail_records.specs.Table.{File}
 use Rattle.hail_devices.specs.Faults.{Rose, last_count}
-use Rattle.hail_machine.specs.Jobs.{Kind, PutJob, GetJob, DropJob, AuditJob, RepairJob, Pinned, Job, job_of}
+use Rattle.hail_machine.specs.Jobs.{Kind, PutJob, GetJob, DropJob, AuditJob, RepairJob, UpgradeJob, Pinned, Job, job_of}
 use Rattle.hail_machine.specs.Actions.{Fetch, Work}
 use Rattle.hail_machine.specs.Answers as answer
 use Rattle.hail_machine.specs.Answers.{Answer}
 use Rattle.hail_machine.specs.Events.{Event, Begin, Step, Outcome, Refused, Ended}
 use Rattle.hail_machine.specs.Steps.{next_action}
-use Rattle.hail_machine.specs.Setups.{object_of, stripes_of, pinned_stripes}
-use Rattle.hail_machine.specs.States.{State, IsStart, setup_in, object_in, file_object, file_in}
+use Rattle.hail_machine.specs.Setups.{object_of, profiled, stripes_of, pinned_stripes}
+use Rattle.hail_machine.specs.States.{State, Scrub, Scrubbing, IsStart, setup_in, file_object, file_in}
 use Rattle.hail_machine.specs.Begins.{pinned_file}
 use Rattle.hail_machine.specs.Given.{block_given}
 use Rattle.hail_machine.specs.Runs.{Moment, now, first_moments, is_replaced_since, came, IsRun}
 use Rattle.hail_machine.specs.Calm.{Mark, relies, replaced_count, since, IsCalm}
 use Rattle.hail_machine.specs.Missed.{MissesNone, NoneMissed}
+use Rattle.hail_machine.specs.Scrubs.{AreScrubsCalm}
 use Rattle.hail_machine.specs.Halves.{begun_of, CountRose, GivesOrRose, EndsWell, KeepsSecondHalf, SecondHalf, AllTell, SecondHalfHolds}
 use Rattle.hail_machine.proofs.JobLists.{number_of, found_none}
 use Rattle.hail_machine.proofs.Events.{changes}
@@ -40,7 +41,8 @@ use Rattle.calm_laws.proofs.Onward.{run_onward, all_tell}
 use Rattle.step_laws.proofs.Places.{fetched_before_work, fetched_before_end}
 use Rattle.step_laws.proofs.MadeFacts.{given_block, made_fetch_gave}
 use Rattle.step_laws.proofs.Walk.{walked}
-use Rattle.step_laws.proofs.GetFetches.{ends_at}
+use Rattle.hail_machine.proofs.StepEnds.{event_end}
+use Rattle.hail_machine.proofs.Changes.{IsLone}
 use Rattle.step_laws.specs.Behind.{HasMade}
 use Rattle.mark_laws.specs.Damage.{RoseSince}
 use Rattle.mark_laws.specs.Marks.{IsMark}
@@ -53,6 +55,8 @@ use Rattle.mark_laws.proofs.Points.{Facts, begin_of, mark_of}
 use Rattle.mark_laws.proofs.Audits.{Audited}
 use Rattle.mark_laws.proofs.Audits as aud
 use Rattle.mark_laws.specs.Sharp.{IsLostByFaults, GivesOrIsLost}
+use Rattle.mark_laws.proofs.Scrubbing.{Scrub_is, scrub_is}
+use Rattle.mark_laws.proofs.ScrubFacts.{scrub_mark, Scrubbed, scrubs_right, scrubbed_step}
 use Rattle.mark_laws.proofs.Readers as rd
 use Rattle.mark_laws.proofs.NoForgery.{no_forgery}
 use Rattle.run_laws.proofs.FirstHalf.{got_right}
@@ -64,10 +68,15 @@ start_moment start clean = record {
   before = record {
     early = omega arith;
     puts = λ k j name bytes h kind. absurd (found_none start.jobs k j clean.jobs h);
-    doubts = λ d id size h e. absurd (some-not-none start.doubt d h clean.doubt);
+    doubts = λ d version id size profile h e. absurd (some-not-none start.doubt d h clean.doubt);
   };
   clear = λ q f i s h l k bad. absurd (no_first_file start.records q f clean.records h);
 }
+
+-- the mark now is one
+pub mark_now : (mark : Mark) (start : State) (ms : List Moment) → AreMarks mark start ms → IsMark start ms (mark ms)
+mark_now mark start [] marks = marks
+mark_now mark start (m ∷ ms) marks = marks.0
 
 start_facts : (mark : Mark) (start : State) → IsStart start → IsMark start [] (mark []) → Facts mark start []
 start_facts mark start clean moment = record {
@@ -89,6 +98,31 @@ start_audited start clean = record {
   repair_doubt = λ d number h e. absurd (some-not-none start.doubt d h clean.doubt);
 }
 
+-- calm, of a scrub that runs now
+pub calm_scrub : (mark : Mark) (start : State) → IsStart start → (ms : List Moment) → AreScrubsCalm mark ms → (scrub : Scrub) → (now start ms).alone ≡ Some (Scrubbing scrub) →
+    replaced_count (now start ms) (scrub_mark mark ms scrub) ms ≤ (setup_in (now start ms)).b
+calm_scrub mark start clean [] calm scrub h = absurd (some-not-none start.alone (Scrubbing scrub) h clean.none_alone)
+calm_scrub mark start clean (m ∷ ms) calm scrub h = calm.0 scrub h
+
+-- how a scrub that runs came to be what it is
+pub scrub_was : (limit : ℕ) (start : State) (m : Moment) (ms : List Moment) → IsStart start → IsRun limit start (m ∷ ms) → (scrub : Scrub) → m.state.alone ≡ Some (Scrubbing scrub) → Scrub_is (length ms) m.event (now start ms) m.state scrub
+scrub_was limit start m ms clean run =
+    scrub_is (length ms) (now start ms) (all limit start clean ms run.2).numbers.idle.lone (always limit start clean ms run.2).lone_open limit m.event m.outcome m.state run.1
+
+-- what holds of a scrub, one event more
+pub scrub_on : (limit : ℕ) (mark : Mark) (start : State) (m : Moment) (ms : List Moment) → IsStart start → AllTell start → IsRun limit start (m ∷ ms) → AreScrubsCalm mark ms → IsMark start ms (mark ms) →
+    ((scrub : Scrub) → (now start ms).alone ≡ Some (Scrubbing scrub) → Scrubbed mark start ms scrub) → (next : Scrub) → m.state.alone ≡ Some (Scrubbing next) → Scrubbed mark start (m ∷ ms) next
+scrub_on limit mark start m ms clean tell run calm moment K =
+    (let A = all limit start clean ms run.2 in
+    scrubbed_step limit mark start m ms A (eff.facts limit start ms clean run.2) (changes limit (length ms) (now start ms) m.event m.outcome m.state A.numbers.idle run.1) (all_tell limit start ms tell run.2)
+    moment K (calm_scrub mark start clean ms calm) (scrub_was limit start m ms clean run))
+
+-- in a run whose scrubs are calm by a mark which at each moment is one
+pub marked_scrubs : (limit : ℕ) (mark : Mark) (start : State) → IsStart start → AllTell start → (ms : List Moment) → IsRun limit start ms → AreScrubsCalm mark ms → AreMarks mark start ms → (scrub : Scrub) → (now start ms).alone ≡ Some (Scrubbing scrub) →
+    Scrubbed mark start ms scrub
+marked_scrubs limit mark start clean tell [] run calm marks = λ scrub h. absurd (some-not-none start.alone (Scrubbing scrub) h clean.none_alone)
+marked_scrubs limit mark start clean tell (m ∷ ms) run calm marks = scrub_on limit mark start m ms clean tell run calm.1 (mark_now mark start ms marks.1) (marked_scrubs limit mark start clean tell ms run.2 calm.1 marks.1)
+
 -- calm, of a job that runs now
 pub calm_now : (mark : Mark) (start : State) → IsStart start → (ms : List Moment) → IsCalm relies mark ms → (k : ℕ) (j : Job) → job_of (now start ms).jobs k ≡ Some j → IsTrue (relies j.kind) →
     replaced_count (now start ms) (mark_of mark ms j) ms ≤ (setup_in (now start ms)).b
@@ -105,7 +139,7 @@ facts_step limit mark start m ms clean tell run calm F moment =
     let E = always limit start clean ms run.2 in
     let X = changes limit (length ms) (now start ms) m.event m.outcome m.state A.numbers.idle run.1 in
     let T = turns (now start ms) limit (length ms) m.event m.outcome m.state run.1 in
-    let G = walked (length ms) (now start ms) limit m.event m.outcome m.state run.1 in
+    let G = walked (length ms) (now start ms) limit m.event m.outcome m.state A.numbers.idle.lone run.1 in
     let O = run_onward limit start m ms run in
     let told = all_tell limit start ms tell run.2 in
     let quiet = calm_now mark start clean ms calm in
@@ -128,31 +162,38 @@ marked_facts limit mark start clean tell (m ∷ ms) run calm marks = facts_step 
 pub record Both (start : State) (ms : List Moment) : Type 0 where
   pub facts : Facts (since start) start ms
   pub audited : Audited start ms
+  pub scrubs : (scrub : Scrub) → (now start ms).alone ≡ Some (Scrubbing scrub) → Scrubbed (since start) start ms scrub
 
-both_step : (limit : ℕ) (start : State) (m : Moment) (ms : List Moment) → IsStart start → AllTell start → IsRun limit start (m ∷ ms) → IsCalm relies (since start) ms → MissesNone start ms m.state (came (now start ms) m.state) →
+both_step : (limit : ℕ) (start : State) (m : Moment) (ms : List Moment) → IsStart start → AllTell start → IsRun limit start (m ∷ ms) → IsCalm relies (since start) ms → AreScrubsCalm (since start) ms → MissesNone start ms m.state (came (now start ms) m.state) →
     Both start ms → Both start (m ∷ ms)
-both_step limit start m ms clean tell run calm missed B =
+both_step limit start m ms clean tell run calm calm_scrubs missed B =
     (let A = all limit start clean ms run.2 in
     let U = num.facts audits limit start clean ms run.2 in
     let I = eff.facts limit start ms clean run.2 in
     let E = always limit start clean ms run.2 in
     let X = changes limit (length ms) (now start ms) m.event m.outcome m.state A.numbers.idle run.1 in
     let T = turns (now start ms) limit (length ms) m.event m.outcome m.state run.1 in
-    let clear = aud.mark_clear limit (since start) start m ms clean run.2 A U I E B.facts B.audited X T missed B.facts.moment.clear in
+    let R = scrubs_right (since start) start ms A B.scrubs in
+    let clear = aud.mark_clear limit (since start) start m ms clean run.2 A U I E B.facts R B.audited X T missed B.facts.moment.clear in
     record {
       facts = facts_step limit (since start) start m ms clean tell run calm B.facts (record { before = (always limit start clean (m ∷ ms) run).mark; clear = clear });
-      audited = aud.audited_step limit (since start) start m ms clean run.2 A U I E B.facts B.audited X T missed;
+      audited = aud.audited_step limit (since start) start m ms clean run.2 A U I E B.facts R B.audited X T missed;
+      scrubs = scrub_on limit (since start) start m ms clean tell run calm_scrubs B.facts.moment B.scrubs;
     })
 
-pub both : (limit : ℕ) (start : State) → IsStart start → AllTell start → (ms : List Moment) → IsRun limit start ms → IsCalm relies (since start) ms → NoneMissed start ms → Both start ms
-both limit start clean tell [] run calm missed = record { facts = start_facts (since start) start clean (start_moment start clean); audited = start_audited start clean }
-both limit start clean tell (m ∷ ms) run calm missed = both_step limit start m ms clean tell run calm.1 missed.0 (both limit start clean tell ms run.2 calm.1 missed.1)
+pub both : (limit : ℕ) (start : State) → IsStart start → AllTell start → (ms : List Moment) → IsRun limit start ms → IsCalm relies (since start) ms → AreScrubsCalm (since start) ms → NoneMissed start ms → Both start ms
+both limit start clean tell [] run calm scrubs missed = record {
+  facts = start_facts (since start) start clean (start_moment start clean);
+  audited = start_audited start clean;
+  scrubs = λ scrub h. absurd (some-not-none start.alone (Scrubbing scrub) h clean.none_alone);
+}
+both limit start clean tell (m ∷ ms) run calm scrubs missed = both_step limit start m ms clean tell run calm.1 scrubs.1 missed.0 (both limit start clean tell ms run.2 calm.1 scrubs.1 missed.1)
 
 -- the begins of settled audits are marks
-pub are_marks : (limit : ℕ) (start : State) → IsStart start → AllTell start → (ms : List Moment) → IsRun limit start ms → IsCalm relies (since start) ms → NoneMissed start ms → AreMarks (since start) start ms
-are_marks limit start clean tell [] run calm missed = start_moment start clean
-are_marks limit start clean tell (m ∷ ms) run calm missed =
-    ((both limit start clean tell (m ∷ ms) run calm missed).facts.moment, are_marks limit start clean tell ms run.2 calm.1 missed.1)
+pub are_marks : (limit : ℕ) (start : State) → IsStart start → AllTell start → (ms : List Moment) → IsRun limit start ms → IsCalm relies (since start) ms → AreScrubsCalm (since start) ms → NoneMissed start ms → AreMarks (since start) start ms
+are_marks limit start clean tell [] run calm scrubs missed = start_moment start clean
+are_marks limit start clean tell (m ∷ ms) run calm scrubs missed =
+    ((both limit start clean tell (m ∷ ms) run calm scrubs missed).facts.moment, are_marks limit start clean tell ms run.2 calm.1 scrubs.1 missed.1)
 
 -- ---- a count rose, or did not
 
@@ -186,6 +227,9 @@ module _ (limit : ℕ) (mark : Mark) (start : State) (m : Moment) (ms : List Mom
     abbrev b : State
     b = begin_of start ms job
 
+    lone : IsLone (now start ms)
+    lone = (all limit start clean ms run.2).numbers.idle.lone
+
     in_file : In (pinned_file (begin_of start ms job) file) job.pinned
     in_file = subst (In (pinned_file (begin_of start ms job) file)) (sym pinned) (inl refl)
 
@@ -207,10 +251,10 @@ module _ (limit : ℕ) (mark : Mark) (start : State) (m : Moment) (ms : List Mom
             (let k : i < (setup_in (now start ms)).n = subst (λ (t : Setup). i < t.n) (sym setup) l in
             let g = made_fetch_gave limit start clean ms run.2 job.number job i file.id stripe runs (asked i k) in
             let given = given_block job.given i file.id stripe g.0 g.1 in
-            let s : stripe < stripes_of (setup_in (now start ms)) (length ((now start ms).bytes file.id)) =
-            subst (λ (t : Setup). stripe < stripes_of t (length ((now start ms).bytes file.id))) (sym setup) (subst (λ (y : List ℕ). stripe < stripes_of (setup_in (begin_of start ms job)) (length y)) own_bytes below) in
+            let s : stripe < stripes_of (profiled (setup_in (now start ms)) file.profile) (length ((now start ms).bytes file.id)) =
+            subst (λ (t : Setup). stripe < stripes_of (profiled t file.profile) (length ((now start ms).bytes file.id))) (sym setup) (subst (λ (y : List ℕ). stripe < stripes_of (profiled (setup_in (begin_of start ms job)) file.profile) (length y)) own_bytes below) in
             let now_wrong : is_wrong_block (file_object (now start ms) file) ((now start ms).bytes file.id) i stripe (block_given job.given file.id stripe i) ≡ true =
-            subst (λ (t : Setup). is_wrong_block (object_of t file.id) ((now start ms).bytes file.id) i stripe (block_given job.given file.id stripe i) ≡ true) (sym setup)
+            subst (λ (t : Setup). is_wrong_block (object_of (profiled t file.profile) file.id) ((now start ms).bytes file.id) i stripe (block_given job.given file.id stripe i) ≡ true) (sym setup)
             (subst (λ (y : List ℕ). is_wrong_block (file_object (begin_of start ms job) file) y i stripe (block_given job.given file.id stripe i) ≡ true) own_bytes wrong) in
             elim (F.gave job.number job (pinned_file (begin_of start ms job) file) i stripe (block_given job.given file.id stripe i) runs in_file k s given now_wrong) [
               | inl r ↦ r
@@ -220,7 +264,7 @@ module _ (limit : ℕ) (mark : Mark) (start : State) (m : Moment) (ms : List Mom
     in_stripes : (stripe : ℕ) → (f : Pinned) × In f job.pinned × (f.id ≡ file.id) × (stripe < pinned_stripes (setup_in (now start ms)) f) →
         stripe < stripes (file_object (begin_of start ms job) file) (length ((begin_of start ms job).bytes file.id))
     in_stripes stripe (f, in_f, id_is, l) = elim (subst (In f) pinned in_f) [
-      | inl e ↦ subst (λ (t : Setup). stripe < stripes_of t (length ((begin_of start ms job).bytes file.id))) setup (subst (λ (y : List ℕ). stripe < stripes_of (setup_in (now start ms)) (length y)) (ap (λ (x : Pinned). x.bytes) e) l)
+      | inl e ↦ subst (λ (t : Setup). stripe < stripes_of (profiled t file.profile) (length ((begin_of start ms job).bytes file.id))) setup (subst (λ (x : Pinned). stripe < pinned_stripes (setup_in (now start ms)) x) e l)
       | inr none ↦ absurd none
     ]
 
@@ -234,9 +278,9 @@ module _ (limit : ℕ) (mark : Mark) (start : State) (m : Moment) (ms : List Mom
 
     -- a get ends with the bytes in effect at its begin, or is lost so
     ends_sharply : (how : Answer) → m.event ≡ Step job.number → m.outcome ≡ Ended how → GivesOrIsLost (begin_of start ms job) m.state name how
-    ends_sharply how event outcome = by_end (get_ends limit start m ms job name (pinned_file (begin_of start ms job) file) how run event outcome runs kind pinned)
+    ends_sharply how event outcome = by_end (get_ends limit start m ms job name (pinned_file (begin_of start ms job) file) how lone run event outcome runs kind pinned)
       where
-        by_end : Get_ends (now start ms) job file.id how → GivesOrIsLost (begin_of start ms job) m.state name how
+        by_end : Get_ends (now start ms) job (pinned_file (begin_of start ms job) file) how → GivesOrIsLost (begin_of start ms job) m.state name how
         by_end (Get_ends.with_bytes bytes is) =
             (let g = got_right limit start m ms job name bytes clean run (record { event = event; outcome = outcome ∙ ap Ended is; runs = runs; kind = kind }) in
             record {
@@ -252,17 +296,18 @@ module _ (limit : ℕ) (mark : Mark) (start : State) (m : Moment) (ms : List Mom
     gives : (how : Answer) → m.event ≡ Step job.number → m.outcome ≡ Ended how → GivesOrRose (begin_of start ms job) m.state name how
     gives how event outcome = record { file = file; in_effect = in_effect; gives = by_rose (some_rose (begin_of start ms job) (now start ms) (setup_in (begin_of start ms job)).n) }
       where
-        by_end : ((i : ℕ) → i < (setup_in (begin_of start ms job)).n → RoseSince (begin_of start ms job) (now start ms) i → ⊥) → Get_ends (now start ms) job file.id how → how ≡ answer.Got ((begin_of start ms job).bytes file.id)
+        by_end : ((i : ℕ) → i < (setup_in (begin_of start ms job)).n → RoseSince (begin_of start ms job) (now start ms) i → ⊥) → Get_ends (now start ms) job (pinned_file (begin_of start ms job) file) how → how ≡ answer.Got ((begin_of start ms job).bytes file.id)
         by_end none (Get_ends.with_bytes bytes is) =
             is ∙ ap answer.Got (few_give limit start m ms job name clean run runs kind event file in_effect bytes (outcome ∙ ap Ended is)
             (λ stripe below. few none stripe below (λ i l. fetched_before_end (now start ms) job name (pinned_file (begin_of start ms job) file) stripe i kind
-            (ends_at limit start m ms job bytes run event (outcome ∙ ap Ended is) runs) in_file (subst (λ (t : Setup). stripe < stripes_of t (length ((begin_of start ms job).bytes file.id))) (sym setup) below) l)))
+            (event_end limit (length ms) (now start ms) m.event m.outcome m.state job (answer.Got bytes) (λ h. h) event (outcome ∙ ap Ended is) runs run.1).0 in_file
+            (subst (λ (t : Setup). stripe < stripes_of (profiled t file.profile) (length ((begin_of start ms job).bytes file.id))) (sym setup) below) l)))
         by_end none (Get_ends.is_lost stripe row is next_is lost) = absurd (few_not_lost limit start m ms job name clean run runs kind event file in_effect stripe row (outcome ∙ ap Ended is) (few none stripe (in_stripes stripe (read_within (now start ms) job name file.id stripe kind next_is)) (λ i l. fetched_before_work (now start ms) job file.id stripe i next_is l)))
 
         by_rose : ((i : ℕ) × (i < (setup_in (begin_of start ms job)).n) × RoseSince (begin_of start ms job) (now start ms) i) ⊎ ((i : ℕ) → i < (setup_in (begin_of start ms job)).n → RoseSince (begin_of start ms job) (now start ms) i → ⊥) →
             (how ≡ answer.Got ((begin_of start ms job).bytes file.id)) ⊎ CountRose (begin_of start ms job) m.state
         by_rose (inl (i, l, rose)) = inr (inr (i, l, inr (rd.rose_on _ _ _ rose ((run_onward limit start m ms run).provider i).others)))
-        by_rose (inr none) = inl (by_end none (get_ends limit start m ms job name (pinned_file (begin_of start ms job) file) how run event outcome runs kind pinned))
+        by_rose (inr none) = inl (by_end none (get_ends limit start m ms job name (pinned_file (begin_of start ms job) file) how lone run event outcome runs kind pinned))
 
   get_gives : (job : Job) (name : List ℕ) (how : Answer) → job_of (now start ms).jobs job.number ≡ Some job → job.kind ≡ GetJob name → m.event ≡ Step job.number → m.outcome ≡ Ended how → GivesOrRose (begin_of start ms job) m.state name how
   get_gives job name how runs kind event outcome =
@@ -284,6 +329,7 @@ module _ (limit : ℕ) (mark : Mark) (start : State) (m : Moment) (ms : List Mom
       by_kind job runs (DropJob name) is = tt
       by_kind job runs AuditJob is = tt
       by_kind job runs RepairJob is = tt
+      by_kind job runs UpgradeJob is = tt
 
       go : (found : Option Job) → job_of (now start ms).jobs number ≡ found → EndsWell (now start (first_moments (begun_of found) ms)) m.state found how
       go None is = tt
@@ -303,4 +349,4 @@ half_by_mark limit mark start clean tell (m ∷ ms) run calm marks = (
 )
 
 pub second_half : SecondHalfHolds
-second_half limit start ms clean tell run calm missed = half_by_mark limit (since start) start clean tell ms run calm (are_marks limit start clean tell ms run calm missed)
+second_half limit start ms clean tell run calm scrubs missed = half_by_mark limit (since start) start clean tell ms run calm (are_marks limit start clean tell ms run calm scrubs missed)

@@ -6,19 +6,22 @@ use Rattle.plain_facts.proofs.Options.{some-not-none}
 use Rattle.hail_records.specs.Records.{Record, Setup, SetUp, is_setup}
 use Rattle.hail_records.specs.Table.{setup_of}
 use Rattle.hail_devices.specs.Providers.{Held, Provider, with_symbol, without_block, HasPlace}
-use Rattle.hail_machine.specs.Jobs.{Kind, Job, Given, Fetched, Answered, Worked, job_of, with_job, without_job, advanced, advanced_with}
+use Rattle.hail_machine.specs.Jobs.{Kind, PutJob, Job, Given, Fetched, Answered, Worked, job_of, with_job, without_job, advanced, advanced_with}
 use Rattle.hail_machine.specs.Actions.{Action, WriteBody, SyncBody, WriteGate, SyncGate, Store, Fetch, Ask, Work, Remove, End}
 use Rattle.hail_machine.specs.Refusals as refusal
+use Rattle.hail_machine.specs.Refusals.{Refusal}
 use Rattle.hail_machine.specs.Answers as answer
-use Rattle.hail_machine.specs.Events.{Event, Init, Begin, Step, Alter, Lose, Stop, Reopen, Names, Continue, Outcome, Ready, Refused, Opened, Begun, More, Waiting, Ended, Replaced, NothingHeld, Stopped, Listed, Closed, Continued}
-use Rattle.hail_machine.specs.States.{State, Append, Doubt, with_provider, given_up, Settles}
-use Rattle.hail_machine.specs.Begins.{new_job, Begins}
+use Rattle.hail_machine.specs.Events.{Event, Init, Begin, BeginAt, BeginScrub, BeginPack, Step, Alter, Lose, Stop, Reopen, Names, Continue, Outcome, Ready, Refused, Opened, Begun, More, Waiting, Ended, Replaced, NothingHeld, Stopped, Listed, Closed, Continued}
+use Rattle.hail_machine.specs.States.{State, Append, Doubt, Alone, with_provider, Settles}
+use Rattle.hail_machine.specs.Begins.{beginning, BeginsAt}
 use Rattle.hail_machine.specs.Appends.{audits_drawn, Moves}
-use Rattle.hail_machine.specs.Steps.{next_action, holder_of, Acts, ActsOrWaits, StepsOn, StepsJob, StepsOpen, Steps}
-use Rattle.hail_machine.specs.Openings.{LeavesDoubt, Stops, Reopens, InitsClosed, InitsBy, Inits, Continues}
+use Rattle.hail_machine.specs.Steps.{next_action, holder_of, Acts, ActsOrWaits, StepsOn, StepsJob, StepsMine, StepsOne, StepsOpen, Steps}
+use Rattle.hail_machine.specs.Alone.{number_alone, StepsAlone, BeginsAlone}
+use Rattle.hail_machine.specs.Openings.{LeavesDoubt, reread, Stops, Reopens, InitsClosed, InitsBy, Inits, Continues}
 use Rattle.hail_machine.specs.Replacements.{ReplacesAt, ReplacesIf}
 use Rattle.hail_machine.specs.Machine.{Lists, Happens}
 use Rattle.hail_machine.proofs.JobLists.{cond_true, cond_false, same_value, number_of, found_itself, still_found}
+use Rattle.hail_machine.proofs.Asides.{steps_aside}
 
 -- no setup is in effect, as a lookup
 none_up : (o : Option Setup) → is_some o ≡ false → o ≡ None
@@ -239,26 +242,54 @@ module _ (old : State) where
   steps_job number (Some job) r new is h = steps_on job (subst (λ n. job_of old.jobs n ≡ Some job) (sym (number_of old.jobs number job is)) is) (next_action old job) r new refl h
   steps_job number None r new is h = absurd h
 
-  steps_open : (number : ℕ) (is_barred : Bool) (r : Outcome) (new : State) → StepsOpen old number is_barred r new → Turns old new
-  steps_open number true (Refused refusal.MustReopen) new h = unchanged new h
-  steps_open number false r new h = steps_job number (job_of old.jobs number) r new refl h
-  steps_open number true r new h = absurd h
+  -- what runs alone leaves jobs, records and what is in doubt
+  steps_alone : (x : Alone) (r : Outcome) (new : State) → old.is_barred ≡ false → StepsAlone old x r new → Turns old new
+  steps_alone x r new unbarred h = (let a = steps_aside old x r new h in record {
+    doubt = λ d g. Doubt_now.kept (sym a.doubt ∙ g) a.records;
+    audits = Audits_are.undrawn a.audits (λ b g none. no_new b (sym a.append ∙ g) none);
+    opened = λ d g is_open. (sym a.is_open ∙ is_open, λ z. unbarred);
+    stay = stay_all new a.jobs;
+  })
 
-  steps_by : (number : ℕ) (is_open : Bool) (r : Outcome) (new : State) → Steps old number is_open r new → Turns old new
-  steps_by number false Closed new h = unchanged new h
-  steps_by number true r new h = steps_open number old.is_barred r new h
-  steps_by number false r new h = absurd h
+  steps_mine : (number : ℕ) (x : Alone) (mine : Bool) (r : Outcome) (new : State) → old.is_barred ≡ false → StepsMine old number x mine r new → Turns old new
+  steps_mine number x true r new unbarred h = steps_alone x r new unbarred h
+  steps_mine number x false r new unbarred h = steps_job number (job_of old.jobs number) r new refl h
 
-  begins : (limit moment : ℕ) (kind : Kind) (r : Outcome) (new : State) → Begins limit moment old kind r new → Turns old new
-  begins limit moment kind Closed new h = unchanged new h.1
-  begins limit moment kind (Refused why) new h = unchanged new h.2
-  begins limit moment kind (Begun job) new h = subst (λ (w : State). Turns old w) (sym h.3) (record {
+  steps_one : (number : ℕ) (alone : Option Alone) (r : Outcome) (new : State) → old.is_barred ≡ false → StepsOne old number alone r new → Turns old new
+  steps_one number None r new unbarred h = steps_job number (job_of old.jobs number) r new refl h
+  steps_one number (Some x) r new unbarred h = steps_mine number x (number_alone x == number) r new unbarred h
+
+  begins_alone : (why : Option Refusal) (x : Alone) (r : Outcome) (new : State) → BeginsAlone old why x r new → Turns old new
+  begins_alone why x Closed new h = unchanged new h.1
+  begins_alone why x (Refused refused) new h = unchanged new h.2
+  begins_alone why x (Begun job) new h = subst (λ (w : State). Turns old w) (sym h.3) (record {
     doubt = λ d g. Doubt_now.kept g refl;
     audits = Audits_are.undrawn refl no_new;
     opened = λ d g. same_open;
-    stay = λ k j g. Stay_is.stayed (still_found old.jobs (new_job old moment kind) k j g);
+    stay = λ k j g. Stay_is.stayed g;
   })
-  begins limit moment kind r new h = absurd h
+  begins_alone why x r new h = absurd h
+
+  steps_open : (number : ℕ) (is_barred : Bool) (r : Outcome) (new : State) → old.is_barred ≡ is_barred → StepsOpen old number is_barred r new → Turns old new
+  steps_open number true (Refused refusal.MustReopen) new is h = unchanged new h
+  steps_open number false r new is h = steps_one number old.alone r new is h
+  steps_open number true r new is h = absurd h
+
+  steps_by : (number : ℕ) (is_open : Bool) (r : Outcome) (new : State) → Steps old number is_open r new → Turns old new
+  steps_by number false Closed new h = unchanged new h
+  steps_by number true r new h = steps_open number old.is_barred r new refl h
+  steps_by number false r new h = absurd h
+
+  begins : (limit moment : ℕ) (kind : Kind) (profile : Option ℕ) (r : Outcome) (new : State) → BeginsAt limit moment old kind profile r new → Turns old new
+  begins limit moment kind profile Closed new h = unchanged new h.1
+  begins limit moment kind profile (Refused why) new h = unchanged new h.2
+  begins limit moment kind profile (Begun job) new h = subst (λ (w : State). Turns old w) (sym h.3) (record {
+    doubt = λ d g. Doubt_now.kept g refl;
+    audits = Audits_are.undrawn refl no_new;
+    opened = λ d g. same_open;
+    stay = λ k j g. Stay_is.stayed (still_found old.jobs (beginning old moment kind profile) k j g);
+  })
+  begins limit moment kind profile r new h = absurd h
 
   -- what settling leaves
   record Settled (left mid : State) : Type 0 where
@@ -296,7 +327,7 @@ module _ (old : State) where
 
   -- a vault is closed, or has just been opened and had no job
   stops : (r : Outcome) (new : State) → Stops old r new → Turns old new
-  stops Stopped new h = (let s = settled (given_up old) new h in settles_all (given_up old) new s.doubt s.append s.audits (inl refl) (λ k j g. Stay_is.shut s.is_open))
+  stops Stopped new (journal, area, holds, h) = (let s = settled (reread old journal area) new h in settles_all (reread old journal area) new s.doubt s.append s.audits (inl refl) (λ k j g. Stay_is.shut s.is_open))
   stops r new h = absurd h
 
   gives_up : (new : State) → new.doubt ≡ old.doubt → new.records ≡ old.records → new.append ≡ None → new.audits ≡ old.audits → new.is_open ≡ false → Turns old new
@@ -308,12 +339,12 @@ module _ (old : State) where
   }
 
   reopens : (r : Outcome) (new : State) → Reopens old r new → Turns old new
-  reopens Opened new (mid, st, up, enough, (faults, low, is)) = (let s = settled (given_up old) mid st in let none : new.doubt ≡ None = ap (λ (w : State). w.doubt) is ∙ s.doubt in
-      settles_all (given_up old) new none (ap (λ (w : State). w.append) is ∙ s.append) (ap (λ (w : State). w.audits) is ∙ s.audits) (inl refl) (λ k j g. Stay_is.undoubted none))
-  reopens (Refused refusal.NotSetUp) new (mid, st, nothing, (faults, low, is)) = (let s = settled (given_up old) mid st in let none : new.doubt ≡ None = ap (λ (w : State). w.doubt) is ∙ s.doubt in
-      settles_all (given_up old) new none (ap (λ (w : State). w.append) is ∙ s.append) (ap (λ (w : State). w.audits) is ∙ s.audits) (inl refl) (λ k j g. Stay_is.undoubted none))
-  reopens (Refused refusal.TooFewProviders) new (mid, st, up, few, (faults, low, is)) = (let s = settled (given_up old) mid st in let none : new.doubt ≡ None = ap (λ (w : State). w.doubt) is ∙ s.doubt in
-      settles_all (given_up old) new none (ap (λ (w : State). w.append) is ∙ s.append) (ap (λ (w : State). w.audits) is ∙ s.audits) (inl refl) (λ k j g. Stay_is.undoubted none))
+  reopens Opened new (mid, (journal, area, holds, st), up, enough, (faults, low, is)) = (let s = settled (reread old journal area) mid st in let none : new.doubt ≡ None = ap (λ (w : State). w.doubt) is ∙ s.doubt in
+      settles_all (reread old journal area) new none (ap (λ (w : State). w.append) is ∙ s.append) (ap (λ (w : State). w.audits) is ∙ s.audits) (inl refl) (λ k j g. Stay_is.undoubted none))
+  reopens (Refused refusal.NotSetUp) new (mid, (journal, area, holds, st), nothing, (faults, low, is)) = (let s = settled (reread old journal area) mid st in let none : new.doubt ≡ None = ap (λ (w : State). w.doubt) is ∙ s.doubt in
+      settles_all (reread old journal area) new none (ap (λ (w : State). w.append) is ∙ s.append) (ap (λ (w : State). w.audits) is ∙ s.audits) (inl refl) (λ k j g. Stay_is.undoubted none))
+  reopens (Refused refusal.TooFewProviders) new (mid, (journal, area, holds, st), up, few, (faults, low, is)) = (let s = settled (reread old journal area) mid st in let none : new.doubt ≡ None = ap (λ (w : State). w.doubt) is ∙ s.doubt in
+      settles_all (reread old journal area) new none (ap (λ (w : State). w.append) is ∙ s.append) (ap (λ (w : State). w.audits) is ∙ s.audits) (inl refl) (λ k j g. Stay_is.undoubted none))
   reopens (Refused refusal.DiskFault) new (faults, low, rose, is) =
       gives_up new (ap (λ (w : State). w.doubt) is) (ap (λ (w : State). w.records) is) (ap (λ (w : State). w.append) is) (ap (λ (w : State). w.audits) is) (ap (λ (w : State). w.is_open) is)
   reopens (Refused refusal.Memory) new (faults, low, is) =
@@ -385,7 +416,10 @@ module _ (old : State) where
 
   pub turns : (limit moment : ℕ) (e : Event) (r : Outcome) (new : State) → Happens limit moment old e r new → Turns old new
   turns limit moment (Init s) r new h = inits s old.is_open r new refl h
-  turns limit moment (Begin kind) r new h = begins limit moment kind r new h
+  turns limit moment (Begin kind) r new h = begins limit moment kind None r new h
+  turns limit moment (BeginAt profile name bytes) r new h = begins limit moment (PutJob name bytes) (Some profile) r new h
+  turns limit moment BeginScrub r new h = begins_alone _ _ r new h
+  turns limit moment BeginPack r new h = begins_alone _ _ r new h
   turns limit moment (Step number) r new h = steps_by number old.is_open r new h
   turns limit moment (Alter j object stripe place symbol) r new h =
       replaces_if (nat_lt j old.handed) j (λ held. HasPlace (held object stripe) place) (with_symbol object stripe place symbol) r new h

@@ -1,6 +1,6 @@
 -- Blocks that are wrong, and replacements of their providers.
 --
---   IsBad w id j stripe         == provider j tells of a stripe of an object that it holds a wrong block,
+--   IsBad w profile id j stripe == provider j tells of a stripe of an object that it holds a wrong block,
 --                                  or none
 --   IsReplaced from j ms        == provider j was replaced by the event of number `from` or a later one
 --   RoseSince w v j             == the count of failed fetches, asks and removals of provider j rose from
@@ -13,10 +13,10 @@ use Rattle.hail_machine.specs.Runs.{Moment, is_replaced_since}
 use Rattle.hail_machine.specs.Deeds.{told_block}
 
 -- a provider tells that it holds a wrong block of a stripe of an object, or none
-abbrev pub IsBad : State → ℕ → ℕ → ℕ → Type 0
-IsBad w id j stripe =
+abbrev pub IsBad : State → ℕ → ℕ → ℕ → ℕ → Type 0
+IsBad w profile id j stripe =
     (block : Option (List ℕ)) × (told_block w j id stripe ≡ Some block)
-    × (is_wrong_block (object_in w id) (w.bytes id) j stripe block ≡ true)
+    × (is_wrong_block (object_in w profile id) (w.bytes id) j stripe block ≡ true)
 
 -- a provider was replaced by the event of this number or a later one
 abbrev pub IsReplaced : ℕ → ℕ → List Moment → Type 0

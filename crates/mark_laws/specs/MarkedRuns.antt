@@ -1,17 +1,25 @@
 -- Runs of providers that tell what they hold, which are calm.
 --
+--   BeginsNoScrub ms                 == no event of these begins a scrub
 --   AreMarks mark start ms           == at each moment the mark is one
 --   IsMarkedRun limit mark start ms  == a run from a start, of providers that tell, calm by a mark that is
 --                                       one at each moment
 --   IsCalmRun limit start ms         == the same with the begin of the last settled audit, where no audit
---                                       missed damage
-use Rattle.std.specs.Prelude.{ℕ, List, [], ◌∷◌}
+--                                       missed damage, and calm for scrubs too
+use Rattle.std.specs.Prelude.{◌≡◌, ℕ, List, [], ◌∷◌}
+use Rattle.hail_machine.specs.Events.{BeginScrub}
 use Rattle.hail_machine.specs.States.{State, IsStart}
 use Rattle.hail_machine.specs.Runs.{Moment, IsRun}
 use Rattle.hail_machine.specs.Calm.{Mark, since, relies, IsCalm}
 use Rattle.hail_machine.specs.Missed.{NoneMissed}
+use Rattle.hail_machine.specs.Scrubs.{AreScrubsCalm}
 use Rattle.hail_machine.specs.Halves.{AllTell}
 use Rattle.mark_laws.specs.Marks.{IsMark}
+
+-- no scrub begins
+abbrev pub BeginsNoScrub : List Moment → Type 0
+BeginsNoScrub [] = Unit {0}
+BeginsNoScrub (m ∷ ms) = (m.event ≡ BeginScrub → ⊥) × BeginsNoScrub ms
 
 -- at each moment the mark is a moment since which all damage is new
 abbrev pub AreMarks : Mark → State → List Moment → Type 0
@@ -32,4 +40,5 @@ pub record IsCalmRun (limit : ℕ) (start : State) (ms : List Moment) : Type 0 w
   pub tell : AllTell start
   pub run : IsRun limit start ms
   pub calm : IsCalm relies (since start) ms
+  pub scrubs : AreScrubsCalm (since start) ms
   pub found : NoneMissed start ms

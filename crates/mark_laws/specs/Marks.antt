@@ -6,20 +6,23 @@
 --   IsFlaggedBy w counts j id stripe   == the counts flag provider j
 --   Remains w job j id stripe     == a repair that flags provider j has still to make its store of this block
 --   Never j id stripe             == nothing is exempt
+--   IsEndOfPut rs entry id size profile  == over these records, a record ends the put of a file of this number,
+--                                    length and profile
 --   PrecedesPuts start ms from    == a moment not after now: no put that runs, or whose record is in doubt,
 --                                    began before it
 --   IsClear start ms from IsExempt  == each provider with a bad block of a file in effect was replaced
 --                                      since, or the block is exempt
 --   IsMark start ms from          == both, and nothing is exempt: all damage of files in effect is new
 --                                    since then
-use Rattle.std.specs.Prelude.{◌≡◌, ◌⊎◌, ℕ, ◌<◌, ◌≤◌, true, List, length, Some, slice_get}
+use Rattle.std.specs.Prelude.{◌≡◌, ◌⊎◌, ℕ, ◌==◌, ◌<◌, ◌≤◌, true, false, List, length, Some, slice_get}
 use Rattle.hail_columns.specs.Objects.{stripes}
 use Rattle.hail_columns.specs.Verdicts.{is_flagged}
-use Rattle.hail_records.specs.Records.{PutDone}
-use Rattle.hail_records.specs.Table.{File}
+use Rattle.hail_records.specs.Records.{Record}
+use Rattle.hail_records.specs.Table.{File, setup_of, profile_in}
 use Rattle.hail_machine.specs.Jobs.{PutJob, Job, job_of}
 use Rattle.hail_machine.specs.Actions.{Store, actions_of}
-use Rattle.hail_machine.specs.States.{State, Doubt, setup_in, object_in, file_object, file_in}
+use Rattle.hail_machine.specs.States.{State, Doubt, setup_in, file_object, file_in}
+use Rattle.hail_machine.specs.Appends.{done_record}
 use Rattle.hail_machine.specs.Runs.{Moment, now, first_moments}
 use Rattle.hail_machine.specs.Missed.{is_wrong_now}
 use Rattle.hail_machine.specs.Halves.{begun_of}
@@ -51,13 +54,20 @@ Remains w job j id stripe =
 abbrev pub Never : ℕ → ℕ → ℕ → Type 0
 Never j id stripe = ⊥
 
+-- over these records, a record ends the put of a file: in the first version of the journal its profile is
+-- that of the setup
+pub record IsEndOfPut (rs : List Record) (entry : Record) (id size profile : ℕ) : Type 0 where
+  pub version : ℕ
+  pub entry_is : entry ≡ done_record version id size profile
+  pub profiled : (version == 2) ≡ false → profile ≡ profile_in (setup_of rs)
+
 -- no put that works began before a moment
 pub record PrecedesPuts (start : State) (ms : List Moment) (from : ℕ) : Type 0 where
   pub early : from ≤ length ms
   pub puts : (number : ℕ) (job : Job) (name bytes : List ℕ) → job_of (now start ms).jobs number ≡ Some job
       → job.kind ≡ PutJob name bytes → from ≤ job.begun
-  pub doubts : (d : Doubt) (id size : ℕ) → (now start ms).doubt ≡ Some d → d.entry ≡ PutDone id size
-      → from ≤ begun_of d.maker
+  pub doubts : (d : Doubt) (version id size profile : ℕ) → (now start ms).doubt ≡ Some d
+      → d.entry ≡ done_record version id size profile → from ≤ begun_of d.maker
 
 -- each provider with a bad block of a file in effect was replaced since a moment, or the block is exempt
 abbrev pub IsClear : State → List Moment → ℕ → (ℕ → ℕ → ℕ → Type 0) → Type 0
@@ -65,7 +75,7 @@ IsClear start ms from IsExempt =
     (name : List ℕ) (file : File) (j stripe : ℕ) → file_in (now start ms) name ≡ Some file
     → j < (setup_in (now start ms)).n →
     stripe < stripes (file_object (now start ms) file) (length ((now start ms).bytes file.id))
-    → IsBad (now start ms) file.id j stripe →
+    → IsBad (now start ms) file.profile file.id j stripe →
     IsReplaced from j ms ⊎ IsExempt j file.id stripe
 
 -- a moment since which all damage of files in effect is new

@@ -4,24 +4,26 @@ ghost use Rattle.std.specs.List.{Contains};
 ghost use Rattle.hail_columns.specs.Objects.{stripes, symbols_in};
 ghost use Rattle.hail_columns.specs.Columns.{columns, is_wrong_block};
 ghost use Rattle.hail_columns.specs.Verdicts.{is_flagged};
-ghost use Rattle.hail_records.specs.Records.{PutDone, AuditDone, RepairDone};
+ghost use Rattle.hail_records.specs.Records.{Record, AuditDone, RepairDone};
 ghost use Rattle.hail_records.specs.Table.{File, Due, due_of};
 ghost use Rattle.hail_machine.specs.Jobs.{PutJob, GetJob, AuditJob, RepairJob, Pinned, Fetched, Worked, Job, job_of};
 ghost use Rattle.hail_machine.specs.Answers.{Answer};
 ghost use Rattle.hail_machine.specs.Events.{Step, Ended};
 ghost use Rattle.hail_machine.specs.Heard.{heard_by, HoldsForgery};
-ghost use Rattle.hail_machine.specs.States.{State, Doubt, IsStart, setup_in, object_in, file_object, pinned_object, file_in};
+ghost use Rattle.hail_machine.specs.States.{State, Doubt, IsStart, setup_in, object_in, file_object, pinned_object, worked_object, file_in};
+ghost use Rattle.hail_machine.specs.Appends.{done_record};
 ghost use Rattle.hail_machine.specs.Runs.{Moment, IsRun, now, first_moments, is_replaced_since, came};
 ghost use Rattle.hail_machine.specs.Calm.{Mark, since, relies, IsCalm};
 ghost use Rattle.hail_machine.specs.Missed.{is_wrong_now};
+ghost use Rattle.hail_machine.specs.Scrubs.{scrubbed, AreScrubsCalm, IsScrubCalm};
 ghost use Rattle.hail_machine.specs.Halves.{begun_of, AllTell, SecondHalf, SecondHalfHolds};
 ghost use Rattle.hail_machine.specs.Deeds.{told_block, HasMadeStore};
 ghost use Rattle.mark_laws.specs.Damage.{IsBad, IsReplaced, RoseSince};
-ghost use Rattle.mark_laws.specs.Marks.{WasWrong, Remains, PrecedesPuts, IsMark};
-ghost use Rattle.mark_laws.specs.MarkedRuns.{IsMarkedRun, IsCalmRun};
+ghost use Rattle.mark_laws.specs.Marks.{WasWrong, Remains, IsEndOfPut, PrecedesPuts, IsMark};
+ghost use Rattle.mark_laws.specs.MarkedRuns.{BeginsNoScrub, IsMarkedRun, IsCalmRun};
 ghost use Rattle.mark_laws.specs.Sharp.{GivesOrIsLost};
 
-/// The second half of the main theorem: in every calm run in which no audit missed damage, of providers that tell what they hold, every
+/// The second half of the main theorem: in every calm run, with calm scrubs, in which no audit missed damage, of providers that tell what they hold, every
 /// get of a stored name that a step ended gave the bytes that were in effect under it at its begin, unless the count of the disk or of
 /// a provider rose since; and its begin was refused for MustReopen, Busy or Memory alone.
 pub fn second_half()
@@ -56,17 +58,17 @@ pub fn gets_give_or_are_lost()
         (symbols : List ℕ) → IsMarkedRun limit mark start ms → job_of (now start ms).jobs number ≡ Some job
         → job.kind ≡ GetJob name →
         Contains job.given (Worked object stripe symbols) →
-        symbols ≡ symbols_in (object_in (now start ms) object) ((now start ms).bytes object) stripe }
+        symbols ≡ symbols_in (worked_object (now start ms) job object) ((now start ms).bytes object) stripe }
 {}
 
-/// In every run, calm or not, a moment before which no put began that works stays one in each event; and in a run that is calm by any mark so
-/// does one since which, moreover, all damage of files in effect is new.
+/// In every run, calm or not, a moment before which no put began that works stays one in each event; and in a run that is calm by any mark,
+/// for scrubs too, so does one since which, moreover, all damage of files in effect is new.
 pub fn marks_stay()
     ensures before_puts { (limit : ℕ) (start : State) (m : Moment) (ms : List Moment) (from : ℕ)
         → IsStart start → IsRun limit start (m ∷ ms) →
         PrecedesPuts start ms from → PrecedesPuts start (m ∷ ms) from }
     ensures marks { (limit : ℕ) (mark : Mark) (start : State) (m : Moment) (ms : List Moment) (from : ℕ)
-        → IsMarkedRun limit mark start ms →
+        → IsMarkedRun limit mark start ms → AreScrubsCalm mark ms →
         IsRun limit start (m ∷ ms) → IsMark start ms from → IsMark start (m ∷ ms) from }
 {}
 
@@ -76,12 +78,13 @@ pub fn settled_audits_are_marks()
         → IsMarkedRun limit (since start) start ms }
 {}
 
-/// The start of the run is a mark, in each run that is calm by it: where for no get or repair more than b providers were replaced since the
-/// start, audits need not settle anything.
+/// The start of the run is a mark, in each run that is calm by it: where for no get, repair or scrub more than b providers were replaced
+/// since the start, audits need not settle anything.
 pub fn the_start_is_a_mark()
     ensures { (limit : ℕ) (start : State) (ms : List Moment) → IsStart start → AllTell start
         → IsRun limit start ms →
-        IsCalm relies (λ moments. 0) ms → IsMarkedRun limit (λ moments. 0) start ms }
+        IsCalm relies (λ moments. 0) ms → AreScrubsCalm (λ moments. 0) ms
+        → IsMarkedRun limit (λ moments. 0) start ms }
 {}
 
 /// A provider that is wrong for a file in effect was replaced since the mark, which in a calm run in which no audit missed damage is the
@@ -100,32 +103,34 @@ pub fn puts_begin_after_settled_audits()
         (name bytes : List ℕ) → IsStart start →
         IsRun limit start ms → job_of (now start ms).jobs number ≡ Some job → job.kind ≡ PutJob name bytes
         → since start ms ≤ job.begun }
-    ensures in_doubt { (limit : ℕ) (start : State) (ms : List Moment) (d : Doubt) (id size : ℕ)
-        → IsStart start → IsRun limit start ms →
-        (now start ms).doubt ≡ Some d → d.entry ≡ PutDone id size → since start ms ≤ begun_of d.maker }
+    ensures in_doubt { (limit : ℕ) (start : State) (ms : List Moment) (d : Doubt)
+        (version id size profile : ℕ) → IsStart start → IsRun limit start ms →
+        (now start ms).doubt ≡ Some d → d.entry ≡ done_record version id size profile
+        → since start ms ≤ begun_of d.maker }
 {}
 
 /// In every run, calm or not, while a put's last record is in doubt, whether its job runs on or has ended, and where it comes into effect,
 /// be it at its gate or as it is settled, each block of its file is the provider's own column, unless the provider was replaced since
 /// the put's begin.
 pub fn done_puts_are_columns()
-    ensures in_doubt { (limit : ℕ) (start : State) (ms : List Moment) (d : Doubt) (id size j stripe : ℕ)
-        (block : Option (List ℕ)) →
-        IsStart start → IsRun limit start ms → (now start ms).doubt ≡ Some d → d.entry ≡ PutDone id size →
+    ensures in_doubt { (limit : ℕ) (start : State) (ms : List Moment) (d : Doubt)
+        (id size profile j stripe : ℕ) (block : Option (List ℕ)) →
+        IsStart start → IsRun limit start ms → (now start ms).doubt ≡ Some d
+        → IsEndOfPut (now start ms).records d.entry id size profile →
         j < (setup_in (now start ms)).n
-        → stripe < stripes (object_in (now start ms) id) (length ((now start ms).bytes id)) →
+        → stripe < stripes (object_in (now start ms) profile id) (length ((now start ms).bytes id)) →
         is_replaced_since (begun_of d.maker) j ms ≡ false
         → told_block (now start ms) j id stripe ≡ Some block →
-        block ≡ Some (columns (object_in (now start ms) id) ((now start ms).bytes id) j stripe) }
-    ensures came { (limit : ℕ) (start : State) (m : Moment) (ms : List Moment) (id size : ℕ) → IsStart start
-        → IsRun limit start (m ∷ ms) →
-        came (now start ms) m.state ≡ Some (PutDone id size)
-        → (d : Doubt) × ((now start ms).doubt ≡ Some d) × (d.entry ≡ PutDone id size)
+        block ≡ Some (columns (object_in (now start ms) profile id) ((now start ms).bytes id) j stripe) }
+    ensures came { (limit : ℕ) (start : State) (m : Moment) (ms : List Moment) (r : Record)
+        (id size profile : ℕ) → IsStart start → IsRun limit start (m ∷ ms) →
+        came (now start ms) m.state ≡ Some r → IsEndOfPut (now start ms).records r id size profile
+        → (d : Doubt) × ((now start ms).doubt ≡ Some d) × (d.entry ≡ r)
         × ((j stripe : ℕ) (block : Option (List ℕ)) → j < (setup_in m.state).n →
-        stripe < stripes (object_in m.state id) (length (m.state.bytes id))
+        stripe < stripes (object_in m.state profile id) (length (m.state.bytes id))
         → is_replaced_since (begun_of d.maker) j (m ∷ ms) ≡ false →
         told_block m.state j id stripe ≡ Some block
-        → block ≡ Some (columns (object_in m.state id) (m.state.bytes id) j stripe)) }
+        → block ≡ Some (columns (object_in m.state profile id) (m.state.bytes id) j stripe)) }
 {}
 
 /// What a repair has stored, one that runs or whose record is in doubt, is the provider's own column, unless the provider was replaced since
@@ -138,7 +143,8 @@ pub fn repairs_store_columns()
         HasMadeStore (setup_in (now start ms)) job j object stripe
         → is_replaced_since job.begun j ms ≡ false →
         told_block (now start ms) j object stripe ≡ Some block →
-        block ≡ Some (columns (object_in (now start ms) object) ((now start ms).bytes object) j stripe) }
+        block
+        ≡ Some (columns (worked_object (now start ms) job object) ((now start ms).bytes object) j stripe) }
     ensures in_doubt { (limit : ℕ) (mark : Mark) (start : State) (ms : List Moment) (d : Doubt) (job : Job)
         (j object stripe : ℕ)
         (block : Option (List ℕ)) → IsMarkedRun limit mark start ms → (now start ms).doubt ≡ Some d
@@ -146,13 +152,14 @@ pub fn repairs_store_columns()
         job.kind ≡ RepairJob → HasMadeStore (setup_in (now start ms)) job j object stripe
         → is_replaced_since job.begun j ms ≡ false →
         told_block (now start ms) j object stripe ≡ Some block →
-        block ≡ Some (columns (object_in (now start ms) object) ((now start ms).bytes object) j stripe) }
+        block
+        ≡ Some (columns (worked_object (now start ms) job object) ((now start ms).bytes object) j stripe) }
     ensures worked { (limit : ℕ) (mark : Mark) (start : State) (ms : List Moment) (number : ℕ) (job : Job)
         (object stripe : ℕ)
         (symbols : List ℕ) → IsMarkedRun limit mark start ms → job_of (now start ms).jobs number ≡ Some job
         → job.kind ≡ RepairJob →
         Contains job.given (Worked object stripe symbols) →
-        symbols ≡ symbols_in (object_in (now start ms) object) ((now start ms).bytes object) stripe }
+        symbols ≡ symbols_in (worked_object (now start ms) job object) ((now start ms).bytes object) stripe }
 {}
 
 /// In a calm run in which no audit missed damage, while a repair runs, each provider with a bad block of a file in effect was replaced since
@@ -163,7 +170,7 @@ pub fn repairs_leave_new_damage()
         IsCalmRun limit start ms → job_of (now start ms).jobs number ≡ Some job → job.kind ≡ RepairJob →
         file_in (now start ms) name ≡ Some file → j < (setup_in (now start ms)).n →
         stripe < stripes (file_object (now start ms) file) (length ((now start ms).bytes file.id))
-        → IsBad (now start ms) file.id j stripe →
+        → IsBad (now start ms) file.profile file.id j stripe →
         IsReplaced ((now start ms).audits job.subject) j ms ⊎ Remains (now start ms) job j file.id stripe }
     ensures in_doubt { (limit : ℕ) (start : State) (ms : List Moment) (d : Doubt) (number : ℕ)
         (name : List ℕ) (file : File) (j : ℕ) →
@@ -213,7 +220,8 @@ pub fn damage_of_pinned_files_is_new()
         → Contains job.pinned file →
         j < (setup_in (now start ms)).n
         → stripe < stripes (pinned_object (now start ms) file) (length ((now start ms).bytes file.id)) →
-        IsBad (now start ms) file.id j stripe → IsReplaced (mark (first_moments job.begun ms)) j ms }
+        IsBad (now start ms) file.profile file.id j stripe
+        → IsReplaced (mark (first_moments job.begun ms)) j ms }
     ensures fetched { (limit : ℕ) (mark : Mark) (start : State) (ms : List Moment) (number : ℕ) (job : Job)
         (file : Pinned) (j stripe : ℕ)
         (block : Option (List ℕ)) → IsMarkedRun limit mark start ms
@@ -237,4 +245,19 @@ pub fn audited_files_stay_in_doubt()
         is_replaced_since job.begun j ms ≡ false →
         told_block (now start ms) j file.id stripe
         ≡ told_block (now start (first_moments job.begun ms)) j file.id stripe }
+{}
+
+/// A finished scrub is a mark as well: in a run of providers that tell what they hold, calm counted from finished scrubs for gets, repairs and
+/// scrubs, the begin of the last scrub that ended Ok is at each moment a mark, and the second half holds, whatever audits missed.
+pub fn finished_scrubs_are_marks()
+    ensures marks { (limit : ℕ) (start : State) (ms : List Moment) → IsStart start → AllTell start
+        → IsRun limit start ms → IsScrubCalm start ms → IsMarkedRun limit (scrubbed start) start ms }
+    ensures half { (limit : ℕ) (start : State) (ms : List Moment) → IsStart start → AllTell start
+        → IsRun limit start ms → IsScrubCalm start ms → SecondHalf start ms }
+{}
+
+/// Where no scrub begins, calm scrubs ask nothing.
+pub fn unscrubbed_runs_are_scrub_calm()
+    ensures { (limit : ℕ) (mark : Mark) (start : State) (ms : List Moment) → IsStart start
+        → IsRun limit start ms → BeginsNoScrub ms → AreScrubsCalm mark ms }
 {}

@@ -8,7 +8,7 @@ use stream_model::{Sink, Source, SureSink, SureSource};
 const KEY: &[u8] = b"000102030405060708090a0b0c0d0e0f101112131415161718191a1b1c1d1e1f\n";
 
 /// A schedule and what it writes: front, so many times one line that writes `more`, and rest.
-#[derive(Clone, Copy, Debug)]
+#[derive(Clone, Copy)]
 pub struct Row {
     pub front: &'static str,
     pub steps: usize,
@@ -103,11 +103,10 @@ impl Store {
         let mut store = Store::new(alloc, 16)?;
         let mut sink = SureSink::new(alloc).ok()?;
         let report = store.answer("init 4 1 1 0 1 1 0", KEY, &mut sink)?;
-        if report.status == 0 {
-            Some(store)
-        } else {
-            None
+        if report.status != 0 {
+            return None;
         }
+        Some(store)
     }
 
     /// How a command with an input ends over the store.

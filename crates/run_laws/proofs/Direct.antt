@@ -1,25 +1,28 @@
 -- What each event does to the records, the record in doubt, the kinds of jobs and the bytes of object numbers, told with the limits
 -- that a setup passed and the event that a job came of.
-use Rattle.std.proofs.Common.{◌≡◌, ℕ, Bool, true, false, ◌⊎◌, List, [], ◌∷◌, ◌++◌, Option, Some, None, refl, ap, sym, subst, ◌∙◌, inl, inr}
+use Rattle.std.proofs.Common.{◌≡◌, ℕ, ◌==◌, Bool, true, false, ◌⊎◌, List, [], ◌∷◌, ◌++◌, Option, Some, None, refl, ap, sym, subst, ◌∙◌, inl, inr}
 use Rattle.std.specs.Prelude.{IsTrue, IsSome, is_some, nat_lt}
 use Rattle.std.proofs.lemmas.Bool.{and_from, false≢true}
 use Rattle.plain_facts.proofs.Options.{some-not-none}
 use Rattle.hail_records.specs.Records.{Record, Setup, SetUp, is_setup, is_master, is_in_grammar}
 use Rattle.hail_records.specs.Table.{setup_of}
 use Rattle.hail_devices.specs.Providers.{Held, with_symbol, without_block, HasPlace}
-use Rattle.hail_machine.specs.Jobs.{Kind, Job, job_of, with_job, without_job, advanced}
+use Rattle.hail_machine.specs.Jobs.{Kind, PutJob, Job, job_of, with_job, without_job, advanced}
 use Rattle.hail_machine.specs.Actions.{Action, WriteBody, SyncBody, WriteGate, SyncGate, Store, Fetch, Ask, Work, Remove, End}
 use Rattle.hail_machine.specs.Refusals as refusal
+use Rattle.hail_machine.specs.Refusals.{Refusal}
 use Rattle.hail_machine.specs.Answers as answer
-use Rattle.hail_machine.specs.Events.{Event, Init, Begin, Step, Alter, Lose, Stop, Reopen, Names, Continue, Outcome, Ready, Refused, Opened, Begun, More, Waiting, Ended, Replaced, NothingHeld, Stopped, Listed, Closed, Continued, IsSpelled, IsSpelledKind}
-use Rattle.hail_machine.specs.States.{State, Append, Doubt, given_up, Settles}
-use Rattle.hail_machine.specs.Begins.{new_job, Begins}
+use Rattle.hail_machine.specs.Events.{Event, Init, Begin, BeginAt, BeginScrub, BeginPack, Step, Alter, Lose, Stop, Reopen, Names, Continue, Outcome, Ready, Refused, Opened, Begun, More, Waiting, Ended, Replaced, NothingHeld, Stopped, Listed, Closed, Continued, IsSpelled, IsSpelledKind}
+use Rattle.hail_machine.specs.States.{State, Append, Doubt, Alone, Settles}
+use Rattle.hail_machine.specs.Begins.{beginning, BeginsAt}
 use Rattle.hail_machine.specs.Appends.{bytes_drawn, Moves}
-use Rattle.hail_machine.specs.Steps.{next_action, holder_of, Acts, ActsOrWaits, StepsOn, StepsJob, StepsOpen, Steps}
-use Rattle.hail_machine.specs.Openings.{LeavesDoubt, Rereads, Stops, Reopens, InitsClosed, InitsBy, Inits, Continues}
+use Rattle.hail_machine.specs.Steps.{next_action, holder_of, Acts, ActsOrWaits, StepsOn, StepsJob, StepsMine, StepsOne, StepsOpen, Steps}
+use Rattle.hail_machine.specs.Alone.{number_alone, StepsAlone, BeginsAlone}
+use Rattle.hail_machine.specs.Openings.{LeavesDoubt, reread, Rereads, Stops, Reopens, InitsClosed, InitsBy, Inits, Continues}
 use Rattle.hail_machine.specs.Replacements.{ReplacesAt, ReplacesIf}
 use Rattle.hail_machine.specs.Machine.{Lists, Happens}
 use Rattle.hail_machine.proofs.JobLists.{number_of}
+use Rattle.hail_machine.proofs.Asides.{steps_aside}
 
 -- a setup that a journal may hold
 abbrev pub IsValid : Setup → Type 0
@@ -162,9 +165,32 @@ module _ (old : State) where
   steps_job number (Some job) r new is h = steps_on job (subst (λ n. job_of old.jobs n ≡ Some job) (sym (number_of old.jobs number job is)) is) (next_action old job) r new h
   steps_job number None r new is h = absurd h
 
+  steps_alone : (x : Alone) (r : Outcome) (new : State) → StepsAlone old x r new → Direct old new
+  steps_alone x r new h = (let a = steps_aside old x r new h in record {
+    records = Records_are.same a.records;
+    doubt = λ d g. Doubt_was.kept (sym a.doubt ∙ g);
+    jobs = Jobs_are.same a.jobs;
+    bytes = Bytes_are.same a.bytes (λ b g none. no_new b (sym a.append ∙ g) none);
+    opened = λ g. inl (sym a.is_open ∙ g);
+  })
+
+  steps_mine : (number : ℕ) (x : Alone) (mine : Bool) (r : Outcome) (new : State) → StepsMine old number x mine r new → Direct old new
+  steps_mine number x true r new h = steps_alone x r new h
+  steps_mine number x false r new h = steps_job number (job_of old.jobs number) r new refl h
+
+  steps_one : (number : ℕ) (alone : Option Alone) (r : Outcome) (new : State) → StepsOne old number alone r new → Direct old new
+  steps_one number None r new h = steps_job number (job_of old.jobs number) r new refl h
+  steps_one number (Some x) r new h = steps_mine number x (number_alone x == number) r new h
+
+  begins_alone : (why : Option Refusal) (x : Alone) (r : Outcome) (new : State) → BeginsAlone old why x r new → Direct old new
+  begins_alone why x Closed new h = unchanged new h.1
+  begins_alone why x (Refused refused) new h = unchanged new h.2
+  begins_alone why x (Begun job) new h = still _ new h.3 refl refl (Jobs_are.same refl) refl (inl refl) (inl refl)
+  begins_alone why x r new h = absurd h
+
   steps_open : (number : ℕ) (is_barred : Bool) (r : Outcome) (new : State) → StepsOpen old number is_barred r new → Direct old new
   steps_open number true (Refused refusal.MustReopen) new h = unchanged new h
-  steps_open number false r new h = steps_job number (job_of old.jobs number) r new refl h
+  steps_open number false r new h = steps_one number old.alone r new h
   steps_open number true r new h = absurd h
 
   steps : (number : ℕ) (is_open : Bool) (r : Outcome) (new : State) → Steps old number is_open r new → Direct old new
@@ -172,11 +198,11 @@ module _ (old : State) where
   steps number true r new h = steps_open number old.is_barred r new h
   steps number false r new h = absurd h
 
-  begins : (limit moment : ℕ) (kind : Kind) (r : Outcome) (new : State) → IsSpelledKind kind → Begins limit moment old kind r new → Direct old new
-  begins limit moment kind Closed new spelled h = unchanged new h.1
-  begins limit moment kind (Refused why) new spelled h = unchanged new h.2
-  begins limit moment kind (Begun job) new spelled h = still _ new h.3 refl refl (Jobs_are.one_more (new_job old moment kind) spelled refl) refl (inl refl) (inl refl)
-  begins limit moment kind r new spelled h = absurd h
+  begins : (limit moment : ℕ) (kind : Kind) (profile : Option ℕ) (r : Outcome) (new : State) → IsSpelledKind kind → BeginsAt limit moment old kind profile r new → Direct old new
+  begins limit moment kind profile Closed new spelled h = unchanged new h.1
+  begins limit moment kind profile (Refused why) new spelled h = unchanged new h.2
+  begins limit moment kind profile (Begun job) new spelled h = still _ new h.3 refl refl (Jobs_are.one_more (beginning old moment kind profile) spelled refl) refl (inl refl) (inl refl)
+  begins limit moment kind profile r new spelled h = absurd h
 
   -- what settling leaves
   record Settled (left mid : State) : Type 0 where
@@ -211,7 +237,7 @@ module _ (old : State) where
   -- all jobs are given up, and a record in doubt is settled
   gives_up : (mid left new : State) → new ≡ left → Rereads old mid → left.records ≡ mid.records → left.doubt ≡ mid.doubt → left.jobs ≡ mid.jobs → left.append ≡ mid.append → left.bytes ≡ mid.bytes →
       (left.is_open ≡ true → (left.is_open ≡ mid.is_open) ⊎ (is_some (setup_of mid.records) ≡ true)) → Direct old new
-  gives_up mid left new is settles records doubt jobs append bytes is_open = (let s = settle_parts (given_up old) mid refl refl settles in
+  gives_up mid left new is (journal, area, holds, settles) records doubt jobs append bytes is_open = (let s = settle_parts (reread old journal area) mid refl refl settles in
       subst (λ (w : State). Direct old w) (sym is) (record {
         records = subst (Records_are old) (sym records) s.records;
         doubt = λ d h. absurd (some-not-none left.doubt d h (doubt ∙ s.doubt));
@@ -303,7 +329,10 @@ module _ (old : State) where
 
   pub direct : (limit moment : ℕ) (e : Event) (r : Outcome) (new : State) → IsSpelled e → Happens limit moment old e r new → Direct old new
   direct limit moment (Init s) r new spelled h = inits s old.is_open r new spelled.7 h
-  direct limit moment (Begin kind) r new spelled h = begins limit moment kind r new spelled h
+  direct limit moment (Begin kind) r new spelled h = begins limit moment kind None r new spelled h
+  direct limit moment (BeginAt profile name bytes) r new spelled h = begins limit moment (PutJob name bytes) (Some profile) r new spelled.1 h
+  direct limit moment BeginScrub r new spelled h = begins_alone _ _ r new h
+  direct limit moment BeginPack r new spelled h = begins_alone _ _ r new h
   direct limit moment (Step number) r new spelled h = steps number old.is_open r new h
   direct limit moment (Alter j object stripe place symbol) r new spelled h =
       replaces_if (nat_lt j old.handed) j (λ held. HasPlace (held object stripe) place) (with_symbol object stripe place symbol) r new h

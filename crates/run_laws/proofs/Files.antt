@@ -43,7 +43,7 @@ module _ (o : Object) (bytes : List ℕ) where
   own stripe i = symbol_of bytes (stripe * stripe_symbols o + i)
 
   -- a primary symbol at a kept place is the file's
-  primary-symbol : (stripe place j : ℕ) → place < o.profile.keep → place < o.profile.size → j < o.shape.l →
+  pub primary-symbol : (stripe place j : ℕ) → place < o.profile.keep → place < o.profile.size → j < o.shape.l →
       slice_index (codeword o.profile (kept_by o (symbols_in o bytes stripe) j)) place ≡ own stripe (j * o.profile.keep + place)
   primary-symbol stripe place j kept within below =
       let symbols = symbols_in o bytes stripe in

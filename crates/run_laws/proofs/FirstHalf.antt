@@ -48,7 +48,7 @@ got_right limit start m ms job name bytes clean run e =
     record {
       file = got.file;
       in_effect = got.in_effect;
-      right = elim (file_or_forged (file_object b got.file) (b.bytes got.file.id) (setup_in b).profile refl shape
+      right = elim (file_or_forged (file_object b got.file) (b.bytes got.file.id) got.file.profile refl shape
           (blocks_given (given_to job.number (heard_by (Some job))) (setup_in b).n got.file.id) bytes held.bytes got.opens) [
             | inl same ↦ inl same
             | inr (stripe, place, forged) ↦ inr (record { stripe = stripe; place = place; forgery = forged })

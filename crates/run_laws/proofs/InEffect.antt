@@ -6,7 +6,7 @@ use Rattle.plain_facts.proofs.Options.{some-not-none}
 use Rattle.hail_field.specs.Shape.{IsShape}
 use Rattle.hail_records.specs.Records.{Record, Setup, SetUp, PutStart, PutDone, Drop, AuditStart, AuditDone, RepairDone, PutDoneIn, Version, Resume, InEffect, RepairDue, is_setup, is_master}
 use Rattle.hail_records.specs.Table.{File, file_as, profile_in, version_of, setup_of, next_id, started_as, is_start_of, is_same_name, file_of}
-use Rattle.hail_machine.specs.Jobs.{Kind, PutJob, GetJob, DropJob, AuditJob, RepairJob, Job, job_of}
+use Rattle.hail_machine.specs.Jobs.{Kind, PutJob, GetJob, DropJob, AuditJob, RepairJob, UpgradeJob, Job, job_of}
 use Rattle.hail_machine.specs.Actions.{WriteBody, SyncGate}
 use Rattle.hail_machine.specs.Events.{AreBytes, IsSpelledKind}
 use Rattle.hail_machine.specs.States.{State, Append, Doubt, AreFirst, IsStart, setup_in, file_in}
@@ -116,9 +116,9 @@ held_more w (RepairDue number counts) rs fine h name f e = h name f e
 -- the record that a job writes
 writes_fine : (w : State) (job : Job) (kind : Kind) (entry : Record) → ((name bytes : List ℕ) → kind ≡ PutJob name bytes → 4 ≤ job.place → Holds w job.subject (length bytes)) → Writes w job kind entry → Fine w entry
 writes_fine w job (PutJob name bytes) entry h writes = elim (cases_lt job.place 4) [
-  | inl l ↦ subst (Fine w) (sym (writes ∙ cond_true (is_first_append job) (PutStart (next_id w.records) name) (done_record (version_of w.records) job.subject (length bytes) (setup_in w).profile) (first_below job l))) tt
-  | inr l ↦ subst (Fine w) (sym (writes ∙ cond_false (is_first_append job) (PutStart (next_id w.records) name) (done_record (version_of w.records) job.subject (length bytes) (setup_in w).profile) (first_above job l)))
-      (by_version (version_of w.records) job.subject (length bytes) (setup_in w).profile (Fine w) (h name bytes refl l) (h name bytes refl l))
+  | inl l ↦ subst (Fine w) (sym (writes ∙ cond_true (is_first_append job) (PutStart (next_id w.records) name) (done_record (version_of w.records) job.subject (length bytes) job.profile) (first_below job l))) tt
+  | inr l ↦ subst (Fine w) (sym (writes ∙ cond_false (is_first_append job) (PutStart (next_id w.records) name) (done_record (version_of w.records) job.subject (length bytes) job.profile) (first_above job l)))
+      (by_version (version_of w.records) job.subject (length bytes) job.profile (Fine w) (h name bytes refl l) (h name bytes refl l))
 ]
 writes_fine w job (GetJob name) entry h writes = absurd writes
 writes_fine w job (DropJob name) entry h writes = subst (Fine w) (sym writes) tt
@@ -126,6 +126,7 @@ writes_fine w job AuditJob entry h writes = elim (cases_Bool (is_first_append jo
   | inl t ↦ subst (Fine w) (sym (let g = rw t at writes in g)) tt
   | inr f ↦ (let g = rw f at writes in subst (Fine w) (sym g.2) tt)
 ]
+writes_fine w job UpgradeJob entry h writes = subst (Fine w) (sym writes) tt
 writes_fine w job RepairJob entry h writes = subst (Fine w) (sym writes) tt
 
 -- the bytes that a put draws
@@ -254,7 +255,7 @@ module _ (limit : ℕ) (start : State) (m : Moment) (ms : List Moment) (N : num.
   drew_free : (x j : Job) → job_of (now start ms).jobs x.number ≡ Some x → next_action (now start ms) x ≡ Some WriteBody → job_of m.state.jobs x.number ≡ Some j → j.place ≡ x.place + 1 → (now start ms).append ≡ None
   drew_free x j runs next_is found place = elim (X.job x.number j found) [
     | Job_is.kept r grown ↦ absurd (let e = ap (λ (z : Job). z.place) (same_value _ x j runs r) in omega arith)
-    | Job_is.begun kind is k_is allowed rec ↦ absurd (let e : j.place ≡ 0 = ap (λ (z : Job). z.place) is in omega arith)
+    | Job_is.begun kind wish is k_is allowed rec ↦ absurd (let e : j.place ≡ 0 = ap (λ (z : Job). z.place) is in omega arith)
     | Job_is.plain y action runs_y next_y is_plain goes rec st ↦
         absurd (subst IsPlain (let same : y ≡ x = same_value _ y x runs_y runs in
         same_value _ action WriteBody next_y (subst (λ (z : Job). next_action (now start ms) z ≡ Some WriteBody) (sym same) next_is)) is_plain)
@@ -268,7 +269,7 @@ module _ (limit : ℕ) (start : State) (m : Moment) (ms : List Moment) (N : num.
   fresh_step a j name bytes h hj kind small = elim (X.append a h) [
     | Append_is.kept b flight job_is entry rec ↦ elim (X.job a.job j hj) [
       | Job_is.kept r grown ↦ carried b flight j refl kind small (subst (λ n. job_of (now start ms).jobs n ≡ Some j) job_is r)
-      | Job_is.begun kd is k_is allowed rec2 ↦ absurd (let l = N.holder b flight in omega arith)
+      | Job_is.begun kd wish is k_is allowed rec2 ↦ absurd (let l = N.holder b flight in omega arith)
       | Job_is.plain x action runs next_is is_plain goes rec2 st ↦
           carried b flight x goes.subject (sym goes.kind ∙ kind) (let e = goes.place in omega arith) (subst (λ n. job_of (now start ms).jobs n ≡ Some x) job_is runs)
       | Job_is.drew x runs next_is free is rec2 ↦ absurd (some-not-none (now start ms).append b flight free)
@@ -295,7 +296,7 @@ module _ (limit : ℕ) (start : State) (m : Moment) (ms : List Moment) (N : num.
   kept_step : (k : ℕ) (j : Job) (name bytes : List ℕ) → job_of m.state.jobs k ≡ Some j → j.kind ≡ PutJob name bytes → 4 ≤ j.place → m.state.bytes j.subject ≡ bytes
   kept_step k j name bytes h kind late = elim (X.job k j h) [
     | Job_is.kept r grown ↦ carried j r refl kind late
-    | Job_is.begun kd is k_is allowed rec ↦ absurd (let e : j.place ≡ 0 = ap (λ (z : Job). z.place) is in omega arith)
+    | Job_is.begun kd wish is k_is allowed rec ↦ absurd (let e : j.place ≡ 0 = ap (λ (z : Job). z.place) is in omega arith)
     | Job_is.plain x action runs next_is is_plain goes rec st ↦
         (let kx : x.kind ≡ PutJob name bytes = sym goes.kind ∙ kind in
         elim (cases_eq x.place 3) [

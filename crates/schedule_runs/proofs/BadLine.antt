@@ -1,8 +1,8 @@
 -- A text whose second line is outside the grammar.
 use Rattle.std.proofs.Common.{List, [], ◌∷◌, length, refl, ap, inl, inr, arith}
 use Rattle.std.specs.Prelude.{codes}
-use Rattle.hail_machine.specs.Events.{Init, Begin, Step, Alter, Lose, Stop, Reopen, Names, Continue}
-use Rattle.hail_machine.specs.Jobs.{PutJob, GetJob, DropJob, AuditJob, RepairJob}
+use Rattle.hail_machine.specs.Events.{Init, Begin, BeginAt, BeginScrub, BeginPack, Step, Alter, Lose, Stop, Reopen, Names, Continue}
+use Rattle.hail_machine.specs.Jobs.{PutJob, GetJob, DropJob, AuditJob, RepairJob, UpgradeJob}
 use Rattle.hail_machine.specs.Transcripts.{Instruction, Once, RunJob}
 use Rattle.schedule_text.specs.Grammar.{Word, SpellsCommand}
 use Rattle.schedule_text.specs.Schedules.{IsLine, IsFirstBadLine}
@@ -27,6 +27,10 @@ spells-none (Once (Lose provider object stripe)) s = (let e = ap length s.3 in o
 spells-none (Once (Stop picks)) s = (let e = ap length s.1 in omega (arith, e))
 spells-none (Once Names) s = (let e = ap length s in omega (arith, e))
 spells-none (Once Continue) s = s
+spells-none (Once (Begin UpgradeJob)) s = s
+spells-none (Once (BeginAt profile name bytes)) s = s
+spells-none (Once BeginScrub) s = s
+spells-none (Once BeginPack) s = s
 
 not-a-line : IsLine (codes "lose 2 1 0 2 1 0") → ⊥
 not-a-line (inl skipped) = omega (arith, skipped)

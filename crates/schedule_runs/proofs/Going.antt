@@ -6,7 +6,7 @@ use Rattle.hail_machine.specs.Runs.{Moment, IsRun, now}
 use Rattle.hail_machine.specs.States.{State, IsStart}
 use Rattle.hail_machine.specs.Survival.{NoneTakesOut, NeverTakenOut, IsKept, ComesIn, Survives}
 use Rattle.hail_commands.specs.Seen.{Seen, Ending}
-use Rattle.vault.specs.Devices.{Devices, devices_seen}
+use Rattle.vault_open.specs.Devices.{Devices}
 use Rattle.hail_replay.specs.Answers.{devices_of_seen}
 use Rattle.hail_replay.specs.Starts.{AreLeft, call_from}
 use Rattle.hail_top.specs.Carried.{KeepsTheHeadline}

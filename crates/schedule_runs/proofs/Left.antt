@@ -1,15 +1,17 @@
--- Each run has left devices: those of its last state.
-use Rattle.std.proofs.Common.{IsTrue, List, [], refl, sym, inl, arith}
+-- Each run whose journal has its first version has left devices: those of its last state.
+use Rattle.std.proofs.Common.{◌≡◌, IsTrue, List, [], refl, sym, subst, inl, arith}
 use Rattle.std.proofs.lemmas.List.FromFn.{length-map-range_with_len}
 use Rattle.std.specs.List.{list_all}
 use Rattle.hail_records.specs.Records.{Record, is_in_grammar}
 use Rattle.hail_records.specs.Journal.{text, StandsFor}
+use Rattle.hail_records.specs.Table.{version_of}
 use Rattle.hail_machine.specs.States.{State}
 use Rattle.hail_openings.specs.Opened.{AreHanded}
 use Rattle.sound_states.specs.Sound.{IsSound}
+use Rattle.sound_states.proofs.Written.{grammar-now}
 use Rattle.hail_client.proofs.Settled.{firm-stands}
 use Rattle.step_laws.proofs.Lists.{get_map_upto}
-use Rattle.vault.specs.Devices.{AreDevices}
+use Rattle.vault_open.specs.Devices.{AreDevices}
 use Rattle.schedule_runs.specs.Left.{devices_left}
 
 -- the text of records stands for them
@@ -22,5 +24,8 @@ handed w = (let long = length-map-range_with_len w.providers 0 w.handed in recor
   each = λ j l. get_map_upto w.providers w.handed j (omega (arith, l, long));
 })
 
-pub devices-of : (w : State) → IsSound 8 w → AreDevices (devices_left w) w
-devices-of w sound = record { images = firm-stands (text w.records) w (inl (text-stands w.records sound.in_grammar)); faults = refl; providers = handed w }
+pub devices-of : (w : State) → IsSound 8 w → version_of w.records ≡ 1 → AreDevices (devices_left w) w
+devices-of w sound first =
+    (let whole = sound.journal.whole first in
+    let stands : StandsFor (text w.records) w.journal = subst (StandsFor (text w.records)) (sym whole.journal) (text-stands w.records (grammar-now 8 w sound first)) in
+    record { images = firm-stands (text w.records) w whole.area (inl stands); faults = refl; providers = handed w })

@@ -58,11 +58,11 @@ abbrev state_66 : State
 state_66 = ended state_65 (job_at state_65 6)
 
 happens_57 : Happens 8 57 state_57 (Stop []) Stopped state_58
-happens_57 = inl refl
+happens_57 = (state_57.journal, state_57.area, inl (refl, refl), inl refl)
 
 happens_58 : Happens 8 58 state_58 Reopen Opened state_59
 unfolding setup_in
-happens_58 = (state_58, inl refl, refl, omega arith, (0, omega arith, refl))
+happens_58 = (state_58, (state_58.journal, state_58.area, inl (refl, refl), inl refl), refl, omega arith, (0, omega arith, refl))
 
 happens_59 : Happens 8 59 state_59 (Begin (GetJob name)) (Begun 6) state_60
 unfolding setup_in actions_of

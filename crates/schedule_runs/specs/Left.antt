@@ -15,7 +15,7 @@ use Rattle.hail_machine.specs.Runs.{Moment, now}
 use Rattle.hail_machine.specs.States.{State}
 use Rattle.hail_machine.specs.Survival.{NeverTakenOut, IsKept}
 use Rattle.hail_commands.specs.Seen.{Seen, Ending}
-use Rattle.vault.specs.Devices.{Devices, devices, devices_seen}
+use Rattle.vault_open.specs.Devices.{Devices, devices}
 use Rattle.hail_replay.specs.Answers.{IsUndone, devices_of_seen}
 use Rattle.hail_replay.specs.Starts.{called_behind}
 use Rattle.hail_top.specs.Carried.{RunGoesOn}

@@ -1,6 +1,7 @@
 //! What a replay and a trial suppose of their devices is met, and what they promise is used.
 ghost use Rattle.std.specs.Prelude.{◌≡◌, ◌⊎◌, ℕ, List, [], IsSome, reverse};
 ghost use Rattle.std.specs.List.{AllByRecursion};
+ghost use Rattle.hail_records.specs.Table.{version_of};
 ghost use Rattle.hail_commands.specs.Seen.{Seen, Ending, sinking};
 ghost use Rattle.hail_machine.specs.Examples.{set_up};
 ghost use Rattle.hail_machine.specs.Runs.{Moment, now, IsRun};
@@ -22,17 +23,16 @@ ghost use Rattle.schedule_runs.specs.Left.{devices_left, GoesOnWith, KeepsItsFil
 ghost use Rattle.schedule_runs.specs.Schedule.{stopped_schedule, stopped_text, bad_text, IsStoppedRun};
 ghost use Rattle.vault.specs.Devices.{devices_seen};
 
-use damage_run::runs::damage_is_found_and_repaired;
-use fault_run::runs::faults_are_met;
 use hail_client::laws::a_fresh_disk_has_a_start;
 use hail_machine::laws::acknowledged_files_survive;
 use sound_states::laws::runs_are_sound;
 
-/// Each run has left devices that tell: those of its last state. So have the run of no event, over a disk before its first use, and the runs
-/// given outright: one with damage, an audit that finds it and a repair; one with calls of every device that fail, and a stop.
+/// Each run whose journal has its first version has left devices that tell: those of its last state. So have the run of no event, over a disk
+/// before its first use, and the runs given outright: one with damage, an audit that finds it and a repair; one with calls of every device
+/// that fail, and a stop.
 pub fn runs_leave_devices()
     ensures each { (start : State) (ms : List Moment) → IsStart start → IsRun 8 start ms
-        → AreLeft start ms (devices_left (now start ms)) }
+        → version_of (now start ms).records ≡ 1 → AreLeft start ms (devices_left (now start ms)) }
     ensures tell { (start : State) (ms : List Moment) → IsSome (devices_left (now start ms)).holds }
     ensures fresh { AreLeft (start_of fresh []) [] fresh }
     ensures damaged { (ms : List Moment) × IsOutright ms × AreLeft set_up ms (devices_left (now set_up ms)) }
@@ -40,8 +40,6 @@ pub fn runs_leave_devices()
 {
     runs_are_sound();
     a_fresh_disk_has_a_start();
-    damage_is_found_and_repaired();
-    faults_are_met();
 }
 
 /// A schedule as text, with lost blocks, an audit, a repair, a stop and gets: the commands that it spells are carried out by a run, and the
@@ -63,7 +61,7 @@ pub fn a_schedule_has_its_run()
 /// So a replay or a trial over the devices that a run has left does nothing, or goes on with that very run, and the headline holds of the whole.
 pub fn commands_go_on_with_them()
     ensures each { (start : State) (ms : List Moment) (old new : Seen) (end : Ending) → IsStart start
-        → IsRun 8 start ms →
+        → IsRun 8 start ms → version_of (now start ms).records ≡ 1 →
         devices_of_seen old ≡ devices_left (now start ms) → KeepsTheHeadline old new end
         → GoesOnWith start ms old new end }
     ensures fresh { (old new : Seen) (end : Ending) → devices_of_seen old ≡ fresh
@@ -79,12 +77,12 @@ pub fn commands_go_on_with_them()
         → KeepsItsFile set_up ms other (record { name = other; id = 3; size = 0; profile = 0 }) old new
         end) }
     ensures replay { (start : State) (ms : List Moment) (text : List ℕ) (old new : Seen) (end : Ending)
-        → IsStart start → IsRun 8 start ms →
+        → IsStart start → IsRun 8 start ms → version_of (now start ms).records ≡ 1 →
         devices_of_seen old ≡ devices_left (now start ms) → DoesSchedule text old new end →
         (commands : List Instruction) × IsSchedule text commands
         × Replays start ms commands end.status (sinking old new) end.heard (devices_of_seen new) }
     ensures trial { (start : State) (ms : List Moment) (number : ℕ) (old new : Seen) (end : Ending)
-        → IsStart start → IsRun 8 start ms →
+        → IsStart start → IsRun 8 start ms → version_of (now start ms).records ≡ 1 →
         devices_of_seen old ≡ devices_left (now start ms) → DoesTrial number old new end →
         RunsTrial number start ms end.status (sinking old new) end.heard (devices_of_seen new)
         ⊎ ((end.status ≡ 70) × (new.sink ≡ old.sink)

@@ -5,8 +5,8 @@ use Rattle.std.proofs.lemmas.Bool.{eqb-true, eq-eqb}
 use Rattle.plain_facts.proofs.Options.{cond-cases}
 use Rattle.hail_records.specs.Records.{Setup}
 use Rattle.record_codec.proofs.Fields.{bind_some}
-use Rattle.hail_machine.specs.Jobs.{PutJob, GetJob, DropJob, AuditJob, RepairJob}
-use Rattle.hail_machine.specs.Events.{Init, Begin, Step, Alter, Lose, Stop, Reopen, Names, Continue}
+use Rattle.hail_machine.specs.Jobs.{PutJob, GetJob, DropJob, AuditJob, RepairJob, UpgradeJob}
+use Rattle.hail_machine.specs.Events.{Init, Begin, BeginAt, BeginScrub, BeginPack, Step, Alter, Lose, Stop, Reopen, Names, Continue}
 use Rattle.hail_machine.specs.Transcripts.{Instruction, Once, RunJob}
 use Rattle.schedule_text.specs.Grammar.{Word, IsNumber, IsHex, IsKey, SpellsCommand, SpellsInit, IsSkipped}
 use Rattle.schedule_text.specs.Reading.{setup_words_at, init_at, put_at, get_at, drop_words_at, begun_at, begin_at, step_at, run_at, alter_at, lose_at, stop_at, apart_at, behind_at, line_at}
@@ -129,6 +129,10 @@ line-spelled ws (Once (Stop picks)) is =
     ap (λ (t : List Word). line_at t) is.1 ∙ line-again (codes "stop") (is.0 ∷ []) (Once (Stop picks)) refl (stop-again is.0 picks is.2)
 line-spelled ws (Once Names) is = ap (λ (t : List Word). line_at t) is ∙ list-again
 line-spelled ws (Once Continue) is = absurd is
+line-spelled ws (Once (Begin UpgradeJob)) is = absurd is
+line-spelled ws (Once (BeginAt profile name bytes)) is = absurd is
+line-spelled ws (Once BeginScrub) is = absurd is
+line-spelled ws (Once BeginPack) is = absurd is
 
 -- a line that is skipped
 pub line-skipped : (ws : List Word) → IsSkipped ws → line_at ws ≡ Some None

@@ -4,8 +4,8 @@ use Rattle.std.specs.Prelude.{codes, ◌==◌, slice_index}
 use Rattle.std.specs.List.{AllByRecursion, flat_map}
 use Rattle.std.specs.Fmt.{decimal}
 use Rattle.hex.specs.Hex.{encode_lower}
-use Rattle.hail_machine.specs.Jobs.{PutJob, GetJob, DropJob, AuditJob, RepairJob}
-use Rattle.hail_machine.specs.Events.{Init, Begin, Step, Alter, Lose, Stop, Reopen, Names, Continue}
+use Rattle.hail_machine.specs.Jobs.{PutJob, GetJob, DropJob, AuditJob, RepairJob, UpgradeJob}
+use Rattle.hail_machine.specs.Events.{Init, Begin, BeginAt, BeginScrub, BeginPack, Step, Alter, Lose, Stop, Reopen, Names, Continue}
 use Rattle.hail_machine.specs.Transcripts.{Instruction, Once, RunJob}
 use Rattle.schedule_text.specs.Grammar.{Word, pieces, words, SpellsCommand}
 use Rattle.schedule_text.specs.Schedules.{without_returns, lines, AreLines, IsSchedule}
@@ -190,6 +190,10 @@ word_spelling (Once (Stop picks)) can = record {
   spells = (hex_of picks, refl, hex-hex_of picks can);
 }
 word_spelling (Once Continue) can = absurd can
+word_spelling (Once (Begin UpgradeJob)) can = absurd can.1
+word_spelling (Once (BeginAt profile name bytes)) can = absurd can
+word_spelling (Once BeginScrub) can = absurd can
+word_spelling (Once BeginPack) can = absurd can
 
 -- ---- a whole schedule
 

@@ -16,8 +16,8 @@ use Rattle.std.specs.Prelude.{◌≡◌, ◌⊎◌, ℕ, ◌^◌, ◌<◌, ◌==
 use Rattle.std.specs.List.{filter}
 use Rattle.hex.specs.Hex.{decode_of}
 use Rattle.hail_records.specs.Records.{Setup}
-use Rattle.hail_machine.specs.Jobs.{PutJob, GetJob, DropJob, AuditJob, RepairJob}
-use Rattle.hail_machine.specs.Events.{Init, Begin, Step, Alter, Lose, Stop, Reopen, Names, Continue}
+use Rattle.hail_machine.specs.Jobs.{PutJob, GetJob, DropJob, AuditJob, RepairJob, UpgradeJob}
+use Rattle.hail_machine.specs.Events.{Init, Begin, BeginAt, BeginScrub, BeginPack, Step, Alter, Lose, Stop, Reopen, Names, Continue}
 use Rattle.hail_machine.specs.Transcripts.{Instruction, Once, RunJob}
 use Rattle.hail_commands.specs.Words.{IsNumberWord}
 
@@ -98,6 +98,10 @@ SpellsCommand ws (Once (Stop picks)) =
     (digits : Word) × (ws ≡ codes "stop" ∷ digits ∷ []) × IsHex digits picks
 SpellsCommand ws (Once Names) = ws ≡ codes "list" ∷ []
 SpellsCommand ws (Once Continue) = ⊥
+SpellsCommand ws (Once (Begin UpgradeJob)) = ⊥
+SpellsCommand ws (Once (BeginAt profile name bytes)) = ⊥
+SpellsCommand ws (Once BeginScrub) = ⊥
+SpellsCommand ws (Once BeginPack) = ⊥
 
 -- a line that is passed over: there are no words, or the first begins with `#`
 abbrev pub IsSkipped : List Word → Type 0

@@ -10,8 +10,8 @@ use Rattle.std.specs.List.{AllByRecursion, flat_map}
 use Rattle.std.specs.Fmt.{decimal}
 use Rattle.hex.specs.Hex.{encode_lower}
 use Rattle.hail_records.specs.Records.{Setup}
-use Rattle.hail_machine.specs.Jobs.{Kind, PutJob, GetJob, DropJob, AuditJob, RepairJob}
-use Rattle.hail_machine.specs.Events.{Init, Begin, Step, Alter, Lose, Stop, Reopen, Names, Continue, IsSpelled}
+use Rattle.hail_machine.specs.Jobs.{Kind, PutJob, GetJob, DropJob, AuditJob, RepairJob, UpgradeJob}
+use Rattle.hail_machine.specs.Events.{Init, Begin, BeginAt, BeginScrub, BeginPack, Step, Alter, Lose, Stop, Reopen, Names, Continue, IsSpelled}
 use Rattle.hail_machine.specs.Transcripts.{Instruction, Once, RunJob}
 use Rattle.schedule_text.specs.Grammar.{Word}
 
@@ -23,19 +23,23 @@ IsInWord b = (b ≢ 32) × (b ≢ 10)
 abbrev pub IsName : List ℕ → Type 0
 IsName name = (0 < length name) × AllByRecursion IsInWord name
 
--- the name of a begin is a word
+-- the name of a begin is a word; the begin of an upgrade has no line
 abbrev pub IsNamed : Kind → Type 0
 IsNamed (PutJob name bytes) = IsName name
 IsNamed (GetJob name) = IsName name
 IsNamed (DropJob name) = IsName name
 IsNamed AuditJob = Unit {0}
 IsNamed RepairJob = Unit {0}
+IsNamed UpgradeJob = ⊥
 
 -- the command has a line
 abbrev pub CanBeSpelled : Instruction → Type 0
 CanBeSpelled (RunJob job) = job < 2 ^ 32
 CanBeSpelled (Once (Begin kind)) = IsSpelled (Begin kind) × IsNamed kind
 CanBeSpelled (Once Continue) = ⊥
+CanBeSpelled (Once (BeginAt profile name bytes)) = ⊥
+CanBeSpelled (Once BeginScrub) = ⊥
+CanBeSpelled (Once BeginPack) = ⊥
 CanBeSpelled (Once event) = IsSpelled event
 
 -- the digits of bytes, or `-` for none
@@ -57,6 +61,7 @@ begin_words (GetJob name) = codes "begin" ∷ codes "get" ∷ name ∷ []
 begin_words (DropJob name) = codes "begin" ∷ codes "drop" ∷ name ∷ []
 begin_words AuditJob = codes "begin" ∷ codes "audit" ∷ []
 begin_words RepairJob = codes "begin" ∷ codes "repair" ∷ []
+begin_words UpgradeJob = []
 
 -- the words of a command's line
 abbrev pub words_of : Instruction → List Word
@@ -72,6 +77,9 @@ words_of (Once (Lose provider object stripe)) =
 words_of (Once (Stop picks)) = codes "stop" ∷ hex_of picks ∷ []
 words_of (Once Names) = codes "list" ∷ []
 words_of (Once Continue) = []
+words_of (Once (BeginAt profile name bytes)) = []
+words_of (Once BeginScrub) = []
+words_of (Once BeginPack) = []
 
 -- a word with a space behind it
 abbrev pub spaced : Word → List ℕ

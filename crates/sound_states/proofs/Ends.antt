@@ -3,16 +3,17 @@ use Rattle.std.proofs.Common.{◌≡◌, ℕ, ◌==◌, Bool, true, false, ◌||
 use Rattle.std.specs.Prelude.{is_some}
 use Rattle.std.proofs.lemmas.Bool.{cases_Bool}
 use Rattle.plain_facts.proofs.Options.{some-not-none}
-use Rattle.hail_records.specs.Table.{file_of}
+use Rattle.hail_records.specs.Table.{version_of, file_of}
 use Rattle.hail_machine.specs.Jobs.{Job, job_of, without_job}
 use Rattle.hail_machine.specs.States.{State, Append, Doubt, setup_in, ended}
 use Rattle.hail_machine.specs.Space.{reserved}
 use Rattle.hail_machine.proofs.JobLists.{cond_true, cond_false, found_without}
 use Rattle.sound_states.specs.Orders.{moves_made}
-use Rattle.sound_states.specs.Follows.{MayFollow}
-use Rattle.sound_states.specs.Sound.{IsDoubtOf, IsSoundAppend, IsSound}
-use Rattle.sound_states.proofs.JobLists.{sum-without, length-without, numbered-without, still-without, mine, other}
+use Rattle.sound_states.specs.Follows.{MayFollowIn}
+use Rattle.sound_states.specs.Sound.{IsDoubtOf, IsSoundAppend, starts_left, IsSound}
+use Rattle.sound_states.proofs.JobLists.{sum-without, length-without, numbered-without, still-without, only-without, mine, other}
 use Rattle.sound_states.proofs.NamesTaken.{are_put, puts_name, taken-fewer}
+use Rattle.sound_states.proofs.Packs.{journal-same}
 use Rattle.sound_states.proofs.Going.{kept}
 
 or-right : (a b c : Bool) → (b ≡ true → c ≡ true) → (a || b) ≡ true → (a || c) ≡ true
@@ -45,22 +46,30 @@ module _ (limit : ℕ) (old : State) (S : IsSound limit old) (job : Job) (runs :
       ((a : Append) → flight ≡ Some a → IsSoundAppend old a × (a.job ≡ job.number → ⊥)) →
       (barred ≡ true → flight ≡ None) →
       (old.is_open ≡ true → barred ≡ false → IsDoubtOf flight doubt) →
-      ((d : Doubt) → doubt ≡ Some d → MayFollow old.records old.bytes d.entry) →
+      ((d : Doubt) → doubt ≡ Some d → MayFollowIn old d.entry) →
       IsSound limit (left_by old job flight doubt barred)
   unfolding setup_in
   ended-sound flight doubt barred others append bars undoubted doubts = record {
     accepted = S.accepted;
-    in_grammar = S.in_grammar;
-    room = (let a = sum-without (reserved (setup_in old)) old.jobs job.number job runs in let c = S.room in omega (arith, a, c));
+    spelled = S.spelled;
+    journal = journal-same old (left_by old job flight doubt barred) refl refl refl refl S.journal;
+    room = (let a = sum-without (reserved (version_of old.records) (setup_in old)) old.jobs job.number job runs in let c = S.room in omega (arith, a, c));
     files = S.files;
     names = (let a = taken-fewer old.records old.records old.jobs (without_job old.jobs job.number) (λ n h. or-left (are_put n (without_job old.jobs job.number)) (is_some (file_of old.records n)) (are_put n old.jobs) (put-without n old.jobs job.number) h) in let b = S.names in omega (arith, a, b));
-    closed = λ closed. absurd (some-not-none (job_of old.jobs job.number) job runs (ap (λ l. job_of l job.number) (S.closed closed).0));
+    ids = λ l. (let a = sum-without starts_left old.jobs job.number job runs in let c = S.ids (omega (arith, l, a)) in omega (arith, a, c));
+    audits = λ k j h is_audit l. S.audits k j (found_without old.jobs job.number k j h).1 is_audit l;
+    closed = λ closed. absurd (found_some (S.closed closed).0);
     set_up = S.set_up;
     handed = S.handed;
     few = (let a = length-without old.jobs job.number in let b = S.few in omega (arith, a, b));
     numbered = numbered-without 0 old.jobs old.next_job job.number S.numbered;
     jobs = λ k j h. (let q = found_without old.jobs job.number k j h in
         kept (setup_in old) old.records old.bytes old.bytes (λ id l. refl) (moves_made old.append k) (moves_made flight k) j (others k q.0) (S.jobs k j q.1));
+    in_journal = λ k j h. S.in_journal k j (found_without old.jobs job.number k j h).1;
+    lone = λ x e. absurd (found_some (S.lone x e));
+    packing = S.packing;
+    switching = λ e. absurd (found_some (S.switching e).jobs);
+    upgrade = λ k j h u. absurd (only-without old.jobs job.number job j runs (S.upgrade k j (found_without old.jobs job.number k j h).1 u) k j h);
     one_check = λ k l i j hi hj ci cj. S.one_check k l i j (found_without old.jobs job.number k i hi).1 (found_without old.jobs job.number l j hj).1 ci cj;
     apart = λ k l i j hi hj ui uj same. S.apart k l i j (found_without old.jobs job.number k i hi).1 (found_without old.jobs job.number l j hj).1 ui uj same;
     append = λ a h. (let p = append a h in record {
@@ -77,6 +86,9 @@ module _ (limit : ℕ) (old : State) (S : IsSound limit old) (job : Job) (runs :
     undoubted = undoubted;
     doubt = doubts;
   }
+    where
+      found_some : old.jobs ≡ [] → ⊥
+      found_some e = some-not-none (job_of old.jobs job.number) job runs (ap (λ l. job_of l job.number) e)
 
   -- a job of whose append no move is made ends
   pub plain-ended : moves_made old.append job.number ≡ 0 → IsSound limit (left_by old job old.append old.doubt old.is_barred)
@@ -88,7 +100,7 @@ module _ (limit : ℕ) (old : State) (S : IsSound limit old) (job : Job) (runs :
 
   -- a job ends whose append is given up, or none was in flight
   pub append-ended : (doubt : Option Doubt) (barred : Bool) → ((a : Append) → old.append ≡ Some a → a.job ≡ job.number) → (old.is_open ≡ true → barred ≡ false → doubt ≡ None) →
-      ((d : Doubt) → doubt ≡ Some d → MayFollow old.records old.bytes d.entry) → IsSound limit (left_by old job None doubt barred)
+      ((d : Doubt) → doubt ≡ Some d → MayFollowIn old d.entry) → IsSound limit (left_by old job None doubt barred)
   append-ended doubt barred own undoubted doubts = ended-sound None doubt barred (λ k n. others k n old.append refl) (λ a h. absurd (none-some a h)) (λ b. refl) undoubted doubts
     where
       none-some : (a : Append) → None ≡ Some a → ⊥

@@ -5,22 +5,23 @@ use Rattle.std.proofs.lemmas.Bool.{cases_Bool, false≢true, and_parts, eqb-true
 use Rattle.plain_facts.proofs.Options.{some-not-none}
 use Rattle.plain_facts.proofs.Lists.{drop-get}
 use Rattle.hail_devices.specs.Providers.{Held, Provider, with_symbol, without_block, HasPlace}
-use Rattle.hail_machine.specs.Jobs.{Kind, PutJob, GetJob, DropJob, AuditJob, RepairJob, Job, Given, Fetched, Answered, Worked, job_of, advanced}
+use Rattle.hail_machine.specs.Jobs.{Kind, PutJob, GetJob, DropJob, AuditJob, RepairJob, UpgradeJob, Job, Given, Fetched, Answered, Worked, job_of, advanced}
 use Rattle.hail_machine.specs.Actions.{Action, WriteBody, SyncBody, WriteGate, SyncGate, Store, Fetch, Ask, Work, Remove, End, ends_append, actions_of, actions_left}
 use Rattle.hail_machine.specs.Refusals as refusal
 use Rattle.hail_machine.specs.Answers as answer
-use Rattle.hail_machine.specs.Events.{Event, Init, Begin, Step, Alter, Lose, Stop, Reopen, Names, Continue, IsSpelled, IsSpelledKind, Outcome, Refused, Begun, More, Waiting, Ended, Replaced, NothingHeld, Listed, Closed}
-use Rattle.hail_machine.specs.States.{State, IsStart, Append, Doubt, setup_in, with_provider, going_on, ended}
-use Rattle.hail_machine.specs.Begins.{Begins}
+use Rattle.hail_machine.specs.Events.{Event, Init, Begin, BeginAt, BeginScrub, BeginPack, Step, Alter, Lose, Stop, Reopen, Names, Continue, IsSpelled, IsSpelledKind, Outcome, Refused, Begun, More, Waiting, Ended, Replaced, NothingHeld, Listed, Closed}
+use Rattle.hail_machine.specs.States.{State, IsStart, Append, Doubt, Alone, setup_in, with_provider, going_on, ended}
+use Rattle.hail_machine.specs.Begins.{BeginsAt}
 use Rattle.hail_machine.specs.Appends.{Moves}
-use Rattle.hail_machine.specs.Steps.{is_idle_drop, next_action, holder_of, Acts, ActsOrWaits, StepsOn, StepsJob, StepsOpen, Steps}
+use Rattle.hail_machine.specs.Steps.{is_idle_drop, next_action, holder_of, Acts, ActsOrWaits, StepsOn, StepsJob, StepsMine, StepsOne, StepsOpen, Steps}
+use Rattle.hail_machine.specs.Alone.{number_alone}
 use Rattle.hail_machine.specs.Replacements.{ReplacesAt, ReplacesIf}
 use Rattle.hail_machine.specs.Machine.{Lists, Happens}
 use Rattle.hail_machine.specs.Runs.{Moment, IsRun, now}
 use Rattle.hail_machine.proofs.JobLists.{cond_true, cond_false, same_value, number_of}
 use Rattle.sound_states.specs.Orders.{moves_made, moves_before, moves_after, IsInOrder}
-use Rattle.sound_states.specs.Follows.{MayFollow}
-use Rattle.sound_states.specs.Sound.{IsGatedDoubt, IsDoubtOf, IsSound}
+use Rattle.sound_states.specs.Follows.{MayFollowIn}
+use Rattle.sound_states.specs.Sound.{IsGatedDoubt, IsDoubtOf, IsLimit, IsSound}
 use Rattle.sound_states.proofs.Orders.{moves-first}
 use Rattle.sound_states.proofs.Going.{onward}
 use Rattle.sound_states.proofs.Turns.{gone_on, plain-sound}
@@ -28,7 +29,9 @@ use Rattle.sound_states.proofs.Moves.{begun-sound, moved-sound}
 use Rattle.sound_states.proofs.Gates.{drop-list}
 use Rattle.sound_states.proofs.Ends.{left_by, plain-ended, append-ended}
 use Rattle.sound_states.proofs.Done.{done-sound}
+use Rattle.sound_states.proofs.Packs.{journal-same}
 use Rattle.sound_states.proofs.Begun.{begun-job}
+use Rattle.sound_states.proofs.Aside.{alone-sound, scrub-begins, pack-begins}
 use Rattle.sound_states.proofs.Resting.{start-sound, stops-sound, continues-sound, reopens-sound, inits-sound}
 
 -- what providers hold and count, and the count of the disk, are no part of it
@@ -36,16 +39,24 @@ pub devices-sound : (limit : ℕ) (w : State) (providers : ℕ → Provider) (fa
 unfolding setup_in
 devices-sound limit w providers faults S = record {
   accepted = S.accepted;
-  in_grammar = S.in_grammar;
+  spelled = S.spelled;
+  journal = journal-same w (record w { providers = providers; disk_faults = faults }) refl refl refl refl S.journal;
   room = S.room;
   files = S.files;
   names = S.names;
+  ids = S.ids;
+  audits = S.audits;
   closed = S.closed;
   set_up = S.set_up;
   handed = S.handed;
   few = S.few;
   numbered = S.numbered;
   jobs = S.jobs;
+  in_journal = S.in_journal;
+  lone = S.lone;
+  packing = S.packing;
+  switching = λ e. (let s = S.switching e in record { version = s.version; undoubted = s.undoubted; jobs = s.jobs; packing = s.packing });
+  upgrade = S.upgrade;
   one_check = S.one_check;
   apart = S.apart;
   append = λ a h. (let A = S.append a h in record {
@@ -77,6 +88,7 @@ idle-drop w job h = by_kind job.kind refl h
     by_kind (GetJob name) e h = absurd (false≢true h)
     by_kind AuditJob e h = absurd (false≢true h)
     by_kind RepairJob e h = absurd (false≢true h)
+    by_kind UpgradeJob e h = absurd (false≢true h)
 
 -- the next action tells how many moves of an append are made
 pub moves-next : (w : State) (job : Job) (action : Action) (moves : ℕ) → next_action w job ≡ Some action → IsInOrder moves (actions_left (setup_in w) job) → moves ≡ moves_before action
@@ -119,13 +131,13 @@ module _ (limit moment : ℕ) (old : State) (S : IsSound limit old) where
     not-doubted a flight early = subst (λ b. IsGatedDoubt a b old.doubt) early (subst (λ f. IsDoubtOf f old.doubt) flight (S.undoubted opened unbarred))
 
     -- the job ends and bars the vault
-    bars : (doubt : Option Doubt) (faults : ℕ) (new : State) → ((a : Append) → old.append ≡ Some a → a.job ≡ job.number) → ((d : Doubt) → doubt ≡ Some d → MayFollow old.records old.bytes d.entry) →
+    bars : (doubt : Option Doubt) (faults : ℕ) (new : State) → ((a : Append) → old.append ≡ Some a → a.job ≡ job.number) → ((d : Doubt) → doubt ≡ Some d → MayFollowIn old d.entry) →
         new ≡ record (left_by old job None doubt true) { disk_faults = faults } → IsSound limit new
     bars doubt faults new own doubts is = subst (IsSound limit) (sym is) (devices-sound limit (left_by old job None doubt true) old.providers faults
         (append-ended limit old S job runs doubt true own (λ o b. absurd (false≢true (sym b))) doubts))
 
-    gated : (a : Append) → old.append ≡ Some a → (d : Doubt) → Some (record { entry = a.entry; maker = Some (advanced job) }) ≡ Some d → MayFollow old.records old.bytes d.entry
-    gated a flight d h = (let e : record { entry = a.entry; maker = Some (advanced job) } ≡ d = cc in subst (λ (x : Doubt). MayFollow old.records old.bytes x.entry) e (S.append a flight).follows)
+    gated : (a : Append) → old.append ≡ Some a → (d : Doubt) → Some (record { entry = a.entry; maker = Some (advanced job) }) ≡ Some d → MayFollowIn old d.entry
+    gated a flight d h = (let e : record { entry = a.entry; maker = Some (advanced job) } ≡ d = cc in subst (λ (x : Doubt). MayFollowIn old x.entry) e (S.append a flight).follows)
 
     none-flies : old.append ≡ None → (a : Append) → old.append ≡ Some a → a.job ≡ job.number
     none-flies none a h = absurd (some-not-none old.append a h none)
@@ -181,9 +193,17 @@ module _ (limit moment : ℕ) (old : State) (S : IsSound limit old) where
   steps_job number (Some job) r new opened unbarred is h = steps_on opened unbarred job (subst (λ n. job_of old.jobs n ≡ Some job) (sym (number_of old.jobs number job is)) is) (next_action old job) r new refl h
   steps_job number None r new opened unbarred is h = absurd h
 
+  steps_mine : (number : ℕ) (x : Alone) (mine : Bool) (r : Outcome) (new : State) → old.is_open ≡ true → old.is_barred ≡ false → old.alone ≡ Some x → StepsMine old number x mine r new → IsSound limit new
+  steps_mine number x true r new opened unbarred runs h = alone-sound limit old S opened unbarred (S.lone x runs) x r new runs h
+  steps_mine number x false r new opened unbarred runs h = steps_job number (job_of old.jobs number) r new opened unbarred refl h
+
+  steps_one : (number : ℕ) (x : Option Alone) (r : Outcome) (new : State) → old.is_open ≡ true → old.is_barred ≡ false → old.alone ≡ x → StepsOne old number x r new → IsSound limit new
+  steps_one number None r new opened unbarred none h = steps_job number (job_of old.jobs number) r new opened unbarred refl h
+  steps_one number (Some x) r new opened unbarred runs h = steps_mine number x (number_alone x == number) r new opened unbarred runs h
+
   steps_open : (number : ℕ) (is_barred : Bool) (r : Outcome) (new : State) → old.is_open ≡ true → old.is_barred ≡ is_barred → StepsOpen old number is_barred r new → IsSound limit new
   steps_open number true (Refused refusal.MustReopen) new opened e h = same-sound new h
-  steps_open number false r new opened e h = steps_job number (job_of old.jobs number) r new opened e refl h
+  steps_open number false r new opened e h = steps_one number old.alone r new opened e refl h
   steps_open number true r new opened e h = absurd h
 
   steps : (number : ℕ) (is_open : Bool) (r : Outcome) (new : State) → old.is_open ≡ is_open → Steps old number is_open r new → IsSound limit new
@@ -191,11 +211,12 @@ module _ (limit moment : ℕ) (old : State) (S : IsSound limit old) where
   steps number true r new e h = steps_open number old.is_barred r new e refl h
   steps number false r new e h = absurd h
 
-  begins : (kind : Kind) (r : Outcome) (new : State) → IsSpelledKind kind → Begins limit moment old kind r new → IsSound limit new
-  begins kind Closed new spelled h = same-sound new h.1
-  begins kind (Refused why) new spelled h = same-sound new h.2
-  begins kind (Begun job) new spelled h = subst (IsSound limit) (sym h.3) (begun-job limit moment old S kind h.0 h.1 spelled)
-  begins kind r new spelled h = absurd h
+  begins : (kind : Kind) (wish : Option ℕ) → ((p : ℕ) → wish ≡ Some p → (name : List ℕ) × (bytes : List ℕ) × (kind ≡ PutJob name bytes)) → IsLimit limit →
+      (r : Outcome) (new : State) → IsSpelledKind kind → BeginsAt limit moment old kind wish r new → IsSound limit new
+  begins kind wish named fits Closed new spelled h = same-sound new h.1
+  begins kind wish named fits (Refused why) new spelled h = same-sound new h.2
+  begins kind wish named fits (Begun job) new spelled h = subst (IsSound limit) (sym h.3) (begun-job limit moment old S kind wish named h.0 h.1 spelled fits)
+  begins kind wish named fits r new spelled h = absurd h
 
   replaces : (j : ℕ) (IsThere : Held → Type 0) (changed : Held → Held) (r : Outcome) (new : State) → ReplacesAt old j IsThere changed r new → IsSound limit new
   replaces j IsThere changed Replaced new (p, made, is) = subst (IsSound limit) (sym is) (devices-sound limit old (with_provider old.providers j p) old.disk_faults S)
@@ -213,19 +234,22 @@ module _ (limit moment : ℕ) (old : State) (S : IsSound limit old) where
   lists true r new h = absurd h
   lists false r new h = absurd h
 
-  pub events-sound : (event : Event) (outcome : Outcome) (new : State) → IsSpelled event → Happens limit moment old event outcome new → IsSound limit new
-  events-sound (Init s) r new spelled h = inits-sound limit old S s old.is_open r new refl spelled.7 h
-  events-sound (Begin kind) r new spelled h = begins kind r new spelled h
-  events-sound (Step number) r new spelled h = steps number old.is_open r new refl h
-  events-sound (Alter j object stripe place symbol) r new spelled h = replaces_if (nat_lt j old.handed) j (λ held. HasPlace (held object stripe) place) (with_symbol object stripe place symbol) r new h
-  events-sound (Lose j object stripe) r new spelled h = replaces_if (nat_lt j old.handed) j (λ held. IsSome (held object stripe)) (without_block object stripe) r new h
-  events-sound (Stop picks) r new spelled h = stops-sound limit old S r new h
-  events-sound Reopen r new spelled h = reopens-sound limit old S r new h
-  events-sound Names r new spelled h = lists old.is_open r new h
-  events-sound Continue r new spelled h = continues-sound limit old S r new h
+  pub events-sound : IsLimit limit → (event : Event) (outcome : Outcome) (new : State) → IsSpelled event → Happens limit moment old event outcome new → IsSound limit new
+  events-sound fits (Init s) r new spelled h = inits-sound limit old S s old.is_open r new refl spelled.7 h
+  events-sound fits (Begin kind) r new spelled h = begins kind None (λ p e. absurd (let f : None ≡ Some p = e in cc)) fits r new spelled h
+  events-sound fits (BeginAt profile name bytes) r new spelled h = begins (PutJob name bytes) (Some profile) (λ p e. (name, bytes, refl)) fits r new spelled.1 h
+  events-sound fits BeginScrub r new spelled h = scrub-begins limit old S moment r new h
+  events-sound fits BeginPack r new spelled h = pack-begins limit old S r new h
+  events-sound fits (Step number) r new spelled h = steps number old.is_open r new refl h
+  events-sound fits (Alter j object stripe place symbol) r new spelled h = replaces_if (nat_lt j old.handed) j (λ held. HasPlace (held object stripe) place) (with_symbol object stripe place symbol) r new h
+  events-sound fits (Lose j object stripe) r new spelled h = replaces_if (nat_lt j old.handed) j (λ held. IsSome (held object stripe)) (without_block object stripe) r new h
+  events-sound fits (Stop picks) r new spelled h = stops-sound limit old S r new h
+  events-sound fits Reopen r new spelled h = reopens-sound limit old S r new h
+  events-sound fits Names r new spelled h = lists old.is_open r new h
+  events-sound fits Continue r new spelled h = continues-sound limit old S r new h
 
 -- so every state of a run is sound
-pub run-sound : (limit : ℕ) (start : State) (ms : List Moment) → IsStart start → IsRun limit start ms → IsSound limit (now start ms)
-run-sound limit start [] clean run = start-sound limit start clean
-run-sound limit start (m ∷ ms) clean run =
-    events-sound limit (length ms) (now start ms) (run-sound limit start ms clean run.2) m.event m.outcome m.state run.0 run.1
+pub run-sound : (limit : ℕ) (start : State) (ms : List Moment) → IsLimit limit → IsStart start → IsRun limit start ms → IsSound limit (now start ms)
+run-sound limit start [] fits clean run = start-sound limit start clean
+run-sound limit start (m ∷ ms) fits clean run =
+    events-sound limit (length ms) (now start ms) (run-sound limit start ms fits clean run.2) fits m.event m.outcome m.state run.0 run.1

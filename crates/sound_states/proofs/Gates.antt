@@ -5,7 +5,7 @@ use Rattle.std.proofs.Math.Seq.{drop-append-add}
 use Rattle.plain_facts.specs.Lists.{Each}
 use Rattle.plain_facts.proofs.Each.{each_get, each_append}
 use Rattle.hail_records.specs.Records.{Setup}
-use Rattle.hail_machine.specs.Jobs.{PutJob, DropJob, AuditJob, RepairJob, Job, advanced}
+use Rattle.hail_machine.specs.Jobs.{PutJob, DropJob, AuditJob, RepairJob, UpgradeJob, Job, advanced}
 use Rattle.hail_machine.specs.Actions.{Action, WriteBody, SyncBody, WriteGate, SyncGate, Store, Fetch, Ask, Work, Remove, End, append_actions, store_actions, remove_actions, actions_by, actions_of, actions_left, appends_left}
 use Rattle.hail_machine.specs.States.{State, setup_in}
 use Rattle.hail_machine.specs.Steps.{next_action}
@@ -23,10 +23,14 @@ pub drop-list : (s : Setup) (job : Job) (name : List ℕ) → job.kind ≡ DropJ
 unfolding actions_of
 drop-list s job name kind = ap (actions_by s job) kind
 
--- an audit and a repair have the same actions, whatever they take away
+-- an audit, an upgrade and a repair have the same actions, whatever they take away
 pub audit-same : (s : Setup) (job : Job) (older : List ℕ) → job.kind ≡ AuditJob → actions_of s (decided job older) ≡ actions_of s job
 unfolding actions_of
 audit-same s job older kind = ap (actions_by s (decided job older)) kind ∙ ap (actions_by s job) (sym kind)
+
+pub upgrade-same : (s : Setup) (job : Job) (older : List ℕ) → job.kind ≡ UpgradeJob → actions_of s (decided job older) ≡ actions_of s job
+unfolding actions_of
+upgrade-same s job older kind = ap (actions_by s (decided job older)) kind ∙ ap (actions_by s job) (sym kind)
 
 pub repair-same : (s : Setup) (job : Job) (older : List ℕ) → job.kind ≡ RepairJob → actions_of s (decided job older) ≡ actions_of s job
 unfolding actions_of
@@ -124,3 +128,6 @@ module _ (w : State) (job : Job) (older : List ℕ) (next : next_action w job �
 
   pub repair-gate : job.kind ≡ RepairJob → GoesOn
   repair-gate kind = same-list (repair-same (setup_in w) job older kind)
+
+  pub upgrade-gate : job.kind ≡ UpgradeJob → GoesOn
+  upgrade-gate kind = same-list (upgrade-same (setup_in w) job older kind)

@@ -4,8 +4,8 @@ use Rattle.std.specs.Prelude.{IsTrue, nat_lt, slice_get}
 use Rattle.std.proofs.lemmas.Bool.{cases_Bool, and_parts, ltb-true}
 use Rattle.hail_field.specs.Shape.{IsShape}
 use Rattle.hail_records.specs.Records.{Setup, SetUp, is_setup, is_master, is_in_grammar}
-use Rattle.hail_records.specs.Table.{next_id, next_audit}
-use Rattle.hail_machine.specs.Jobs.{Kind, PutJob, GetJob, DropJob, AuditJob, RepairJob, Job, job_of}
+use Rattle.hail_records.specs.Table.{version_of, next_id, next_audit}
+use Rattle.hail_machine.specs.Jobs.{Kind, PutJob, GetJob, DropJob, AuditJob, RepairJob, UpgradeJob, Job, job_of}
 use Rattle.hail_machine.specs.Actions.{Action, End, actions_of, actions_left}
 use Rattle.hail_machine.specs.Appends.{IsAt}
 use Rattle.hail_machine.specs.States.{State, Append, setup_in}
@@ -23,24 +23,25 @@ pub valid-shape : (s : Setup) → IsTrue (is_in_grammar (SetUp s)) → IsShape s
 valid-shape s h = let good : is_setup s ≡ true = (and_parts (is_setup s) (is_master s.master) h).0 in grind (arith, good)
 
 module _ (limit : ℕ) (w : State) (S : IsSound limit w) where
-  pub numbers-left : (kind : Kind) → are_numbers_used_up w kind ≡ false
-  numbers-left (PutJob name bytes) = not-above (next_id w.records) (let a = ids-small limit w S in omega (arith, a))
+  pub numbers-left : (kind : Kind) → version_of w.records ≡ 1 → are_numbers_used_up w kind ≡ false
+  numbers-left (PutJob name bytes) first = not-above (next_id w.records) (let a = ids-small limit w S first in omega (arith, a))
     where
       not-above : (n : ℕ) → n ≤ 2 ^ 64 - 32 → nat_lt (2 ^ 64 - 32) n ≡ false
       not-above n l = elim (cases_Bool (nat_lt (2 ^ 64 - 32) n)) [
         | inl t ↦ absurd (let a = ltb-true (2 ^ 64 - 32) n t in omega (arith, a, l))
         | inr f ↦ f
       ]
-  numbers-left AuditJob = not-above (next_audit w.records) (let a = audits-small limit w S in omega (arith, a))
+  numbers-left AuditJob first = not-above (next_audit w.records) (let a = audits-small limit w S first in omega (arith, a))
     where
       not-above : (n : ℕ) → n ≤ 2 ^ 64 - 32 → nat_lt (2 ^ 64 - 32) n ≡ false
       not-above n l = elim (cases_Bool (nat_lt (2 ^ 64 - 32) n)) [
         | inl t ↦ absurd (let a = ltb-true (2 ^ 64 - 32) n t in omega (arith, a, l))
         | inr f ↦ f
       ]
-  numbers-left (GetJob name) = refl
-  numbers-left (DropJob name) = refl
-  numbers-left RepairJob = refl
+  numbers-left (GetJob name) first = refl
+  numbers-left (DropJob name) first = refl
+  numbers-left RepairJob first = refl
+  numbers-left UpgradeJob first = refl
 
   -- a job that runs has a next action
   pub next-some : (number : ℕ) (job : Job) → job_of w.jobs number ≡ Some job → (action : Action) × (next_action w job ≡ Some action)

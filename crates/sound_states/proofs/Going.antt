@@ -4,7 +4,7 @@ use Rattle.std.proofs.lemmas.Bool.{cases_eq, false≢true}
 use Rattle.hail_records.specs.Records.{Setup, Record}
 use Rattle.hail_records.specs.Table.{next_id, started_as, due_of}
 use Rattle.hail_records.specs.Acceptance.{is_due}
-use Rattle.hail_machine.specs.Jobs.{Kind, PutJob, GetJob, DropJob, AuditJob, RepairJob, Pinned, Given, Job}
+use Rattle.hail_machine.specs.Jobs.{Kind, PutJob, GetJob, DropJob, AuditJob, RepairJob, UpgradeJob, Pinned, Given, Job}
 use Rattle.hail_machine.specs.Actions.{Action, SyncGate, End, actions_of, actions_left, ends_append, appends_left}
 use Rattle.hail_machine.specs.States.{State, setup_in}
 use Rattle.hail_machine.specs.Steps.{next_action}
@@ -58,6 +58,15 @@ module _ (s : Setup) (rs : List Record) (bytes now : ℕ → List ℕ) (stay : (
     started = λ l. ap (started_as rs) same ∙ d.started (omega (arith, l, count));
   }
 
+  -- what stands ready for another job stays
+  pub kept-ready : (job : Job) (kind : Kind) → IsReady s rs bytes job kind → IsReady s rs now job kind
+  kept-ready job (PutJob name content) r = λ l. drawn-on job job name content refl refl (r l)
+  kept-ready job (GetJob name) r = tt
+  kept-ready job (DropJob name) r = tt
+  kept-ready job AuditJob r = r
+  kept-ready job RepairJob r = r
+  kept-ready job UpgradeJob r = r
+
   -- another job stays as it was
   pub kept : (moves made : ℕ) (job : Job) → made ≡ moves → IsSoundJob s rs bytes moves job → IsSoundJob s rs now made job
   kept moves made job e J = record {
@@ -71,33 +80,16 @@ module _ (s : Setup) (rs : List Record) (bytes now : ℕ → List ℕ) (stay : (
     older = J.older;
     undecided = J.undecided;
     order = subst (λ m. IsInOrder m (actions_left s job)) (sym e) J.order;
-    ready = ready job.kind J.ready;
+    ready = kept-ready job job.kind J.ready;
+    profile = J.profile;
+    plain = J.plain;
   }
-    where
-      ready : (kind : Kind) → IsReady s rs bytes job kind → IsReady s rs now job kind
-      ready (PutJob name content) r = λ l. drawn-on job job name content refl refl (r l)
-      ready (GetJob name) r = tt
-      ready (DropJob name) r = tt
-      ready AuditJob r = r
-      ready RepairJob r = r
 
-  -- the job that made an action that puts no record in effect
-  pub went : (w : State) (moves made : ℕ) (job : Job) (n : ℕ) (given : List Given) (action : Action) → next_action w job ≡ Some action → ends_append action ≡ false →
-      (4 ≤ job.place → n ≡ job.subject) → (job.kind ≡ RepairJob → n ≡ job.subject) → n < 2 ^ 64 →
-      appends_left s (onward job n given) ≡ appends_left s job → IsInOrder made (actions_left s (onward job n given)) → IsSoundJob s rs bytes moves job → IsSoundJob s rs now made (onward job n given)
-  went w moves made job n given action next plain later repairs fits count order J = record {
-    spelled = J.spelled;
-    wish = J.wish;
-    pins = J.pins;
-    few = J.few;
-    ascending = J.ascending;
-    pinned = λ f i. pin-on f (J.pinned f i);
-    subject = fits;
-    older = J.older;
-    undecided = λ l. J.undecided (omega (arith, l, count));
-    order = order;
-    ready = ready job.kind refl J.ready;
-  }
+  -- so does what stands ready for the job that made an action that puts no record in effect
+  pub went-ready : (w : State) (job : Job) (n : ℕ) (given : List Given) (action : Action) → next_action w job ≡ Some action → ends_append action ≡ false →
+      (4 ≤ job.place → n ≡ job.subject) → (job.kind ≡ RepairJob → n ≡ job.subject) →
+      appends_left s (onward job n given) ≡ appends_left s job → (kind : Kind) → job.kind ≡ kind → IsReady s rs bytes job kind → IsReady s rs now (onward job n given) kind
+  went-ready w job n given action next plain later repairs count = ready
     where
       behind : (series : Series) → Draws series job.kind → 4 ≤ job.place + 1 → 4 ≤ job.place
       behind series d l = elim (cases_eq job.place 3) [
@@ -115,3 +107,24 @@ module _ (s : Setup) (rs : List Record) (bytes now : ℕ → List ℕ) (stay : (
         λ l k. (let b = behind audits (subst (Draws audits) (sym kind) tt) l in r.1 b (omega (arith, k, count)) ∙ ap Some (sym (later b))),
       )
       ready RepairJob kind r = λ k. ap (λ x. is_due x (due_of rs)) (repairs kind) ∙ r (omega (arith, k, count))
+      ready UpgradeJob kind r = λ k. r (omega (arith, k, count))
+
+  -- the job that made an action that puts no record in effect
+  pub went : (w : State) (moves made : ℕ) (job : Job) (n : ℕ) (given : List Given) (action : Action) → next_action w job ≡ Some action → ends_append action ≡ false →
+      (4 ≤ job.place → n ≡ job.subject) → (job.kind ≡ RepairJob → n ≡ job.subject) → n < 2 ^ 64 →
+      appends_left s (onward job n given) ≡ appends_left s job → IsInOrder made (actions_left s (onward job n given)) → IsSoundJob s rs bytes moves job → IsSoundJob s rs now made (onward job n given)
+  went w moves made job n given action next plain later repairs fits count order J = record {
+    spelled = J.spelled;
+    wish = J.wish;
+    pins = J.pins;
+    few = J.few;
+    ascending = J.ascending;
+    pinned = λ f i. pin-on f (J.pinned f i);
+    subject = fits;
+    older = J.older;
+    undecided = λ l. J.undecided (omega (arith, l, count));
+    order = order;
+    ready = went-ready w job n given action next plain later repairs count job.kind refl J.ready;
+    profile = J.profile;
+    plain = λ v. (let p = J.plain v in record { own = p.own; pinned = p.pinned });
+  }

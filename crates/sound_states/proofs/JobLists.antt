@@ -55,6 +55,42 @@ still-without (x ∷ js) n k j apart h = elim (cases_Bool (x.number == n)) [
   ]
 ]
 
+-- ---- a job that is the only one
+
+-- it stays so where it goes on
+pub only-with : (js : List Job) (next before i : Job) → job_of js next.number ≡ Some before → js ≡ i ∷ [] → (k : ℕ) (j : Job) → job_of (with_job js next) k ≡ Some j → with_job js next ≡ j ∷ []
+only-with js next before i runs one k j h =
+    (let number : i.number ≡ next.number = elim (at_first i [] next.number before (ap (λ l. job_of l next.number) (sym one) ∙ runs)) [
+      | inl p ↦ p.0
+      | inr q ↦ absurd (let e : None ≡ Some before = q.1 in cc)
+    ] in
+    let now : with_job js next ≡ next ∷ [] = ap (λ l. with_job l next) one ∙ with-first i [] next number in
+    let same : j ≡ next = elim (at_first next [] k j (ap (λ l. job_of l k) (sym now) ∙ h)) [
+      | inl p ↦ p.1
+      | inr q ↦ absurd (let e : None ≡ Some j = q.1 in cc)
+    ] in
+    now ∙ ap (λ (x : Job). x ∷ []) (sym same))
+
+-- none is left where it is taken out
+pub only-without : (js : List Job) (n : ℕ) (before i : Job) → job_of js n ≡ Some before → js ≡ i ∷ [] → (k : ℕ) (j : Job) → job_of (without_job js n) k ≡ Some j → ⊥
+only-without js n before i runs one k j h =
+    (let number : i.number ≡ n = elim (at_first i [] n before (ap (λ l. job_of l n) (sym one) ∙ runs)) [
+      | inl p ↦ p.0
+      | inr q ↦ absurd (let e : None ≡ Some before = q.1 in cc)
+    ] in
+    let none : without_job js n ≡ [] = ap (λ l. without_job l n) one ∙ without-first i [] n (eq-eqb i.number n number) in
+    (let e : None ≡ Some j = ap (λ l. job_of l k) (sym none) ∙ h in cc))
+
+-- two numbers of one job are the same
+pub only-number : (js : List Job) (i : Job) → js ≡ i ∷ [] → (k l : ℕ) (x y : Job) → job_of js k ≡ Some x → job_of js l ≡ Some y → k ≡ l
+only-number js i one k l x y hx hy = sym (at k x hx) ∙ at l y hy
+  where
+    at : (m : ℕ) (z : Job) → job_of js m ≡ Some z → i.number ≡ m
+    at m z h = elim (at_first i [] m z (ap (λ l. job_of l m) (sym one) ∙ h)) [
+      | inl p ↦ p.0
+      | inr q ↦ absurd (let e : None ≡ Some z = q.1 in cc)
+    ]
+
 -- ---- sums
 
 pub sum-with : (f : Job → ℕ) (js : List Job) (job before : Job) → job_of js job.number ≡ Some before → sum_by f (with_job js job) + f before ≡ sum_by f js + f job

@@ -2,6 +2,7 @@ pub mod Orders
 pub mod JobLists
 pub mod NamesTaken
 pub mod Records
+pub mod Packs
 pub mod SumsLaws
 pub mod Rooms
 pub mod Written
@@ -14,5 +15,7 @@ pub mod Done
 pub mod Pinning
 pub mod Begun
 pub mod Resting
+pub mod Aside
 pub mod Events
 pub mod Given
+pub mod PackRun

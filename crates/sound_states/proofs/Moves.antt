@@ -2,42 +2,43 @@
 use Rattle.std.proofs.Common.{◌≡◌, ℕ, ◌+◌, ◌<◌, ◌≤◌, ◌^◌, ◌==◌, Bool, true, false, cond, List, Option, Some, None, refl, ap, sym, subst, ◌∙◌, inl, inr, arith}
 use Rattle.std.proofs.lemmas.Bool.{cases_lt, cases_eq, false≢true}
 use Rattle.plain_facts.proofs.Options.{some-not-none}
-use Rattle.hail_records.specs.Records.{Record, largest_journal}
+use Rattle.hail_records.specs.Records.{Record}
 use Rattle.hail_records.specs.Table.{next_id, next_audit}
-use Rattle.hail_machine.specs.Jobs.{Kind, PutJob, GetJob, DropJob, AuditJob, RepairJob, Given, Job, job_of, with_job}
+use Rattle.hail_machine.specs.Jobs.{Kind, PutJob, GetJob, DropJob, AuditJob, RepairJob, UpgradeJob, Given, Job, job_of, with_job}
 use Rattle.hail_machine.specs.Actions.{Action, WriteBody, End, ends_append, appends_left, actions_left}
-use Rattle.hail_machine.specs.States.{State, Append, Doubt, setup_in}
+use Rattle.hail_machine.specs.States.{State, Append, Doubt, setup_in, journal_end}
 use Rattle.hail_machine.specs.Appends.{Writes, is_first_append, subject_drawn, bytes_drawn, audits_drawn}
 use Rattle.hail_machine.specs.Steps.{next_action}
 use Rattle.hail_machine.proofs.JobLists.{same_value, found_itself}
 use Rattle.hail_machine.proofs.Numbers.{objects, Draws, first_above, drawn_later}
 use Rattle.hail_machine.proofs.Events.{drawn_bytes}
 use Rattle.sound_states.specs.Orders.{moves_made, moves_after, IsInOrder}
-use Rattle.sound_states.specs.Follows.{MayFollow}
+use Rattle.sound_states.specs.Follows.{MayFollow, MayFollowIn}
 use Rattle.sound_states.specs.SoundJobs.{IsSoundJob}
 use Rattle.sound_states.specs.Sound.{IsGatedDoubt, IsDoubtOf, IsSoundAppend, IsPutUnderWay, IsSound}
 use Rattle.sound_states.proofs.Orders.{put-second, audit-second}
 use Rattle.sound_states.proofs.JobLists.{mine, other}
-use Rattle.sound_states.proofs.Written.{ids-small, audits-small, written-follows}
-use Rattle.sound_states.proofs.Going.{onward, not-three, went}
+use Rattle.sound_states.proofs.Written.{ids-fit, audits-fit, written-follows}
+use Rattle.sound_states.proofs.Going.{onward, not-three, went-ready, went}
 use Rattle.sound_states.proofs.Turns.{follows-on, writes-on, drawn-on, bytes-on, gone_on, going-sound, order-now, count-now}
 
 -- ---- what a first move draws
 
-drawn-small : (w : State) (job : Job) (kind : Kind) → next_id w.records ≤ largest_journal → next_audit w.records ≤ largest_journal → job.subject < 2 ^ 64 → subject_drawn w job kind < 2 ^ 64
+drawn-small : (w : State) (job : Job) (kind : Kind) → next_id w.records < 2 ^ 64 → next_audit w.records < 2 ^ 64 → job.subject < 2 ^ 64 → subject_drawn w job kind < 2 ^ 64
 drawn-small w job (PutJob name bytes) i a s = by_first (is_first_append job)
   where
     by_first : (b : Bool) → cond b (next_id w.records) job.subject < 2 ^ 64
-    by_first true = omega (arith, i)
+    by_first true = i
     by_first false = s
 drawn-small w job AuditJob i a s = by_first (is_first_append job)
   where
     by_first : (b : Bool) → cond b (next_audit w.records) job.subject < 2 ^ 64
-    by_first true = omega (arith, a)
+    by_first true = a
     by_first false = s
 drawn-small w job (GetJob name) i a s = s
 drawn-small w job (DropJob name) i a s = s
 drawn-small w job RepairJob i a s = s
+drawn-small w job UpgradeJob i a s = s
 
 module _ (limit : ℕ) (old : State) (S : IsSound limit old) (job : Job) (runs : job_of old.jobs job.number ≡ Some job) where
   own-job : IsSoundJob (setup_in old) old.records old.bytes (moves_made old.append job.number) job
@@ -54,6 +55,7 @@ module _ (limit : ℕ) (old : State) (S : IsSound limit old) (job : Job) (runs :
   under-way (DropJob name) n action given kind next plain later l = absurd l
   under-way AuditJob n action given kind next plain later l = absurd l
   under-way RepairJob n action given kind next plain later l = absurd l
+  under-way UpgradeJob n action given kind next plain later l = absurd l
 
   -- ---- the first move
 
@@ -85,9 +87,10 @@ module _ (limit : ℕ) (old : State) (S : IsSound limit old) (job : Job) (runs :
       by_kind (GetJob name) kind = same (ap (subject_drawn old job) kind)
       by_kind (DropJob name) kind = same (ap (subject_drawn old job) kind)
       by_kind RepairJob kind = same (ap (subject_drawn old job) kind)
+      by_kind UpgradeJob kind = same (ap (subject_drawn old job) kind)
 
-  pub begun-follows : (entry : Record) → next_action old job ≡ Some WriteBody → Writes old job job.kind entry → MayFollow old.records (bytes_drawn old job job.kind) entry
-  begun-follows entry next writes = follows-on old.records old.bytes (bytes_drawn old job job.kind) entry S.accepted (drawn_bytes old job job.kind) (written-follows limit old S job.number job runs entry next writes)
+  pub begun-follows : (entry : Record) → next_action old job ≡ Some WriteBody → Writes old job job.kind entry → MayFollow old.records old.journal (journal_end old) (bytes_drawn old job job.kind) entry
+  begun-follows entry next writes = follows-on old.records old.journal (journal_end old) old.bytes (bytes_drawn old job job.kind) entry S.accepted (drawn_bytes old job job.kind) (written-follows limit old S job.number job runs entry next writes)
 
   abbrev first_flight : Record → Append
   first_flight entry = record { job = job.number; entry = entry; moves = 1 }
@@ -111,12 +114,13 @@ module _ (limit : ℕ) (old : State) (S : IsSound limit old) (job : Job) (runs :
   begun-sound entry opened unbarred free next writes =
       (let o = body-order next in
       let undoubted : old.doubt ≡ None = subst (λ f. IsDoubtOf f old.doubt) free (S.undoubted opened unbarred) in
-      going-sound limit old S job runs (onward job drawn_number job.given) (Some (first_flight entry)) old.doubt (bytes_drawn old job job.kind) (audits_drawn old job job.kind) refl refl
+      going-sound limit old S job runs (onward job drawn_number job.given) (Some (first_flight entry)) old.doubt (bytes_drawn old job job.kind) (audits_drawn old job job.kind) refl refl (omega arith)
       (drawn_bytes old job job.kind)
       (λ k n. other (first_flight entry) k (λ e. n (sym e)) ∙ ap (λ f. moves_made f k) (sym free))
       (went (setup_in old) old.records old.bytes (bytes_drawn old job job.kind) (drawn_bytes old job job.kind) old (moves_made old.append job.number) (moves_made (Some (first_flight entry)) job.number) job drawn_number job.given WriteBody next refl later-same repair-same
-      (drawn-small old job job.kind (ids-small limit old S) (audits-small limit old S) own-job.subject) o.1
+      (drawn-small old job job.kind (ids-fit limit old S) (audits-fit limit old S) own-job.subject) o.1
       (subst (λ m. IsInOrder m (actions_left (setup_in old) (onward job drawn_number job.given))) (sym (mine (first_flight entry) job.number refl)) o.0) own-job)
+      (went-ready (setup_in old) old.journal old.bytes (bytes_drawn old job job.kind) (λ id l. drawn_bytes old job job.kind id (let e = S.journal.alike.id in omega (arith, l, e))) old job drawn_number job.given WriteBody next refl later-same repair-same o.1 job.kind refl (S.in_journal job.number job runs))
       (under-way job.kind drawn_number WriteBody job.given refl next refl later-same)
       o.1
       (λ a flight. subst (λ x. IsSoundAppend (gone_on old (onward job drawn_number job.given) (Some (first_flight entry)) old.doubt (bytes_drawn old job job.kind) (audits_drawn old job job.kind)) x) (the-one entry a flight) (begun-append entry next writes))
@@ -160,15 +164,16 @@ module _ (limit : ℕ) (old : State) (S : IsSound limit old) (job : Job) (runs :
         drawn_job = subst (λ (x : Job). subject_drawn old x x.kind ≡ x.subject) is_job (S.append a flight).drawn
 
     pub moved-sound : (action : Action) (doubt : Option Doubt) → next_action old job ≡ Some action → (action ≡ End → ⊥) → ends_append action ≡ false → a.moves ≤ 2 → moves_after action ≡ a.moves + 1 → old.is_barred ≡ false →
-        IsGatedDoubt moved_flight (a.moves + 1 == 3) doubt → ((d : Doubt) → doubt ≡ Some d → MayFollow old.records old.bytes d.entry) →
+        IsGatedDoubt moved_flight (a.moves + 1 == 3) doubt → ((d : Doubt) → doubt ≡ Some d → MayFollowIn old d.entry) →
         IsSound limit (gone_on old next_job (Some moved_flight) doubt old.bytes old.audits)
     moved-sound action doubt next n plain few after unbarred gated doubts =
         (let o = order-now limit old S job runs action job.given next n in
         let count = count-now limit old S job runs action job.given next n plain in
-        going-sound limit old S job runs next_job (Some moved_flight) doubt old.bytes old.audits refl refl (λ id l. refl)
+        going-sound limit old S job runs next_job (Some moved_flight) doubt old.bytes old.audits refl refl (omega arith) (λ id l. refl)
         (λ k m. other moved_flight k (λ e. m (sym e ∙ own)) ∙ sym (ap (λ f. moves_made f k) flight ∙ other a k (λ e. m (sym e ∙ own))))
         (went (setup_in old) old.records old.bytes old.bytes (λ id l. refl) old (moves_made old.append job.number) (moves_made (Some moved_flight) job.number) job job.subject job.given action next plain (λ l. refl) (λ l. refl) own-job.subject count
         (subst (λ m. IsInOrder m (actions_left (setup_in old) next_job)) (after ∙ sym (mine moved_flight job.number own)) o.1) own-job)
+        (went-ready (setup_in old) old.journal old.bytes old.bytes (λ id l. refl) old job job.subject job.given action next plain (λ l. refl) (λ l. refl) count job.kind refl (S.in_journal job.number job runs))
         (under-way job.kind job.subject action job.given refl next plain (λ l. refl))
         count
         (λ b h. subst (λ x. IsSoundAppend (gone_on old next_job (Some moved_flight) doubt old.bytes old.audits) x) (the-one moved_flight b h) (moved-append action doubt next plain few))

@@ -7,7 +7,7 @@ use Rattle.hail_records.specs.Records.{Record}
 use Rattle.hail_records.specs.Table.{File, is_same_name, files_of, file_of, find_file, are_ordered}
 use Rattle.hail_records.proofs.FilesLaws.{same-eq, same-refl, find-files_of, same-sym, before-irrefl}
 use Rattle.hail_records.proofs.OrderLaws.{is_below, ordered-files_of}
-use Rattle.hail_machine.specs.Jobs.{Kind, PutJob, GetJob, DropJob, AuditJob, RepairJob, Job, job_of}
+use Rattle.hail_machine.specs.Jobs.{Kind, PutJob, GetJob, DropJob, AuditJob, RepairJob, UpgradeJob, Job, job_of}
 use Rattle.hail_machine.specs.Begins.{is_name_among, with_name, names_in, with_puts}
 use Rattle.hail_machine.proofs.JobLists.{cond_true, cond_false}
 use Rattle.hail_machine.proofs.Pins.{any_job}
@@ -75,6 +75,7 @@ once-with_puts names (j ∷ js) o = by_kind j.kind refl (once-with_puts names js
     by_kind (DropJob name) e r = subst AreOnce (sym (with_puts-cons names j js (DropJob name) e)) r
     by_kind AuditJob e r = subst AreOnce (sym (with_puts-cons names j js AuditJob e)) r
     by_kind RepairJob e r = subst AreOnce (sym (with_puts-cons names j js RepairJob e)) r
+    by_kind UpgradeJob e r = subst AreOnce (sym (with_puts-cons names j js UpgradeJob e)) r
 
 abbrev pub are_put : List ℕ → List Job → Bool
 are_put n js = list_any (λ (j : Job). puts_name n j.kind) js
@@ -94,6 +95,7 @@ listed-with_puts names (j ∷ js) n = by_kind j.kind refl (listed-with_puts name
     by_kind (DropJob name) e r = ap (λ l. is_name_among l n) (with_puts-cons names j js (DropJob name) e) ∙ (r ∙ rw e refl)
     by_kind AuditJob e r = ap (λ l. is_name_among l n) (with_puts-cons names j js AuditJob e) ∙ (r ∙ rw e refl)
     by_kind RepairJob e r = ap (λ l. is_name_among l n) (with_puts-cons names j js RepairJob e) ∙ (r ∙ rw e refl)
+    by_kind UpgradeJob e r = ap (λ l. is_name_among l n) (with_puts-cons names j js UpgradeJob e) ∙ (r ∙ rw e refl)
 
 -- ---- the names of files
 

@@ -8,9 +8,9 @@ use Rattle.plain_facts.proofs.Each.{each_get, each_append, each_map, each_flat}
 use Rattle.plain_facts.proofs.Lists.{drop-get}
 use Rattle.hail_codes.specs.Points.{upto}
 use Rattle.hail_records.specs.Records.{Setup}
-use Rattle.hail_machine.specs.Jobs.{Kind, PutJob, GetJob, DropJob, AuditJob, RepairJob, Pinned, Job}
+use Rattle.hail_machine.specs.Jobs.{Kind, PutJob, GetJob, DropJob, AuditJob, RepairJob, UpgradeJob, Pinned, Job}
 use Rattle.hail_machine.specs.Actions.{Action, WriteBody, SyncBody, WriteGate, SyncGate, Store, Fetch, Ask, Work, Remove, End, append_actions, on_each_provider, on_each_stripe, store_actions, open_actions, read_actions, rewrite_actions, repair_actions, rounds_of, ask_actions, remove_actions, actions_by, actions_of, actions_left, ends_append, appends_left}
-use Rattle.hail_machine.specs.Setups.{stripes_of}
+use Rattle.hail_machine.specs.Setups.{profiled, stripes_of}
 use Rattle.hail_machine.specs.States.{State, setup_in}
 use Rattle.hail_machine.specs.Steps.{next_action}
 use Rattle.hail_machine.proofs.ActionLists.{split_get}
@@ -90,29 +90,29 @@ pub others-removals : (s : Setup) (job : Job) → Each IsOther (remove_actions s
 others-removals s job = each_flat IsOther (λ object. on_each_provider s (λ j. Remove j object)) job.older (λ object. each_map IsOther (λ j. Remove j object) (upto s.n) (λ j. tt))
 
 pub others-stores : (s : Setup) (job : Job) (bytes : List ℕ) → Each IsOther (store_actions s job bytes)
-others-stores s job bytes = each_flat IsOther (λ stripe. on_each_provider s (λ j. Store j job.subject stripe)) (upto (stripes_of s (length bytes)))
+others-stores s job bytes = each_flat IsOther (λ stripe. on_each_provider s (λ j. Store j job.subject stripe)) (upto (stripes_of (profiled s job.profile) (length bytes)))
     (λ stripe. each_map IsOther (λ j. Store j job.subject stripe) (upto s.n) (λ j. tt))
 
 pub others-open : (s : Setup) (object stripe : ℕ) → Each IsOther (open_actions s object stripe)
 others-open s object stripe = each_append IsOther (on_each_provider s (λ j. Fetch j object stripe)) (Work object stripe ∷ []) (each_map IsOther (λ j. Fetch j object stripe) (upto s.n) (λ j. tt)) (tt, tt)
 
 pub others-reads : (s : Setup) (pinned : List Pinned) → Each IsOther (read_actions s pinned)
-others-reads s pinned = each_flat IsOther (λ (f : Pinned). on_each_stripe s (length f.bytes) (open_actions s f.id)) pinned
-    (λ f. each_flat IsOther (open_actions s f.id) (upto (stripes_of s (length f.bytes))) (λ stripe. others-open s f.id stripe))
+others-reads s pinned = each_flat IsOther (λ (f : Pinned). on_each_stripe (profiled s f.profile) (length f.bytes) (open_actions s f.id)) pinned
+    (λ f. each_flat IsOther (open_actions s f.id) (upto (stripes_of (profiled s f.profile) (length f.bytes))) (λ stripe. others-open s f.id stripe))
 
 others-cond : (b : _) (action : Action) → IsOther action → Each IsOther (cond b (action ∷ []) [])
 others-cond true action h = (h, tt)
 others-cond false action h = tt
 
 pub others-repairs : (s : Setup) (job : Job) → Each IsOther (repair_actions s job)
-others-repairs s job = each_flat IsOther (λ (f : Pinned). on_each_stripe s (length f.bytes) (λ stripe. open_actions s f.id stripe ++ rewrite_actions s job f.id stripe)) job.pinned
-    (λ f. each_flat IsOther (λ stripe. open_actions s f.id stripe ++ rewrite_actions s job f.id stripe) (upto (stripes_of s (length f.bytes)))
+others-repairs s job = each_flat IsOther (λ (f : Pinned). on_each_stripe (profiled s f.profile) (length f.bytes) (λ stripe. open_actions s f.id stripe ++ rewrite_actions s job f.id stripe)) job.pinned
+    (λ f. each_flat IsOther (λ stripe. open_actions s f.id stripe ++ rewrite_actions s job f.id stripe) (upto (stripes_of (profiled s f.profile) (length f.bytes)))
     (λ stripe. each_append IsOther (open_actions s f.id stripe) (rewrite_actions s job f.id stripe) (others-open s f.id stripe)
     (each_flat IsOther (λ j. cond (job.flagged j) (Store j f.id stripe ∷ []) []) (upto s.n) (λ j. others-cond (job.flagged j) (Store j f.id stripe) tt))))
 
 pub others-asks : (s : Setup) (job : Job) → Each IsOther (ask_actions s job)
-others-asks s job = each_flat IsOther (λ (f : Pinned). flat_map (λ round. on_each_provider s (λ j. Ask j f.id round)) (rounds_of s (length f.bytes))) job.pinned
-    (λ f. each_flat IsOther (λ round. on_each_provider s (λ j. Ask j f.id round)) (rounds_of s (length f.bytes)) (λ round. each_map IsOther (λ j. Ask j f.id round) (upto s.n) (λ j. tt)))
+others-asks s job = each_flat IsOther (λ (f : Pinned). flat_map (λ round. on_each_provider s (λ j. Ask j f.id round)) (rounds_of (profiled s f.profile) (length f.bytes))) job.pinned
+    (λ f. each_flat IsOther (λ round. on_each_provider s (λ j. Ask j f.id round)) (rounds_of (profiled s f.profile) (length f.bytes)) (λ round. each_map IsOther (λ j. Ask j f.id round) (upto s.n) (λ j. tt)))
 
 -- what comes behind the first append of a put, a drop and an audit
 abbrev pub put_rest : Setup → Job → List ℕ → List Action
@@ -134,6 +134,7 @@ in_order-by s job (GetJob name) = in_order-others (read_actions s job.pinned) (E
 in_order-by s job (DropJob name) = in_order-append (drop_rest s job) (in_order-removals s job)
 in_order-by s job AuditJob = in_order-append (audit_rest s job) (in_order-others (ask_actions s job) (append_actions ++ End ∷ []) (others-asks s job) (in_order-append (End ∷ []) in_order-end))
 in_order-by s job RepairJob = in_order-others (repair_actions s job) (append_actions ++ End ∷ []) (others-repairs s job) (in_order-append (End ∷ []) in_order-end)
+in_order-by s job UpgradeJob = in_order-append (End ∷ []) in_order-end
 
 -- the actions of a job are in order
 pub in_order : (s : Setup) (job : Job) → IsInOrder 0 (actions_of s job)
@@ -247,6 +248,10 @@ module _ (s : Setup) (job : Job) where
   pub repair-first : job.kind ≡ RepairJob → appends_left s job ≤ 1
   repair-first kind = (let e = appends_left-by s job ∙ ap (appends_by s job) kind in let b = appends-drop (repair_actions s job ++ (append_actions ++ End ∷ [])) job.place in
       let m = appends-append (repair_actions s job) (append_actions ++ End ∷ []) in let o = appends-others (repair_actions s job) (others-repairs s job) in let f = appends-move (End ∷ []) in omega (arith, e, b, m, o, f))
+
+  pub upgrade-first : job.kind ≡ UpgradeJob → appends_left s job ≤ 1
+  upgrade-first kind = (let e = appends_left-by s job ∙ ap (appends_by s job) kind in let b = appends-drop (append_actions ++ End ∷ []) job.place in
+      let f = appends-move (End ∷ []) in omega (arith, e, b, f))
 
   pub get-none : (name : List ℕ) → job.kind ≡ GetJob name → appends_left s job ≡ 0
   get-none name kind = (let e = appends_left-by s job ∙ ap (appends_by s job) kind in let b = appends-drop (read_actions s job.pinned ++ End ∷ []) job.place in

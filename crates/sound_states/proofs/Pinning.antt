@@ -5,22 +5,22 @@ use Rattle.std.specs.List.{Contains}
 use Rattle.std.proofs.lemmas.Bool.{cases_Bool, cases_eq, false≢true, ltb-true}
 use Rattle.plain_facts.specs.Lists.{In}
 use Rattle.hail_records.specs.Records.{most_files}
-use Rattle.hail_records.specs.Table.{File, file_of, files_of, is_same_name}
+use Rattle.hail_records.specs.Table.{File, setup_of, version_of, profile_in, file_of, files_of, is_same_name}
 use Rattle.hail_records.specs.Acceptance.{AreAccepted}
 use Rattle.hail_records.proofs.FilesLaws.{same-refl}
 use Rattle.hail_records.proofs.OrderLaws.{few-files_of}
-use Rattle.hail_machine.specs.Jobs.{Kind, PutJob, GetJob, DropJob, AuditJob, RepairJob, Pinned}
+use Rattle.hail_machine.specs.Jobs.{Kind, PutJob, GetJob, DropJob, AuditJob, RepairJob, UpgradeJob, Pinned}
 use Rattle.hail_machine.specs.States.{State, file_in}
 use Rattle.hail_machine.specs.Begins.{is_name_among, names_in, pinned_file, pin, pin_all, pin_one, pinned_for}
 use Rattle.hail_machine.proofs.Held.{contains_in}
 use Rattle.hail_machine.proofs.JobLists.{cond_true, cond_false}
-use Rattle.hail_machine.proofs.Pins.{Stands, pinned_stands, in_all}
+use Rattle.hail_machine.proofs.Pins.{Stands, in_all, pinned_stands}
 use Rattle.hail_machine.proofs.RecordFacts.{AreSound, listed_file}
 use Rattle.sound_states.specs.Orders.{AreAscending}
 use Rattle.sound_states.specs.Follows.{AreHeld}
 use Rattle.sound_states.specs.SoundJobs.{HasPins, IsPin}
 use Rattle.sound_states.proofs.NamesTaken.{AreOnce, once-files}
-use Rattle.sound_states.proofs.Records.{is_some-at, AreSpelled, sound-accepted, file-spelled}
+use Rattle.sound_states.proofs.Records.{is_some-at, AreSpelled, sound-accepted, file-spelled, file-plain}
 
 pub length-pin : (p : Pinned) (qs : List Pinned) → length (pin p qs) ≡ suc (length qs)
 length-pin p [] = refl
@@ -81,6 +81,7 @@ module _ (w : State) (accepted : AreAccepted w.records) (spelled : AreSpelled w.
   pins-ascend (DropJob name) = tt
   pins-ascend AuditJob = all-ascending
   pins-ascend RepairJob = all-ascending
+  pins-ascend UpgradeJob = tt
 
   pub pins-few : (kind : Kind) → length (pinned_for w kind) ≤ most_files
   pins-few (PutJob name bytes) = omega arith
@@ -92,6 +93,7 @@ module _ (w : State) (accepted : AreAccepted w.records) (spelled : AreSpelled w.
   pins-few (DropJob name) = omega arith
   pins-few AuditJob = all-few
   pins-few RepairJob = all-few
+  pins-few UpgradeJob = omega arith
 
   pub pins-stored : (kind : Kind) (f : Pinned) → Contains (pinned_for w kind) f → IsPin w.records w.bytes f
   pins-stored kind f i = stored (pinned_stands w kind f (contains_in (pinned_for w kind) f i))
@@ -104,9 +106,15 @@ module _ (w : State) (accepted : AreAccepted w.records) (spelled : AreSpelled w.
         size = (let a = (files st.name st.file st.in_effect).1 in let b = (file-spelled w.records st.name st.file spelled st.in_effect).1 in omega (arith, a, b));
       })
 
+  -- in the first version they have the setup's profile
+  pub pins-plain : version_of w.records ≡ 1 → (kind : Kind) (f : Pinned) → Contains (pinned_for w kind) f → f.profile ≡ profile_in (setup_of w.records)
+  pins-plain first kind f i = (let st = pinned_stands w kind f (contains_in (pinned_for w kind) f i) in
+      ap (λ (x : Pinned). x.profile) st.is ∙ file-plain w.records st.name st.file accepted first st.in_effect)
+
 pub has-pins : (w : State) (kind : Kind) → ((name : List ℕ) → kind ≡ GetJob name → is_some (file_in w name) ≡ true) → HasPins kind (pinned_for w kind)
 has-pins w (PutJob name bytes) h = refl
 has-pins w (GetJob name) h = (let f = is_some-at (file_in w name) (h name refl) in (pinned_file w f.0, ap (pin_one w) f.1))
 has-pins w (DropJob name) h = refl
 has-pins w AuditJob h = tt
 has-pins w RepairJob h = tt
+has-pins w UpgradeJob h = tt

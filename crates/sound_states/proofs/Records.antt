@@ -2,14 +2,15 @@
 use Rattle.std.proofs.Common.{◌≡◌, ℕ, ◌+◌, ◌<◌, ◌≤◌, ◌==◌, ◌^◌, true, false, ◌⊎◌, List, [], ◌∷◌, length, Option, Some, None, refl, ap, sym, subst, ◌∙◌, inl, inr, arith}
 use Rattle.std.specs.Prelude.{is_some, IsTrue}
 use Rattle.std.specs.List.{list_all}
-use Rattle.std.proofs.lemmas.Bool.{cases_Bool, false≢true}
+use Rattle.std.proofs.lemmas.Bool.{cases_Bool, false≢true, and_parts, and_from}
 use Rattle.std.proofs.lemmas.Bool.Decides.{nat_tests}
 use Rattle.plain_facts.proofs.Options.{some-not-none}
-use Rattle.hail_records.specs.Records.{Setup, Record, SetUp, PutStart, PutDone, Drop, AuditStart, AuditDone, RepairDone, is_name, is_in_grammar, largest_file, PutDoneIn, Version, Resume, InEffect, RepairDue}
+use Rattle.hail_records.specs.Records.{Setup, Record, SetUp, PutStart, PutDone, Drop, AuditStart, AuditDone, RepairDone, is_name, is_held, is_spelled, is_in_grammar, largest_file, all_profiles, PutDoneIn, Version, Resume, InEffect, RepairDue}
 use Rattle.hail_records.specs.Journal.{text_size}
 use Rattle.hail_records.specs.Table.{File, Due, file_as, profile_in, setup_of, version_of, next_id, next_audit, started_as, is_same_name, is_start_of, file_of, due_of, exceeds}
 use Rattle.hail_records.specs.Acceptance as no
 use Rattle.hail_records.proofs.FilesLaws.{same-eq}
+use Rattle.hail_records.proofs.Grammar.{grammar-spelled, grammar-from}
 use Rattle.hail_records.specs.Acceptance.{refused, AreAccepted, Refused}
 use Rattle.hail_records.proofs.SoundLaws.{are_sound, next_id-more}
 use Rattle.hail_machine.specs.Events.{AreBytes}
@@ -21,19 +22,33 @@ pub is_some-at : {X : Type 0} (o : Option X) → is_some o ≡ true → (x : X) 
 is_some-at None h = absurd (false≢true h)
 is_some-at (Some x) h = (x, refl)
 
--- ---- grammar
+-- ---- spellings and grammar
 
 abbrev pub AreSpelled : List Record → Type 0
-AreSpelled rs = IsTrue (list_all is_in_grammar rs)
+AreSpelled rs = IsTrue (list_all is_spelled rs)
 
-pub spelled-first : (r : Record) (rs : List Record) → AreSpelled (r ∷ rs) → IsTrue (is_in_grammar r)
-spelled-first r rs h = grind (arith, h)
+pub spelled-first : (r : Record) (rs : List Record) → AreSpelled (r ∷ rs) → IsTrue (is_spelled r)
+spelled-first r rs h = (and_parts (is_spelled r) (list_all is_spelled rs) h).0
 
 pub spelled-rest : (r : Record) (rs : List Record) → AreSpelled (r ∷ rs) → AreSpelled rs
-spelled-rest r rs h = grind (arith, h)
+spelled-rest r rs h = (and_parts (is_spelled r) (list_all is_spelled rs) h).1
 
-pub spelled-more : (r : Record) (rs : List Record) → IsTrue (is_in_grammar r) → AreSpelled rs → AreSpelled (r ∷ rs)
-spelled-more r rs g h = grind (arith, g, h)
+pub spelled-more : (r : Record) (rs : List Record) → IsTrue (is_spelled r) → AreSpelled rs → AreSpelled (r ∷ rs)
+spelled-more r rs g h = and_from (is_spelled r) (list_all is_spelled rs) g h
+
+abbrev pub AreInGrammar : List Record → Type 0
+AreInGrammar rs = IsTrue (list_all is_in_grammar rs)
+
+pub grammar-first : (r : Record) (rs : List Record) → AreInGrammar (r ∷ rs) → IsTrue (is_in_grammar r)
+grammar-first r rs h = (and_parts (is_in_grammar r) (list_all is_in_grammar rs) h).0
+
+pub grammar-rest : (r : Record) (rs : List Record) → AreInGrammar (r ∷ rs) → AreInGrammar rs
+grammar-rest r rs h = (and_parts (is_in_grammar r) (list_all is_in_grammar rs) h).1
+
+-- records in the grammar have a spelling
+pub all-spelled : (rs : List Record) → AreInGrammar rs → AreSpelled rs
+all-spelled [] g = refl
+all-spelled (r ∷ rs) g = spelled-more r rs (grammar-spelled r (grammar-first r rs g)) (all-spelled rs (grammar-rest r rs g))
 
 -- records in the grammar are of the first version
 version-more : (r : Record) (rs : List Record) → IsTrue (is_in_grammar r) → version_of (r ∷ rs) ≡ version_of rs
@@ -50,9 +65,40 @@ version-more (Resume next audit) rs g = refl
 version-more (InEffect id size profile kept) rs g = refl
 version-more (RepairDue number counts) rs g = refl
 
-pub version-first : (rs : List Record) → AreSpelled rs → version_of rs ≡ 1
+pub version-first : (rs : List Record) → AreInGrammar rs → version_of rs ≡ 1
 version-first [] g = refl
-version-first (r ∷ rs) g = version-more r rs (spelled-first r rs g) ∙ version-first rs (spelled-rest r rs g)
+version-first (r ∷ rs) g = version-more r rs (grammar-first r rs g) ∙ version-first rs (grammar-rest r rs g)
+
+-- the first version now was so before
+pub version-before : (r : Record) (rs : List Record) → version_of (r ∷ rs) ≡ 1 → version_of rs ≡ 1
+version-before (SetUp s) rs h = h
+version-before (PutStart id name) rs h = h
+version-before (PutDone id size) rs h = h
+version-before (Drop name) rs h = h
+version-before (AuditStart number) rs h = h
+version-before (AuditDone number undecided counts) rs h = h
+version-before (RepairDone number) rs h = h
+version-before (PutDoneIn id size profile) rs h = h
+version-before Version rs h = absurd (omega (arith, h))
+version-before (Resume next audit) rs h = h
+version-before (InEffect id size profile kept) rs h = h
+version-before (RepairDue number counts) rs h = h
+
+-- a version is the first or the second
+pub version-either : (rs : List Record) → (version_of rs ≡ 1) ⊎ (version_of rs ≡ 2)
+version-either [] = inl refl
+version-either (SetUp s ∷ rs) = version-either rs
+version-either (PutStart id name ∷ rs) = version-either rs
+version-either (PutDone id size ∷ rs) = version-either rs
+version-either (Drop name ∷ rs) = version-either rs
+version-either (AuditStart number ∷ rs) = version-either rs
+version-either (AuditDone number undecided counts ∷ rs) = version-either rs
+version-either (RepairDone number ∷ rs) = version-either rs
+version-either (PutDoneIn id size profile ∷ rs) = version-either rs
+version-either (Version ∷ rs) = inr refl
+version-either (Resume next audit ∷ rs) = version-either rs
+version-either (InEffect id size profile kept ∷ rs) = version-either rs
+version-either (RepairDue number counts ∷ rs) = version-either rs
 
 -- ---- numbers
 
@@ -70,11 +116,11 @@ next_id-one (Resume next audit) rs g = absurd (false≢true g)
 next_id-one (InEffect id size profile kept) rs g = omega arith
 next_id-one (RepairDue number counts) rs g = omega arith
 
-pub next_id-le : (rs : List Record) → AreSpelled rs → next_id rs ≤ text_size rs
+pub next_id-le : (rs : List Record) → AreInGrammar rs → next_id rs ≤ text_size rs
 next_id-le [] g = omega arith
 next_id-le (r ∷ rs) g =
-    let l = next_id-le rs (spelled-rest r rs g) in
-    let one = next_id-one r rs (spelled-first r rs g) in
+    let l = next_id-le rs (grammar-rest r rs g) in
+    let one = next_id-one r rs (grammar-first r rs g) in
     omega (arith, l, one)
 
 next_audit-one : (r : Record) (rs : List Record) → IsTrue (is_in_grammar r) → next_audit (r ∷ rs) ≤ next_audit rs + 1
@@ -91,11 +137,11 @@ next_audit-one (Resume next audit) rs g = absurd (false≢true g)
 next_audit-one (InEffect id size profile kept) rs g = omega arith
 next_audit-one (RepairDue number counts) rs g = omega arith
 
-pub next_audit-le : (rs : List Record) → AreSpelled rs → next_audit rs ≤ text_size rs
+pub next_audit-le : (rs : List Record) → AreInGrammar rs → next_audit rs ≤ text_size rs
 next_audit-le [] g = omega arith
 next_audit-le (r ∷ rs) g =
-    let l = next_audit-le rs (spelled-rest r rs g) in
-    let one = next_audit-one r rs (spelled-first r rs g) in
+    let l = next_audit-le rs (grammar-rest r rs g) in
+    let one = next_audit-one r rs (grammar-first r rs g) in
     omega (arith, l, one)
 
 pub next_id-grows : (r : Record) (rs : List Record) → AreAccepted (r ∷ rs) → next_id rs ≤ next_id (r ∷ rs)
@@ -170,7 +216,37 @@ sound-accepted rs a =
       started = λ id name h. (S.started id name h).1;
     }
 
--- ---- setups, names, sizes and numbers of records in the grammar
+-- ---- records of the first version
+
+first-held : (r : Record) (rs : List Record) → version_of (r ∷ rs) ≡ 1 → refused rs r ≡ None → IsTrue (is_held r)
+first-held (SetUp s) rs v h = refl
+first-held (PutStart id name) rs v h = refl
+first-held (PutDone id size) rs v h = refl
+first-held (Drop name) rs v h = refl
+first-held (AuditStart number) rs v h = refl
+first-held (AuditDone number undecided counts) rs v h = refl
+first-held (RepairDone number) rs v h = refl
+first-held (PutDoneIn id size profile) rs v h = absurd (grind (arith, nat_tests, v, h))
+first-held Version rs v h = absurd (omega (arith, v))
+first-held (Resume next audit) rs v h = absurd (grind (arith, nat_tests, v, h))
+first-held (InEffect id size profile kept) rs v h = absurd (grind (arith, nat_tests, v, h))
+first-held (RepairDue number counts) rs v h = absurd (grind (arith, nat_tests, v, h))
+
+-- accepted records of the first version are in the grammar of today
+pub first-grammar : (rs : List Record) → AreAccepted rs → AreSpelled rs → version_of rs ≡ 1 → AreInGrammar rs
+first-grammar [] a g v = refl
+first-grammar (r ∷ rs) a g v = and_from (is_in_grammar r) (list_all is_in_grammar rs)
+    (grammar-from r (first-held r rs v a.0) (spelled-first r rs g))
+    (first-grammar rs a.1 (spelled-rest r rs g) (version-before r rs v))
+
+-- records of the second version have a setup
+pub second-set_up : (rs : List Record) → AreAccepted rs → version_of rs ≡ 2 → is_some (setup_of rs) ≡ true
+second-set_up rs a v = elim (cases_Bool (is_some (setup_of rs))) [
+  | inl t ↦ t
+  | inr f ↦ absurd (let e = ap version_of (none-set_up rs a f) in omega (arith, e, v))
+]
+
+-- ---- setups, names, sizes and numbers of records that have a spelling
 
 pub setup-spelled : (rs : List Record) (s : Setup) → AreSpelled rs → setup_of rs ≡ Some s → IsTrue (is_in_grammar (SetUp s))
 setup-spelled [] s g h = absurd (some-not-none _ s h refl)
@@ -224,49 +300,114 @@ pub start-named : (q : List ℕ) (o : Option (List ℕ)) → is_start_of q o ≡
 start-named q None h = absurd (false≢true h)
 start-named q (Some name) h = ap Some (same-eq name q h)
 
--- what is told of a file in effect: it was so before, or the record that came is the end of a put of that name, with its number and size
-pub file-came : (r : Record) (rs : List Record) (name : List ℕ) (file : File) → IsTrue (is_in_grammar r) →
-    file_of (r ∷ rs) name ≡ Some file →
-    (file_of rs name ≡ Some file) ⊎ ((r ≡ PutDone file.id file.size) × (started_as rs file.id ≡ Some name) × (file.name ≡ name))
-file-came (SetUp s) rs name file g h = inl h
-file-came (PutStart k n) rs name file g h = inl h
-file-came (PutDone k size) rs name file g h =
+-- the records that bring a file in effect: the end of a put of its name, or a packed journal's own
+pub data Came (rs : List Record) (r : Record) (name : List ℕ) (file : File) : Type 0 where
+  done : r ≡ PutDone file.id file.size → started_as rs file.id ≡ Some name → file.profile ≡ profile_in (setup_of rs) → Came rs r name file
+  done_in : r ≡ PutDoneIn file.id file.size file.profile → started_as rs file.id ≡ Some name → Came rs r name file
+  brought : r ≡ InEffect file.id file.size file.profile name → Came rs r name file
+
+-- a file in effect was so before, or came with the record
+pub file-came : (r : Record) (rs : List Record) (name : List ℕ) (file : File) → file_of (r ∷ rs) name ≡ Some file →
+    (file_of rs name ≡ Some file) ⊎ Came rs r name file
+file-came (SetUp s) rs name file h = inl h
+file-came (PutStart k n) rs name file h = inl h
+file-came (PutDone k size) rs name file h =
     let new : File = file_as name k size (profile_in (setup_of rs)) in
     elim (cases_Bool (is_start_of name (started_as rs k))) [
       | inl t ↦ (let same : new ≡ file = same_value _ new file
           (cond_true (is_start_of name (started_as rs k)) (Some new) (file_of rs name) t) h in
-          inr (
-            ap (λ (f : File). PutDone f.id f.size) same,
-            ap (λ (f : File). started_as rs f.id) (sym same) ∙ start-named name (started_as rs k) t,
-            ap (λ (f : File). f.name) (sym same),
-          ))
+          inr (Came.done (ap (λ (f : File). PutDone f.id f.size) same) (ap (λ (f : File). started_as rs f.id) (sym same) ∙ start-named name (started_as rs k) t)
+          (ap (λ (f : File). f.profile) (sym same))))
       | inr f ↦ inl (sym (cond_false (is_start_of name (started_as rs k)) (Some new) (file_of rs name) f) ∙ h)
     ]
-file-came (Drop n) rs name file g h = elim (cases_Bool (is_same_name n name)) [
+file-came (Drop n) rs name file h = elim (cases_Bool (is_same_name n name)) [
   | inl t ↦ absurd (some-not-none _ file h (cond_true (is_same_name n name) None (file_of rs name) t))
   | inr f ↦ inl (sym (cond_false (is_same_name n name) None (file_of rs name) f) ∙ h)
 ]
-file-came (AuditStart number) rs name file g h = inl h
-file-came (AuditDone number undecided counts) rs name file g h = inl h
-file-came (RepairDone number) rs name file g h = inl h
-file-came (PutDoneIn id size profile) rs name file g h = absurd (false≢true g)
-file-came Version rs name file g h = inl h
-file-came (Resume next audit) rs name file g h = inl h
-file-came (InEffect id size profile kept) rs name file g h = absurd (false≢true g)
-file-came (RepairDue number counts) rs name file g h = inl h
+file-came (AuditStart number) rs name file h = inl h
+file-came (AuditDone number undecided counts) rs name file h = inl h
+file-came (RepairDone number) rs name file h = inl h
+file-came (PutDoneIn k size profile) rs name file h =
+    let new : File = file_as name k size profile in
+    elim (cases_Bool (is_start_of name (started_as rs k))) [
+      | inl t ↦ (let same : new ≡ file = same_value _ new file
+          (cond_true (is_start_of name (started_as rs k)) (Some new) (file_of rs name) t) h in
+          inr (Came.done_in (ap (λ (f : File). PutDoneIn f.id f.size f.profile) same)
+          (ap (λ (f : File). started_as rs f.id) (sym same) ∙ start-named name (started_as rs k) t)))
+      | inr f ↦ inl (sym (cond_false (is_start_of name (started_as rs k)) (Some new) (file_of rs name) f) ∙ h)
+    ]
+file-came Version rs name file h = inl h
+file-came (Resume next audit) rs name file h = inl h
+file-came (InEffect k size profile n) rs name file h =
+    let new : File = file_as name k size profile in
+    elim (cases_Bool (is_same_name n name)) [
+      | inl t ↦ (let same : new ≡ file = same_value _ new file
+          (cond_true (is_same_name n name) (Some new) (file_of rs name) t) h in
+          inr (Came.brought (ap (λ m. InEffect k size profile m) (same-eq n name t) ∙ ap (λ (f : File). InEffect f.id f.size f.profile name) same)))
+      | inr f ↦ inl (sym (cond_false (is_same_name n name) (Some new) (file_of rs name) f) ∙ h)
+    ]
+file-came (RepairDue number counts) rs name file h = inl h
 
-pub file-spelled : (rs : List Record) (name : List ℕ) (file : File) → AreSpelled rs → file_of rs name ≡ Some file → (is_name name ≡ true) × (file.size ≤ largest_file)
+-- the profile of a setup that has a spelling
+profile-fits : (rs : List Record) → AreSpelled rs → profile_in (setup_of rs) < all_profiles
+profile-fits rs g = by (setup_of rs) refl
+  where
+    fits : (s : Setup) → IsTrue (is_in_grammar (SetUp s)) → s.profile < all_profiles
+    fits s h = grind (arith, nat_tests, h)
+
+    by : (o : Option Setup) → setup_of rs ≡ o → profile_in o < all_profiles
+    by None e = omega arith
+    by (Some s) e = fits s (setup-spelled rs s g e)
+
+-- what a file in effect has: a name, a length and a profile within their limits
+abbrev pub IsFit : List ℕ → File → Type 0
+IsFit name file = (is_name name ≡ true) × (file.size ≤ largest_file) × (file.profile < all_profiles)
+
+pub file-spelled : (rs : List Record) (name : List ℕ) (file : File) → AreSpelled rs → file_of rs name ≡ Some file → IsFit name file
 file-spelled [] name file g h = absurd (some-not-none _ file h refl)
-file-spelled (r ∷ rs) name file g h = elim (file-came r rs name file (spelled-first r rs g) h) [
+file-spelled (r ∷ rs) name file g h = elim (file-came r rs name file h) [
   | inl was ↦ file-spelled rs name file (spelled-rest r rs g) was
-  | inr new ↦ (started-spelled rs file.id name (spelled-rest r rs g) new.1, size (subst (λ x. IsTrue (is_in_grammar x)) new.0 (spelled-first r rs g)))
+  | inr new ↦ elim new [
+    | Came.done is started profile ↦ (
+      started-spelled rs file.id name (spelled-rest r rs g) started,
+      done-size (subst (λ x. IsTrue (is_spelled x)) is (spelled-first r rs g)),
+      (let l = profile-fits rs (spelled-rest r rs g) in omega (arith, l, profile)),
+    )
+    | Came.done_in is started ↦ (let f = in-fits (subst (λ x. IsTrue (is_spelled x)) is (spelled-first r rs g)) in
+        (started-spelled rs file.id name (spelled-rest r rs g) started, f.0, f.1))
+    | Came.brought is ↦ kept-fits (subst (λ x. IsTrue (is_spelled x)) is (spelled-first r rs g))
+  ]
 ]
   where
-    size : IsTrue (is_in_grammar (PutDone file.id file.size)) → file.size ≤ largest_file
-    size h = grind (arith, nat_tests, h)
+    done-size : IsTrue (is_spelled (PutDone file.id file.size)) → file.size ≤ largest_file
+    done-size h = grind (arith, nat_tests, h)
 
--- the number of a due audit fits
-pub due-spelled : (rs : List Record) (due : Due) → AreSpelled rs → due_of rs ≡ Some due → due.number < 2 ^ 64
+    in-fits : IsTrue (is_spelled (PutDoneIn file.id file.size file.profile)) → (file.size ≤ largest_file) × (file.profile < all_profiles)
+    in-fits h = (grind (arith, nat_tests, h), grind (arith, nat_tests, h))
+
+    kept-fits : IsTrue (is_spelled (InEffect file.id file.size file.profile name)) → (is_name name ≡ true) × (file.size ≤ largest_file) × (file.profile < all_profiles)
+    kept-fits h = (grind (arith, nat_tests, h), grind (arith, nat_tests, h), grind (arith, nat_tests, h))
+
+-- in the first version each file has the setup's profile
+pub file-plain : (rs : List Record) (name : List ℕ) (file : File) → AreAccepted rs → version_of rs ≡ 1 → file_of rs name ≡ Some file → file.profile ≡ profile_in (setup_of rs)
+file-plain [] name file a v h = absurd (some-not-none _ file h refl)
+file-plain (r ∷ rs) name file a v h = elim (file-came r rs name file h) [
+  | inl was ↦ file-plain rs name file a.1 (version-before r rs v) was ∙ ap profile_in (sym (setup-more r rs (up was) a.0))
+  | inr new ↦ elim new [
+    | Came.done is started profile ↦ profile ∙ ap profile_in (sym (subst (λ x. setup_of (x ∷ rs) ≡ setup_of rs) (sym is) refl))
+    | Came.done_in is started ↦ absurd (let k : IsTrue (is_held (PutDoneIn file.id file.size file.profile)) = subst (λ x. IsTrue (is_held x)) is (first-held r rs v a.0) in false≢true k)
+    | Came.brought is ↦ absurd (let k : IsTrue (is_held (InEffect file.id file.size file.profile name)) = subst (λ x. IsTrue (is_held x)) is (first-held r rs v a.0) in false≢true k)
+  ]
+]
+  where
+    up : file_of rs name ≡ Some file → is_some (setup_of rs) ≡ true
+    up was = elim (cases_Bool (is_some (setup_of rs))) [
+      | inl t ↦ t
+      | inr f ↦ absurd (some-not-none _ file was (ap (λ l. file_of l name) (none-set_up rs a.1 f)))
+    ]
+
+-- a due audit has a number and counts within their limits
+pub due-spelled : (rs : List Record) (due : Due) → AreSpelled rs → due_of rs ≡ Some due → IsTrue (is_spelled (RepairDue due.number due.counts))
 due-spelled [] due g h = absurd (some-not-none _ due h refl)
 due-spelled (SetUp s ∷ rs) due g h = due-spelled rs due (spelled-rest (SetUp s) rs g) h
 due-spelled (PutStart id name ∷ rs) due g h = due-spelled rs due (spelled-rest (PutStart id name) rs g) h
@@ -275,29 +416,34 @@ due-spelled (Drop name ∷ rs) due g h = due-spelled rs due (spelled-rest (Drop 
 due-spelled (AuditStart number ∷ rs) due g h = due-spelled rs due (spelled-rest (AuditStart number) rs g) h
 due-spelled (AuditDone number undecided counts ∷ rs) due g h = elim (cases_Bool (exceeds (setup_of rs) counts)) [
   | inl t ↦ (let same : record { number = number; counts = counts } ≡ due = same_value _ (record { number = number; counts = counts }) due (cond_true (exceeds (setup_of rs) counts) (Some (record { number = number; counts = counts })) (due_of rs) t) h in
-      subst (λ (d : Due). d.number < 2 ^ 64) same (fits (spelled-first (AuditDone number undecided counts) rs g)))
+      subst (λ (d : Due). IsTrue (is_spelled (RepairDue d.number d.counts))) same (fits (spelled-first (AuditDone number undecided counts) rs g)))
   | inr f ↦ due-spelled rs due (spelled-rest (AuditDone number undecided counts) rs g) (sym (cond_false (exceeds (setup_of rs) counts) (Some (record { number = number; counts = counts })) (due_of rs) f) ∙ h)
 ]
   where
-    fits : IsTrue (is_in_grammar (AuditDone number undecided counts)) → number < 2 ^ 64
+    fits : IsTrue (is_spelled (AuditDone number undecided counts)) → IsTrue (is_spelled (RepairDue number counts))
     fits h = grind (arith, nat_tests, h)
 due-spelled (RepairDone number ∷ rs) due g h = absurd (some-not-none _ due h refl)
-due-spelled (PutDoneIn id size profile ∷ rs) due g h =
-    due-spelled rs due (spelled-rest (PutDoneIn id size profile) rs g) h
+due-spelled (PutDoneIn id size profile ∷ rs) due g h = due-spelled rs due (spelled-rest (PutDoneIn id size profile) rs g) h
 due-spelled (Version ∷ rs) due g h = due-spelled rs due (spelled-rest Version rs g) h
 due-spelled (Resume next audit ∷ rs) due g h = due-spelled rs due (spelled-rest (Resume next audit) rs g) h
-due-spelled (InEffect id size profile kept ∷ rs) due g h =
-    due-spelled rs due (spelled-rest (InEffect id size profile kept) rs g) h
+due-spelled (InEffect id size profile kept ∷ rs) due g h = due-spelled rs due (spelled-rest (InEffect id size profile kept) rs g) h
 due-spelled (RepairDue number counts ∷ rs) due g h =
-    absurd (false≢true (spelled-first (RepairDue number counts) rs g))
+    (let same : record { number = number; counts = counts } ≡ due = same_value (Some (record { number = number; counts = counts })) (record { number = number; counts = counts }) due refl h in
+    subst (λ (d : Due). IsTrue (is_spelled (RepairDue d.number d.counts))) same (spelled-first (RepairDue number counts) rs g))
+
+pub due-number : (due : Due) → IsTrue (is_spelled (RepairDue due.number due.counts)) → due.number < 2 ^ 64
+due-number due h = grind (arith, nat_tests, h)
 
 -- ---- files and their bytes
 
-pub held-more : (bytes : ℕ → List ℕ) (r : Record) (rs : List Record) → IsTrue (is_in_grammar r) → BringsHeld bytes r →
-    AreHeld bytes rs → AreHeld bytes (r ∷ rs)
-held-more bytes r rs g brings held name file h = elim (file-came r rs name file g h) [
+pub held-more : (bytes : ℕ → List ℕ) (r : Record) (rs : List Record) → BringsHeld bytes r → AreHeld bytes rs → AreHeld bytes (r ∷ rs)
+held-more bytes r rs brings held name file h = elim (file-came r rs name file h) [
   | inl was ↦ held name file was
-  | inr new ↦ subst (BringsHeld bytes) new.0 brings
+  | inr new ↦ elim new [
+    | Came.done is started profile ↦ subst (BringsHeld bytes) is brings
+    | Came.done_in is started ↦ subst (BringsHeld bytes) is brings
+    | Came.brought is ↦ subst (BringsHeld bytes) is brings
+  ]
 ]
 
 -- bytes that stay below the next number

@@ -13,7 +13,7 @@ use Rattle.hail_columns.specs.Challenges.{bare_answers}
 use Rattle.hail_columns.proofs.CountLaws.{length-counts_after, counts_after-within}
 use Rattle.hail_records.specs.Records.{Setup, most_files}
 use Rattle.hail_machine.specs.Jobs.{Pinned, Job}
-use Rattle.hail_machine.specs.Setups.{object_of, stripes_of}
+use Rattle.hail_machine.specs.Setups.{profiled, object_of, stripes_of}
 use Rattle.hail_machine.specs.Actions.{rounds_of}
 use Rattle.hail_machine.specs.Audits.{challenge_in, JudgesRound, JudgesRounds, JudgesFiles, HasSums}
 use Rattle.hail_machine.specs.Given.{answers_given}
@@ -28,8 +28,8 @@ record Within (n : ℕ) (rounds : ℕ) (sums : Sums) : Type 0 where
 module _ (s : Setup) (job : Job) where
   judged : (n k : ℕ) (f : Pinned) (round : ℕ) (old new : Sums) → Within n k old → JudgesRound s job f round old new → Within n (k + 1) new
   judged n k f round old new w (inl (p, decides, is)) = subst (Within n (k + 1)) (sym is) (record {
-    size = length-counts_after p (points (object_of s f.id)) (bare_answers (object_of s f.id) (challenge_in s job f.id (length f.bytes) round) 0 (answers_given job.given s.n f.id round)) old.counts ∙ w.size;
-    counts = counts_after-within k p (points (object_of s f.id)) (bare_answers (object_of s f.id) (challenge_in s job f.id (length f.bytes) round) 0 (answers_given job.given s.n f.id round)) old.counts w.counts;
+    size = length-counts_after p (points (object_of (profiled s f.profile) f.id)) (bare_answers (object_of (profiled s f.profile) f.id) (challenge_in (profiled s f.profile) job f.id (length f.bytes) round) 0 (answers_given job.given s.n f.id round)) old.counts ∙ w.size;
+    counts = counts_after-within k p (points (object_of (profiled s f.profile) f.id)) (bare_answers (object_of (profiled s f.profile) f.id) (challenge_in (profiled s f.profile) job f.id (length f.bytes) round) 0 (answers_given job.given s.n f.id round)) old.counts w.counts;
     undecided = (let u = w.undecided in omega (arith, u));
   })
   judged n k f round old new w (inr (none, is)) = subst (Within n (k + 1)) (sym is) (record {
@@ -46,20 +46,20 @@ module _ (s : Setup) (job : Job) where
   judged-rounds n k f (round ∷ more) old new w (mid, j, js) =
       within-higher n (k + 1 + length more) (k + length (round ∷ more)) new (omega arith) (judged-rounds n (k + 1) f more mid new (judged n k f round old mid w j) js)
 
-  rounds-size : (size : ℕ) → length (rounds_of s size) ≤ s.rounds
-  rounds-size size = elim (cases_Bool (stripes_of s size == 0)) [
-    | inl t ↦ (let e = ap length (cond_true (stripes_of s size == 0) [] (upto s.rounds) t) in omega (arith, e))
-    | inr f ↦ (let e = ap length (cond_false (stripes_of s size == 0) [] (upto s.rounds) f) in let l = length-range_with_len 0 s.rounds in omega (arith, e, l))
+  rounds-size : (profile size : ℕ) → length (rounds_of (profiled s profile) size) ≤ s.rounds
+  rounds-size profile size = elim (cases_Bool (stripes_of (profiled s profile) size == 0)) [
+    | inl t ↦ (let e = ap length (cond_true (stripes_of (profiled s profile) size == 0) [] (upto s.rounds) t) in omega (arith, e))
+    | inr f ↦ (let e = ap length (cond_false (stripes_of (profiled s profile) size == 0) [] (upto s.rounds) f) in let l = length-range_with_len 0 s.rounds in omega (arith, e, l))
   ]
 
   judged-files : (n k : ℕ) (fs : List Pinned) (old new : Sums) → Within n k old → JudgesFiles s job fs old new → Within n (k + length fs * s.rounds) new
   judged-files n k [] old new w is = subst (Within n (k + 0 * s.rounds)) (sym is) (within-higher n k (k + 0 * s.rounds) old (omega arith) w)
   judged-files n k (f ∷ fs) old new w (mid, j, js) =
-      (let m = judged-rounds n k f (rounds_of s (length f.bytes)) old mid w j in
-      let r = rounds-size (length f.bytes) in
+      (let m = judged-rounds n k f (rounds_of (profiled s f.profile) (length f.bytes)) old mid w j in
+      let r = rounds-size f.profile (length f.bytes) in
       let e : (1 + length fs) * s.rounds ≡ s.rounds + length fs * s.rounds = grind arith in
       within-higher n (k + s.rounds + length fs * s.rounds) (k + length (f ∷ fs) * s.rounds) new (omega (arith, e))
-      (judged-files n (k + s.rounds) fs mid new (within-higher n (k + length (rounds_of s (length f.bytes))) (k + s.rounds) mid (omega (arith, r)) m) js))
+      (judged-files n (k + s.rounds) fs mid new (within-higher n (k + length (rounds_of (profiled s f.profile) (length f.bytes))) (k + s.rounds) mid (omega (arith, r)) m) js))
 
 -- what the sums of an audit over so few files are
 pub record AreSmall (n : ℕ) (sums : Sums) : Type 0 where

@@ -5,64 +5,60 @@ use Rattle.std.proofs.lemmas.Bool.{cases_Bool, cases_lt, cases_eq, false≢true}
 use Rattle.plain_facts.proofs.Options.{some-not-none}
 use Rattle.std.proofs.lemmas.Bool.Decides.{nat_tests}
 use Rattle.hail_columns.specs.Verdicts.{Sums}
-use Rattle.hail_records.specs.Records.{Record, SetUp, PutStart, PutDone, Drop, AuditStart, AuditDone, RepairDone, PutDoneIn, Version, Resume, InEffect, RepairDue, is_in_grammar}
-use Rattle.hail_records.specs.Table.{next_id, next_audit, file_of, started_as}
-use Rattle.hail_records.specs.Acceptance as no
+use Rattle.hail_records.specs.Records.{Record, SetUp, PutStart, PutDone, Drop, AuditStart, AuditDone, RepairDone, PutDoneIn, Version, Resume, InEffect, RepairDue}
+use Rattle.hail_records.specs.Table.{version_of, next_id, next_audit, file_of, started_as}
 use Rattle.hail_records.specs.Acceptance.{refused, put_done_refused, AreAccepted}
-use Rattle.hail_machine.specs.Jobs.{Kind, PutJob, GetJob, DropJob, AuditJob, RepairJob, Given, Job, job_of, with_job}
+use Rattle.hail_machine.specs.Jobs.{Kind, PutJob, GetJob, DropJob, AuditJob, RepairJob, UpgradeJob, Given, Job, job_of, with_job}
 use Rattle.hail_machine.specs.Actions.{Action, End, ends_append, appends_left, actions_left}
 use Rattle.hail_machine.specs.Audits.{HasSums}
-use Rattle.hail_machine.specs.States.{State, Append, Doubt, setup_in, going_on}
+use Rattle.hail_machine.specs.States.{State, Append, Doubt, setup_in, journal_end, going_on}
 use Rattle.hail_machine.specs.Space.{reserved}
-use Rattle.hail_machine.specs.Begins.{is_check}
-use Rattle.hail_machine.specs.Appends.{Writes, is_first_append, subject_drawn, bytes_drawn}
+use Rattle.hail_machine.specs.Begins.{is_check, is_upgrade}
+use Rattle.hail_machine.specs.Appends.{Writes, done_record, is_first_append, subject_drawn, bytes_drawn}
 use Rattle.hail_machine.specs.Steps.{next_action}
 use Rattle.hail_machine.proofs.JobLists.{cond_true, cond_false, same_value, found_with}
 use Rattle.hail_machine.proofs.Numbers.{Series, objects, audits, Draws, first_above, first_below}
 use Rattle.sound_states.specs.Orders.{moves_made, moves_before, moves_after, IsInOrder}
 use Rattle.sound_states.specs.Follows.{BringsHeld, MayFollow}
-use Rattle.sound_states.specs.SoundJobs.{IsSoundJob}
-use Rattle.sound_states.specs.Sound.{IsDoubtOf, IsSoundAppend, IsPutUnderWay, IsSound}
+use Rattle.sound_states.specs.SoundJobs.{IsReady, IsSoundJob}
+use Rattle.sound_states.specs.Sound.{IsDoubtOf, IsSoundAppend, IsPutUnderWay, starts_left, IsSound}
 use Rattle.sound_states.proofs.Orders.{gates}
-use Rattle.sound_states.proofs.JobLists.{sum-with, length-with, numbered-with, still-with, mine, other}
+use Rattle.sound_states.proofs.JobLists.{sum-with, length-with, numbered-with, still-with, only-with, mine, other}
 use Rattle.sound_states.proofs.NamesTaken.{are_put, puts_name, taken-fewer}
 use Rattle.sound_states.proofs.Records.{sound-accepted, held-on, held-same}
+use Rattle.sound_states.proofs.Packs.{started-in, journal-same}
 use Rattle.sound_states.proofs.Rooms.{room-same}
-use Rattle.sound_states.proofs.Going.{onward, order-onward, count-onward, not-three, kept, went}
+use Rattle.sound_states.proofs.Written.{starts-on}
+use Rattle.sound_states.proofs.Going.{onward, order-onward, count-onward, not-three, kept-ready, kept, went-ready, went}
 
 -- ---- records that may follow, where bytes stay
 
 -- a put's end that is accepted has a number that was drawn
-done-drawn : (rs : List Record) (id size : ℕ) → AreAccepted rs → refused rs (PutDone id size) ≡ None → id < next_id rs
-done-drawn rs id size a h = by_start (started_as rs id) refl (grind (arith, nat_tests, h))
-  where
-    by_start : (o : Option (List ℕ)) → started_as rs id ≡ o → put_done_refused rs (started_as rs id) ≡ None →
-        id < next_id rs
-    by_start None e g = absurd (some-not-none _ no.NotStarted refl (sym (ap (put_done_refused rs) e) ∙ g))
-    by_start (Some name) e g = (sound-accepted rs a).started id name e
+done-drawn : (rs : List Record) (id : ℕ) → AreAccepted rs → put_done_refused rs (started_as rs id) ≡ None → id < next_id rs
+done-drawn rs id a g = (let t = started-in rs (started_as rs id) g in (sound-accepted rs a).started id t.0 t.1)
 
-pub follows-on : (rs : List Record) (bytes now : ℕ → List ℕ) (entry : Record) → AreAccepted rs → ((id : ℕ) → id < next_id rs → now id ≡ bytes id) → MayFollow rs bytes entry → MayFollow rs now entry
-follows-on rs bytes now entry a stay m = record {
-  in_grammar = m.in_grammar;
+pub follows-on : (rs journal : List Record) (end : ℕ) (bytes now : ℕ → List ℕ) (entry : Record) → AreAccepted rs → ((id : ℕ) → id < next_id rs → now id ≡ bytes id) → MayFollow rs journal end bytes entry → MayFollow rs journal end now entry
+follows-on rs journal end bytes now entry a stay m = record {
+  spelled = m.spelled;
   accepted = m.accepted;
+  in_journal = m.in_journal;
   room = m.room;
-  held = held entry m.in_grammar m.accepted m.held;
+  held = held entry m.accepted m.held;
 }
   where
-    held : (entry : Record) → IsTrue (is_in_grammar entry) → refused rs entry ≡ None → BringsHeld bytes entry →
-        BringsHeld now entry
-    held (SetUp s) g h b = tt
-    held (PutStart id name) g h b = tt
-    held (PutDone id size) g h b = held-same bytes now id size (stay id (done-drawn rs id size a h)) b
-    held (Drop name) g h b = tt
-    held (AuditStart number) g h b = tt
-    held (AuditDone number undecided counts) g h b = tt
-    held (RepairDone number) g h b = tt
-    held (PutDoneIn id size profile) g h b = absurd (false≢true g)
-    held Version g h b = tt
-    held (Resume next audit) g h b = tt
-    held (InEffect id size profile kept) g h b = absurd (false≢true g)
-    held (RepairDue number counts) g h b = tt
+    held : (entry : Record) → refused rs entry ≡ None → BringsHeld bytes entry → BringsHeld now entry
+    held (SetUp s) h b = tt
+    held (PutStart id name) h b = tt
+    held (PutDone id size) h b = held-same bytes now id size (stay id (done-drawn rs id a (grind (arith, nat_tests, h)))) b
+    held (Drop name) h b = tt
+    held (AuditStart number) h b = tt
+    held (AuditDone number undecided counts) h b = tt
+    held (RepairDone number) h b = tt
+    held (PutDoneIn id size profile) h b = held-same bytes now id size (stay id (done-drawn rs id a (grind (arith, nat_tests, h)))) b
+    held Version h b = tt
+    held (Resume next audit) h b = tt
+    held (InEffect id size profile name) h b = held-same bytes now id size (stay id (grind (arith, nat_tests, h))) b
+    held (RepairDue number counts) h b = tt
 
 -- ---- lists of jobs in which one goes on
 
@@ -93,10 +89,10 @@ pub writes-on : (w : State) (job : Job) (n : ℕ) (action : Action) (kind : Kind
 writes-on w job n action (PutJob name bytes) entry kind next plain later repairs h =
     (let first = first-on objects w job n job.given action (subst (Draws objects) (sym kind) tt) next plain in
     elim (cases_lt job.place 4) [
-      | inl l ↦ h ∙ (cond_true (is_first_append job) (PutStart (next_id w.records) name) (PutDone job.subject (length bytes)) (first_below job l)
-          ∙ sym (cond_true (is_first_append (onward job n job.given)) (PutStart (next_id w.records) name) (PutDone n (length bytes)) (first ∙ first_below job l)))
-      | inr l ↦ h ∙ (cond_false (is_first_append job) (PutStart (next_id w.records) name) (PutDone job.subject (length bytes)) (first_above job l)
-          ∙ (ap (λ x. PutDone x (length bytes)) (sym (later l)) ∙ sym (cond_false (is_first_append (onward job n job.given)) (PutStart (next_id w.records) name) (PutDone n (length bytes)) (first ∙ first_above job l))))
+      | inl l ↦ h ∙ (cond_true (is_first_append job) (PutStart (next_id w.records) name) (done_record (version_of w.records) job.subject (length bytes) job.profile) (first_below job l)
+          ∙ sym (cond_true (is_first_append (onward job n job.given)) (PutStart (next_id w.records) name) (done_record (version_of w.records) n (length bytes) job.profile) (first ∙ first_below job l)))
+      | inr l ↦ h ∙ (cond_false (is_first_append job) (PutStart (next_id w.records) name) (done_record (version_of w.records) job.subject (length bytes) job.profile) (first_above job l)
+          ∙ (ap (λ x. done_record (version_of w.records) x (length bytes) job.profile) (sym (later l)) ∙ sym (cond_false (is_first_append (onward job n job.given)) (PutStart (next_id w.records) name) (done_record (version_of w.records) n (length bytes) job.profile) (first ∙ first_above job l))))
     ])
 writes-on w job n action (GetJob name) entry kind next plain later repairs h = h
 writes-on w job n action (DropJob name) entry kind next plain later repairs h = h
@@ -108,6 +104,7 @@ writes-on w job n action AuditJob entry kind next plain later repairs h =
           rw (first ∙ first_above job l) (subst (λ x. (sums : Sums) × HasSums (setup_in w) (onward job x job.given) sums × (entry ≡ AuditDone x sums.undecided sums.counts)) (sym (later l)) g))
     ])
 writes-on w job n action RepairJob entry kind next plain later repairs h = h ∙ ap RepairDone (sym (repairs kind))
+writes-on w job n action UpgradeJob entry kind next plain later repairs h = h
 
 -- ---- the number that a first append draws
 
@@ -131,6 +128,7 @@ drawn-on w job action AuditJob kind next plain = again (is_first_append job) (is
 drawn-on w job action (GetJob name) kind next plain = refl
 drawn-on w job action (DropJob name) kind next plain = refl
 drawn-on w job action RepairJob kind next plain = refl
+drawn-on w job action UpgradeJob kind next plain = refl
 
 pub bytes-on : (w : State) (job : Job) (n : ℕ) (now : ℕ → List ℕ) (action : Action) (kind : Kind) (id : ℕ) → job.kind ≡ kind → next_action w job ≡ Some action → ends_append action ≡ false →
     now id ≡ bytes_drawn w job kind id → bytes_drawn (record w { bytes = now }) (onward job n job.given) kind id ≡ now id
@@ -146,30 +144,38 @@ bytes-on w job n now action (GetJob name) id kind next plain e = refl
 bytes-on w job n now action (DropJob name) id kind next plain e = refl
 bytes-on w job n now action AuditJob id kind next plain e = refl
 bytes-on w job n now action RepairJob id kind next plain e = refl
+bytes-on w job n now action UpgradeJob id kind next plain e = refl
 
 -- a state in which a job goes on, with this append and doubt, these bytes and these begins of audits
 abbrev pub gone_on : State → Job → Option Append → Option Doubt → (ℕ → List ℕ) → (ℕ → ℕ) → State
 gone_on old next flight doubt now began = record (going_on old next) { append = flight; doubt = doubt; bytes = now; audits = began }
 
 module _ (limit : ℕ) (old : State) (S : IsSound limit old) (job : Job) (runs : job_of old.jobs job.number ≡ Some job) where
-  pub going-sound : (next : Job) (flight : Option Append) (doubt : Option Doubt) (now : ℕ → List ℕ) (began : ℕ → ℕ) → next.number ≡ job.number → next.kind ≡ job.kind →
+  pub going-sound : (next : Job) (flight : Option Append) (doubt : Option Doubt) (now : ℕ → List ℕ) (began : ℕ → ℕ) → next.number ≡ job.number → next.kind ≡ job.kind → job.place ≤ next.place →
       ((id : ℕ) → id < next_id old.records → now id ≡ old.bytes id) →
       ((k : ℕ) → (k ≡ job.number → ⊥) → moves_made flight k ≡ moves_made old.append k) →
       IsSoundJob (setup_in old) old.records now (moves_made flight job.number) next →
+      IsReady (setup_in old) old.journal now next next.kind →
       (IsPutUnderWay next next.kind → IsPutUnderWay job job.kind × (next.subject ≡ job.subject)) →
       appends_left (setup_in old) next ≡ appends_left (setup_in old) job →
       ((a : Append) → flight ≡ Some a → IsSoundAppend (gone_on old next flight doubt now began) a) →
       (old.is_barred ≡ true → flight ≡ None) →
       (old.is_open ≡ true → old.is_barred ≡ false → IsDoubtOf flight doubt) →
-      ((d : Doubt) → doubt ≡ Some d → MayFollow old.records now d.entry) →
+      ((d : Doubt) → doubt ≡ Some d → MayFollow old.records old.journal (journal_end old) now d.entry) →
       IsSound limit (gone_on old next flight doubt now began)
   unfolding setup_in
-  going-sound next flight doubt now began number kind stay others own under count append barred undoubted doubts = record {
+  going-sound next flight doubt now began number kind place stay others own own_ready under count append barred undoubted doubts = record {
     accepted = S.accepted;
-    in_grammar = S.in_grammar;
-    room = (let a = sum-with (reserved (setup_in old)) old.jobs next job found in let b = room-same (setup_in old) job next kind count in let c = S.room in omega (arith, a, b, c));
+    spelled = S.spelled;
+    journal = journal-same old (gone_on old next flight doubt now began) refl refl refl refl S.journal;
+    room = (let a = sum-with (reserved (version_of old.records) (setup_in old)) old.jobs next job found in let b = room-same (version_of old.records) (setup_in old) job next kind count in let c = S.room in omega (arith, a, b, c));
     files = held-on old.bytes now old.records S.accepted stay S.files;
     names = (let a = taken-fewer old.records old.records old.jobs (with_job old.jobs next) (λ n h. ap (λ b. b || is_some (file_of old.records n)) (sym (put-with n old.jobs next job found kind)) ∙ h) in let b = S.names in omega (arith, a, b));
+    ids = λ l. (let a = sum-with starts_left old.jobs next job found in let b = starts-on job next kind place in let c = S.ids (omega (arith, l, a, b)) in omega (arith, a, b, c));
+    audits = λ k j h is_audit l. elim (found_with old.jobs next k j h) [
+      | inl p ↦ S.audits job.number job runs (sym kind ∙ (ap (λ (z : Job). z.kind) (sym p.1) ∙ is_audit)) (let e = ap (λ (z : Job). z.place) p.1 in omega (arith, l, e, place))
+      | inr q ↦ S.audits k j q.1 is_audit l
+    ];
     closed = λ closed. absurd (found_some (S.closed closed).0);
     set_up = S.set_up;
     handed = S.handed;
@@ -179,6 +185,14 @@ module _ (limit : ℕ) (old : State) (S : IsSound limit old) (job : Job) (runs :
       | inl p ↦ subst (λ (z : Job). IsSoundJob (setup_in old) old.records now (moves_made flight k) z) (sym p.1) (subst (λ n. IsSoundJob (setup_in old) old.records now (moves_made flight n) next) (sym (p.0 ∙ number)) own)
       | inr q ↦ kept (setup_in old) old.records old.bytes now stay (moves_made old.append k) (moves_made flight k) j (others k (λ e. q.0 (e ∙ sym number))) (S.jobs k j q.1)
     ];
+    in_journal = λ k j h. elim (found_with old.jobs next k j h) [
+      | inl p ↦ subst (λ (z : Job). IsReady (setup_in old) old.journal now z z.kind) (sym p.1) own_ready
+      | inr q ↦ kept-ready (setup_in old) old.journal old.bytes now (λ id l. stay id (let e = S.journal.alike.id in omega (arith, l, e))) j j.kind (S.in_journal k j q.1)
+    ];
+    lone = λ x e. absurd (found_some (S.lone x e));
+    packing = S.packing;
+    switching = λ e. absurd (found_some (S.switching e).jobs);
+    upgrade = λ k j h u. (let a = back k j h in only-with old.jobs next job a.0 found (S.upgrade k a.0 a.1 (subst (λ kd. IsTrue (is_upgrade kd)) a.2 u)) k j h);
     one_check = λ k l i j hi hj ci cj. (let a = back k i hi in let b = back l j hj in
         S.one_check k l a.0 b.0 a.1 b.1 (subst (λ kd. IsTrue (is_check kd)) a.2 ci) (subst (λ kd. IsTrue (is_check kd)) b.2 cj));
     apart = λ k l i j hi hj ui uj same. (let a = under-back k i hi ui in let b = under-back l j hj uj in
@@ -244,9 +258,10 @@ module _ (limit : ℕ) (old : State) (S : IsSound limit old) (job : Job) (runs :
       (let o = order-now action given next n in
       let count = count-now action given next n plain in
       let none : moves_made old.append job.number ≡ 0 = o.0 ∙ before in
-      going-sound (onward job job.subject given) old.append old.doubt old.bytes old.audits refl refl (λ id l. refl) (λ k l. refl)
+      going-sound (onward job job.subject given) old.append old.doubt old.bytes old.audits refl refl (omega arith) (λ id l. refl) (λ k l. refl)
       (went (setup_in old) old.records old.bytes old.bytes (λ id l. refl) old (moves_made old.append job.number) (moves_made old.append job.number) job job.subject given action next plain (λ l. refl) (λ l. refl) (S.jobs job.number job runs).subject count
       (subst (λ m. IsInOrder m (actions_left (setup_in old) (onward job job.subject given))) (after ∙ sym none) o.1) (S.jobs job.number job runs))
+      (went-ready (setup_in old) old.journal old.bytes old.bytes (λ id l. refl) old job job.subject given action next plain (λ l. refl) (λ l. refl) count job.kind refl (S.in_journal job.number job runs))
       (under job.kind refl next plain)
       count
       (λ a flight. append-other (onward job job.subject given) old.append old.doubt old.audits a refl (not-mine a flight none) (S.append a flight))
@@ -264,3 +279,4 @@ module _ (limit : ℕ) (old : State) (S : IsSound limit old) (job : Job) (runs :
       under (DropJob name) kind next plain l = absurd l
       under AuditJob kind next plain l = absurd l
       under RepairJob kind next plain l = absurd l
+      under UpgradeJob kind next plain l = absurd l

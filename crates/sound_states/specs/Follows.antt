@@ -3,15 +3,17 @@
 --   IsHeld bytes id size       == an object number stands for bytes, and for so many
 --   BringsHeld bytes entry     == so does the number that a record brings in as a file
 --   AreHeld bytes rs           == so does the number of each file in effect
---   MayFollow rs bytes entry   == a record may come into effect on top of these: it is in the grammar, the
---                                 fold accepts it, the journal has room for it, and a file that it brings
+--   MayFollow rs journal end bytes entry   == a record may come into effect on top of a history and of the
+--                                 journal that the disk holds, which has this end: it has a spelling, the
+--                                 folds accept it, the journal has room for it, and a file that it brings
 --                                 in has its bytes
+--   MayFollowIn w entry        == so it may in a state
 use Rattle.std.specs.Prelude.{◌≡◌, ℕ, ◌+◌, ◌≤◌, IsTrue, List, length, None, Some}
-use Rattle.hail_records.specs.Records.{Record, SetUp, PutStart, PutDone, Drop, AuditStart, AuditDone, RepairDone, PutDoneIn, Version, Resume, InEffect, RepairDue, is_in_grammar, record_size, largest_journal}
-use Rattle.hail_records.specs.Journal.{text_size}
+use Rattle.hail_records.specs.Records.{Record, SetUp, PutStart, PutDone, Drop, AuditStart, AuditDone, RepairDone, PutDoneIn, Version, Resume, InEffect, RepairDue, is_spelled, record_size, largest_journal}
 use Rattle.hail_records.specs.Table.{File, file_of}
 use Rattle.hail_records.specs.Acceptance.{refused}
 use Rattle.hail_machine.specs.Events.{AreBytes}
+use Rattle.hail_machine.specs.States.{State, journal_end}
 
 -- an object number stands for bytes, and for so many
 abbrev pub IsHeld : (ℕ → List ℕ) → ℕ → ℕ → Type 0
@@ -37,9 +39,14 @@ abbrev pub AreHeld : (ℕ → List ℕ) → List Record → Type 0
 AreHeld bytes rs =
     (name : List ℕ) (file : File) → file_of rs name ≡ Some file → IsHeld bytes file.id file.size
 
--- a record may come into effect on top of these
-pub record MayFollow (rs : List Record) (bytes : ℕ → List ℕ) (entry : Record) : Type 0 where
-  pub in_grammar : IsTrue (is_in_grammar entry)
+-- a record may come into effect on top of a history and of the journal that the disk holds
+pub record MayFollow (rs journal : List Record) (end : ℕ) (bytes : ℕ → List ℕ) (entry : Record) : Type 0 where
+  pub spelled : IsTrue (is_spelled entry)
   pub accepted : refused rs entry ≡ None
-  pub room : text_size rs + (1 + record_size entry) ≤ largest_journal
+  pub in_journal : refused journal entry ≡ None
+  pub room : end + (1 + record_size entry) ≤ largest_journal
   pub held : BringsHeld bytes entry
+
+-- so it may in a state
+abbrev pub MayFollowIn : State → Record → Type 0
+MayFollowIn w entry = MayFollow w.records w.journal (journal_end w) w.bytes entry

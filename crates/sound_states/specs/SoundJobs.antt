@@ -9,14 +9,15 @@
 --                                         second append is done
 --   IsReady s rs bytes job kind        == what stands in the records for a job, so that they accept its
 --                                         next record
+--   IsPlainJob s job                   == a job and the files that it works on have the setup's profile
 --   IsSoundJob s rs bytes moves job    == all that holds of a running job, of whose append in flight so
 --                                         many moves are made
 use Rattle.std.specs.Prelude.{◌≡◌, ◌⊎◌, ℕ, ◌^◌, ◌<◌, ◌≤◌, true, IsTrue, List, [], ◌∷◌, length, None, Some}
 use Rattle.std.specs.List.{Contains}
-use Rattle.hail_records.specs.Records.{Setup, Record, is_name, largest_file, most_files}
-use Rattle.hail_records.specs.Table.{next_id, started_as, running_audit, due_of}
+use Rattle.hail_records.specs.Records.{Setup, Record, is_name, largest_file, most_files, all_profiles}
+use Rattle.hail_records.specs.Table.{version_of, next_id, started_as, running_audit, due_of}
 use Rattle.hail_records.specs.Acceptance.{is_due}
-use Rattle.hail_machine.specs.Jobs.{Kind, PutJob, GetJob, DropJob, AuditJob, RepairJob, Pinned, Job}
+use Rattle.hail_machine.specs.Jobs.{Kind, PutJob, GetJob, DropJob, AuditJob, RepairJob, UpgradeJob, Pinned, Job}
 use Rattle.hail_machine.specs.Actions.{actions_left, appends_left}
 use Rattle.hail_machine.specs.Events.{AreBytes, IsSpelledKind}
 use Rattle.sound_states.specs.Orders.{IsInOrder, AreAscending}
@@ -60,7 +61,13 @@ IsReady s rs bytes job AuditJob =
     (job.place < 4 → due_of rs ≡ None)
     × (4 ≤ job.place → 0 < appends_left s job → running_audit rs ≡ Some job.subject)
 IsReady s rs bytes job RepairJob = 0 < appends_left s job → is_due job.subject (due_of rs) ≡ true
+IsReady s rs bytes job UpgradeJob = 0 < appends_left s job → version_of rs ≡ 1
 IsReady s rs bytes job kind = Unit {0}
+
+-- a job and the files that it works on have the setup's profile
+pub record IsPlainJob (s : Setup) (job : Job) : Type 0 where
+  pub own : job.profile ≡ s.profile
+  pub pinned : (file : Pinned) → Contains job.pinned file → file.profile ≡ s.profile
 
 -- all that holds of a running job
 pub record IsSoundJob (s : Setup) (rs : List Record) (bytes : ℕ → List ℕ) (moves : ℕ)
@@ -76,3 +83,5 @@ pub record IsSoundJob (s : Setup) (rs : List Record) (bytes : ℕ → List ℕ) 
   pub undecided : 0 < appends_left s job → job.older ≡ []
   pub order : IsInOrder moves (actions_left s job)
   pub ready : IsReady s rs bytes job job.kind
+  pub profile : job.profile < all_profiles
+  pub plain : version_of rs ≡ 1 → IsPlainJob s job

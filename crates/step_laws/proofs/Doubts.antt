@@ -14,6 +14,7 @@ use Rattle.hail_machine.proofs.Events.{changes}
 use Rattle.hail_machine.proofs.Numbers.{objects, Draws}
 use Rattle.hail_machine.proofs.PinFacts.{setup_same, wrote_setup}
 use Rattle.hail_machine.proofs.Held.{All, all}
+use Rattle.hail_machine.proofs.PutProfiles as own
 use Rattle.run_laws.proofs.InEffect as eff
 use Rattle.run_laws.proofs.PutBytes.{Stands, stands_by}
 use Rattle.step_laws.specs.Made.{WasMade}
@@ -41,7 +42,7 @@ pub record Facts (start : State) (ms : List Moment) : Type 0 where
 
 -- a job and the same with one more action made
 advanced_later : (x : Job) → Later x (advanced x)
-advanced_later x = record { number = refl; kind = refl; begun = refl; pinned = refl; flagged = refl; subject = λ l. refl; place = omega arith; more = []; given = refl }
+advanced_later x = record { number = refl; kind = refl; profile = refl; begun = refl; pinned = refl; flagged = refl; subject = λ l. refl; place = omega arith; more = []; given = refl }
 
 done_on : (limit : ℕ) (start : State) (m : Moment) (ms : List Moment) (x : Job) (entry : Record) →
     IsWritten (now start ms) → Changes limit (length ms) (now start ms) m.event m.outcome m.state →
@@ -55,7 +56,7 @@ done_on limit start m ms x entry N X setup d = record {
       (d.own name bytes kind late);
 }
 
-module _ (limit : ℕ) (start : State) (m : Moment) (ms : List Moment) (A : All start ms) (I : eff.Facts (now start ms)) (F : Facts start ms) (X : Changes limit (length ms) (now start ms) m.event m.outcome m.state) (W : Walked (length ms) (now start ms) m.event m.outcome m.state) where
+module _ (limit : ℕ) (start : State) (m : Moment) (ms : List Moment) (A : All start ms) (V : own.Facts start ms) (I : eff.Facts (now start ms)) (F : Facts start ms) (X : Changes limit (length ms) (now start ms) m.event m.outcome m.state) (W : Walked (length ms) (now start ms) m.event m.outcome m.state) where
   done_now : (x : Job) (a : Append) → job_of (now start ms).jobs x.number ≡ Some x → (now start ms).append ≡ Some a → a.job ≡ x.number → m.state.records ≡ (now start ms).records → Done start (m ∷ ms) x a.entry
   done_now x a runs flight mine rec =
       (let setup = setup_same m.state (now start ms) (ap setup_of rec) in
@@ -83,15 +84,15 @@ module _ (limit : ℕ) (start : State) (m : Moment) (ms : List Moment) (A : All 
           Standing.by_job x maker (done_on limit start m ms x d.entry A.numbers.written X setup done)
 
   step_facts : Facts start (m ∷ ms)
-  step_facts = record { made = made.step_facts limit start m ms A F.made X W; flights = flight_step limit start m ms A F.made F.flights X W; doubt = doubt_step }
+  step_facts = record { made = made.step_facts limit start m ms A F.made X W; flights = flight_step limit start m ms A V F.made F.flights X W; doubt = doubt_step }
 
 pub facts : (limit : ℕ) (start : State) → IsStart start → (ms : List Moment) → IsRun limit start ms → Facts start ms
 facts limit start clean [] run = record { made = made.start_facts start clean; flights = start_flights start clean; doubt = λ d h. absurd (let e : None ≡ Some d = sym clean.doubt ∙ h in cc) }
 facts limit start clean (m ∷ ms) run =
     (let A = all limit start clean ms run.2 in
-    step_facts limit start m ms A (eff.facts limit start ms clean run.2) (facts limit start clean ms run.2)
+    step_facts limit start m ms A (own.facts limit start clean ms run.2) (eff.facts limit start ms clean run.2) (facts limit start clean ms run.2)
     (changes limit (length ms) (now start ms) m.event m.outcome m.state A.numbers.idle run.1)
-    (walked (length ms) (now start ms) limit m.event m.outcome m.state run.1))
+    (walked (length ms) (now start ms) limit m.event m.outcome m.state A.numbers.idle.lone run.1))
 
 -- ---- setups stay
 

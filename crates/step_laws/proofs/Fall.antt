@@ -13,8 +13,8 @@ use Rattle.plain_facts.proofs.Lists.{get_behind}
 use Rattle.hail_codes.specs.Points.{upto}
 use Rattle.hail_records.specs.Records.{Setup}
 use Rattle.hail_records.specs.Table.{File}
-use Rattle.hail_machine.specs.Jobs.{Kind, PutJob, GetJob, DropJob, AuditJob, RepairJob, Given, Job, job_of, advanced, advanced_with}
-use Rattle.hail_machine.specs.Setups.{stripes_of}
+use Rattle.hail_machine.specs.Jobs.{Kind, PutJob, GetJob, DropJob, AuditJob, RepairJob, UpgradeJob, Given, Job, job_of, advanced, advanced_with}
+use Rattle.hail_machine.specs.Setups.{profiled, stripes_of}
 use Rattle.hail_machine.specs.Actions.{Action, WriteBody, SyncBody, WriteGate, SyncGate, Store, Fetch, Ask, Work, Remove, End, append_actions, on_each_provider, on_each_stripe, store_actions, read_actions, repair_actions, ask_actions, remove_actions, actions_by, actions_of, ends_append}
 use Rattle.hail_machine.specs.Left.{removes_older, is_undecided, most_left}
 use Rattle.hail_machine.specs.Events.{Step, More}
@@ -277,6 +277,7 @@ module _ (w : State) (x : Job) (next_at : slice_get (actions_of (setup_in w) x) 
   finish (GetJob name) l kind is = finish_rest (GetJob name) l kind refl refl
   finish AuditJob l kind is = finish_rest AuditJob l kind refl refl
   finish RepairJob l kind is = finish_rest RepairJob l kind refl refl
+  finish UpgradeJob l kind is = finish_rest UpgradeJob l kind refl refl
 
 -- ---- a number drawn leaves the shape
 
@@ -288,24 +289,25 @@ store_shape : (n m stripe : ℕ) (us : List ℕ) → shape (map (λ j. Store j n
 store_shape n m stripe [] = refl
 store_shape n m stripe (u ∷ us) = ap (λ l. false ∷ l) (store_shape n m stripe us)
 
-stores_shape : (t : Setup) (n m : ℕ) (bytes : List ℕ) (rest : List Action) →
-    shape (on_each_stripe t (length bytes) (λ stripe. on_each_provider t (λ j. Store j n stripe)) ++ rest) ≡ shape (on_each_stripe t (length bytes) (λ stripe. on_each_provider t (λ j. Store j m stripe)) ++ rest)
-stores_shape t n m bytes rest =
-    (let k = on_each_stripe t (length bytes) (λ stripe. on_each_provider t (λ j. Store j n stripe)) in
-    let l = on_each_stripe t (length bytes) (λ stripe. on_each_provider t (λ j. Store j m stripe)) in
+stores_shape : (t : Setup) (p n m : ℕ) (bytes : List ℕ) (rest : List Action) →
+    shape (on_each_stripe (profiled t p) (length bytes) (λ stripe. on_each_provider t (λ j. Store j n stripe)) ++ rest) ≡ shape (on_each_stripe (profiled t p) (length bytes) (λ stripe. on_each_provider t (λ j. Store j m stripe)) ++ rest)
+stores_shape t p n m bytes rest =
+    (let k = on_each_stripe (profiled t p) (length bytes) (λ stripe. on_each_provider t (λ j. Store j n stripe)) in
+    let l = on_each_stripe (profiled t p) (length bytes) (λ stripe. on_each_provider t (λ j. Store j m stripe)) in
     map-append ends_append k rest ∙ (ap (λ a. a ++ shape rest)
-    (flat_shape (λ stripe. on_each_provider t (λ j. Store j n stripe)) (λ stripe. on_each_provider t (λ j. Store j m stripe)) (upto (stripes_of t (length bytes))) (λ stripe. store_shape n m stripe (upto t.n)))
+    (flat_shape (λ stripe. on_each_provider t (λ j. Store j n stripe)) (λ stripe. on_each_provider t (λ j. Store j m stripe)) (upto (stripes_of (profiled t p) (length bytes))) (λ stripe. store_shape n m stripe (upto t.n)))
     ∙ sym (map-append ends_append l rest)))
 
 abbrev with_subject : Job → ℕ → Job
 with_subject x n = record (advanced x) { subject = n }
 
 subject_shape : (t : Setup) (x : Job) (n : ℕ) (kind : Kind) → shape (actions_by t (with_subject x n) kind) ≡ shape (actions_by t x kind)
-subject_shape t x n (PutJob name bytes) = ap (λ l. false ∷ false ∷ false ∷ true ∷ l) (stores_shape t n x.subject bytes (append_actions ++ (remove_actions t x ++ End ∷ [])))
+subject_shape t x n (PutJob name bytes) = ap (λ l. false ∷ false ∷ false ∷ true ∷ l) (stores_shape t x.profile n x.subject bytes (append_actions ++ (remove_actions t x ++ End ∷ [])))
 subject_shape t x n (GetJob name) = refl
 subject_shape t x n (DropJob name) = refl
 subject_shape t x n AuditJob = refl
 subject_shape t x n RepairJob = refl
+subject_shape t x n UpgradeJob = refl
 
 -- ---- a step that goes on
 
@@ -382,6 +384,7 @@ ongoing t x (GetJob name) = ongoing_behind (read_actions t x.pinned) (End ∷ []
 ongoing t x (DropJob name) = ongoing_behind append_actions (remove_actions t x ++ End ∷ []) (ongoing_behind (remove_actions t x) (End ∷ []) ongoing_end)
 ongoing t x AuditJob = ongoing_behind append_actions (ask_actions t x ++ (append_actions ++ End ∷ [])) (ongoing_behind (ask_actions t x) (append_actions ++ End ∷ []) (ongoing_behind append_actions (End ∷ []) ongoing_end))
 ongoing t x RepairJob = ongoing_behind (repair_actions t x) (append_actions ++ End ∷ []) (ongoing_behind append_actions (End ∷ []) ongoing_end)
+ongoing t x UpgradeJob = ongoing_behind append_actions (End ∷ []) ongoing_end
 
 goes_within : (t : Setup) (x : Job) → Ongoing (actions_of t x)
 goes_within t x = subst Ongoing (sym (list_is t x)) (ongoing t x x.kind)
@@ -400,7 +403,7 @@ module _ (limit : ℕ) (start : State) (m : Moment) (ms : List Moment) (A : All 
   within_step : (k : ℕ) (j : Job) → job_of m.state.jobs k ≡ Some j → j.place < length (actions_of (setup_in m.state) j)
   within_step k j h = subst (λ t. j.place < length (actions_of t j)) (sym (kept_setup k j h)) (elim (W.job k j h) [
     | Went.kept r apart ↦ F.within k j r
-    | Went.begun kind is k_is rec ↦ (let e : j.place ≡ 0 = ap (λ (x : Job). x.place) is in let l = (goes_within (setup_in (now start ms)) j).0 in omega (arith, e, l))
+    | Went.begun kind wish is k_is rec ↦ (let e : j.place ≡ 0 = ap (λ (x : Job). x.place) is in let l = (goes_within (setup_in (now start ms)) j).0 in omega (arith, e, l))
     | Went.went x action g ↦
         (let at : slice_get (actions_of (setup_in (now start ms)) j) x.place ≡ Some action = list_before (now start ms) x action m.state j x.place g.next g.passed (omega arith) ∙ list_now (now start ms) x action m.state j g.next g.passed in
         let place = passed_place (now start ms) x action m.state j g.passed in
@@ -413,7 +416,7 @@ module _ (limit : ℕ) (start : State) (m : Moment) (ms : List Moment) (A : All 
   older_step : (k : ℕ) (j : Job) → job_of m.state.jobs k ≡ Some j → is_undecided (setup_in m.state) j ≡ true → j.older ≡ []
   older_step k j h undecided = elim (W.job k j h) [
     | Went.kept r apart ↦ F.older k j r open_old
-    | Went.begun kind is k_is rec ↦ ap (λ (x : Job). x.older) is
+    | Went.begun kind wish is k_is rec ↦ ap (λ (x : Job). x.older) is
     | Went.went x action g ↦ (one_step (now start ms) x action m.state j g.next (F.older k x g.runs) g.passed).1 open_old
   ]
     where
@@ -427,7 +430,7 @@ module _ (limit : ℕ) (start : State) (m : Moment) (ms : List Moment) (A : All 
   pub stayed : (k : ℕ) (before job : Job) → job_of (now start ms).jobs k ≡ Some before → job_of m.state.jobs k ≡ Some job → (m.event ≡ Step k → m.outcome ≡ More → ⊥) → most_left (setup_in m.state) job ≡ most_left (setup_in (now start ms)) before
   stayed k before job runs h other = ap (λ t. most_left t job) (kept_setup k job h) ∙ elim (W.job k job h) [
     | Went.kept r apart ↦ ap (most_left (setup_in (now start ms))) (same_value _ job before r runs)
-    | Went.begun kind is k_is rec ↦ absurd (let l = A.numbers.jobs_below k before runs in omega (arith, l, k_is))
+    | Went.begun kind wish is k_is rec ↦ absurd (let l = A.numbers.jobs_below k before runs in omega (arith, l, k_is))
     | Went.went x action g ↦ absurd (other g.event g.outcome)
   ]
 
@@ -437,7 +440,7 @@ module _ (limit : ℕ) (start : State) (m : Moment) (ms : List Moment) (A : All 
   fell k before job runs h event outcome =
       subst (λ t. (most_left (setup_in (now start ms)) before ≡ suc (most_left t job)) ⊎ (SkipsRemovals t before job × (most_left (setup_in (now start ms)) before ≡ suc (most_left t job + t.n)))) (sym (kept_setup k job h)) (elim (W.job k job h) [
         | Went.kept r apart ↦ absurd (apart event outcome)
-        | Went.begun kind is k_is rec ↦ absurd (let l = A.numbers.jobs_below k before runs in omega (arith, l, k_is))
+        | Went.begun kind wish is k_is rec ↦ absurd (let l = A.numbers.jobs_below k before runs in omega (arith, l, k_is))
         | Went.went x action g ↦ subst (λ (y : Job). FallsBy (setup_in (now start ms)) y job) (same_value _ x before g.runs runs) (one_step (now start ms) x action m.state job g.next (F.older k x g.runs) g.passed).0
       ])
 
@@ -447,7 +450,7 @@ facts limit start clean (m ∷ ms) run =
     (let A = all limit start clean ms run.2 in
     step_facts limit start m ms A (facts limit start clean ms run.2)
     (changes limit (length ms) (now start ms) m.event m.outcome m.state A.numbers.idle run.1)
-    (walked (length ms) (now start ms) limit m.event m.outcome m.state run.1))
+    (walked (length ms) (now start ms) limit m.event m.outcome m.state A.numbers.idle.lone run.1))
 
 -- at least one step is left to a job that runs
 pub one_left : (start : State) (ms : List Moment) → Facts start ms → (k : ℕ) (j : Job) → job_of (now start ms).jobs k ≡ Some j → 1 ≤ most_left (setup_in (now start ms)) j

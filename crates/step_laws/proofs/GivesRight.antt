@@ -1,5 +1,5 @@
 -- The own blocks of all providers give a stripe's symbols.
-use Rattle.std.specs.Prelude.{◌≡◌, ℕ, zero, suc, ◌+◌, ◌*◌, ◌<◌, ◌≤◌, Bool, false, List, [], map, Option, Some, option_and_then}
+use Rattle.std.specs.Prelude.{◌≡◌, ℕ, zero, suc, ◌+◌, ◌*◌, ◌<◌, ◌≤◌, Bool, false, List, map, Option, Some, option_and_then}
 use Rattle.std.specs.List.{range_with_len}
 use Rattle.std.proofs.Common.{arith, ap, sym, refl, ◌∙◌}
 use Rattle.std.proofs.Math.Nat.{mul-le-mul_right}

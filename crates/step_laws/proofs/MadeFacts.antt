@@ -6,17 +6,17 @@ use Rattle.std.proofs.lemmas.List.{append_assoc}
 use Rattle.plain_facts.specs.Lists.{In}
 use Rattle.plain_facts.proofs.Each.{each_get, each_append}
 use Rattle.hail_columns.specs.Challenges.{honest_answer, challenge_of}
-use Rattle.hail_columns.specs.Opened.{GivesSymbols, block_at}
+use Rattle.hail_columns.specs.Opened.{SeenBlock, GivesSymbols, block_at}
 use Rattle.hail_devices.specs.Providers.{Held}
 use Rattle.hail_devices.specs.ProviderCalls.{AskGives}
 use Rattle.hail_records.specs.Records.{Setup}
 use Rattle.hail_records.specs.Table.{setup_of}
-use Rattle.hail_machine.specs.Jobs.{Kind, PutJob, GetJob, DropJob, AuditJob, RepairJob, Pinned, Given, Fetched, Answered, Worked, Job, job_of}
-use Rattle.hail_machine.specs.Setups.{object_of}
+use Rattle.hail_machine.specs.Jobs.{Kind, PutJob, GetJob, DropJob, AuditJob, RepairJob, UpgradeJob, Pinned, Given, Fetched, Answered, Worked, Job, job_of}
+use Rattle.hail_machine.specs.Setups.{object_of, profiled}
 use Rattle.hail_machine.specs.Actions.{Action, WriteBody, SyncBody, WriteGate, SyncGate, Store, Remove, Fetch, Ask, Work, End, append_actions, store_actions, read_actions, repair_actions, ask_actions, remove_actions, actions_by, actions_of}
 use Rattle.hail_machine.specs.Events.{Step}
 use Rattle.hail_machine.specs.States.{State, IsStart, setup_in}
-use Rattle.hail_machine.specs.Given.{block_given, blocks_given, answer_given, symbols_given, pinned_size}
+use Rattle.hail_machine.specs.Given.{block_given, blocks_given, answer_given, symbols_given, pinned_size, pinned_profile}
 use Rattle.hail_machine.specs.Steps.{next_action}
 use Rattle.hail_machine.specs.Runs.{Moment, now, IsRun}
 use Rattle.hail_machine.specs.Deeds.{Makes}
@@ -28,6 +28,7 @@ use Rattle.hail_machine.proofs.PinFacts.{setup_same, setup_one, wrote_setup}
 use Rattle.hail_machine.proofs.Held.{All, all}
 use Rattle.hail_machine.proofs.Given.{block_at-given}
 use Rattle.hail_machine.proofs.NextActions.{next_stands}
+use Rattle.calm_laws.specs.Origins.{IsHeldThen}
 use Rattle.step_laws.specs.Made.{IsEarlier, WasMade}
 use Rattle.step_laws.specs.Gave.{WasFetched, WasAsked, WasOpened, IsAnsweredThen}
 use Rattle.step_laws.specs.Behind.{HasMade}
@@ -165,6 +166,7 @@ earlier_on : (maker x j : Job) → Later x j → IsEarlier maker x → IsEarlier
 earlier_on maker x j l e = record {
   number = e.number ∙ l.number;
   kind = e.kind ∙ l.kind;
+  profile = e.profile ∙ l.profile;
   begun = e.begun ∙ l.begun;
   pinned = e.pinned ∙ l.pinned;
   flagged = e.flagged ∙ l.flagged;
@@ -199,13 +201,13 @@ fetched_on start m ms x j i o s block l c = record {
   maker = c.maker;
   same = earlier_on c.maker x j l c.same;
   makes = c.makes;
-  held = c.held;
+  held = subst (λ fs. IsHeldThen (now start c.before) c.moment.state fs i o s block) l.pinned c.held;
 }
 
 -- what is honest hangs on the setup, the audit's number and its files
 abbrev Honest : Setup → ℕ → List Pinned → ℕ → ℕ → Option Held → Option ℕ → Type 0
 Honest t subject pinned object round held symbol =
-    AskGives (honest_answer (challenge_of (object_of t object) (pinned_size pinned object) t.picks subject round)) object held symbol
+    AskGives (honest_answer (challenge_of (object_of (profiled t (pinned_profile t.profile pinned object)) object) (pinned_size pinned object) t.picks subject round)) object held symbol
 
 answered_on : (w v : State) (x j : Job) (old new : State) (i o r : ℕ) (symbol : Option ℕ) → setup_in v ≡ setup_in w → x.subject ≡ j.subject → x.pinned ≡ j.pinned → IsAnsweredThen w x old new i o r symbol → IsAnsweredThen v j old new i o r symbol
 answered_on w v x j old new i o r symbol setup subject pinned (inl g) = inl (subst (λ t. Honest t j.subject j.pinned o r (old.providers i).held symbol) (sym setup)
@@ -233,6 +235,7 @@ ask_late_by t job AuditJob p i o r h = elim (split_get append_actions (ask_actio
 ]
 ask_late_by t job RepairJob p i o r h = absurd (each_get NoAsk (repair_actions t job ++ (append_actions ++ End ∷ [])) p (Ask i o r)
     (each_append NoAsk (repair_actions t job) (append_actions ++ End ∷ []) (repairs_all t job NoAsk (λ f st in_f l. (λ j. tt, tt, λ j. tt))) (tt, (tt, (tt, (tt, (tt, tt)))))) h)
+ask_late_by t job UpgradeJob p i o r h = absurd (each_get NoAsk (append_actions ++ End ∷ []) p (Ask i o r) (tt, (tt, (tt, (tt, (tt, tt))))) h)
 
 ask_late : (w : State) (job : Job) (i o r : ℕ) → next_action w job ≡ Some (Ask i o r) → 4 ≤ job.place
 ask_late w job i o r h = ask_late_by (setup_in w) job job.kind job.place i o r (by_kind (setup_in w) job job.kind job.place (Ask i o r) refl (next_stands w job (Ask i o r) h (λ e. cc)))
@@ -251,10 +254,14 @@ asked_on start m ms x j i o r symbol setup l c = record {
       answered_on (now start ms) m.state x j (now start c.before) c.moment.state i o r symbol setup (l.subject (omega (arith, late, p))) l.pinned c.answered);
 }
 
+-- blocks open to symbols of an object among these files
+abbrev Gives : Setup → List Pinned → ℕ → ℕ → List SeenBlock → List ℕ → Type 0
+Gives t files o s blocks symbols = GivesSymbols (object_of (profiled t (pinned_profile t.profile files o)) o) s blocks symbols
+
 opened_on : (start : State) (m : Moment) (ms : List Moment) (x j : Job) (o s : ℕ) (symbols : List ℕ) → setup_in m.state ≡ setup_in (now start ms) → Later x j → WasOpened start ms x o s symbols → WasOpened start (m ∷ ms) j o s symbols
 opened_on start m ms x j o s symbols setup l c = record {
   blocks = c.blocks;
-  opens = subst (λ t. GivesSymbols (object_of t o) s c.blocks symbols) (sym setup) c.opens;
+  opens = subst (λ t. Gives t j.pinned o s c.blocks symbols) (sym setup) (subst (λ fs. Gives (setup_in (now start ms)) fs o s c.blocks symbols) l.pinned c.opens);
   fetched = λ i k. fetched_on start m ms x j i o s (block_at c.blocks i) l (c.fetched i (subst (λ (t : Setup). i < t.n) setup k));
 }
 
@@ -295,7 +302,7 @@ module _ (limit : ℕ) (start : State) (m : Moment) (ms : List Moment) (A : All 
   setup_kept k j h = setup_same m.state (now start ms) (elim (X.job k j h) [
     | Job_is.kept r (Grown.as_before rec) ↦ ap setup_of rec
     | Job_is.kept r (Grown.by_other x a runs next_is flight mine other rec) ↦ setup_one limit start m ms A.numbers A.pins X a x flight runs mine rec
-    | Job_is.begun kd is k_is allowed rec ↦ ap setup_of rec
+    | Job_is.begun kd wish is k_is allowed rec ↦ ap setup_of rec
     | Job_is.plain x action runs next_is is_plain goes rec st ↦ ap setup_of rec
     | Job_is.drew x runs next_is none_ is rec ↦ ap setup_of rec
     | Job_is.finished x a runs next_is flight mine is rec none_ ↦
@@ -305,7 +312,7 @@ module _ (limit : ℕ) (start : State) (m : Moment) (ms : List Moment) (A : All 
   begun_step : (k : ℕ) (j : Job) → job_of m.state.jobs k ≡ Some j → j.begun < suc (length ms)
   begun_step k j h = elim (W.job k j h) [
     | Went.kept r apart ↦ (let l = F.begun k j r in omega (arith, l))
-    | Went.begun kind is k_is rec ↦ (let e : j.begun ≡ length ms = ap (λ (x : Job). x.begun) is in omega (arith, e))
+    | Went.begun kind wish is k_is rec ↦ (let e : j.begun ≡ length ms = ap (λ (x : Job). x.begun) is in omega (arith, e))
     | Went.went x action g ↦ (let l = F.begun k x g.runs in let e = (passed_later (now start ms) x action m.state j g.passed).begun in omega (arith, l, e))
   ]
 
@@ -334,15 +341,15 @@ module _ (limit : ℕ) (start : State) (m : Moment) (ms : List Moment) (A : All 
       earlier_now : (x j : Job) (action : Action) → Passed (now start ms) x action m.state j → IsEarlier x j
       earlier_now x j action passed = (let l = passed_later (now start ms) x action m.state j passed in
           let p = passed_place (now start ms) x action m.state j passed in
-          record { number = l.number; kind = l.kind; begun = l.begun; pinned = l.pinned; flagged = l.flagged; subject = l.subject; place = omega (arith, p) })
+          record { number = l.number; kind = l.kind; profile = l.profile; begun = l.begun; pinned = l.pinned; flagged = l.flagged; subject = l.subject; place = omega (arith, p) })
 
       makes_now : (k : ℕ) (x j : Job) (action : Action) → Goes (now start ms) m.event m.outcome m.state k x action j → Makes (now start ms) m x action
-      makes_now k x j action g = record { event = g.event ∙ ap Step (sym g.number); is_open = g.is_open; unbarred = g.unbarred; runs = subst (λ n. job_of (now start ms).jobs n ≡ Some x) (sym g.number) g.runs; next = g.next; unheld = g.unheld }
+      makes_now k x j action g = record { event = g.event ∙ ap Step (sym g.number); is_open = g.is_open; unbarred = g.unbarred; none_alone = g.none_alone; runs = subst (λ n. job_of (now start ms).jobs n ≡ Some x) (sym g.number) g.runs; next = g.next; unheld = g.unheld }
 
   made_step : (k : ℕ) (j : Job) (p : ℕ) (action : Action) → job_of m.state.jobs k ≡ Some j → p < j.place → slice_get (actions_of (setup_in m.state) j) p ≡ Some action → WasMade start (m ∷ ms) j action × HasGift action j.given
   made_step k j p action h l at = elim (W.job k j h) [
     | Went.kept r apart ↦ (let f = F.made k j p action r l at_old in (made_on start m ms j j action (later_same j) f.0, f.1))
-    | Went.begun kind is k_is rec ↦ absurd (let e : j.place ≡ 0 = ap (λ (x : Job). x.place) is in omega (arith, l, e))
+    | Went.begun kind wish is k_is rec ↦ absurd (let e : j.place ≡ 0 = ap (λ (x : Job). x.place) is in omega (arith, l, e))
     | Went.went x act g ↦ went_on x act g
   ]
     where
@@ -364,7 +371,7 @@ module _ (limit : ℕ) (start : State) (m : Moment) (ms : List Moment) (A : All 
   came_now : (k : ℕ) (x j : Job) (action : Action) (gift : Given) → Goes (now start ms) m.event m.outcome m.state k x action j → job_of m.state.jobs k ≡ Some j → IsGift (now start ms) x m.state action gift → CameBy start (m ∷ ms) j gift
   unfolding made_now
   came_now k x j (Fetch i o s) gift g h (block, is, held) = subst (CameBy start (m ∷ ms) j) (sym is)
-      (let c = made_now k x j (Fetch i o s) g h in record { later = []; moment = m; before = ms; split = refl; since = c.since; maker = x; same = c.same; makes = c.makes; held = held })
+      (let c = made_now k x j (Fetch i o s) g h in record { later = []; moment = m; before = ms; split = refl; since = c.since; maker = x; same = c.same; makes = c.makes; held = subst (λ fs. IsHeldThen (now start ms) m.state fs i o s block) (passed_later (now start ms) x (Fetch i o s) m.state j g.passed).pinned held })
   came_now k x j (Ask i o r) gift g h (symbol, is, held) = subst (CameBy start (m ∷ ms) j) (sym is)
       (let c = made_now k x j (Ask i o r) g h in
       let l = passed_later (now start ms) x (Ask i o r) m.state j g.passed in
@@ -385,7 +392,8 @@ module _ (limit : ℕ) (start : State) (m : Moment) (ms : List Moment) (A : All 
       let at = next_stands (now start ms) x (Work o s) g.next (λ e. cc) in
       record {
         blocks = blocks_given x.given (setup_in (now start ms)).n o s;
-        opens = subst (λ t. GivesSymbols (object_of t o) s (blocks_given x.given (setup_in (now start ms)).n o s) symbols) (sym setup) gives;
+        opens = subst (λ t. Gives t j.pinned o s (blocks_given x.given (setup_in (now start ms)).n o s) symbols) (sym setup)
+            (subst (λ fs. Gives (setup_in (now start ms)) fs o s (blocks_given x.given (setup_in (now start ms)).n o s) symbols) l.pinned gives);
         fetched = λ i n.
             (let n_old : i < (setup_in (now start ms)).n = subst (λ (t : Setup). i < t.n) setup n in
             let c = fetched_at start ms F k x x.place i o s g.runs (omega arith) at n_old in
@@ -402,7 +410,7 @@ module _ (limit : ℕ) (start : State) (m : Moment) (ms : List Moment) (A : All 
   came_step : (k : ℕ) (j : Job) (gift : Given) → job_of m.state.jobs k ≡ Some j → In gift j.given → CameBy start (m ∷ ms) j gift
   came_step k j gift h i = elim (W.job k j h) [
     | Went.kept r apart ↦ came_on start m ms j j gift (setup_kept k j h) (later_same j) (F.came k j gift r i)
-    | Went.begun kind is k_is rec ↦ absurd (subst (In gift) (ap (λ (x : Job). x.given) is) i)
+    | Went.begun kind wish is k_is rec ↦ absurd (subst (In gift) (ap (λ (x : Job). x.given) is) i)
     | Went.went x action g ↦ by_passed x action g g.passed
   ]
     where
@@ -435,7 +443,7 @@ facts limit start clean (m ∷ ms) run =
     (let A = all limit start clean ms run.2 in
     step_facts limit start m ms A (facts limit start clean ms run.2)
     (changes limit (length ms) (now start ms) m.event m.outcome m.state A.numbers.idle run.1)
-    (walked (length ms) (now start ms) limit m.event m.outcome m.state run.1))
+    (walked (length ms) (now start ms) limit m.event m.outcome m.state A.numbers.idle.lone run.1))
 
 -- what a fetch, a work on a stripe or an ask that a running job has made gave it
 pub made_fetch_gave : (limit : ℕ) (start : State) → IsStart start → (ms : List Moment) → IsRun limit start ms → (k : ℕ) (j : Job) (i o s : ℕ) → job_of (now start ms).jobs k ≡ Some j →

@@ -4,7 +4,7 @@ use Rattle.std.specs.Prelude.{slice_get}
 use Rattle.std.proofs.lemmas.Bool.{cases_lt}
 use Rattle.plain_facts.proofs.Each.{each_get}
 use Rattle.hail_records.specs.Records.{Setup}
-use Rattle.hail_machine.specs.Jobs.{Kind, PutJob, GetJob, DropJob, AuditJob, RepairJob, Given, Job, advanced, advanced_with}
+use Rattle.hail_machine.specs.Jobs.{Kind, PutJob, GetJob, DropJob, AuditJob, RepairJob, UpgradeJob, Given, Job, advanced, advanced_with}
 use Rattle.hail_machine.specs.Actions.{Action, WriteBody, SyncGate, End, append_actions, store_actions, remove_actions, actions_by, actions_of}
 use Rattle.hail_machine.specs.States.{State, setup_in}
 use Rattle.hail_machine.specs.Appends.{subject_drawn, taken_out}
@@ -21,6 +21,7 @@ use Rattle.step_laws.proofs.Places.{by_kind, tail_all}
 pub record Later (x j : Job) : Type 0 where
   pub number : x.number ≡ j.number
   pub kind : x.kind ≡ j.kind
+  pub profile : x.profile ≡ j.profile
   pub begun : x.begun ≡ j.begun
   pub pinned : x.pinned ≡ j.pinned
   pub flagged : x.flagged ≡ j.flagged
@@ -30,20 +31,21 @@ pub record Later (x j : Job) : Type 0 where
   pub given : j.given ≡ more ++ x.given
 
 pub later_same : (x : Job) → Later x x
-later_same x = record { number = refl; kind = refl; begun = refl; pinned = refl; flagged = refl; subject = λ l. refl; place = omega arith; more = []; given = refl }
+later_same x = record { number = refl; kind = refl; profile = refl; begun = refl; pinned = refl; flagged = refl; subject = λ l. refl; place = omega arith; more = []; given = refl }
 
 on_to : (x y j : Job) → j ≡ y → Later x y → Later x j
 on_to x y j is h = subst (Later x) (sym is) h
 
 pub passed_later : (old : State) (x : Job) (action : Action) (new : State) (j : Job) → Passed old x action new j → Later x j
 passed_later old x action new j (Passed.silent quiet is rec) =
-    on_to x (advanced x) j is (record { number = refl; kind = refl; begun = refl; pinned = refl; flagged = refl; subject = λ l. refl; place = omega arith; more = []; given = refl })
+    on_to x (advanced x) j is (record { number = refl; kind = refl; profile = refl; begun = refl; pinned = refl; flagged = refl; subject = λ l. refl; place = omega arith; more = []; given = refl })
 passed_later old x action new j (Passed.gave gift is_gift is rec) =
-    on_to x (advanced_with x gift) j is (record { number = refl; kind = refl; begun = refl; pinned = refl; flagged = refl; subject = λ l. refl; place = omega arith; more = gift ∷ []; given = refl })
+    on_to x (advanced_with x gift) j is (record { number = refl; kind = refl; profile = refl; begun = refl; pinned = refl; flagged = refl; subject = λ l. refl; place = omega arith; more = gift ∷ []; given = refl })
 passed_later old x action new j (Passed.drew act is rec) =
     on_to x (record (advanced x) { subject = subject_drawn old x x.kind }) j is (record {
       number = refl;
       kind = refl;
+      profile = refl;
       begun = refl;
       pinned = refl;
       flagged = refl;
@@ -53,7 +55,7 @@ passed_later old x action new j (Passed.drew act is rec) =
       given = refl;
     })
 passed_later old x action new j (Passed.finished a act flight mine is rec) =
-    on_to x (record (advanced x) { older = taken_out old x x.kind }) j is (record { number = refl; kind = refl; begun = refl; pinned = refl; flagged = refl; subject = λ l. refl; place = omega arith; more = []; given = refl })
+    on_to x (record (advanced x) { older = taken_out old x x.kind }) j is (record { number = refl; kind = refl; profile = refl; begun = refl; pinned = refl; flagged = refl; subject = λ l. refl; place = omega arith; more = []; given = refl })
 
 pub passed_place : (old : State) (x : Job) (action : Action) (new : State) (j : Job) → Passed old x action new j → j.place ≡ x.place + 1
 passed_place old x action new j (Passed.silent quiet is rec) = ap (λ (y : Job). y.place) is
@@ -92,6 +94,7 @@ same_given s x gift (GetJob name) = refl
 same_given s x gift (DropJob name) = refl
 same_given s x gift AuditJob = refl
 same_given s x gift RepairJob = refl
+same_given s x gift UpgradeJob = refl
 
 -- a job with a number drawn
 abbrev with_subject : Job → ℕ → Job
@@ -107,6 +110,7 @@ subject_first s x n p (GetJob name) l = refl
 subject_first s x n p (DropJob name) l = refl
 subject_first s x n p AuditJob l = refl
 subject_first s x n p RepairJob l = refl
+subject_first s x n p UpgradeJob l = refl
 
 subject_same : (s : Setup) (x : Job) (n p : ℕ) (kind : Kind) → n ≡ x.subject → slice_get (actions_by s (with_subject x n) kind) p ≡ slice_get (actions_by s x kind) p
 subject_same s x n p kind e = subst (λ m. slice_get (actions_by s (with_subject x m) kind) p ≡ slice_get (actions_by s x kind) p) (sym e) (ap (λ l. slice_get l p) (actions_by-advanced s x kind))
@@ -117,6 +121,7 @@ older_first s x l p (GetJob name) k = refl
 older_first s x l p (DropJob name) k = four_same _ _ p k
 older_first s x l p AuditJob k = refl
 older_first s x l p RepairJob k = refl
+older_first s x l p UpgradeJob k = refl
 
 -- where the fourth moves of a put and a drop stand
 pub gate_within : (w : State) (x : Job) (name bytes : List ℕ) → x.kind ≡ PutJob name bytes → next_action w x ≡ Some SyncGate → (x.place < 4) ⊎ (x.place < 8 + length (store_actions (setup_in w) x bytes))
@@ -149,6 +154,7 @@ older_same w x l p (DropJob name) kind h k =
     let a = drop_gate (setup_in w) x name x.place at in older_first (setup_in w) x l p (DropJob name) (omega (arith, a, k)))
 older_same w x l p AuditJob kind h k = refl
 older_same w x l p RepairJob kind h k = refl
+older_same w x l p UpgradeJob kind h k = refl
 
 pub list_is : (s : Setup) (x : Job) → actions_of s x ≡ actions_by s x x.kind
 list_is s x = actions_are s x x.kind refl

@@ -8,8 +8,8 @@ use Rattle.plain_facts.proofs.Each.{each_get, each_append, each_map, each_flat, 
 use Rattle.plain_facts.proofs.Lists.{get_behind}
 use Rattle.hail_codes.specs.Points.{upto}
 use Rattle.hail_records.specs.Records.{Setup}
-use Rattle.hail_machine.specs.Jobs.{Kind, PutJob, GetJob, DropJob, AuditJob, RepairJob, Pinned, Job}
-use Rattle.hail_machine.specs.Setups.{stripes_of, pinned_stripes}
+use Rattle.hail_machine.specs.Jobs.{Kind, PutJob, GetJob, DropJob, AuditJob, RepairJob, UpgradeJob, Pinned, Job}
+use Rattle.hail_machine.specs.Setups.{profiled, pinned_stripes, put_stripes}
 use Rattle.hail_machine.specs.Actions.{Action, WriteBody, SyncBody, WriteGate, SyncGate, Store, Fetch, Ask, Work, Remove, End, append_actions, on_each_provider, on_each_stripe, store_actions, open_actions, read_actions, rewrite_actions, repair_actions, rounds_of, ask_actions, remove_actions, actions_by, actions_of}
 use Rattle.hail_machine.specs.States.{State, setup_in}
 use Rattle.hail_machine.specs.Steps.{next_action, is_idle_drop}
@@ -111,12 +111,12 @@ pub removals : (t : Setup) (job : Job) (P : Action → Type 0) → ((j o : ℕ) 
 removals t job P h = each_flat P (λ object. on_each_provider t (λ j. Remove j object)) job.older (λ o. each_map P (λ j. Remove j o) (upto t.n) (λ j. h j o))
 
 pub stores_all : (t : Setup) (job : Job) (bytes : List ℕ) (P : Action → Type 0) → ((j s : ℕ) → P (Store j job.subject s)) → Each P (store_actions t job bytes)
-stores_all t job bytes P h = each_flat P (λ stripe. on_each_provider t (λ j. Store j job.subject stripe)) (upto (stripes_of t (length bytes)))
+stores_all t job bytes P h = each_flat P (λ stripe. on_each_provider t (λ j. Store j job.subject stripe)) (upto (put_stripes t job bytes))
     (λ stripe. each_map P (λ j. Store j job.subject stripe) (upto t.n) (λ j. h j stripe))
 
 pub asks_all : (t : Setup) (job : Job) (P : Action → Type 0) → ((j o r : ℕ) → P (Ask j o r)) → Each P (ask_actions t job)
-asks_all t job P h = each_flat P (λ (f : Pinned). flat_map (λ round. on_each_provider t (λ j. Ask j f.id round)) (rounds_of t (length f.bytes))) job.pinned
-    (λ f. each_flat P (λ round. on_each_provider t (λ j. Ask j f.id round)) (rounds_of t (length f.bytes))
+asks_all t job P h = each_flat P (λ (f : Pinned). flat_map (λ round. on_each_provider t (λ j. Ask j f.id round)) (rounds_of (profiled t f.profile) (length f.bytes))) job.pinned
+    (λ f. each_flat P (λ round. on_each_provider t (λ j. Ask j f.id round)) (rounds_of (profiled t f.profile) (length f.bytes))
     (λ round. each_map P (λ j. Ask j f.id round) (upto t.n) (λ j. h j f.id round)))
 
 pub tail_all : (t : Setup) (job : Job) (P : Action → Type 0) → ((j o : ℕ) → P (Remove j o)) → P End → Each P (remove_actions t job ++ End ∷ [])
@@ -133,7 +133,7 @@ work_behind t job (PutJob name bytes) i o s l = behind_none (Fetch i o s) (Work 
     (each_append NoWork (store_actions t job bytes) (append_actions ++ (remove_actions t job ++ End ∷ [])) (stores_all t job bytes NoWork (λ j st. tt))
     (moves_all NoWork (remove_actions t job ++ End ∷ []) no_work_moves (tail_all t job NoWork (λ j st. tt) tt)))))
 work_behind t job (GetJob name) i o s l = behind_append (Fetch i o s) (Work o s) (read_actions t job.pinned) (End ∷ [])
-    (behind_flat (Fetch i o s) (Work o s) (λ (f : Pinned). on_each_stripe t (length f.bytes) (open_actions t f.id)) job.pinned
+    (behind_flat (Fetch i o s) (Work o s) (λ (f : Pinned). on_each_stripe (profiled t f.profile) (length f.bytes) (open_actions t f.id)) job.pinned
     (λ f in_f. behind_flat (Fetch i o s) (Work o s) (open_actions t f.id) (upto (pinned_stripes t f)) (λ st in_st. open_behind t f.id st i o s l)))
     (behind_none (Fetch i o s) (Work o s) (End ∷ []) (each_not NoWork (Work o s) (End ∷ []) (λ z. z) (tt, tt)))
 work_behind t job (DropJob name) i o s l = behind_none (Fetch i o s) (Work o s) (actions_by t job (DropJob name)) (each_not NoWork (Work o s) (actions_by t job (DropJob name)) (λ z. z)
@@ -142,9 +142,11 @@ work_behind t job AuditJob i o s l = behind_none (Fetch i o s) (Work o s) (actio
     (moves_all NoWork (ask_actions t job ++ (append_actions ++ End ∷ [])) no_work_moves
     (each_append NoWork (ask_actions t job) (append_actions ++ End ∷ []) (asks_all t job NoWork (λ j st r. tt)) (moves_all NoWork (End ∷ []) no_work_moves (tt, tt)))))
 work_behind t job RepairJob i o s l = behind_append (Fetch i o s) (Work o s) (repair_actions t job) (append_actions ++ End ∷ [])
-    (behind_flat (Fetch i o s) (Work o s) (λ (f : Pinned). on_each_stripe t (length f.bytes) (λ stripe. open_actions t f.id stripe ++ rewrite_actions t job f.id stripe)) job.pinned
+    (behind_flat (Fetch i o s) (Work o s) (λ (f : Pinned). on_each_stripe (profiled t f.profile) (length f.bytes) (λ stripe. open_actions t f.id stripe ++ rewrite_actions t job f.id stripe)) job.pinned
     (λ f in_f. behind_flat (Fetch i o s) (Work o s) (λ stripe. open_actions t f.id stripe ++ rewrite_actions t job f.id stripe) (upto (pinned_stripes t f)) (λ st in_st. piece_opens t job f.id st i o s l)))
     (behind_none (Fetch i o s) (Work o s) (append_actions ++ End ∷ []) (each_not NoWork (Work o s) (append_actions ++ End ∷ []) (λ z. z) (tt, (tt, (tt, (tt, (tt, tt)))))))
+work_behind t job UpgradeJob i o s l = behind_none (Fetch i o s) (Work o s) (append_actions ++ End ∷ [])
+    (each_not NoWork (Work o s) (append_actions ++ End ∷ []) (λ z. z) (tt, (tt, (tt, (tt, (tt, tt))))))
 
 -- before each place of the work on a stripe stands each fetch of it
 pub fetch_before_work : (t : Setup) (job : Job) (p i o s : ℕ) → slice_get (actions_of t job) p ≡ Some (Work o s) → i < t.n → (q : ℕ) × (q < p) × (slice_get (actions_of t job) q ≡ Some (Fetch i o s))
@@ -156,14 +158,14 @@ fetched_before_work w job o s i h l = (let r = fetch_before_work (setup_in w) jo
 -- ---- what stands before the end of a get
 
 pub reads_all : (t : Setup) (pinned : List Pinned) (P : Action → Type 0) → ((j o st : ℕ) → P (Fetch j o st)) → ((o st : ℕ) → P (Work o st)) → Each P (read_actions t pinned)
-reads_all t pinned P f g = each_flat P (λ (f : Pinned). on_each_stripe t (length f.bytes) (open_actions t f.id)) pinned
+reads_all t pinned P f g = each_flat P (λ (f : Pinned). on_each_stripe (profiled t f.profile) (length f.bytes) (open_actions t f.id)) pinned
     (λ h. each_flat P (open_actions t h.id) (upto (pinned_stripes t h)) (λ st. opens_nothing t P h.id st (λ j. f j h.id st) (g h.id st)))
 
 reads_call : (t : Setup) (pinned : List Pinned) → Each IsCall (read_actions t pinned)
 reads_call t pinned = reads_all t pinned IsCall (λ j o st. tt) (λ o st. tt)
 
 pub fetch_stands : (t : Setup) (job : Job) (name : List ℕ) (f : Pinned) (s i : ℕ) → In f job.pinned → s < pinned_stripes t f → i < t.n → Stands (Fetch i f.id s) (read_actions t job.pinned)
-fetch_stands t job name f s i in_f l k = stands_flat (λ (g : Pinned). on_each_stripe t (length g.bytes) (open_actions t g.id)) job.pinned f (Fetch i f.id s) in_f
+fetch_stands t job name f s i in_f l k = stands_flat (λ (g : Pinned). on_each_stripe (profiled t g.profile) (length g.bytes) (open_actions t g.id)) job.pinned f (Fetch i f.id s) in_f
     (stands_flat (open_actions t f.id) (upto (pinned_stripes t f)) s (Fetch i f.id s) (in_upto (pinned_stripes t f) s l)
     (stands_left (on_each_provider t (λ j. Fetch j f.id s)) (Work f.id s ∷ []) (Fetch i f.id s) (fetches_stand t f.id s i k)))
 
@@ -186,7 +188,7 @@ IsPinnedStore t job (Store j o s) = (f : Pinned) × In f job.pinned × (f.id ≡
 IsPinnedStore t job action = Unit {0}
 
 pub repairs_all : (t : Setup) (job : Job) (P : Action → Type 0) → ((f : Pinned) (st : ℕ) → In f job.pinned → st < pinned_stripes t f → ((j : ℕ) → P (Fetch j f.id st)) × P (Work f.id st) × ((j : ℕ) → P (Store j f.id st))) → Each P (repair_actions t job)
-repairs_all t job P h = each_flat_in P (λ (f : Pinned). on_each_stripe t (length f.bytes) (λ stripe. open_actions t f.id stripe ++ rewrite_actions t job f.id stripe)) job.pinned
+repairs_all t job P h = each_flat_in P (λ (f : Pinned). on_each_stripe (profiled t f.profile) (length f.bytes) (λ stripe. open_actions t f.id stripe ++ rewrite_actions t job f.id stripe)) job.pinned
     (λ f in_f. each_flat_in P (λ stripe. open_actions t f.id stripe ++ rewrite_actions t job f.id stripe) (upto (pinned_stripes t f))
     (λ st in_st. (let g = h f st in_f (upto_in (pinned_stripes t f) st in_st) in
     each_append P (open_actions t f.id st) (rewrite_actions t job f.id st) (opens_nothing t P f.id st g.0 g.1) (rewrites_fair t job P f.id st g.2))))
@@ -198,7 +200,7 @@ store_pinned t job = each_append (IsPinnedStore t job) (repair_actions t job) (a
 
 stores_behind : (t : Setup) (job : Job) (i o s : ℕ) → Behind (Work o s) (Store i o s) (actions_by t job RepairJob)
 stores_behind t job i o s = behind_append (Work o s) (Store i o s) (repair_actions t job) (append_actions ++ End ∷ [])
-    (behind_flat (Work o s) (Store i o s) (λ (f : Pinned). on_each_stripe t (length f.bytes) (λ stripe. open_actions t f.id stripe ++ rewrite_actions t job f.id stripe)) job.pinned
+    (behind_flat (Work o s) (Store i o s) (λ (f : Pinned). on_each_stripe (profiled t f.profile) (length f.bytes) (λ stripe. open_actions t f.id stripe ++ rewrite_actions t job f.id stripe)) job.pinned
     (λ f in_f. behind_flat (Work o s) (Store i o s) (λ stripe. open_actions t f.id stripe ++ rewrite_actions t job f.id stripe) (upto (pinned_stripes t f)) (λ st in_st. piece_stores t job f.id st i o s)))
     (behind_none (Work o s) (Store i o s) (append_actions ++ End ∷ []) (each_not NoStore (Store i o s) (append_actions ++ End ∷ []) (λ z. z) (tt, (tt, (tt, (tt, (tt, tt)))))))
 
@@ -217,7 +219,7 @@ repair_calls : (t : Setup) (job : Job) → Each IsCall (repair_actions t job)
 repair_calls t job = repairs_all t job IsCall (λ f st in_f l. (λ j. tt, tt, λ j. tt))
 
 pub store_in_repair : (t : Setup) (job : Job) (f : Pinned) (i s : ℕ) → In f job.pinned → job.flagged i ≡ true → i < t.n → s < pinned_stripes t f → Stands (Store i f.id s) (repair_actions t job)
-store_in_repair t job f i s in_f flag k l = stands_flat (λ (g : Pinned). on_each_stripe t (length g.bytes) (λ stripe. open_actions t g.id stripe ++ rewrite_actions t job g.id stripe)) job.pinned f (Store i f.id s) in_f
+store_in_repair t job f i s in_f flag k l = stands_flat (λ (g : Pinned). on_each_stripe (profiled t g.profile) (length g.bytes) (λ stripe. open_actions t g.id stripe ++ rewrite_actions t job g.id stripe)) job.pinned f (Store i f.id s) in_f
     (stands_flat (λ stripe. open_actions t f.id stripe ++ rewrite_actions t job f.id stripe) (upto (pinned_stripes t f)) s (Store i f.id s) (in_upto (pinned_stripes t f) s l)
     (stands_right (open_actions t f.id s) (rewrite_actions t job f.id s) (Store i f.id s)
     (stands_flat (λ j. cond (job.flagged j) (Store j f.id s ∷ []) []) (upto t.n) i (Store i f.id s) (in_upto t.n i k)
@@ -247,10 +249,10 @@ gate_behind w job p i o s kind h at =
 
 -- ---- the stores of a put
 
-pub put_store_at : (t : Setup) (job : Job) (name bytes : List ℕ) (i s : ℕ) → job.kind ≡ PutJob name bytes → i < t.n → s < stripes_of t (length bytes) →
+pub put_store_at : (t : Setup) (job : Job) (name bytes : List ℕ) (i s : ℕ) → job.kind ≡ PutJob name bytes → i < t.n → s < put_stripes t job bytes →
     (p : ℕ) × (p < 4 + length (store_actions t job bytes)) × (slice_get (actions_of t job) p ≡ Some (Store i job.subject s))
 put_store_at t job name bytes i s kind k l =
-    (let at = stands_flat (λ stripe. on_each_provider t (λ j. Store j job.subject stripe)) (upto (stripes_of t (length bytes))) s (Store i job.subject s) (in_upto (stripes_of t (length bytes)) s l)
+    (let at = stands_flat (λ stripe. on_each_provider t (λ j. Store j job.subject stripe)) (upto (put_stripes t job bytes)) s (Store i job.subject s) (in_upto (put_stripes t job bytes) s l)
     (stands_map (λ j. Store j job.subject s) (upto t.n) i (in_upto t.n i k)) in
     let early = slice_get_within (store_actions t job bytes) at.0 (Store i job.subject s) at.1 in (
       length append_actions + at.0,
@@ -260,7 +262,7 @@ put_store_at t job name bytes i s kind k l =
           (get_left (store_actions t job bytes) (append_actions ++ (remove_actions t job ++ End ∷ [])) at.0 (Store i job.subject s) at.1)),
     ))
 
-pub put_stores : (t : Setup) (job : Job) (name bytes : List ℕ) (i s : ℕ) → job.kind ≡ PutJob name bytes → 4 + length (store_actions t job bytes) ≤ job.place → i < t.n → s < stripes_of t (length bytes) → HasMadeStore t job i job.subject s
+pub put_stores : (t : Setup) (job : Job) (name bytes : List ℕ) (i s : ℕ) → job.kind ≡ PutJob name bytes → 4 + length (store_actions t job bytes) ≤ job.place → i < t.n → s < put_stripes t job bytes → HasMadeStore t job i job.subject s
 put_stores t job name bytes i s kind late k l = (let at = put_store_at t job name bytes i s kind k l in let e = at.1 in record { place = at.0; made = omega (arith, e, late); action = at.2 })
 
 -- a store
@@ -280,17 +282,17 @@ put_late_at w job name bytes p action h late none = elim (put_at w job name byte
 pub put_late : (w : State) (job : Job) (name bytes : List ℕ) (action : Action) → job.kind ≡ PutJob name bytes → next_action w job ≡ Some action → 4 ≤ job.place → (IsStore action → ⊥) → (action ≡ End → ⊥) → 4 + stores_count w job bytes ≤ job.place
 put_late w job name bytes action kind h late none other = put_late_at w job name bytes job.place action (by_kind (setup_in w) job (PutJob name bytes) job.place action kind (next_stands w job action h other)) late none
 
-pub stored_before_gate : (w : State) (job : Job) (name bytes : List ℕ) (i s : ℕ) → job.kind ≡ PutJob name bytes → next_action w job ≡ Some WriteGate → 4 ≤ job.place → i < (setup_in w).n → s < stripes_of (setup_in w) (length bytes) →
+pub stored_before_gate : (w : State) (job : Job) (name bytes : List ℕ) (i s : ℕ) → job.kind ≡ PutJob name bytes → next_action w job ≡ Some WriteGate → 4 ≤ job.place → i < (setup_in w).n → s < put_stripes (setup_in w) job bytes →
     HasMadeStore (setup_in w) job i job.subject s
 stored_before_gate w job name bytes i s kind h late k l = put_stores (setup_in w) job name bytes i s kind (put_late w job name bytes WriteGate kind h late (λ z. z) (λ e. cc)) k l
 
 -- ---- the asks of an audit
 
-pub ask_at : (t : Setup) (job : Job) (f : Pinned) (i r : ℕ) → job.kind ≡ AuditJob → In f job.pinned → i < t.n → In r (rounds_of t (length f.bytes)) →
+pub ask_at : (t : Setup) (job : Job) (f : Pinned) (i r : ℕ) → job.kind ≡ AuditJob → In f job.pinned → i < t.n → In r (rounds_of (profiled t f.profile) (length f.bytes)) →
     (p : ℕ) × (p < 4 + length (ask_actions t job)) × (slice_get (actions_of t job) p ≡ Some (Ask i f.id r))
 ask_at t job f i r kind in_f k in_r =
-    (let at = stands_flat (λ (g : Pinned). flat_map (λ round. on_each_provider t (λ j. Ask j g.id round)) (rounds_of t (length g.bytes))) job.pinned f (Ask i f.id r) in_f
-    (stands_flat (λ round. on_each_provider t (λ j. Ask j f.id round)) (rounds_of t (length f.bytes)) r (Ask i f.id r) in_r
+    (let at = stands_flat (λ (g : Pinned). flat_map (λ round. on_each_provider t (λ j. Ask j g.id round)) (rounds_of (profiled t g.profile) (length g.bytes))) job.pinned f (Ask i f.id r) in_f
+    (stands_flat (λ round. on_each_provider t (λ j. Ask j f.id round)) (rounds_of (profiled t f.profile) (length f.bytes)) r (Ask i f.id r) in_r
     (stands_map (λ j. Ask j f.id r) (upto t.n) i (in_upto t.n i k))) in
     let early = slice_get_within (ask_actions t job) at.0 (Ask i f.id r) at.1 in (
       length append_actions + at.0,

@@ -8,30 +8,35 @@ use Rattle.hail_records.specs.Table.{setup_of}
 use Rattle.hail_devices.specs.Providers.{Held, Provider, with_symbol, without_block, HasPlace}
 use Rattle.hail_devices.specs.ProviderCalls.{FailsToGive, Fetches, Asks}
 use Rattle.hail_columns.specs.Challenges.{honest_answer}
-use Rattle.hail_machine.specs.Jobs.{Kind, Job, Given, Fetched, Answered, Worked, job_of, with_job, without_job, advanced, advanced_with}
+use Rattle.hail_machine.specs.Jobs.{Kind, PutJob, Job, Given, Fetched, Answered, Worked, job_of, with_job, without_job, advanced, advanced_with}
 use Rattle.hail_machine.specs.Actions.{Action, WriteBody, SyncBody, WriteGate, SyncGate, Store, Fetch, Ask, Work, Remove, End}
 use Rattle.hail_machine.specs.Refusals as refusal
+use Rattle.hail_machine.specs.Refusals.{Refusal}
 use Rattle.hail_machine.specs.Answers as answer
-use Rattle.hail_machine.specs.Events.{Event, Init, Begin, Step, Alter, Lose, Stop, Reopen, Names, Continue, Outcome, Ready, Refused, Opened, Begun, More, Waiting, Ended, Replaced, NothingHeld, Stopped, Listed, Closed, Continued}
-use Rattle.hail_machine.specs.States.{State, Append, Doubt, object_in, setup_in, with_provider, given_up, Settles}
-use Rattle.hail_machine.specs.Begins.{new_job, Begins}
-use Rattle.hail_machine.specs.Given.{blocks_given, pinned_size}
-use Rattle.hail_machine.specs.Audits.{challenge_in}
+use Rattle.hail_machine.specs.Events.{Event, Init, Begin, BeginAt, BeginScrub, BeginPack, Step, Alter, Lose, Stop, Reopen, Names, Continue, Outcome, Ready, Refused, Opened, Begun, More, Waiting, Ended, Replaced, NothingHeld, Stopped, Listed, Closed, Continued}
+use Rattle.hail_machine.specs.States.{State, Append, Doubt, Alone, worked_object, setup_in, with_provider, Settles}
+use Rattle.hail_machine.specs.Begins.{beginning, BeginsAt}
+use Rattle.hail_machine.specs.Given.{blocks_given}
+use Rattle.hail_machine.specs.Audits.{asked_challenge}
 use Rattle.hail_machine.specs.Appends.{Moves, subject_drawn, taken_out}
-use Rattle.hail_machine.specs.Steps.{next_action, holder_of, Acts, ActsOrWaits, StepsOn, StepsJob, StepsOpen, Steps}
-use Rattle.hail_machine.specs.Openings.{LeavesDoubt, Stops, Reopens, InitsClosed, InitsBy, Inits, Continues}
+use Rattle.hail_machine.specs.Steps.{next_action, holder_of, Acts, ActsOrWaits, StepsOn, StepsJob, StepsMine, StepsOne, StepsOpen, Steps}
+use Rattle.hail_machine.specs.Alone.{number_alone, StepsAlone, BeginsAlone}
+use Rattle.hail_machine.specs.Openings.{LeavesDoubt, reread, Stops, Reopens, InitsClosed, InitsBy, Inits, Continues}
 use Rattle.hail_machine.specs.Replacements.{ReplacesAt, ReplacesIf}
 use Rattle.hail_machine.specs.Machine.{Lists, Happens}
+use Rattle.hail_machine.proofs.Asides.{steps_aside}
+use Rattle.hail_machine.proofs.Changes.{IsLone}
 use Rattle.hail_machine.proofs.JobLists.{cond_true, number_of, found_with, found_without, found_more, found_none}
 use Rattle.calm_laws.specs.Origins.{IsHeldThen}
+use Rattle.calm_laws.proofs.GetEnds.{none_beside}
 use Rattle.step_laws.specs.Gave.{IsAnsweredThen}
 
 -- what an action gave
 abbrev pub IsGift : State → Job → State → Action → Given → Type 0
-IsGift old x new (Fetch i o s) gift = (block : Option (List ℕ)) × (gift ≡ Fetched i o s block) × IsHeldThen old new i o s block
+IsGift old x new (Fetch i o s) gift = (block : Option (List ℕ)) × (gift ≡ Fetched i o s block) × IsHeldThen old new x.pinned i o s block
 IsGift old x new (Ask i o r) gift = (symbol : Option ℕ) × (gift ≡ Answered i o r symbol) × IsAnsweredThen old x old new i o r symbol
 IsGift old x new (Work o s) gift =
-    (symbols : List ℕ) × (gift ≡ Worked o s symbols) × GivesSymbols (object_in old o) s (blocks_given x.given (setup_in old).n o s) symbols
+    (symbols : List ℕ) × (gift ≡ Worked o s symbols) × GivesSymbols (worked_object old x o) s (blocks_given x.given (setup_in old).n o s) symbols
 IsGift old x new action gift = ⊥
 
 -- an action that gives nothing, draws nothing and puts no record in effect
@@ -57,6 +62,7 @@ pub record Goes (old : State) (e : Event) (r : Outcome) (new : State) (k : ℕ) 
   pub outcome : r ≡ More
   pub is_open : old.is_open ≡ true
   pub unbarred : old.is_barred ≡ false
+  pub none_alone : old.alone ≡ None
   pub runs : job_of old.jobs k ≡ Some x
   pub next : next_action old x ≡ Some action
   pub unheld : holder_of old.append action ≡ None
@@ -65,7 +71,7 @@ pub record Goes (old : State) (e : Event) (r : Outcome) (new : State) (k : ℕ) 
 -- a job that runs after an event
 pub data Went (moment : ℕ) (old : State) (e : Event) (r : Outcome) (new : State) (k : ℕ) (j : Job) : Type 0 where
   kept : job_of old.jobs k ≡ Some j → (e ≡ Step k → r ≡ More → ⊥) → Went moment old e r new k j
-  begun : (kind : Kind) → j ≡ new_job old moment kind → k ≡ old.next_job → new.records ≡ old.records → Went moment old e r new k j
+  begun : (kind : Kind) (wish : Option ℕ) → j ≡ beginning old moment kind wish → k ≡ old.next_job → new.records ≡ old.records → Went moment old e r new k j
   went : (x : Job) (action : Action) → Goes old e r new k x action j → Went moment old e r new k j
 
 -- what is in doubt after an event
@@ -96,7 +102,7 @@ module _ (moment : ℕ) (old : State) (e : Event) (r : Outcome) where
   ends new apart n jobs doubt = record { job = λ k j h. Went.kept (found_without old.jobs n k j (ap (λ l. job_of l k) (sym jobs) ∙ h)).1 (apart k); doubt = doubt }
 
 module _ (moment : ℕ) (old : State) where
-  module _ (job : Job) (runs : job_of old.jobs job.number ≡ Some job) (is_open : old.is_open ≡ true) (unbarred : old.is_barred ≡ false) where
+  module _ (job : Job) (runs : job_of old.jobs job.number ≡ Some job) (is_open : old.is_open ≡ true) (unbarred : old.is_barred ≡ false) (none_alone : old.alone ≡ None) where
     abbrev Result : Outcome → State → Type 0
     Result r new = Walked moment old (Step job.number) r new
 
@@ -122,6 +128,7 @@ module _ (moment : ℕ) (old : State) where
           outcome = refl;
           is_open = is_open;
           unbarred = unbarred;
+          none_alone = none_alone;
           runs = subst (λ n. job_of old.jobs n ≡ Some job) at runs;
           next = next_is;
           unheld = free;
@@ -161,13 +168,13 @@ module _ (moment : ℕ) (old : State) where
     moves action flight r new at next_is free h = absurd h
 
     -- what a call of a provider gave
-    found_by : (j o s : ℕ) (block : Option (List ℕ)) (p : Provider) (new : State) → Fetches (object_in old o).profile.size o s (old.providers j) block p → new.providers ≡ with_provider old.providers j p → IsHeldThen old new j o s block
+    found_by : (j o s : ℕ) (block : Option (List ℕ)) (p : Provider) (new : State) → Fetches (worked_object old job o).profile.size o s (old.providers j) block p → new.providers ≡ with_provider old.providers j p → IsHeldThen old new job.pinned j o s block
     found_by j o s block p new call providers = elim call.gives [
       | inl g ↦ inl g
       | inr f ↦ inr (subst (λ (x : Provider). FailsToGive (old.providers j) block x) (sym (ap (λ g. g j) providers ∙ cond_true (j == j) p (old.providers j) (eq-eqb j j refl))) f)
     ]
 
-    answered_by : (j o round : ℕ) (symbol : Option ℕ) (p : Provider) (new : State) → Asks (honest_answer (challenge_in (setup_in old) job o (pinned_size job.pinned o) round)) o (old.providers j) symbol p → new.providers ≡ with_provider old.providers j p →
+    answered_by : (j o round : ℕ) (symbol : Option ℕ) (p : Provider) (new : State) → Asks (honest_answer (asked_challenge (setup_in old) job o round)) o (old.providers j) symbol p → new.providers ≡ with_provider old.providers j p →
         IsAnsweredThen old job old new j o round symbol
     answered_by j o round symbol p new call providers = elim call.gives [
       | inl g ↦ inl g
@@ -212,36 +219,65 @@ module _ (moment : ℕ) (old : State) where
   closed_not : Closed ≡ More → ⊥
   closed_not e = cc
 
-  steps_job : (number : ℕ) (job : Option Job) (r : Outcome) (new : State) → old.is_open ≡ true → old.is_barred ≡ false → job_of old.jobs number ≡ job → StepsJob old job r new → Walked moment old (Step number) r new
-  steps_job number None (Refused refusal.NoSuchJob) new is_open unbarred is h = unchanged moment old (Step number) (Refused refusal.NoSuchJob) new (λ k e. refused_not refusal.NoSuchJob) h
-  steps_job number (Some job) r new is_open unbarred is h = (let same : job.number ≡ number = number_of old.jobs number job is in
-      subst (λ n. Walked moment old (Step n) r new) same (steps_on job (subst (λ n. job_of old.jobs n ≡ Some job) (sym same) is) is_open unbarred (next_action old job) r new refl h))
-  steps_job number None r new is_open unbarred is h = absurd h
+  steps_job : (number : ℕ) (job : Option Job) (r : Outcome) (new : State) → old.is_open ≡ true → old.is_barred ≡ false → IsLone old → job_of old.jobs number ≡ job → StepsJob old job r new → Walked moment old (Step number) r new
+  steps_job number None (Refused refusal.NoSuchJob) new is_open unbarred lone is h = unchanged moment old (Step number) (Refused refusal.NoSuchJob) new (λ k e. refused_not refusal.NoSuchJob) h
+  steps_job number (Some job) r new is_open unbarred lone is h = (let same : job.number ≡ number = number_of old.jobs number job is in
+      subst (λ n. Walked moment old (Step n) r new) same (steps_on job (subst (λ n. job_of old.jobs n ≡ Some job) (sym same) is) is_open unbarred (none_beside old number job lone is) (next_action old job) r new refl h))
+  steps_job number None r new is_open unbarred lone is h = absurd h
 
-  steps_open : (number : ℕ) (is_barred : Bool) (r : Outcome) (new : State) → old.is_open ≡ true → old.is_barred ≡ is_barred → StepsOpen old number is_barred r new → Walked moment old (Step number) r new
-  steps_open number true (Refused refusal.MustReopen) new is_open barred h = unchanged moment old (Step number) (Refused refusal.MustReopen) new (λ k e. refused_not refusal.MustReopen) h
-  steps_open number false r new is_open barred h = steps_job number (job_of old.jobs number) r new is_open barred refl h
-  steps_open number true r new is_open barred h = absurd h
+  steps_alone : (number : ℕ) (x : Alone) (r : Outcome) (new : State) → old.jobs ≡ [] → StepsAlone old x r new → Walked moment old (Step number) r new
+  steps_alone number x r new none h =
+      (let a = steps_aside old x r new h in
+      no_jobs moment old (Step number) r new (a.jobs ∙ none) (λ d g. Doubted.kept (sym a.doubt ∙ g) a.records))
 
-  steps : (number : ℕ) (is_open : Bool) (r : Outcome) (new : State) → old.is_open ≡ is_open → Steps old number is_open r new → Walked moment old (Step number) r new
-  steps number false Closed new is h = unchanged moment old (Step number) Closed new (λ k e. closed_not) h
-  steps number true r new is h = steps_open number old.is_barred r new is refl h
-  steps number false r new is h = absurd h
+  steps_mine : (number : ℕ) (x : Alone) (mine : Bool) (r : Outcome) (new : State) → old.is_open ≡ true → old.is_barred ≡ false → IsLone old → old.jobs ≡ [] → StepsMine old number x mine r new → Walked moment old (Step number) r new
+  steps_mine number x true r new is_open unbarred lone none h = steps_alone number x r new none h
+  steps_mine number x false r new is_open unbarred lone none h = steps_job number (job_of old.jobs number) r new is_open unbarred lone refl h
 
-  begins : (limit : ℕ) (kind : Kind) (r : Outcome) (new : State) → Begins limit moment old kind r new → Walked moment old (Begin kind) r new
-  begins limit kind Closed new h = unchanged moment old (Begin kind) Closed new (λ k e. closed_not) h.1
-  begins limit kind (Refused why) new h = unchanged moment old (Begin kind) (Refused why) new (λ k e. refused_not why) h.2
-  begins limit kind (Begun job) new h = record {
-    job = λ k j g. elim (found_more old.jobs (new_job old moment kind) k j (ap (λ l. job_of l k) (sym (ap (λ (w : State). w.jobs) h.3)) ∙ g)) [
-      | inl p ↦ Went.begun kind p.1 p.0 (ap (λ (w : State). w.records) h.3)
-      | inr q ↦ Went.kept q (λ e m. begun_not m)
+  steps_one : (number : ℕ) (alone : Option Alone) (r : Outcome) (new : State) → old.is_open ≡ true → old.is_barred ≡ false → IsLone old → old.alone ≡ alone → StepsOne old number alone r new → Walked moment old (Step number) r new
+  steps_one number None r new is_open unbarred lone is h = steps_job number (job_of old.jobs number) r new is_open unbarred lone refl h
+  steps_one number (Some x) r new is_open unbarred lone is h = steps_mine number x (number_alone x == number) r new is_open unbarred lone (lone x is) h
+
+  steps_open : (number : ℕ) (is_barred : Bool) (r : Outcome) (new : State) → old.is_open ≡ true → old.is_barred ≡ is_barred → IsLone old → StepsOpen old number is_barred r new → Walked moment old (Step number) r new
+  steps_open number true (Refused refusal.MustReopen) new is_open barred lone h = unchanged moment old (Step number) (Refused refusal.MustReopen) new (λ k e. refused_not refusal.MustReopen) h
+  steps_open number false r new is_open barred lone h = steps_one number old.alone r new is_open barred lone refl h
+  steps_open number true r new is_open barred lone h = absurd h
+
+  steps : (number : ℕ) (is_open : Bool) (r : Outcome) (new : State) → old.is_open ≡ is_open → IsLone old → Steps old number is_open r new → Walked moment old (Step number) r new
+  steps number false Closed new is lone h = unchanged moment old (Step number) Closed new (λ k e. closed_not) h
+  steps number true r new is lone h = steps_open number old.is_barred r new is refl lone h
+  steps number false r new is lone h = absurd h
+
+  begins : (e : Event) → ((k : ℕ) (r : Outcome) → e ≡ Step k → r ≡ More → ⊥) → (limit : ℕ) (kind : Kind) (wish : Option ℕ) (r : Outcome) (new : State) → BeginsAt limit moment old kind wish r new → Walked moment old e r new
+  begins e apart limit kind wish Closed new h = unchanged moment old e Closed new (λ k. apart k Closed) h.1
+  begins e apart limit kind wish (Refused why) new h = unchanged moment old e (Refused why) new (λ k. apart k (Refused why)) h.2
+  begins e apart limit kind wish (Begun job) new h = record {
+    job = λ k j g. elim (found_more old.jobs (beginning old moment kind wish) k j (ap (λ l. job_of l k) (sym (ap (λ (w : State). w.jobs) h.3)) ∙ g)) [
+      | inl p ↦ Went.begun kind wish p.1 p.0 (ap (λ (w : State). w.records) h.3)
+      | inr q ↦ Went.kept q (apart k (Begun job))
     ];
     doubt = λ d g. Doubted.kept (ap (λ (w : State). w.doubt) (sym h.3) ∙ g) (ap (λ (w : State). w.records) h.3);
   }
-    where
-      begun_not : Begun job ≡ More → ⊥
-      begun_not e = cc
-  begins limit kind r new h = absurd h
+  begins e apart limit kind wish r new h = absurd h
+
+  begins_alone : (e : Event) → ((k : ℕ) (r : Outcome) → e ≡ Step k → r ≡ More → ⊥) → (why : Option Refusal) (x : Alone) (r : Outcome) (new : State) → BeginsAlone old why x r new → Walked moment old e r new
+  begins_alone e apart why x Closed new h = unchanged moment old e Closed new (λ k. apart k Closed) h.1
+  begins_alone e apart why x (Refused refused) new h = unchanged moment old e (Refused refused) new (λ k. apart k (Refused refused)) h.2
+  begins_alone e apart why x (Begun job) new h = same_jobs moment old e (Begun job) new (λ k. apart k (Begun job)) (ap (λ (w : State). w.jobs) h.3)
+      (λ d g. Doubted.kept (ap (λ (w : State). w.doubt) (sym h.3) ∙ g) (ap (λ (w : State). w.records) h.3))
+  begins_alone e apart why x r new h = absurd h
+
+  begin_not : (kind : Kind) (k : ℕ) (r : Outcome) → Begin kind ≡ Step k → r ≡ More → ⊥
+  begin_not kind k r e m = cc
+
+  begin_at_not : (profile : ℕ) (name bytes : List ℕ) (k : ℕ) (r : Outcome) → BeginAt profile name bytes ≡ Step k → r ≡ More → ⊥
+  begin_at_not profile name bytes k r e m = cc
+
+  begin_scrub_not : (k : ℕ) (r : Outcome) → BeginScrub ≡ Step k → r ≡ More → ⊥
+  begin_scrub_not k r e m = cc
+
+  begin_pack_not : (k : ℕ) (r : Outcome) → BeginPack ≡ Step k → r ≡ More → ⊥
+  begin_pack_not k r e m = cc
 
   settled_doubt : (left mid : State) → Settles left mid → mid.doubt ≡ None
   settled_doubt left mid (inl is) = ap (λ (w : State). w.doubt) is
@@ -252,13 +288,13 @@ module _ (moment : ℕ) (old : State) where
   settled_jobs left mid (inr (d, at, is)) = ap (λ (w : State). w.jobs) is
 
   stops : (picks : List ℕ) (r : Outcome) (new : State) → Stops old r new → Walked moment old (Stop picks) r new
-  stops picks Stopped new h = no_jobs moment old (Stop picks) Stopped new (settled_jobs (given_up old) new h) (no_doubt new.doubt old new (settled_doubt (given_up old) new h))
+  stops picks Stopped new (journal, area, holds, h) = no_jobs moment old (Stop picks) Stopped new (settled_jobs (reread old journal area) new h) (no_doubt new.doubt old new (settled_doubt (reread old journal area) new h))
   stops picks r new h = absurd h
 
   reopens : (r : Outcome) (new : State) → Reopens old r new → Walked moment old Reopen r new
-  reopens Opened new (mid, s, up, enough, (faults, low, is)) = no_jobs moment old Reopen Opened new (ap (λ (w : State). w.jobs) is ∙ settled_jobs (given_up old) mid s) (no_doubt new.doubt old new (ap (λ (w : State). w.doubt) is ∙ settled_doubt (given_up old) mid s))
-  reopens (Refused refusal.NotSetUp) new (mid, s, nothing, (faults, low, is)) = no_jobs moment old Reopen (Refused refusal.NotSetUp) new (ap (λ (w : State). w.jobs) is ∙ settled_jobs (given_up old) mid s) (no_doubt new.doubt old new (ap (λ (w : State). w.doubt) is ∙ settled_doubt (given_up old) mid s))
-  reopens (Refused refusal.TooFewProviders) new (mid, s, up, few, (faults, low, is)) = no_jobs moment old Reopen (Refused refusal.TooFewProviders) new (ap (λ (w : State). w.jobs) is ∙ settled_jobs (given_up old) mid s) (no_doubt new.doubt old new (ap (λ (w : State). w.doubt) is ∙ settled_doubt (given_up old) mid s))
+  reopens Opened new (mid, (journal, area, holds, s), up, enough, (faults, low, is)) = no_jobs moment old Reopen Opened new (ap (λ (w : State). w.jobs) is ∙ settled_jobs (reread old journal area) mid s) (no_doubt new.doubt old new (ap (λ (w : State). w.doubt) is ∙ settled_doubt (reread old journal area) mid s))
+  reopens (Refused refusal.NotSetUp) new (mid, (journal, area, holds, s), nothing, (faults, low, is)) = no_jobs moment old Reopen (Refused refusal.NotSetUp) new (ap (λ (w : State). w.jobs) is ∙ settled_jobs (reread old journal area) mid s) (no_doubt new.doubt old new (ap (λ (w : State). w.doubt) is ∙ settled_doubt (reread old journal area) mid s))
+  reopens (Refused refusal.TooFewProviders) new (mid, (journal, area, holds, s), up, few, (faults, low, is)) = no_jobs moment old Reopen (Refused refusal.TooFewProviders) new (ap (λ (w : State). w.jobs) is ∙ settled_jobs (reread old journal area) mid s) (no_doubt new.doubt old new (ap (λ (w : State). w.doubt) is ∙ settled_doubt (reread old journal area) mid s))
   reopens (Refused refusal.DiskFault) new (faults, low, rose, is) = no_jobs moment old Reopen (Refused refusal.DiskFault) new (ap (λ (w : State). w.jobs) is) (λ d h. Doubted.kept (ap (λ (w : State). w.doubt) (sym is) ∙ h) (ap (λ (w : State). w.records) is))
   reopens (Refused refusal.Memory) new (faults, low, is) = no_jobs moment old Reopen (Refused refusal.Memory) new (ap (λ (w : State). w.jobs) is) (λ d h. Doubted.kept (ap (λ (w : State). w.doubt) (sym is) ∙ h) (ap (λ (w : State). w.records) is))
   reopens r new h = absurd h
@@ -325,15 +361,18 @@ module _ (moment : ℕ) (old : State) where
   lose_not : (j object stripe : ℕ) (r : Outcome) (k : ℕ) → Lose j object stripe ≡ Step k → r ≡ More → ⊥
   lose_not j object stripe r k e m = cc
 
-  pub walked : (limit : ℕ) (e : Event) (r : Outcome) (new : State) → Happens limit moment old e r new → Walked moment old e r new
-  walked limit (Init s) r new h = inits s old.is_open r new h
-  walked limit (Begin kind) r new h = begins limit kind r new h
-  walked limit (Step number) r new h = steps number old.is_open r new refl h
-  walked limit (Alter j object stripe place symbol) r new h =
+  pub walked : (limit : ℕ) (e : Event) (r : Outcome) (new : State) → IsLone old → Happens limit moment old e r new → Walked moment old e r new
+  walked limit (Init s) r new lone h = inits s old.is_open r new h
+  walked limit (Begin kind) r new lone h = begins (Begin kind) (begin_not kind) limit kind None r new h
+  walked limit (BeginAt profile name bytes) r new lone h = begins (BeginAt profile name bytes) (begin_at_not profile name bytes) limit (PutJob name bytes) (Some profile) r new h
+  walked limit BeginScrub r new lone h = begins_alone BeginScrub begin_scrub_not _ _ r new h
+  walked limit BeginPack r new lone h = begins_alone BeginPack begin_pack_not _ _ r new h
+  walked limit (Step number) r new lone h = steps number old.is_open r new refl lone h
+  walked limit (Alter j object stripe place symbol) r new lone h =
       replaces_if (nat_lt j old.handed) (Alter j object stripe place symbol) j (λ held. HasPlace (held object stripe) place) (with_symbol object stripe place symbol) r new (alter_not j object stripe place symbol r) h
-  walked limit (Lose j object stripe) r new h =
+  walked limit (Lose j object stripe) r new lone h =
       replaces_if (nat_lt j old.handed) (Lose j object stripe) j (λ held. IsSome (held object stripe)) (without_block object stripe) r new (lose_not j object stripe r) h
-  walked limit (Stop picks) r new h = stops picks r new h
-  walked limit Reopen r new h = reopens r new h
-  walked limit Names r new h = lists old.is_open r new h
-  walked limit Continue r new h = continues r new h
+  walked limit (Stop picks) r new lone h = stops picks r new h
+  walked limit Reopen r new lone h = reopens r new h
+  walked limit Names r new lone h = lists old.is_open r new h
+  walked limit Continue r new lone h = continues r new h

@@ -1,18 +1,21 @@
 -- Puts, repairs and audits have done all by the time of their last record.
-use Rattle.std.proofs.Common.{◌≡◌, ℕ, suc, ◌+◌, ◌<◌, ◌≤◌, ◌==◌, cond, List, [], ◌∷◌, ◌++◌, length, Option, Some, None, refl, ap, sym, subst, ◌∙◌, arith}
+use Rattle.std.proofs.Common.{◌≡◌, ℕ, suc, ◌+◌, ◌<◌, ◌≤◌, ◌==◌, false, cond, List, [], ◌∷◌, ◌++◌, length, Option, Some, None, refl, ap, sym, subst, ◌∙◌, arith}
 use Rattle.std.specs.Prelude.{slice_get}
 use Rattle.std.proofs.lemmas.Bool.{eq-eqb, ne_eqb}
 use Rattle.std.proofs.lemmas.Option.{slice_get_within}
 use Rattle.plain_facts.specs.Lists.{In}
-use Rattle.hail_records.specs.Records.{Setup, Record, SetUp, PutDone, AuditDone, RepairDone}
-use Rattle.hail_machine.specs.Jobs.{Kind, PutJob, GetJob, DropJob, AuditJob, RepairJob, Given, Answered, Job, job_of, advanced}
+use Rattle.hail_records.specs.Records.{Setup, Record, SetUp, PutDone, AuditDone, RepairDone, PutDoneIn}
+use Rattle.hail_machine.specs.Jobs.{Kind, PutJob, GetJob, DropJob, AuditJob, RepairJob, UpgradeJob, Given, Answered, Job, job_of, advanced}
 use Rattle.hail_machine.specs.Actions.{Action, Store, Ask, Work, End, append_actions, store_actions, repair_actions, rounds_of, ask_actions, actions_of}
+use Rattle.hail_machine.specs.Setups.{profiled}
 use Rattle.hail_machine.specs.States.{State, Append, Doubt, IsStart, setup_in}
+use Rattle.hail_machine.specs.Appends.{done_record}
 use Rattle.hail_machine.specs.Given.{answer_given}
 use Rattle.hail_machine.specs.Audits.{HasSums}
 use Rattle.hail_machine.specs.Runs.{Moment, now, IsRun, newest, came}
 use Rattle.hail_machine.proofs.JobLists.{cond_true, cond_false}
 use Rattle.hail_machine.proofs.Stripes.{get_left}
+use Rattle.hail_machine.proofs.Done.{by_version}
 use Rattle.hail_machine.proofs.Changes.{Records_is}
 use Rattle.hail_machine.proofs.Events.{changes}
 use Rattle.hail_machine.proofs.Numbers.{objects, Draws}
@@ -27,7 +30,7 @@ use Rattle.step_laws.proofs.Places.{of_kind, store_in_repair, worked_before_stor
 use Rattle.step_laws.proofs.Passing.{list_is}
 use Rattle.step_laws.proofs.MadeFacts as made
 use Rattle.step_laws.proofs.MadeFacts.{HasGift, CameBy, given_answer}
-use Rattle.step_laws.proofs.Finals.{sums_same, Final, FinalPut, FinalAudit, FinalRepair}
+use Rattle.step_laws.proofs.Finals.{sums_same, Final, FinalPut, FinalAudit, FinalRepair, final_done}
 use Rattle.step_laws.proofs.Doubts.{Standing, Done, Facts, facts}
 
 advanced_list : (t : Setup) (x : Job) → actions_of t (advanced x) ≡ actions_of t x
@@ -52,39 +55,42 @@ made_advanced start ms x entry d p action l at = d.made p action l (ap (λ l. sl
 -- ---- puts
 
 put_whole : (start : State) (ms : List Moment) (job : Job) (name bytes : List ℕ) → job.kind ≡ PutJob name bytes → 4 + length (store_actions (setup_in (now start ms)) job bytes) ≤ job.place →
-    MadeAll start ms job (4 + length (store_actions (setup_in (now start ms)) job bytes)) → Stands (now start ms) job.subject bytes → PutIsWhole start ms job job.subject (length bytes)
+    MadeAll start ms job (4 + length (store_actions (setup_in (now start ms)) job bytes)) → Stands (now start ms) job.subject bytes → PutIsWhole start ms job job.subject (length bytes) job.profile
 put_whole start ms job name bytes kind late made own = record {
   name = name;
   bytes = bytes;
   kind = kind;
   subject = refl;
   length_is = refl;
+  profile_is = refl;
   drawn = own.below;
   bytes_are = own.bytes_are;
   stored = λ j stripe k l. (let at = put_store_at (setup_in (now start ms)) job name bytes j stripe kind k l in (made at.0 (Store j job.subject stripe) at.1 at.2).0);
   placed = λ j stripe k l. put_stores (setup_in (now start ms)) job name bytes j stripe kind late k l;
 }
 
-put_of : (start : State) (ms : List Moment) (job : Job) (id size bound : ℕ) (kind : Kind) → job.kind ≡ kind → bound ≤ job.place → MadeAll start ms job bound →
-    ((name bytes : List ℕ) → kind ≡ PutJob name bytes → 4 + length (store_actions (setup_in (now start ms)) job bytes) ≤ bound) → ((name bytes : List ℕ) → kind ≡ PutJob name bytes → Stands (now start ms) job.subject bytes) → FinalPut (setup_in (now start ms)) job id size kind → PutIsWhole start ms job id size
-put_of start ms job id size bound (PutJob name bytes) is low made late own h =
+put_of : (start : State) (ms : List Moment) (job : Job) (id size profile bound : ℕ) (kind : Kind) → job.kind ≡ kind → bound ≤ job.place → MadeAll start ms job bound →
+    ((name bytes : List ℕ) → kind ≡ PutJob name bytes → 4 + length (store_actions (setup_in (now start ms)) job bytes) ≤ bound) → ((name bytes : List ℕ) → kind ≡ PutJob name bytes → Stands (now start ms) job.subject bytes) → FinalPut (setup_in (now start ms)) job id size profile kind → PutIsWhole start ms job id size profile
+put_of start ms job id size profile bound (PutJob name bytes) is low made late own h =
     (let l = late name bytes refl in
-    subst (λ n. PutIsWhole start ms job n size) h.0 (subst (λ n. PutIsWhole start ms job job.subject n) h.1
-    (put_whole start ms job name bytes is (omega (arith, l, low)) (made_less start ms job bound (4 + length (store_actions (setup_in (now start ms)) job bytes)) l made) (own name bytes refl))))
-put_of start ms job id size bound (GetJob name) is low made late own h = absurd h
-put_of start ms job id size bound (DropJob name) is low made late own h = absurd h
-put_of start ms job id size bound AuditJob is low made late own h = absurd h
-put_of start ms job id size bound RepairJob is low made late own h = absurd h
+    subst (λ n. PutIsWhole start ms job n size profile) h.0 (subst (λ n. PutIsWhole start ms job job.subject n profile) h.1
+    (subst (λ p. PutIsWhole start ms job job.subject (length bytes) p) h.2 (put_whole start ms job name bytes is (omega (arith, l, low)) (made_less start ms job bound (4 + length (store_actions (setup_in (now start ms)) job bytes)) l made) (own name bytes refl)))))
+put_of start ms job id size profile bound (GetJob name) is low made late own h = absurd h
+put_of start ms job id size profile bound (DropJob name) is low made late own h = absurd h
+put_of start ms job id size profile bound AuditJob is low made late own h = absurd h
+put_of start ms job id size profile bound RepairJob is low made late own h = absurd h
+put_of start ms job id size profile bound UpgradeJob is low made late own h = absurd h
 
-put_bound : (t : Setup) (x : Job) (id size : ℕ) (kind : Kind) (name bytes : List ℕ) → FinalPut t x id size kind → kind ≡ PutJob name bytes → 4 + length (store_actions t x bytes) ≤ x.place
-put_bound t x id size kind name bytes h is = (subst (λ k. FinalPut t x id size k) is h).2
+put_bound : (t : Setup) (x : Job) (id size profile : ℕ) (kind : Kind) (name bytes : List ℕ) → FinalPut t x id size profile kind → kind ≡ PutJob name bytes → 4 + length (store_actions t x bytes) ≤ x.place
+put_bound t x id size profile kind name bytes h is = (subst (λ k. FinalPut t x id size profile k) is h).3
 
-put_moved : (t : Setup) (x : Job) (id size : ℕ) (kind : Kind) → FinalPut t x id size kind → FinalPut t (advanced x) id size kind
-put_moved t x id size (PutJob name bytes) h = (h.0, h.1, (let l = h.2 in omega (arith, l)))
-put_moved t x id size (GetJob name) h = h
-put_moved t x id size (DropJob name) h = h
-put_moved t x id size AuditJob h = h
-put_moved t x id size RepairJob h = h
+put_moved : (t : Setup) (x : Job) (id size profile : ℕ) (kind : Kind) → FinalPut t x id size profile kind → FinalPut t (advanced x) id size profile kind
+put_moved t x id size profile (PutJob name bytes) h = (h.0, h.1, h.2, (let l = h.3 in omega (arith, l)))
+put_moved t x id size profile (GetJob name) h = h
+put_moved t x id size profile (DropJob name) h = h
+put_moved t x id size profile AuditJob h = h
+put_moved t x id size profile RepairJob h = h
+put_moved t x id size profile UpgradeJob h = h
 
 -- ---- repairs
 
@@ -117,12 +123,14 @@ module _ (limit : ℕ) (start : State) (clean : IsStart start) (ms : List Moment
   repair_of job id bound (GetJob name) is low made late h = absurd h
   repair_of job id bound (DropJob name) is low made late h = absurd h
   repair_of job id bound AuditJob is low made late h = absurd h
+  repair_of job id bound UpgradeJob is low made late h = absurd h
 
 repair_bound : (t : Setup) (x : Job) (id : ℕ) (kind : Kind) → FinalRepair t x id kind → kind ≡ RepairJob → length (repair_actions t x) ≤ x.place
 repair_bound t x id kind h is = (subst (λ k. FinalRepair t x id k) is h).1
 
 repair_moved : (t : Setup) (x : Job) (id : ℕ) (kind : Kind) → FinalRepair t x id kind → FinalRepair t (advanced x) id kind
 repair_moved t x id RepairJob h = (h.0, (let l = h.1 in omega (arith, l)))
+repair_moved t x id UpgradeJob h = h
 repair_moved t x id (PutJob name bytes) h = h
 repair_moved t x id (GetJob name) h = h
 repair_moved t x id (DropJob name) h = h
@@ -136,7 +144,7 @@ audit_whole start ms job undecided counts kind made came sums = record {
   kind = kind;
   subject = refl;
   asked = λ file j round in_f k in_r.
-      (let at = ask_at (setup_in (now start ms)) job file j round kind (contains_in job.pinned file in_f) k (contains_in (rounds_of (setup_in (now start ms)) (length file.bytes)) round in_r) in
+      (let at = ask_at (setup_in (now start ms)) job file j round kind (contains_in job.pinned file in_f) k (contains_in (rounds_of (profiled (setup_in (now start ms)) file.profile) (length file.bytes)) round in_r) in
       let g = (made at.0 (Ask j file.id round) at.1 at.2).1 in
       came (Answered j file.id round (answer_given job.given file.id round j)) (given_answer job.given j file.id round g.0 g.1));
   sums = sums;
@@ -150,6 +158,7 @@ audit_of start ms job id undecided counts bound (PutJob name bytes) is made came
 audit_of start ms job id undecided counts bound (GetJob name) is made came late h = absurd h
 audit_of start ms job id undecided counts bound (DropJob name) is made came late h = absurd h
 audit_of start ms job id undecided counts bound RepairJob is made came late h = absurd h
+audit_of start ms job id undecided counts bound UpgradeJob is made came late h = absurd h
 
 audit_bound : (t : Setup) (x : Job) (id undecided : ℕ) (counts : List ℕ) (kind : Kind) → FinalAudit t x id undecided counts kind → kind ≡ AuditJob → 4 + length (ask_actions t x) ≤ x.place
 audit_bound t x id undecided counts kind h is = (subst (λ k. FinalAudit t x id undecided counts k) is h).1
@@ -160,6 +169,7 @@ audit_moved t x id undecided counts (PutJob name bytes) h = h
 audit_moved t x id undecided counts (GetJob name) h = h
 audit_moved t x id undecided counts (DropJob name) h = h
 audit_moved t x id undecided counts RepairJob h = h
+audit_moved t x id undecided counts UpgradeJob h = h
 
 -- ---- the record that came into effect
 
@@ -186,6 +196,11 @@ came_is old new r (Records_is.settled d in_doubt rec) h = Came_is.by_doubt d in_
 came_is old new r (Records_is.set_up s none_ rec) h = Came_is.set_up s (sym (on_top old.records (SetUp s) r new.records rec h))
 came_is old new r (Records_is.settled_set_up s d in_doubt none_ rec) h = absurd (none_came old.records new.records r (λ e. (let f = ap length rec in omega (arith, e, f))) h)
 
+-- a put's end is no setup
+no_setup_done : (version id size profile : ℕ) (s : Setup) → SetUp s ≡ done_record version id size profile → ⊥
+no_setup_done version id size profile s is = by_version version id size profile (λ r. SetUp s ≡ r → ⊥)
+    (λ e. (let f : SetUp s ≡ PutDoneIn id size profile = e in cc)) (λ e. (let f : SetUp s ≡ PutDone id size = e in cc)) is
+
 -- ---- whole
 
 module _ (limit : ℕ) (start : State) (clean : IsStart start) (ms : List Moment) (run : IsRun limit start ms) where
@@ -202,7 +217,7 @@ module _ (limit : ℕ) (start : State) (clean : IsStart start) (ms : List Moment
   }
 
   pub put_running : (k : ℕ) (job : Job) (name bytes : List ℕ) → job_of (now start ms).jobs k ≡ Some job → job.kind ≡ PutJob name bytes → 4 + length (store_actions (setup_in (now start ms)) job bytes) ≤ job.place →
-      PutIsWhole start ms job job.subject (length bytes)
+      PutIsWhole start ms job job.subject (length bytes) job.profile
   put_running k job name bytes runs kind late = put_whole start ms job name bytes kind late (made_less start ms job job.place (4 + length (store_actions (setup_in (now start ms)) job bytes)) late (made_running k job runs))
       (own_stands k job name bytes runs kind (omega (arith, late)))
 
@@ -219,15 +234,16 @@ module _ (limit : ℕ) (start : State) (clean : IsStart start) (ms : List Moment
       audit_of start ms x id undecided counts x.place x.kind refl (made_running k x runs) (λ gift i. now_facts.made.came k x gift runs i) (audit_bound (setup_in (now start ms)) x id undecided counts x.kind f) f)
 
   -- the job that wrote a record in doubt
-  pub doubt_put : (d : Doubt) (id size : ℕ) → (now start ms).doubt ≡ Some d → d.entry ≡ PutDone id size → (job : Job) × (d.maker ≡ Some job) × PutIsWhole start ms job id size
-  doubt_put d id size h is = elim (now_facts.doubt d h) [
-    | Standing.bare s entry maker none_ ↦ absurd (let e : SetUp s ≡ PutDone id size = sym entry ∙ is in cc)
-    | Standing.by_job x maker done ↦ (let f = subst (λ e. Final (setup_in (now start ms)) x e x.kind) is done.final in (
+  pub doubt_put : (d : Doubt) (version id size profile : ℕ) → (now start ms).doubt ≡ Some d → d.entry ≡ done_record version id size profile → ((version == 2) ≡ false → profile ≡ (setup_in (now start ms)).profile) →
+      (job : Job) × (d.maker ≡ Some job) × PutIsWhole start ms job id size profile
+  doubt_put d version id size profile h is own = elim (now_facts.doubt d h) [
+    | Standing.bare s entry maker none_ ↦ absurd (no_setup_done version id size profile s (sym entry ∙ is))
+    | Standing.by_job x maker done ↦ (let f = final_done (setup_in (now start ms)) x version id size profile x.kind own (subst (λ e. Final (setup_in (now start ms)) x e x.kind) is done.final) in (
       advanced x,
       maker,
-      put_of start ms (advanced x) id size x.place x.kind refl (omega arith) (made_advanced start ms x d.entry done)
-          (λ name bytes e. put_bound (setup_in (now start ms)) x id size x.kind name bytes f e)
-          (λ name bytes e. (done.own name bytes e (let l = put_bound (setup_in (now start ms)) x id size x.kind name bytes f e in omega (arith, l)))) (put_moved (setup_in (now start ms)) x id size x.kind f),
+      put_of start ms (advanced x) id size profile x.place x.kind refl (omega arith) (made_advanced start ms x d.entry done)
+          (λ name bytes e. put_bound (setup_in (now start ms)) x id size profile x.kind name bytes f e)
+          (λ name bytes e. (done.own name bytes e (let l = put_bound (setup_in (now start ms)) x id size profile x.kind name bytes f e in omega (arith, l)))) (put_moved (setup_in (now start ms)) x id size profile x.kind f),
     ))
   ]
 
@@ -257,20 +273,21 @@ module _ (limit : ℕ) (start : State) (clean : IsStart start) (m : Moment) (ms 
   came_now : (r : Record) → came (now start ms) m.state ≡ Some r → Came_is (now start ms) r
   came_now r h = (let A = all limit start clean ms run.2 in came_is (now start ms) m.state r (changes limit (length ms) (now start ms) m.event m.outcome m.state A.numbers.idle run.1).records h)
 
-  pub came_put : (id size : ℕ) → came (now start ms) m.state ≡ Some (PutDone id size) → (job : Job) × PutIsWhole start ms job id size
-  came_put id size h = elim (came_now (PutDone id size) h) [
-    | Came_is.by_step x a runs flight mine is ↦ (let f = final_of limit start clean ms run.2 a x x.number (PutDone id size) flight runs mine is in (
+  pub came_put : (version id size profile : ℕ) → came (now start ms) m.state ≡ Some (done_record version id size profile) → ((version == 2) ≡ false → profile ≡ (setup_in (now start ms)).profile) →
+      (job : Job) × PutIsWhole start ms job id size profile
+  came_put version id size profile h own = elim (came_now (done_record version id size profile) h) [
+    | Came_is.by_step x a runs flight mine is ↦ (let f = final_done (setup_in (now start ms)) x version id size profile x.kind own (final_of limit start clean ms run.2 a x x.number (done_record version id size profile) flight runs mine is) in (
       x,
-      put_of start ms x id size x.place x.kind refl (omega arith) (made_running limit start clean ms run.2 x.number x runs) (λ name bytes e. put_bound (setup_in (now start ms)) x id size x.kind name bytes f e)
-          (λ name bytes e. own_stands limit start clean ms run.2 x.number x name bytes runs e (let l = put_bound (setup_in (now start ms)) x id size x.kind name bytes f e in omega (arith, l))) f,
+      put_of start ms x id size profile x.place x.kind refl (omega arith) (made_running limit start clean ms run.2 x.number x runs) (λ name bytes e. put_bound (setup_in (now start ms)) x id size profile x.kind name bytes f e)
+          (λ name bytes e. own_stands limit start clean ms run.2 x.number x name bytes runs e (let l = put_bound (setup_in (now start ms)) x id size profile x.kind name bytes f e in omega (arith, l))) f,
     ))
-    | Came_is.by_doubt d in_doubt is ↦ (let r = doubt_put limit start clean ms run.2 d id size in_doubt is in (r.0, r.2))
-    | Came_is.set_up s is ↦ absurd (let e : PutDone id size ≡ SetUp s = is in cc)
+    | Came_is.by_doubt d in_doubt is ↦ (let r = doubt_put limit start clean ms run.2 d version id size profile in_doubt is own in (r.0, r.2))
+    | Came_is.set_up s is ↦ absurd (no_setup_done version id size profile s (sym is))
   ]
 
   -- and from then on its number stands for its bytes
-  pub came_stands : (later : List Moment) (id size : ℕ) → IsRun limit start (later ++ m ∷ ms) → (job : Job) (put : PutIsWhole start ms job id size) → (now start (later ++ m ∷ ms)).bytes id ≡ put.bytes
-  came_stands later id size whole_run job put =
+  pub came_stands : (later : List Moment) (id size profile : ℕ) → IsRun limit start (later ++ m ∷ ms) → (job : Job) (put : PutIsWhole start ms job id size profile) → (now start (later ++ m ∷ ms)).bytes id ≡ put.bytes
+  came_stands later id size profile whole_run job put =
       (stands_later limit start clean id put.bytes later (m ∷ ms) whole_run
       (stands_on limit start clean id put.bytes m ms run (record { below = put.drawn; bytes_are = put.bytes_are }))).bytes_are
 

@@ -14,9 +14,8 @@ use Rattle.hail_columns.specs.Opened.{SeenBlock, GivesSymbols, block_at}
 use Rattle.hail_devices.specs.ProviderCalls.{AskGives, FailsToGive}
 use Rattle.hail_machine.specs.Jobs.{Job}
 use Rattle.hail_machine.specs.Actions.{Fetch, Ask}
-use Rattle.hail_machine.specs.States.{State, setup_in, object_in}
-use Rattle.hail_machine.specs.Given.{pinned_size}
-use Rattle.hail_machine.specs.Audits.{challenge_in}
+use Rattle.hail_machine.specs.States.{State, setup_in, worked_object}
+use Rattle.hail_machine.specs.Audits.{asked_challenge}
 use Rattle.hail_machine.specs.Runs.{Moment, now}
 use Rattle.hail_machine.specs.Deeds.{Makes}
 use Rattle.calm_laws.specs.Origins.{IsHeldThen}
@@ -33,13 +32,13 @@ pub record WasFetched (start : State) (ms : List Moment) (job : Job) (j object s
   pub maker : Job
   pub same : IsEarlier maker job
   pub makes : Makes (now start before) moment maker (Fetch j object stripe)
-  pub held : IsHeldThen (now start before) moment.state j object stripe block
+  pub held : IsHeldThen (now start before) moment.state job.pinned j object stripe block
 
 -- an answer, or none, to the challenge of a round, by what a provider held between two states
 abbrev pub IsAnsweredThen : State → Job → State → State → ℕ → ℕ → ℕ → Option ℕ → Type 0
 IsAnsweredThen w job old new j object round symbol =
-    AskGives (honest_answer (challenge_in (setup_in w) job object (pinned_size job.pinned object) round))
-    object (old.providers j).held symbol
+    AskGives (honest_answer (asked_challenge (setup_in w) job object round)) object (old.providers j).held
+    symbol
     ⊎ FailsToGive (old.providers j) symbol (new.providers j)
 
 -- an ask that the job made since its begin gave it this answer, or none
@@ -59,6 +58,6 @@ pub record WasAsked (start : State) (ms : List Moment) (job : Job) (j object rou
 pub record WasOpened (start : State) (ms : List Moment) (job : Job) (object stripe : ℕ)
     (symbols : List ℕ) : Type 0 where
   pub blocks : List SeenBlock
-  pub opens : GivesSymbols (object_in (now start ms) object) stripe blocks symbols
+  pub opens : GivesSymbols (worked_object (now start ms) job object) stripe blocks symbols
   pub fetched : (j : ℕ) → j < (setup_in (now start ms)).n
       → WasFetched start ms job j object stripe (block_at blocks j)

@@ -16,6 +16,7 @@ use Rattle.hail_machine.specs.Deeds.{Makes}
 pub record IsEarlier (maker job : Job) : Type 0 where
   pub number : maker.number ≡ job.number
   pub kind : maker.kind ≡ job.kind
+  pub profile : maker.profile ≡ job.profile
   pub begun : maker.begun ≡ job.begun
   pub pinned : maker.pinned ≡ job.pinned
   pub flagged : maker.flagged ≡ job.flagged

@@ -1,7 +1,7 @@
 -- What a put, a repair or an audit has done by the time of its last record.
 --
---   PutIsWhole start ms job id size   == a put of that number and length made its store of each stripe on
---                                        each provider, and its number stands for its bytes
+--   PutIsWhole start ms job id size profile  == a put of that number, length and profile made its store of
+--                                        each stripe on each provider, and its number stands for its bytes
 --   Rewrote start ms job object j stripe  == a repair made its store of a stripe on a provider, after its
 --                                          work on the stripe
 --   RepairIsWhole start ms job number == a repair of that number rewrote each stripe of each of its files
@@ -12,7 +12,7 @@ use Rattle.std.specs.Prelude.{◌≡◌, ℕ, ◌<◌, true, List, length}
 use Rattle.std.specs.List.{Contains}
 use Rattle.hail_records.specs.Table.{next_id}
 use Rattle.hail_machine.specs.Jobs.{PutJob, AuditJob, RepairJob, Pinned, Job}
-use Rattle.hail_machine.specs.Setups.{stripes_of, pinned_stripes}
+use Rattle.hail_machine.specs.Setups.{profiled, stripes_of, pinned_stripes}
 use Rattle.hail_machine.specs.Actions.{Store, Work, rounds_of}
 use Rattle.hail_machine.specs.States.{State, setup_in}
 use Rattle.hail_machine.specs.Given.{answer_given}
@@ -23,19 +23,20 @@ use Rattle.step_laws.specs.Made.{WasMade}
 use Rattle.step_laws.specs.Gave.{WasAsked}
 
 -- a put made its store of each stripe on each provider, and its number stands for its bytes
-pub record PutIsWhole (start : State) (ms : List Moment) (job : Job) (id size : ℕ) : Type 0 where
+pub record PutIsWhole (start : State) (ms : List Moment) (job : Job) (id size profile : ℕ) : Type 0 where
   pub name : List ℕ
   pub bytes : List ℕ
   pub kind : job.kind ≡ PutJob name bytes
   pub subject : job.subject ≡ id
   pub length_is : length bytes ≡ size
+  pub profile_is : job.profile ≡ profile
   pub drawn : id < next_id (now start ms).records
   pub bytes_are : (now start ms).bytes id ≡ bytes
   pub stored : (j stripe : ℕ) → j < (setup_in (now start ms)).n
-      → stripe < stripes_of (setup_in (now start ms)) size →
+      → stripe < stripes_of (profiled (setup_in (now start ms)) profile) size →
       WasMade start ms job (Store j id stripe)
   pub placed : (j stripe : ℕ) → j < (setup_in (now start ms)).n
-      → stripe < stripes_of (setup_in (now start ms)) size →
+      → stripe < stripes_of (profiled (setup_in (now start ms)) profile) size →
       HasMadeStore (setup_in (now start ms)) job j id stripe
 
 -- a repair made its store of a stripe on a provider, after its work on the stripe
@@ -58,6 +59,6 @@ pub record AuditIsWhole (start : State) (ms : List Moment) (job : Job) (number u
   pub kind : job.kind ≡ AuditJob
   pub subject : job.subject ≡ number
   pub asked : (file : Pinned) (j round : ℕ) → Contains job.pinned file → j < (setup_in (now start ms)).n →
-      Contains (rounds_of (setup_in (now start ms)) (length file.bytes)) round →
+      Contains (rounds_of (profiled (setup_in (now start ms)) file.profile) (length file.bytes)) round →
       WasAsked start ms job j file.id round (answer_given job.given file.id round j)
   pub sums : HasSums (setup_in (now start ms)) job (record { counts = counts; undecided = undecided })

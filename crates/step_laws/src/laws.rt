@@ -1,7 +1,7 @@
 //! What a job has done by the time that it comes to a place in its list of actions.
-ghost use Rattle.std.specs.Prelude.{◌≡◌, ◌⊎◌, ℕ, suc, ◌+◌, ◌<◌, ◌≤◌, List, ◌∷◌, ◌++◌, length, Option, Some, slice_get};
+ghost use Rattle.std.specs.Prelude.{◌≡◌, ◌⊎◌, ℕ, suc, ◌+◌, ◌<◌, ◌≤◌, ◌==◌, false, List, ◌∷◌, ◌++◌, length, Option, Some, slice_get};
 ghost use Rattle.std.specs.List.{Contains};
-ghost use Rattle.hail_records.specs.Records.{Setup, Record, PutDone, AuditDone, RepairDone};
+ghost use Rattle.hail_records.specs.Records.{Setup, Record, AuditDone, RepairDone};
 ghost use Rattle.hail_records.specs.Table.{File, setup_of};
 ghost use Rattle.hail_field.specs.Shape.{IsShape};
 ghost use Rattle.hail_codes.specs.Profiles.{profile_of};
@@ -11,7 +11,8 @@ ghost use Rattle.hail_machine.specs.Jobs.{PutJob, GetJob, RepairJob, Fetched, An
 ghost use Rattle.hail_machine.specs.Actions.{Action, Store, Work, store_actions, repair_actions, actions_of};
 ghost use Rattle.hail_machine.specs.Answers.{Got, Lost};
 ghost use Rattle.hail_machine.specs.Events.{Step, More, Ended};
-ghost use Rattle.hail_machine.specs.States.{State, Append, Doubt, IsStart, setup_in, object_in, file_object, file_in};
+ghost use Rattle.hail_machine.specs.States.{State, Append, Doubt, IsStart, setup_in, file_object, file_in};
+ghost use Rattle.hail_machine.specs.Appends.{done_record};
 ghost use Rattle.hail_machine.specs.Given.{block_given, symbols_given};
 ghost use Rattle.hail_machine.specs.Steps.{next_action};
 ghost use Rattle.hail_machine.specs.Left.{most_left};
@@ -118,24 +119,32 @@ pub fn work_opened_what_was_fetched()
 
 /// A running put that has come past its stores made its store of each stripe on each provider since its begin; and so did the put whose
 /// end stands in doubt, whether it runs on or has ended, and that whose end comes into effect, by its own step or by being settled. Its object number stands
-/// for its bytes, and from the moment at which its end comes into effect it does so for ever.
+/// for its bytes, and from the moment at which its end comes into effect it does so for ever. Its profile is that of the record, or the
+/// setup's where the record has none.
 pub fn done_puts_are_whole()
     ensures running { (limit : ℕ) (start : State) (ms : List Moment) (number : ℕ) (job : Job)
         (name bytes : List ℕ) → IsStart start →
         IsRun limit start ms → job_of (now start ms).jobs number ≡ Some job → job.kind ≡ PutJob name bytes →
         4 + length (store_actions (setup_in (now start ms)) job bytes) ≤ job.place →
-        PutIsWhole start ms job job.subject (length bytes) }
-    ensures in_doubt { (limit : ℕ) (start : State) (ms : List Moment) (d : Doubt) (id size : ℕ)
-        → IsStart start →
-        IsRun limit start ms → (now start ms).doubt ≡ Some d → d.entry ≡ PutDone id size →
-        (job : Job) × (d.maker ≡ Some job) × PutIsWhole start ms job id size }
-    ensures came { (limit : ℕ) (start : State) (m : Moment) (ms : List Moment) (id size : ℕ) → IsStart start →
-        IsRun limit start (m ∷ ms) → came (now start ms) m.state ≡ Some (PutDone id size) →
-        (job : Job) × PutIsWhole start ms job id size }
-    ensures stay { (limit : ℕ) (start : State) (later ms : List Moment) (m : Moment) (id size : ℕ)
-        → IsStart start →
-        IsRun limit start (later ++ m ∷ ms) → came (now start ms) m.state ≡ Some (PutDone id size) →
-        (job : Job) × (put : PutIsWhole start ms job id size)
+        PutIsWhole start ms job job.subject (length bytes) job.profile }
+    ensures in_doubt { (limit : ℕ) (start : State) (ms : List Moment) (d : Doubt)
+        (version id size profile : ℕ) → IsStart start →
+        IsRun limit start ms → (now start ms).doubt ≡ Some d →
+        d.entry ≡ done_record version id size profile →
+        ((version == 2) ≡ false → profile ≡ (setup_in (now start ms)).profile) →
+        (job : Job) × (d.maker ≡ Some job) × PutIsWhole start ms job id size profile }
+    ensures came { (limit : ℕ) (start : State) (m : Moment) (ms : List Moment)
+        (version id size profile : ℕ) → IsStart start →
+        IsRun limit start (m ∷ ms) →
+        came (now start ms) m.state ≡ Some (done_record version id size profile) →
+        ((version == 2) ≡ false → profile ≡ (setup_in (now start ms)).profile) →
+        (job : Job) × PutIsWhole start ms job id size profile }
+    ensures stay { (limit : ℕ) (start : State) (later ms : List Moment) (m : Moment)
+        (version id size profile : ℕ) → IsStart start →
+        IsRun limit start (later ++ m ∷ ms) →
+        came (now start ms) m.state ≡ Some (done_record version id size profile) →
+        ((version == 2) ≡ false → profile ≡ (setup_in (now start ms)).profile) →
+        (job : Job) × (put : PutIsWhole start ms job id size profile)
         × ((now start (later ++ m ∷ ms)).bytes id ≡ put.bytes) }
 {}
 

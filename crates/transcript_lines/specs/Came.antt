@@ -4,7 +4,7 @@
 use Rattle.std.specs.Prelude.{option_copied}
 use Rattle.hail_machine.specs.Events.{Outcome}
 use Rattle.hail_machine.specs.Events as events
-use Rattle.vault.specs.Outcomes.{init_outcome}
+use Rattle.vault_open.specs.Inits.{init_outcome}
 use Rattle.hail_client.specs.Outcomes.{client_begin_outcome, step_outcome, reopen_outcome, replace_outcome, names_outcome}
 use Rattle.transcript_lines.specs.declared.came.Came.{Came}
 use Rattle.transcript_lines.specs.declared.came.Came.TheVariants as came

@@ -2,7 +2,7 @@
 ghost use Rattle.std.specs.Prelude.{◌≡◌, IfOk};
 ghost use Rattle.hail_machine.specs.Events.{Refused};
 ghost use Rattle.hail_machine.specs.Lines.{lines_of};
-ghost use Rattle.vault.specs.Outcomes.{init_outcome};
+ghost use Rattle.vault_open.specs.Inits.{init_outcome};
 ghost use Rattle.hail_client.specs.Outcomes.{start_refusal, reopen_outcome};
 
 use crate::refused::{bad_journal_line, refused_line};

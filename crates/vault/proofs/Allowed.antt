@@ -10,8 +10,8 @@ use Rattle.plain_facts.proofs.Each.{each_get, each_append, each_flat}
 use Rattle.hail_codes.specs.Points.{upto}
 use Rattle.hail_records.specs.Records.{Setup}
 use Rattle.hail_machine.specs.Actions.{Action, WriteBody, SyncBody, WriteGate, SyncGate, Store, Fetch, Ask, Work, Remove, End, append_actions, on_each_provider, on_each_stripe, store_actions, open_actions, read_actions, rewrite_actions, repair_actions, rounds_of, ask_actions, remove_actions, actions_of, actions_by}
-use Rattle.hail_machine.specs.Jobs.{Kind, PutJob, GetJob, DropJob, AuditJob, RepairJob, Pinned, Job}
-use Rattle.hail_machine.specs.Setups.{stripes_of}
+use Rattle.hail_machine.specs.Jobs.{Kind, PutJob, GetJob, DropJob, AuditJob, RepairJob, UpgradeJob, Pinned, Job}
+use Rattle.hail_machine.specs.Setups.{profiled, stripes_of}
 use Rattle.hail_machine.specs.States.{State, setup_in}
 use Rattle.hail_machine.specs.Steps.{next_action, is_idle_drop}
 use Rattle.hail_machine.proofs.JobLists.{cond_true, cond_false}
@@ -78,17 +78,20 @@ module _ (s : Setup) (job : Job) where
   moves_repair : Each (IsAllowed s.n RepairJob) append_actions
   moves_repair = (tt, (tt, (tt, (tt, tt))))
 
+  moves_upgrade : Each (IsAllowed s.n UpgradeJob) append_actions
+  moves_upgrade = (tt, (tt, (tt, (tt, tt))))
+
   by_kind : (kind : Kind) → Each (IsAllowed s.n kind) (actions_by s job kind)
   by_kind (PutJob name bytes) =
       let P = IsAllowed s.n (PutJob name bytes) in
       moves_first P (moves_put name bytes) _ (each_append P (store_actions s job bytes) _
-      (each_flat P (λ stripe. on_each_provider s (λ j. Store j job.subject stripe)) (upto (stripes_of s (length bytes))) (λ stripe. on_providers s P (λ j. Store j job.subject stripe) (λ j less. less)))
+      (each_flat P (λ stripe. on_each_provider s (λ j. Store j job.subject stripe)) (upto (stripes_of (profiled s job.profile) (length bytes))) (λ stripe. on_providers s P (λ j. Store j job.subject stripe) (λ j less. less)))
       (moves_first P (moves_put name bytes) _ (each_append P (remove_actions s job) (End ∷ []) (each_flat P (λ object. on_each_provider s (λ j. Remove j object)) job.older (λ object. on_providers s P (λ j. Remove j object) (λ j less. less))) (tt, tt))))
   by_kind (GetJob name) =
       let P = IsAllowed s.n (GetJob name) in
       each_append P (read_actions s job.pinned) (End ∷ [])
-      (each_flat P (λ (f : Pinned). on_each_stripe s (length f.bytes) (open_actions s f.id)) job.pinned
-      (λ f. each_flat P (open_actions s f.id) (upto (stripes_of s (length f.bytes)))
+      (each_flat P (λ (f : Pinned). on_each_stripe (profiled s f.profile) (length f.bytes) (open_actions s f.id)) job.pinned
+      (λ f. each_flat P (open_actions s f.id) (upto (stripes_of (profiled s f.profile) (length f.bytes)))
       (λ stripe. each_append P (on_each_provider s (λ j. Fetch j f.id stripe)) (Work f.id stripe ∷ []) (on_providers s P (λ j. Fetch j f.id stripe) (λ j less. less)) (tt, tt))))
       (tt, tt)
   by_kind (DropJob name) =
@@ -97,18 +100,19 @@ module _ (s : Setup) (job : Job) where
   by_kind AuditJob =
       let P = IsAllowed s.n AuditJob in
       moves_first P moves_audit _ (each_append P (ask_actions s job) _
-      (each_flat P (λ (f : Pinned). flat_map (λ round. on_each_provider s (λ j. Ask j f.id round)) (rounds_of s (length f.bytes))) job.pinned
-      (λ f. each_flat P (λ round. on_each_provider s (λ j. Ask j f.id round)) (rounds_of s (length f.bytes)) (λ round. on_providers s P (λ j. Ask j f.id round) (λ j less. less))))
+      (each_flat P (λ (f : Pinned). flat_map (λ round. on_each_provider s (λ j. Ask j f.id round)) (rounds_of (profiled s f.profile) (length f.bytes))) job.pinned
+      (λ f. each_flat P (λ round. on_each_provider s (λ j. Ask j f.id round)) (rounds_of (profiled s f.profile) (length f.bytes)) (λ round. on_providers s P (λ j. Ask j f.id round) (λ j less. less))))
       (moves_first P moves_audit (End ∷ []) (tt, tt)))
   by_kind RepairJob =
       let P = IsAllowed s.n RepairJob in
       each_append P (repair_actions s job) _
-      (each_flat P (λ (f : Pinned). on_each_stripe s (length f.bytes) (λ stripe. open_actions s f.id stripe ++ rewrite_actions s job f.id stripe)) job.pinned
-      (λ f. each_flat P (λ stripe. open_actions s f.id stripe ++ rewrite_actions s job f.id stripe) (upto (stripes_of s (length f.bytes)))
+      (each_flat P (λ (f : Pinned). on_each_stripe (profiled s f.profile) (length f.bytes) (λ stripe. open_actions s f.id stripe ++ rewrite_actions s job f.id stripe)) job.pinned
+      (λ f. each_flat P (λ stripe. open_actions s f.id stripe ++ rewrite_actions s job f.id stripe) (upto (stripes_of (profiled s f.profile) (length f.bytes)))
       (λ stripe. each_append P (open_actions s f.id stripe) (rewrite_actions s job f.id stripe)
       (each_append P (on_each_provider s (λ j. Fetch j f.id stripe)) (Work f.id stripe ∷ []) (on_providers s P (λ j. Fetch j f.id stripe) (λ j less. less)) (tt, tt))
       (each_flat_of (λ j. j < s.n) P (λ j. cond (job.flagged j) (Store j f.id stripe ∷ []) []) (upto s.n) (below_upto s.n) (λ j less. flagged_one P (job.flagged j) (Store j f.id stripe) less)))))
       (moves_first P moves_repair (End ∷ []) (tt, tt))
+  by_kind UpgradeJob = moves_first (IsAllowed s.n UpgradeJob) moves_upgrade (End ∷ []) (tt, tt)
 
   pub allowed : Each (IsAllowed s.n job.kind) (actions_of s job)
   unfolding actions_of
@@ -120,6 +124,7 @@ end_allowed n (GetJob name) = tt
 end_allowed n (DropJob name) = tt
 end_allowed n AuditJob = tt
 end_allowed n RepairJob = tt
+end_allowed n UpgradeJob = tt
 
 -- the next action of a job is one that it may have
 pub next_allowed : (w : State) (job : Job) (action : Action) → next_action w job ≡ Some action → IsAllowed (setup_in w).n job.kind action

@@ -22,11 +22,11 @@ use Rattle.hail_devices.specs.Providers.{Provider}
 use Rattle.hail_devices.specs.ProviderCalls.{Asks}
 use Rattle.hail_records.specs.Records.{Setup, SetUp, is_in_grammar}
 use Rattle.hail_machine.specs.Actions.{Action, Ask, WriteBody, SyncBody, WriteGate, SyncGate, End, actions_of, actions_by, actions_left, append_actions, ask_actions, on_each_provider, rounds_of}
-use Rattle.hail_machine.specs.Audits.{challenge_in, HasSums}
+use Rattle.hail_machine.specs.Audits.{challenge_in, asked_challenge, HasSums}
 use Rattle.hail_machine.specs.Events.{More}
-use Rattle.hail_machine.specs.Given.{pinned_size}
+use Rattle.hail_machine.specs.Given.{pinned_size, pinned_profile}
 use Rattle.hail_machine.specs.Jobs.{Kind, AuditJob, Pinned, Answered, Job, job_of, with_job, advanced_with}
-use Rattle.hail_machine.specs.Setups.{object_of, stripes_of}
+use Rattle.hail_machine.specs.Setups.{profiled, object_of, stripes_of}
 use Rattle.hail_machine.specs.States.{State, setup_in, going_on, with_provider}
 use Rattle.hail_machine.proofs.JobLists.{cond_true, cond_false, number_of, same_value, found_itself}
 use Rattle.file_layout.specs.Files as layout
@@ -34,7 +34,7 @@ use Rattle.record_codec.specs.Entries.{counted}
 use Rattle.hail_field.specs.declared.shape.Shape.{Shape as ShapeValue}
 use Rattle.sound_states.proofs.Orders.{next-left, get-drop}
 use Rattle.sound_states.proofs.Written.{setup-valid, setup-rounds}
-use Rattle.sound_states.specs.SoundJobs.{IsSoundJob}
+use Rattle.sound_states.specs.SoundJobs.{IsPlainJob, IsSoundJob}
 use Rattle.sound_states.specs.Orders.{moves_made}
 use Rattle.vault_core.specs.Carried.{IsJobOf, ComesNext, pin_of}
 use Rattle.vault_core.specs.Coming.{is_last_ask, is_last_ask_of}
@@ -52,12 +52,13 @@ use Rattle.vault.specs.declared.turn.Turn.TheVariants as turn
 use Rattle.vault.specs.declared.vault.Vault.{Vault}
 use Rattle.vault.specs.Asking.{length_among, length_at, length_in, length_found, IsAuditNumber, IsQuestion, challenge_put, sums_on, TakesAsk, HasJudged, CanAsk, Asked, MayAsk, TellsAsk, MayTell, MayPut, vault_object}
 use Rattle.hail_openings.specs.Opened.{AreHanded}
-use Rattle.vault.specs.Devices.{devices}
+use Rattle.vault_open.specs.Devices.{devices}
 use Rattle.vault.specs.Orders.{is_ask}
 use Rattle.vault.specs.Rounds.{Round, rounds_in, asked_after, AsksOn, JudgesEach}
 use Rattle.vault.specs.Running.{place_in, KeepsAll, IsFed}
 use Rattle.vault.specs.Stands.{Stands, Comes, MakesStep}
 use Rattle.vault.specs.Tasks.{IsTask, IsRunning, AreRunning, IsAudit, empty_sums}
+use Rattle.vault.proofs.FirstVersion.{plain-core, profile-among}
 use Rattle.vault.proofs.Allowed.{IsAllowed, next_allowed}
 use Rattle.vault.proofs.Asks.{Rising, IsRound, rounds_rise, each_round, each_both, sizes_found, contains_each, few_rounds, enough_answers, sums_within, as_files, behind_last, IsAnAsk}
 use Rattle.vault.proofs.AskStep.{IsNext, IsPut, next_round, audit_kept, audit_judged, zero_all}
@@ -177,8 +178,8 @@ asks_late s job k o r asks is = by_place job.place is
 
 -- the asks of files are asks
 each_asks : (s : Setup) (job : Job) → Each IsAnAsk (ask_actions s job)
-each_asks s job = each_flat IsAnAsk (λ (f : Pinned). flat_map (λ round. on_each_provider s (λ j. Ask j f.id round)) (rounds_of s (length f.bytes))) job.pinned
-    (λ f. each_flat IsAnAsk (λ round. on_each_provider s (λ j. Ask j f.id round)) (rounds_of s (length f.bytes)) (λ round. each_map IsAnAsk (λ j. Ask j f.id round) (upto s.n) (λ j. tt)))
+each_asks s job = each_flat IsAnAsk (λ (f : Pinned). flat_map (λ round. on_each_provider s (λ j. Ask j f.id round)) (rounds_of (profiled s f.profile) (length f.bytes))) job.pinned
+    (λ f. each_flat IsAnAsk (λ round. on_each_provider s (λ j. Ask j f.id round)) (rounds_of (profiled s f.profile) (length f.bytes)) (λ round. each_map IsAnAsk (λ j. Ask j f.id round) (upto s.n) (λ j. tt)))
 
 starts_append : (k o r : ℕ) (rest : List Action) → is_last_ask (Ask k o r ∷ rest) ≡ true → (more : List Action) × (rest ≡ WriteBody ∷ more)
 starts_append k o r [] h = absurd (false≢true h)
@@ -231,6 +232,9 @@ module _ (v : Vault) (w : State) (holds : Option Cells) (faults moment number k 
   sound_job : IsSoundJob (setup_in w) w.records w.bytes (moves_made w.append number) coming.job
   sound_job = stands.core.sound.jobs number coming.job coming.runs
 
+  plain : IsPlainJob (setup_in w) coming.job
+  plain = plain-core v.core w number coming.job stands.core coming.runs
+
   in_core : (c : CoreJob) × (job_in v.core.jobs number ≡ Some c) × IsJobOf v.core.setup c coming.job
   in_core = core_job v.core.setup v.core.jobs w.jobs number coming.job stands.core.jobs coming.runs
 
@@ -272,6 +276,9 @@ module _ (v : Vault) (w : State) (holds : Option Cells) (faults moment number k 
     size_is : pinned_size coming.job.pinned nx.x.file.id ≡ length nx.x.file.bytes
     size_is = (of_file (λ (f : Pinned). pinned_size coming.job.pinned f.id ≡ length f.bytes) (sizes_found 0 coming.job.pinned sound_job.ascending)).file
 
+    file_plain : nx.x.file.profile ≡ (setup_in w).profile
+    file_plain = plain.pinned nx.x.file (of_file (Contains coming.job.pinned) (contains_each coming.job.pinned)).file
+
     told_size : length_in v.core number o ≡ Some (length nx.x.file.bytes)
     told_size =
         ap (λ (j : Option CoreJob). length_found j o) in_core.1
@@ -288,8 +295,8 @@ module _ (v : Vault) (w : State) (holds : Option Cells) (faults moment number k 
       number = in_core.0.subject;
       number_is = subst (λ (j : Option CoreJob). IsAuditNumber j in_core.0.subject) (sym in_core.1) refl;
       rows =
-          (let rows : stripes (vault_object v o) (length nx.x.file.bytes) ≡ stripes_of (setup_in w) (length nx.x.file.bytes) =
-          (λ i. (length nx.x.file.bytes + (16 * (l_is i * (profile_is i).keep) - 1)) / (16 * (l_is i * (profile_is i).keep))) in
+          (let rows : stripes (vault_object v o) (length nx.x.file.bytes) ≡ stripes_of (profiled (setup_in w) nx.x.file.profile) (length nx.x.file.bytes) =
+          (λ i. (length nx.x.file.bytes + (16 * (l_is i * ((profile_is ∙ ap profile_of (sym file_plain)) i).keep) - 1)) / (16 * (l_is i * ((profile_is ∙ ap profile_of (sym file_plain)) i).keep))) in
           let some = (of_file (Contains coming.job.pinned) (contains_each coming.job.pinned)).rows in
           let size = ap (λ (p : PlainProfile). p.size) profile_is in
           let least = profile_some (setup_in w).profile in
@@ -331,14 +338,14 @@ module _ (v : Vault) (w : State) (holds : Option Cells) (faults moment number k 
       q_n : q.file.shape.n ≡ (setup_in w).n
       q_n = ap (λ (x : ShapeValue). x.n) put.shape_is ∙ n_is
 
-      q_object : layout.shaped_object (setup_in w).master q.file ≡ object_of (setup_in w) nx.x.file.id
+      q_object : layout.shaped_object (setup_in w).master q.file ≡ object_of (profiled (setup_in w) nx.x.file.profile) nx.x.file.id
       q_object = λ i. record {
         shape = record {
           n = q_n i;
           l = (ap (λ (x : ShapeValue). x.l) put.shape_is ∙ l_is) i;
           b = (ap (λ (x : ShapeValue). x.b) put.shape_is ∙ b_is) i;
         };
-        profile = (ap plain_profile put.profile_is ∙ profile_is) i;
+        profile = (ap plain_profile put.profile_is ∙ profile_is ∙ ap profile_of (sym file_plain)) i;
         master = (setup_in w).master;
         id = (put.id_is ∙ nx.id_is) i;
       }
@@ -444,14 +451,15 @@ module _ (v : Vault) (w : State) (holds : Option Cells) (faults moment number k 
         let round = nx a.0 a.2 in
         let asked_is = is_put a.0 a.2 q put in
         let seen : p ≡ w.providers k = same_value _ p (w.providers k) p_is (stands.devices.providers.each k (is_handed_in)) in
-        let challenge : challenge_put v.master.0 q ≡ challenge_in (setup_in w) job o (pinned_size job.pinned o) r =
+        let profile : (round.x).file.profile ≡ pinned_profile (setup_in w).profile job.pinned o = file_plain a.0 a.2 ∙ sym (profile-among (setup_in w).profile job.pinned o plain.pinned) in
+        let challenge : challenge_put v.master.0 q ≡ asked_challenge (setup_in w) job o r =
         ap (λ (m : List ℕ). challenge_put m q) master_is ∙ asked_is.challenge
-        ∙ (λ i. challenge_in (setup_in w) job ((sym round.id_is) i) ((sym (size_is a.0 a.2) ∙ ap (pinned_size job.pinned) (sym round.id_is)) i) ((sym round.number_is) i)) in
-        let called : Asks (honest_answer (challenge_in (setup_in w) job o (pinned_size job.pinned o) r)) o (w.providers k) symbol p' =
-        subst (λ (z : Provider). Asks (honest_answer (challenge_in (setup_in w) job o (pinned_size job.pinned o) r)) o z symbol p') seen
-        (subst (λ (m : ℕ). Asks (honest_answer (challenge_in (setup_in w) job o (pinned_size job.pinned o) r)) m p symbol p') put.id_is
+        ∙ (λ i. challenge_in (profiled (setup_in w) (profile i)) job ((sym round.id_is) i) ((sym (size_is a.0 a.2) ∙ ap (pinned_size job.pinned) (sym round.id_is)) i) ((sym round.number_is) i)) in
+        let called : Asks (honest_answer (asked_challenge (setup_in w) job o r)) o (w.providers k) symbol p' =
+        subst (λ (z : Provider). Asks (honest_answer (asked_challenge (setup_in w) job o r)) o z symbol p') seen
+        (subst (λ (m : ℕ). Asks (honest_answer (asked_challenge (setup_in w) job o r)) m p symbol p') put.id_is
         (subst (λ c. Asks (honest_answer c) q.file.id p symbol p') challenge call)) in
-        let happens = happens_by w new moment number (Ask k o r) More stands.core.is_open coming (symbol, (p', called, refl)) in
+        let happens = happens_by w new moment number (Ask k o r) More stands.core.is_open stands.core.none_alone coming (symbol, (p', called, refl)) in
         let mine : next_job.number ≡ number = number_of w.jobs number job coming.runs in
         let tail_is : actions_left (setup_in w) next_job ≡ after w job = ap (drop (job.place + 1)) (actions_same (setup_in w) job (job.place + 1) (Answered k o r symbol ∷ job.given)) in
         let running : IsRunning (setup_in w) y next_job = record {

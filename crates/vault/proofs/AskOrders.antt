@@ -8,7 +8,7 @@ use Rattle.hail_codes.specs.Points.{upto}
 use Rattle.hail_records.specs.Records.{Setup}
 use Rattle.hail_machine.specs.Actions.{Action, Ask, End, append_actions, on_each_provider, rounds_of, ask_actions, actions_of}
 use Rattle.hail_machine.specs.Jobs.{Pinned, Job, AuditJob}
-use Rattle.hail_machine.specs.Setups.{stripes_of}
+use Rattle.hail_machine.specs.Setups.{profiled, stripes_of}
 use Rattle.vault.specs.Orders.{is_ask, asks_left}
 use Rattle.vault.specs.Rounds.{Round, rounds_in, AsksOn}
 
@@ -45,12 +45,12 @@ module _ (s : Setup) (some : 1 ≤ s.n) where
       (one-on f r (map (made f) rs ++ xs) (flat_map (asks_in f) rs ++ rest) (rounds-on f rs xs rest on))
 
   files-on : (fs : List Pinned) (rest : List Action) → AsksOn s.n [] 0 rest
-      → AsksOn s.n (rounds_in s fs) 0 (flat_map (λ (f : Pinned). flat_map (asks_in f) (rounds_of s (length f.bytes))) fs ++ rest)
+      → AsksOn s.n (rounds_in s fs) 0 (flat_map (λ (f : Pinned). flat_map (asks_in f) (rounds_of (profiled s f.profile) (length f.bytes))) fs ++ rest)
   files-on [] rest on = on
   files-on (f ∷ fs) rest on =
-      subst (AsksOn s.n (map (made f) (rounds_of s (length f.bytes)) ++ rounds_in s fs) 0)
-      (sym (append_assoc (flat_map (asks_in f) (rounds_of s (length f.bytes))) (flat_map (λ (f : Pinned). flat_map (asks_in f) (rounds_of s (length f.bytes))) fs) rest))
-      (rounds-on f (rounds_of s (length f.bytes)) (rounds_in s fs) _ (files-on fs rest on))
+      subst (AsksOn s.n (map (made f) (rounds_of (profiled s f.profile) (length f.bytes)) ++ rounds_in s fs) 0)
+      (sym (append_assoc (flat_map (asks_in f) (rounds_of (profiled s f.profile) (length f.bytes))) (flat_map (λ (f : Pinned). flat_map (asks_in f) (rounds_of (profiled s f.profile) (length f.bytes))) fs) rest))
+      (rounds-on f (rounds_of (profiled s f.profile) (length f.bytes)) (rounds_in s fs) _ (files-on fs rest on))
 
   skip-moves : (xs : List Round) (rest : List Action) → AsksOn s.n xs 0 rest → AsksOn s.n xs 0 (append_actions ++ rest)
   skip-moves [] rest on = on
@@ -72,6 +72,12 @@ count-round : (o r : ℕ) (js : List ℕ) → asks_left (map (λ j. Ask j o r) j
 count-round o r [] = refl
 count-round o r (j ∷ js) = count-ask j o r (map (λ j. Ask j o r) js) ∙ (let l = count-round o r js in omega (arith, l))
 
+few-rounds : (s : Setup) (size : ℕ) → length (rounds_of s size) ≤ s.rounds
+few-rounds s size = elim (cases_Bool (stripes_of s size == 0)) [
+  | inl t ↦ rw t (omega arith)
+  | inr f ↦ rw f (omega (arith, length-range_with_len 0 s.rounds))
+]
+
 module _ (s : Setup) where
   count-rounds : (o : ℕ) (rs : List ℕ) → asks_left (flat_map (λ r. on_each_provider s (λ j. Ask j o r)) rs) ≡ length rs * s.n
   count-rounds o [] = omega arith
@@ -80,20 +86,14 @@ module _ (s : Setup) where
       let c = count-round o r (upto s.n) in
       count-both (on_each_provider s (λ j. Ask j o r)) (flat_map (λ r. on_each_provider s (λ j. Ask j o r)) rs) ∙ omega (arith, l, c, length-range_with_len 0 s.n)
 
-  few-rounds : (size : ℕ) → length (rounds_of s size) ≤ s.rounds
-  few-rounds size = elim (cases_Bool (stripes_of s size == 0)) [
-    | inl t ↦ rw t (omega arith)
-    | inr f ↦ rw f (omega (arith, length-range_with_len 0 s.rounds))
-  ]
-
-  count-files : (fs : List Pinned) → asks_left (flat_map (λ (f : Pinned). flat_map (λ r. on_each_provider s (λ j. Ask j f.id r)) (rounds_of s (length f.bytes))) fs) ≤ length fs * (s.rounds * s.n)
+  count-files : (fs : List Pinned) → asks_left (flat_map (λ (f : Pinned). flat_map (λ r. on_each_provider s (λ j. Ask j f.id r)) (rounds_of (profiled s f.profile) (length f.bytes))) fs) ≤ length fs * (s.rounds * s.n)
   count-files [] = omega arith
   count-files (f ∷ fs) =
-      let rs = rounds_of s (length f.bytes) in
-      let one : length rs * s.n ≤ s.rounds * s.n = times (length rs) s.rounds s.n (few-rounds (length f.bytes)) in
+      let rs = rounds_of (profiled s f.profile) (length f.bytes) in
+      let one : length rs * s.n ≤ s.rounds * s.n = times (length rs) s.rounds s.n (few-rounds (profiled s f.profile) (length f.bytes)) in
       let l = count-files fs in
       let c = count-rounds f.id rs in
-      let b = count-both (flat_map (λ r. on_each_provider s (λ j. Ask j f.id r)) rs) (flat_map (λ (f : Pinned). flat_map (λ r. on_each_provider s (λ j. Ask j f.id r)) (rounds_of s (length f.bytes))) fs) in
+      let b = count-both (flat_map (λ r. on_each_provider s (λ j. Ask j f.id r)) rs) (flat_map (λ (f : Pinned). flat_map (λ r. on_each_provider s (λ j. Ask j f.id r)) (rounds_of (profiled s f.profile) (length f.bytes))) fs) in
       omega (arith, one, l, c, b)
     where
       times : (a b n : ℕ) → a ≤ b → a * n ≤ b * n

@@ -12,8 +12,8 @@ use Rattle.hail_machine.specs.Actions.{Action, Ask}
 use Rattle.hail_machine.specs.Audits.{challenge_in, JudgesRound}
 use Rattle.hail_machine.specs.Given.{answers_given}
 use Rattle.hail_machine.specs.Heard.{Entry}
-use Rattle.hail_machine.specs.Jobs.{Kind, PutJob, GetJob, DropJob, AuditJob, RepairJob, Given, Answered, Job, advanced_with}
-use Rattle.hail_machine.specs.Setups.{object_of}
+use Rattle.hail_machine.specs.Jobs.{Kind, PutJob, GetJob, DropJob, AuditJob, RepairJob, UpgradeJob, Given, Answered, Job, advanced_with}
+use Rattle.hail_machine.specs.Setups.{profiled, object_of}
 use Rattle.hail_machine.specs.States.{State, setup_in}
 use Rattle.file_layout.specs.Files as layout
 use Rattle.audit_verdict.specs.Rounds.{sums_of}
@@ -28,7 +28,7 @@ use Rattle.hail_devices.specs.Cells.{Cells}
 use Rattle.hail_devices.specs.Providers.{Provider}
 use Rattle.vault_core.specs.Carried.{ComesNext}
 use Rattle.vault.specs.declared.vault.Vault.{Vault}
-use Rattle.vault.specs.Devices.{devices}
+use Rattle.vault_open.specs.Devices.{devices}
 use Rattle.vault.specs.Stands.{Stands, Comes}
 use Rattle.vault.proofs.Allowed.{IsAllowed, next_allowed}
 use Rattle.vault.proofs.Ways.{is_handed}
@@ -46,8 +46,8 @@ zero_all (suc n) = zero_all n
 
 -- the ask is that of a round of a job
 pub record IsPut (s : Setup) (job : Job) (x : Round) (q : Question) : Type 0 where
-  pub object : layout.shaped_object s.master q.file ≡ object_of s x.file.id
-  pub challenge : challenge_put s.master q ≡ challenge_in s job x.file.id (length x.file.bytes) x.number
+  pub object : layout.shaped_object s.master q.file ≡ object_of (profiled s x.file.profile) x.file.id
+  pub challenge : challenge_put s.master q ≡ challenge_in (profiled s x.file.profile) job x.file.id (length x.file.bytes) x.number
   pub id_is : q.file.id ≡ x.file.id
   pub round_is : q.round ≡ x.number
   pub n_is : q.file.shape.n ≡ s.n
@@ -113,7 +113,7 @@ module _ (s : Setup) (job : Job) (rising : Rattle.vault.proofs.Asks.Rising 0 0 (
 
     judged_now : k + 1 ≡ s.n → HasJudged s.master q m u → JudgesRound s (advanced_with job (Answered k x.file.id x.number symbol)) x.file x.number (sums_on m) (sums_on u)
     judged_now last judged =
-        subst (λ (o : Object). Judges o (challenge_in s job x.file.id (length x.file.bytes) x.number) (answers_given (Answered k x.file.id x.number symbol ∷ job.given) s.n x.file.id x.number) (sums_on m) (sums_on u)) put.object
+        subst (λ (o : Object). Judges o (challenge_in (profiled s x.file.profile) job x.file.id (length x.file.bytes) x.number) (answers_given (Answered k x.file.id x.number symbol ∷ job.given) s.n x.file.id x.number) (sums_on m) (sums_on u)) put.object
         (subst (λ (c : Challenge). Judges (layout.shaped_object s.master q.file) c (answers_given (Answered k x.file.id x.number symbol ∷ job.given) s.n x.file.id x.number) (sums_on m) (sums_on u)) put.challenge
         (subst (λ (l : List (Option ℕ)). Judges (layout.shaped_object s.master q.file) (challenge_put s.master q) l (sums_on m) (sums_on u))
         (ap (λ (n : ℕ). last_answers n m.heard.symbols.items) put.n_is
@@ -184,6 +184,7 @@ module _ (v : Vault) (w : State) (holds : Option Cells) (faults number k o r : �
       by_kind (DropJob name) h = absurd h
       by_kind AuditJob h = h
       by_kind RepairJob h = absurd h
+      by_kind UpgradeJob h = absurd h
 
   -- the provider is there
   pub provider_there : k < length ps

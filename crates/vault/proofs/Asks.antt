@@ -17,7 +17,7 @@ use Rattle.hail_machine.specs.Audits.{challenge_in, JudgesRound, JudgesRounds, J
 use Rattle.hail_machine.specs.Given.{answer_given, answers_given, pinned_size}
 use Rattle.hail_machine.specs.Heard.{Entry}
 use Rattle.hail_machine.specs.Jobs.{Pinned, Given, Answered, Job, advanced_with}
-use Rattle.hail_machine.specs.Setups.{object_of, stripes_of}
+use Rattle.hail_machine.specs.Setups.{profiled, object_of, stripes_of}
 use Rattle.hail_machine.proofs.JobLists.{cond_true, cond_false}
 use Rattle.sound_states.specs.Orders.{AreAscending}
 use Rattle.vault.specs.declared.heard.Ask.{Ask as AskValue}
@@ -142,13 +142,19 @@ range_rising : (f : Pinned) (m a : ℕ) (xs : List Round) → Rising (f.id + 1) 
 range_rising f zero a xs h = lower f.id a xs h
 range_rising f (suc m) a xs h = ((omega arith, λ e. omega arith), range_rising f m (a + 1) xs h)
 
+rounds_few : (s : Setup) (size : ℕ) → length (rounds_of s size) ≤ s.rounds
+rounds_few s size = elim (cases_Bool (stripes_of s size == 0)) [
+  | inl t ↦ (let e = ap length (cond_true (stripes_of s size == 0) [] (upto s.rounds) t) in omega (arith, e))
+  | inr f ↦ (let e = ap length (cond_false (stripes_of s size == 0) [] (upto s.rounds) f) in let l = length-range_with_len 0 s.rounds in omega (arith, e, l))
+]
+
 module _ (s : Setup) where
   pub rounds_rise : (low : ℕ) (fs : List Pinned) → AreAscending low fs → Rising low 0 (rounds_in s fs)
   rounds_rise low [] h = tt
-  rounds_rise low (f ∷ fs) h = from_low low f.id (rounds_in s (f ∷ fs)) h.0 (elim (cases_Bool (stripes_of s (length f.bytes) == 0)) [
-    | inl t ↦ subst (λ (rs : List ℕ). Rising f.id 0 (map (round_of f) rs ++ rounds_in s fs)) (sym (cond_true (stripes_of s (length f.bytes) == 0) [] (upto s.rounds) t))
+  rounds_rise low (f ∷ fs) h = from_low low f.id (rounds_in s (f ∷ fs)) h.0 (elim (cases_Bool (stripes_of (profiled s f.profile) (length f.bytes) == 0)) [
+    | inl t ↦ subst (λ (rs : List ℕ). Rising f.id 0 (map (round_of f) rs ++ rounds_in s fs)) (sym (cond_true (stripes_of (profiled s f.profile) (length f.bytes) == 0) [] (upto s.rounds) t))
         (lower f.id 0 (rounds_in s fs) (rounds_rise (f.id + 1) fs h.1))
-    | inr t ↦ subst (λ (rs : List ℕ). Rising f.id 0 (map (round_of f) rs ++ rounds_in s fs)) (sym (cond_false (stripes_of s (length f.bytes) == 0) [] (upto s.rounds) t))
+    | inr t ↦ subst (λ (rs : List ℕ). Rising f.id 0 (map (round_of f) rs ++ rounds_in s fs)) (sym (cond_false (stripes_of (profiled s f.profile) (length f.bytes) == 0) [] (upto s.rounds) t))
         (range_rising f s.rounds 0 (rounds_in s fs) (rounds_rise (f.id + 1) fs h.1))
   ])
 
@@ -157,28 +163,22 @@ module _ (s : Setup) where
   -- a round of a file that has rows
   pub record IsRound (P : Pinned → Type 0) (x : Round) : Type 0 where
     pub file : P x.file
-    pub rows : 1 ≤ stripes_of s (length x.file.bytes)
+    pub rows : 1 ≤ stripes_of (profiled s x.file.profile) (length x.file.bytes)
 
-  map_round : (P : Pinned → Type 0) (f : Pinned) (rs : List ℕ) → P f → 1 ≤ stripes_of s (length f.bytes) → Each (IsRound P) (map (round_of f) rs)
+  map_round : (P : Pinned → Type 0) (f : Pinned) (rs : List ℕ) → P f → 1 ≤ stripes_of (profiled s f.profile) (length f.bytes) → Each (IsRound P) (map (round_of f) rs)
   map_round P f [] p some = tt
   map_round P f (r ∷ rs) p some = (record { file = p; rows = some }, map_round P f rs p some)
 
   pub each_round : (P : Pinned → Type 0) (fs : List Pinned) → Each P fs → Each (IsRound P) (rounds_in s fs)
   each_round P [] h = tt
-  each_round P (f ∷ fs) h = each_append (IsRound P) (map (round_of f) (rounds_of s (length f.bytes))) (rounds_in s fs) (elim (cases_Bool (stripes_of s (length f.bytes) == 0)) [
-    | inl t ↦ subst (λ (rs : List ℕ). Each (IsRound P) (map (round_of f) rs)) (sym (cond_true (stripes_of s (length f.bytes) == 0) [] (upto s.rounds) t)) tt
-    | inr t ↦ map_round P f (rounds_of s (length f.bytes)) h.0 (positive (stripes_of s (length f.bytes)) (eqb-false (stripes_of s (length f.bytes)) 0 t))
+  each_round P (f ∷ fs) h = each_append (IsRound P) (map (round_of f) (rounds_of (profiled s f.profile) (length f.bytes))) (rounds_in s fs) (elim (cases_Bool (stripes_of (profiled s f.profile) (length f.bytes) == 0)) [
+    | inl t ↦ subst (λ (rs : List ℕ). Each (IsRound P) (map (round_of f) rs)) (sym (cond_true (stripes_of (profiled s f.profile) (length f.bytes) == 0) [] (upto s.rounds) t)) tt
+    | inr t ↦ map_round P f (rounds_of (profiled s f.profile) (length f.bytes)) h.0 (positive (stripes_of (profiled s f.profile) (length f.bytes)) (eqb-false (stripes_of (profiled s f.profile) (length f.bytes)) 0 t))
   ]) (each_round P fs h.1)
     where
       positive : (a : ℕ) → (a ≡ 0 → ⊥) → 1 ≤ a
       positive zero h = absurd (h refl)
       positive (suc a) h = omega arith
-
-  rounds_few : (size : ℕ) → length (rounds_of s size) ≤ s.rounds
-  rounds_few size = elim (cases_Bool (stripes_of s size == 0)) [
-    | inl t ↦ (let e = ap length (cond_true (stripes_of s size == 0) [] (upto s.rounds) t) in omega (arith, e))
-    | inr f ↦ (let e = ap length (cond_false (stripes_of s size == 0) [] (upto s.rounds) f) in let l = length-range_with_len 0 s.rounds in omega (arith, e, l))
-  ]
 
   length_map : (f : Pinned) (rs : List ℕ) → length (map (round_of f) rs) ≡ length rs
   length_map f [] = refl
@@ -187,9 +187,9 @@ module _ (s : Setup) where
   pub few_rounds : (fs : List Pinned) → length (rounds_in s fs) ≤ length fs * s.rounds
   few_rounds [] = omega arith
   few_rounds (f ∷ fs) =
-      let a = length-append (map (round_of f) (rounds_of s (length f.bytes))) (rounds_in s fs) in
-      let b = length_map f (rounds_of s (length f.bytes)) in
-      let c = rounds_few (length f.bytes) in
+      let a = length-append (map (round_of f) (rounds_of (profiled s f.profile) (length f.bytes))) (rounds_in s fs) in
+      let b = length_map f (rounds_of (profiled s f.profile) (length f.bytes)) in
+      let c = rounds_few (profiled s f.profile) (length f.bytes) in
       let d = few_rounds fs in
       let e : (1 + length fs) * s.rounds ≡ s.rounds + length fs * s.rounds = grind arith in
       omega (arith, a, b, c, d, e)
@@ -251,7 +251,7 @@ module _ (s : Setup) (job : Job) where
   judges_still k o r symbol [] old new far h = h
   judges_still k o r symbol (x ∷ xs) old new far h = (
     h.0,
-    subst (λ (l : List (Option ℕ)). Judges (object_of s x.file.id) (challenge_in s job x.file.id (length x.file.bytes) x.number) l old h.0)
+    subst (λ (l : List (Option ℕ)). Judges (object_of (profiled s x.file.profile) x.file.id) (challenge_in (profiled s x.file.profile) job x.file.id (length x.file.bytes) x.number) l old h.0)
         (sym (given_other k o r symbol job.given x.file.id x.number far.0 (upto s.n))) h.1,
     judges_still k o r symbol xs h.0 new far.1 h.2,
   )
@@ -273,8 +273,8 @@ module _ (s : Setup) (job : Job) where
   pub as_files : (fs : List Pinned) (old new : Sums) → JudgesEach s job (rounds_in s fs) old new → JudgesFiles s job fs old new
   as_files [] old new h = h
   as_files (f ∷ fs) old new h =
-      let r = split (map (round_of f) (rounds_of s (length f.bytes))) (rounds_in s fs) old new h in
-      (r.0, as_rounds f (rounds_of s (length f.bytes)) old r.0 r.1, as_files fs r.0 new r.2)
+      let r = split (map (round_of f) (rounds_of (profiled s f.profile) (length f.bytes))) (rounds_in s fs) old new h in
+      (r.0, as_rounds f (rounds_of (profiled s f.profile) (length f.bytes)) old r.0 r.1, as_files fs r.0 new r.2)
 
 -- no count exceeds the number of rounds
 pub record Within (rounds : ℕ) (sums : Sums) : Type 0 where
@@ -284,7 +284,7 @@ pub record Within (rounds : ℕ) (sums : Sums) : Type 0 where
 module _ (s : Setup) (job : Job) where
   judged_within : (k : ℕ) (f : Pinned) (round : ℕ) (old new : Sums) → Within k old → JudgesRound s job f round old new → Within (k + 1) new
   judged_within k f round old new w (inl (p, decides, is)) = subst (Within (k + 1)) (sym is) (record {
-    counts = counts_after-within k p (points (object_of s f.id)) (bare_answers (object_of s f.id) (challenge_in s job f.id (length f.bytes) round) 0 (answers_given job.given s.n f.id round)) old.counts w.counts;
+    counts = counts_after-within k p (points (object_of (profiled s f.profile) f.id)) (bare_answers (object_of (profiled s f.profile) f.id) (challenge_in (profiled s f.profile) job f.id (length f.bytes) round) 0 (answers_given job.given s.n f.id round)) old.counts w.counts;
     undecided = omega (arith, w.undecided);
   })
   judged_within k f round old new w (inr (none, is)) = subst (Within (k + 1)) (sym is) (record {

@@ -16,7 +16,7 @@ use Rattle.file_layout.specs.declared.file.FileShape.{FileShape}
 use Rattle.vault.specs.declared.heard.Ask.{Ask}
 use Rattle.vault.specs.declared.tasks.AuditTask.{AuditTask}
 use Rattle.vault.specs.declared.vault.Vault.{Vault}
-use Rattle.vault.specs.Devices.{Devices}
+use Rattle.vault_open.specs.Devices.{Devices}
 use Rattle.vault.specs.Heard.{answered_entries}
 use Rattle.vault.specs.Orders.{asks_left}
 use Rattle.vault.specs.Rounds.{Round, rounds_in}

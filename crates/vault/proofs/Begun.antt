@@ -14,7 +14,7 @@ use Rattle.vault_core.specs.Carried.{CoreIs, refusal_of, begun}
 use Rattle.vault.specs.declared.vault.Vault.{Vault}
 use Rattle.vault.specs.declared.tasks.Running.{Running}
 use Rattle.vault.specs.declared.tasks.Task.{Task}
-use Rattle.vault.specs.Devices.{Devices}
+use Rattle.vault_open.specs.Devices.{Devices}
 use Rattle.vault.specs.Running.{KeepsAll}
 use Rattle.vault.specs.Stands.{Stands, MakesBegin}
 use Rattle.vault.specs.Tasks.{IsTask, IsRunning, AreRunning}

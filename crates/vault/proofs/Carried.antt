@@ -6,7 +6,7 @@ use Rattle.hail_machine.specs.States.{State}
 use Rattle.hail_machine.specs.States as states
 use Rattle.vault.specs.declared.flight.Flight.{Flight}
 use Rattle.vault.specs.declared.vault.Vault.{Vault}
-use Rattle.vault.specs.Devices.{Devices}
+use Rattle.vault_open.specs.Devices.{Devices}
 use Rattle.vault.specs.Stands.{IsFlight, Stands, CarriesText, Carries}
 
 pub carried_text : (f : Option Flight) (append : Option states.Append) (rs : List Record) (told : Option Cells) → IsFlight f append rs told → CarriesText f rs told

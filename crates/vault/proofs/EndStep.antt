@@ -1,5 +1,5 @@
 -- The end of a job is a step of the machine.
-use Rattle.std.proofs.Common.{◌≡◌, ℕ, zero, suc, ◌==◌, Bool, false, List, [], ◌∷◌, length, take, drop, Option, Some, None, refl, sym, ap, subst, ◌∙◌, inl, inr, arith}
+use Rattle.std.proofs.Common.{◌≡◌, ℕ, zero, suc, ◌==◌, Bool, false, List, [], ◌∷◌, take, drop, Option, Some, None, refl, sym, ap, subst, ◌∙◌, inl, inr, arith}
 use Rattle.std.specs.Prelude.{slice_get, IsTrue, nat_lt, not, ◌&&◌}
 use Rattle.std.specs.List.{flat_map, AllZip}
 use Rattle.std.specs.Option.{option_map}
@@ -16,7 +16,7 @@ use Rattle.hail_machine.specs.Appends.{is_first_append}
 use Rattle.hail_machine.specs.Audits.{HasSums}
 use Rattle.hail_machine.specs.Given.{symbols_given}
 use Rattle.hail_machine.specs.Jobs.{Kind, GetJob, AuditJob, Pinned, Job, job_of, without_job}
-use Rattle.hail_machine.specs.Setups.{stripes_of}
+use Rattle.hail_machine.specs.Setups.{pinned_stripes}
 use Rattle.hail_machine.specs.States.{State, setup_in, ended}
 use Rattle.hail_machine.specs.Steps.{Ends, GotBytes, next_action, is_idle_drop}
 use Rattle.hail_machine.proofs.JobLists.{number_of, cond_true, cond_false, same_value}
@@ -34,7 +34,7 @@ use Rattle.vault.specs.declared.tasks.Task.{Task}
 use Rattle.vault.specs.declared.tasks.Task.TheVariants as task
 use Rattle.vault.specs.declared.turn.Turn.{Turn}
 use Rattle.vault.specs.declared.vault.Vault.{Vault}
-use Rattle.vault.specs.Devices.{Devices}
+use Rattle.vault_open.specs.Devices.{Devices}
 use Rattle.vault.specs.Ending.{answer_at_end}
 use Rattle.vault.specs.Orders.{OpensFrom}
 use Rattle.vault.specs.Outcomes.{machine_answer}
@@ -131,8 +131,8 @@ module _ (w : State) (job : Job) (next : next_action w job ≡ Some End) where
       → (t : Task) → IsTask (setup_in w) job (actions_left (setup_in w) job) t → Ends w job job.kind (machine_answer (answer_at_end t subject undecided counts))
   ends c of subject undecided counts drawn sums (task.Put t) is = subst (λ (k : Kind). Ends w job k answers.Put) (sym is.kind) tt
   ends c of subject undecided counts drawn sums (task.Get t) is =
-      let whole : is.opened ≡ stripes_of (setup_in w) (length is.file.bytes) =
-      all_opened is.file.id (stripes_of (setup_in w) (length is.file.bytes)) is.opened (actions_left (setup_in w) job)
+      let whole : is.opened ≡ pinned_stripes (setup_in w) is.file =
+      all_opened is.file.id (pinned_stripes (setup_in w) is.file) is.opened (actions_left (setup_in w) job)
       (first_left (actions_of (setup_in w) job) job.place End (listed (GetJob is.name) is.kind refl)) is.opens in
       let bytes = is.bytes ∙ ap (λ (k : ℕ). flat_map (λ stripe. bytes_of_symbols (symbols_given job.given is.file.id stripe)) (upto k)) whole in
       subst (λ (k : Kind). Ends w job k (answers.Got (take t.length t.bytes.items))) (sym is.kind)

@@ -7,8 +7,9 @@ use Rattle.hail_devices.specs.Providers.{Provider}
 use Rattle.hail_devices.specs.ProviderCalls.{Fetches}
 use Rattle.hail_machine.specs.Actions.{Action, Fetch}
 use Rattle.hail_machine.specs.Jobs.{Kind, PutJob, DropJob, AuditJob, Fetched, Job, advanced_with}
-use Rattle.hail_machine.specs.States.{State, setup_in, object_in, going_on, with_provider}
+use Rattle.hail_machine.specs.States.{State, setup_in, worked_object, going_on, with_provider}
 use Rattle.hail_machine.specs.Steps.{next_action}
+use Rattle.sound_states.specs.SoundJobs.{IsPlainJob}
 use Rattle.vault_core.specs.Carried.{ComesNext}
 use Rattle.vault_core.specs.declared.reply.Reply.TheVariants as reply
 use Rattle.vault.specs.declared.heard.Fetch.{Fetch as FetchValue}
@@ -18,28 +19,29 @@ use Rattle.vault.specs.declared.tasks.Task.TheVariants as task
 use Rattle.vault.specs.declared.turn.Turn.TheVariants as turn
 use Rattle.vault.specs.declared.vault.Vault.{Vault}
 use Rattle.vault.specs.Blocks.{given_of}
-use Rattle.vault.specs.Devices.{devices}
+use Rattle.vault_open.specs.Devices.{devices}
 use Rattle.vault.specs.Fetching.{TakesFetch, HasRoomFor, fetch_size}
 use Rattle.vault.specs.Running.{place_in, KeepsAll, IsFed}
 use Rattle.vault.specs.Stands.{Stands, Comes, MakesStep}
 use Rattle.vault.specs.Tasks.{IsTask, IsRunning}
+use Rattle.vault.proofs.FirstVersion.{plain-core, worked-plain}
 use Rattle.vault.proofs.Allowed.{IsAllowed, next_allowed}
 use Rattle.vault.proofs.Fetched.{left_is, after, room_for, runs_on, within}
 use Rattle.vault.proofs.Ways.{at_place, is_handed, handed_on, goes_on}
 
 -- the size of the blocks that a job fetches is that of its objects
-size_is : (w : State) (job : Job) (k o s : ℕ) (r : Running) → next_action w job ≡ Some (Fetch k o s) → IsRunning (setup_in w) r job → fetch_size r.task ≡ (object_in w o).profile.size
-size_is w job k o s r next running = by_task r.task (subst (λ (l : List Action). IsTask (setup_in w) job l r.task) (left_is w job k o s next) running.task)
+size_is : (w : State) (job : Job) (k o s : ℕ) (r : Running) → IsPlainJob (setup_in w) job → next_action w job ≡ Some (Fetch k o s) → IsRunning (setup_in w) r job → fetch_size r.task ≡ (worked_object w job o).profile.size
+size_is w job k o s r plain next running = by_task r.task (subst (λ (l : List Action). IsTask (setup_in w) job l r.task) (left_is w job k o s next) running.task)
   where
     not_allowed : (kind : Kind) → job.kind ≡ kind → IsAllowed (setup_in w).n kind (Fetch k o s)
     not_allowed kind is = subst (λ (x : Kind). IsAllowed (setup_in w).n x (Fetch k o s)) is (next_allowed w job (Fetch k o s) next)
 
-    by_task : (t : Task) → IsTask (setup_in w) job (Fetch k o s ∷ after w job) t → fetch_size t ≡ (object_in w o).profile.size
+    by_task : (t : Task) → IsTask (setup_in w) job (Fetch k o s ∷ after w job) t → fetch_size t ≡ (worked_object w job o).profile.size
     by_task (task.Put t) is = absurd (not_allowed (PutJob is.name t.bytes) is.kind)
-    by_task (task.Get t) is = is.size ∙ ap (λ (x : Object). x.profile.size) is.bench
+    by_task (task.Get t) is = is.size ∙ ap (λ (x : Object). x.profile.size) is.bench ∙ ap (λ (x : Object). x.profile.size) (worked-plain w job o plain)
     by_task task.Drop is = absurd (not_allowed (DropJob is.name) is.kind)
     by_task (task.Audit t) is = absurd (not_allowed AuditJob is.kind)
-    by_task (task.Repair t) is = is.size ∙ ap (λ (x : Object). x.profile.size) is.bench
+    by_task (task.Repair t) is = is.size ∙ ap (λ (x : Object). x.profile.size) is.bench ∙ ap (λ (x : Object). x.profile.size) (worked-plain w job o plain)
 
 module _ (v : Vault) (w : State) (holds : Option Cells) (faults moment number k o s : ℕ) (ps : List Provider) (stands : Stands v (devices holds faults ps) w) (comes : Comes v.core number (Fetch k o s)) where
   coming : ComesNext w number (Fetch k o s) None
@@ -67,9 +69,9 @@ module _ (v : Vault) (w : State) (holds : Option Cells) (faults moment number k 
         let next_job = advanced_with job (Fetched k o s (given_of found block)) in
         let new : State = record (going_on w next_job) { providers = with_provider w.providers k q } in
         let seen : p ≡ w.providers k = (let e : Some p ≡ Some (w.providers k) = sym p_is ∙ stands.devices.providers.each k provider_there in cc) in
-        let call : Fetches (object_in w o).profile.size o s (w.providers k) (given_of found block) q =
-        subst (λ (x : Provider). Fetches (object_in w o).profile.size o s x (given_of found block) q) seen
-        (subst (λ (m : ℕ). Fetches m o s p (given_of found block) q) (size_is w job k o s r coming.comes runs) fetches) in
+        let call : Fetches (worked_object w job o).profile.size o s (w.providers k) (given_of found block) q =
+        subst (λ (x : Provider). Fetches (worked_object w job o).profile.size o s x (given_of found block) q) seen
+        (subst (λ (m : ℕ). Fetches m o s p (given_of found block) q) (size_is w job k o s r (plain-core v.core w number job stands.core coming.runs) coming.comes runs) fetches) in
         goes_on v v' w new holds faults moment number place ps ps' (Fetch k o s) r' next_job stands coming
         (given_of found block, (q, call, refl))
         (record { records = refl; doubt = refl; append = refl; faults = refl; barred = refl })

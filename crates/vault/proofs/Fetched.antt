@@ -7,7 +7,7 @@ use Rattle.column_codec.specs.PresentBlocks.{present_blocks}
 use Rattle.column_codec.proofs.PresentLemmas.{length-present_blocks}
 use Rattle.hail_records.specs.Records.{Setup}
 use Rattle.hail_machine.specs.Actions.{Action, Fetch, actions_of, actions_left}
-use Rattle.hail_machine.specs.Jobs.{Kind, PutJob, GetJob, DropJob, AuditJob, RepairJob, Given, Fetched, Job, advanced_with}
+use Rattle.hail_machine.specs.Jobs.{Kind, PutJob, GetJob, DropJob, AuditJob, RepairJob, UpgradeJob, Given, Fetched, Job, advanced_with}
 use Rattle.hail_machine.specs.Heard.{Entry}
 use Rattle.hail_machine.specs.States.{State, setup_in}
 use Rattle.hail_machine.specs.Steps.{next_action}
@@ -289,3 +289,4 @@ module _ (w : State) (job : Job) (k o s : ℕ) (next : next_action w job ≡ Som
       by_kind (DropJob name) h = absurd h
       by_kind AuditJob h = absurd h
       by_kind RepairJob h = h
+      by_kind UpgradeJob h = absurd h

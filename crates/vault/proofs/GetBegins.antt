@@ -12,15 +12,15 @@ use Rattle.hail_machine.specs.Begins.{new_job, pin_one, pinned_file}
 use Rattle.hail_machine.specs.Jobs.{GetJob}
 use Rattle.hail_machine.specs.Refusals as refusal
 use Rattle.hail_machine.specs.Refusals.{first_refusal}
-use Rattle.hail_machine.specs.Setups.{stripes_of}
+use Rattle.hail_machine.specs.Setups.{profiled, stripes_of, pinned_stripes}
 use Rattle.hail_machine.specs.States.{State, setup_in, file_in}
 use Rattle.sound_states.proofs.Records.{file-spelled}
-use Rattle.sound_states.proofs.Written.{setup-providers}
+use Rattle.sound_states.proofs.Written.{setup-providers, file-first}
 use Rattle.vault.specs.declared.bench.Bench.{Bench}
 use Rattle.vault.specs.declared.tasks.GetTask.{GetTask}
 use Rattle.vault.specs.declared.vault.Vault.{Vault}
 use Rattle.vault.specs.declared.heard.Fetch.{Fetch}
-use Rattle.vault.specs.Devices.{Devices}
+use Rattle.vault_open.specs.Devices.{Devices}
 use Rattle.vault.specs.Heard.{fetched_entries, blocks_in}
 use Rattle.vault.specs.Orders.{Between, GoesOn, OpensFrom, fetches_left, works_left}
 use Rattle.vault.specs.Seen.{table_of}
@@ -44,13 +44,13 @@ module _ (v : Vault) (d : Devices) (w : State) (moment : ℕ) (stands : Stands v
   s = setup_in w
 
   pub size-fits : file.size ≤ largest_file
-  size-fits = (file-spelled w.records name file stands.core.sound.in_grammar found).1
+  size-fits = (file-spelled w.records name file stands.core.sound.spelled found).1
 
   size-is : length (w.bytes file.id) ≡ file.size
   size-is = (stands.core.sound.files name file found).1
 
   abbrev total : ℕ
-  total = stripes_of s (length (w.bytes file.id))
+  total = pinned_stripes s (pinned_file w file)
 
   rest-is : actions_left s (new_job w moment (GetJob name)) ≡ flat_map (open_actions s file.id) (upto total) ++ End ∷ []
   unfolding actions_of
@@ -63,7 +63,8 @@ module _ (v : Vault) (d : Devices) (w : State) (moment : ℕ) (stands : Stands v
       let least = limits.0 in
       let is_bench = bench-is v s file.id file.size bench stands.shaped stands.setup for_file in
       let same_length : bench.keys.file.length ≡ length (w.bytes file.id) = for_file.length_is ∙ sym size-is in
-      let same_stripes : stripes_on bench ≡ total = (λ i. stripes (is_bench i) (same_length i)) in
+      let profile : file.profile ≡ s.profile = file-first 8 w stands.core.sound stands.core.first name file found in
+      let same_stripes : stripes_on bench ≡ total = (λ i. stripes (is_bench i) (same_length i)) ∙ ap (λ (p : ℕ). stripes_of (profiled s p) (length (w.bytes file.id))) (sym profile) in
       let same_n : bench.keys.file.shape.n ≡ s.n = ap (λ (o : Object). o.shape.n) is_bench in
       let rest = actions_left s (new_job w moment (GetJob name)) in
       let fetches_are : fetches_left rest ≡ total * s.n = ap fetches_left rest-is ∙ get-fetches s file.id total 0 in

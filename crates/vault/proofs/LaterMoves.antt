@@ -15,7 +15,6 @@ use Rattle.hail_machine.specs.Events.{More, Ended}
 use Rattle.hail_machine.specs.Answers as answers
 use Rattle.hail_machine.specs.Jobs.{Job, job_of, advanced, without_job}
 use Rattle.hail_machine.specs.Setups.{setup_or_none}
-use Rattle.hail_machine.specs.Stands.{StandsForState}
 use Rattle.hail_machine.specs.States.{State, Append, Doubt, setup_in, going_on, ended}
 use Rattle.hail_machine.proofs.JobLists.{number_of, same_value}
 use Rattle.sound_states.specs.Orders.{moves_before}
@@ -35,10 +34,13 @@ use Rattle.vault.specs.declared.turn.Answer.TheVariants as answer
 use Rattle.vault.specs.declared.turn.Turn.{Turn}
 use Rattle.vault.specs.declared.turn.Turn.TheVariants as turn
 use Rattle.vault.specs.declared.vault.Vault.{Vault}
-use Rattle.vault.specs.Devices.{devices, records_in_flight}
+use Rattle.vault_open.specs.Devices.{devices}
+use Rattle.vault.specs.Devices.{records_in_flight}
 use Rattle.vault.specs.Flights.{HasFailed, MakesMove, GoesOn, EndsAppend, GivesUp}
 use Rattle.vault.specs.Running.{KeepsAll, IsFed, IsStopped}
 use Rattle.vault.specs.Stands.{Stands, Comes, IsFlight, IsSamePast, MakesStep, MakesTurn}
+use Rattle.vault_open.proofs.FirstVersion.{FirstStands, first-images}
+use Rattle.vault.proofs.FirstVersion.{whole-core}
 use Rattle.vault.proofs.MoveStep.{moves_on, moves_end, beyond_of, all_images, doubted_images, closed_after}
 use Rattle.vault.proofs.Ways.{setup_same, images_on, handed_same, entry_kept}
 
@@ -264,7 +266,7 @@ module _ (v : Vault) (w : State) (holds holds' : Option Cells) (faults faults' m
         setup = setup_same w new refl;
         handed = handed_same ps w new stands.devices.providers refl (λ j. refl);
         faults = refl;
-        images = subst (λ (t : Option Cells). StandsForState t new) (sym made.1) (images_on holds w new refl refl stands.devices.images);
+        images = subst (λ (t : Option Cells). FirstStands t new) (sym made.1) (images_on holds w new refl refl (first-images holds w (whole-core v.core w stands.core) stands.devices.images));
         flight = λ free. subst (λ (x : Option Flight). IsFlight x None w.records holds') (sym flight)
             (subst (λ (t : Option Cells). IfSome t (IsClosed (before_gate w.records))) (sym made.1)
             (closed_after holds (before_gate w.records) (body_of f.append) (subst (λ (n : ℕ). IfSome holds (IsAfterMoves n (before_gate w.records) (body_of f.append))) k m.1.disk)));

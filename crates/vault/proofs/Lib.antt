@@ -1,14 +1,7 @@
-pub mod Texts
-pub mod Readings
-pub mod Foldings
+pub mod FirstVersion
 pub mod Opened
 pub mod Limits
-pub mod Answers
 pub mod Grown
-pub mod Emptied
-pub mod FirstRecord
-pub mod Prepared
-pub mod InitEvents
 pub mod JobPlaces
 pub mod Ways
 pub mod Allowed

@@ -15,8 +15,7 @@ use Rattle.hail_machine.specs.Actions.{Action, WriteBody}
 use Rattle.hail_machine.specs.Answers as answers
 use Rattle.hail_machine.specs.Appends.{Writes, subject_drawn, barred, begun_append}
 use Rattle.hail_machine.specs.Events.{More, Ended}
-use Rattle.hail_machine.specs.Jobs.{Kind, PutJob, GetJob, DropJob, AuditJob, RepairJob, Job, with_job, without_job}
-use Rattle.hail_machine.specs.Stands.{StandsForState}
+use Rattle.hail_machine.specs.Jobs.{Kind, PutJob, GetJob, DropJob, AuditJob, RepairJob, UpgradeJob, Job, with_job, without_job}
 use Rattle.hail_machine.specs.States.{State, Append, Doubt, setup_in, ended}
 use Rattle.hail_machine.specs.Steps.{Acts}
 use Rattle.hail_machine.proofs.JobLists.{number_of, cond_false}
@@ -43,12 +42,15 @@ use Rattle.vault.specs.declared.turn.Turn.TheVariants as turn
 use Rattle.vault.specs.declared.vault.Vault.{Vault}
 use Rattle.hail_openings.specs.Opened.{AreHanded}
 use Rattle.vault_core.proofs.Steps.{none_flies}
-use Rattle.vault.specs.Devices.{devices, IsSameBeyond, records_in_flight}
+use Rattle.vault_open.specs.Devices.{devices}
+use Rattle.vault.specs.Devices.{IsSameBeyond, records_in_flight}
 use Rattle.vault.specs.Flights.{HasFailed, MakesMove, GoesOn, GivesUp}
 use Rattle.vault.specs.Outcomes.{machine_answer}
 use Rattle.vault.specs.Running.{place_in, KeepsAll, IsFed, IsStopped}
 use Rattle.vault.specs.Stands.{Stands, Comes, IsFlight, IsSamePast, MakesStep, MakesTurn}
 use Rattle.vault.specs.Tasks.{AreRunning}
+use Rattle.vault_open.proofs.FirstVersion.{FirstStands, first-images, images-first}
+use Rattle.vault.proofs.FirstVersion.{whole-core, grammar-core}
 use Rattle.vault.proofs.JobPlaces.{place_is, put_back}
 use Rattle.vault.proofs.Moving.{IsMove, moved_on, move_runs}
 use Rattle.vault.proofs.Stops.{IsAside, is_left, not_gone}
@@ -61,13 +63,13 @@ pub record IsLeft (v' : Vault) (w new : State) (holds : Option Cells) (count : �
   pub setup : setup_in new ≡ setup_in w
   pub handed : AreHanded ps new
   pub faults : new.disk_faults ≡ count
-  pub images : StandsForState holds new
+  pub images : FirstStands holds new
   pub flight : new.is_barred ≡ false → IsFlight v'.flight new.append new.records holds
 
 stands_left : (v v' v2 : Vault) (w new : State) (holds holds' : Option Cells) (faults faults' : ℕ) (ps : List Provider) → Stands v (devices holds faults ps) w → IsLeft v' w new holds' faults' ps
     → CoreIs v2.core new → KeepsAll v v2 → v2.flight ≡ v'.flight → AreRunning (setup_in w) v2.jobs.items new.jobs → Stands v2 (devices holds' faults' ps) new
 stands_left v v' v2 w new holds holds' faults faults' ps stands left core keeps flight jobs = record {
-  devices = record { images = left.images; faults = left.faults; providers = left.handed };
+  devices = record { images = images-first holds' new (whole-core v2.core new core) left.images; faults = left.faults; providers = left.handed };
   core = core;
   setup = left.setup ∙ stands.setup ∙ sym (λ i. with_master (keeps.setup i) (keeps.master i).0);
   shaped = shaped_on v v2 keeps stands.shaped;
@@ -91,7 +93,7 @@ moves_on v v' w new holds holds' faults faults' moment number ps action subject 
     let f = working v (devices holds faults ps) w number action stands next in
     let j = moved_on next.job subject older in
     let running = move_runs w next.job action subject older f.running move next.comes kept f.is in
-    let happens = happens_by w new moment number action More stands.core.is_open next acts in
+    let happens = happens_by w new moment number action More stands.core.is_open stands.core.none_alone next acts in
     let mine : j.number ≡ number = number_of w.jobs number next.job next.runs in
     let core = fed w new More moment stands.core happens (record { tells = tt; entry = entry }) in
     let are : AreRunning (setup_in w) v'.jobs.items new.jobs =
@@ -125,7 +127,7 @@ moves_end v v1 v2 w new holds holds' faults faults' moment number ps action repl
     let at : place_in v.jobs.items number ≡ Some f.place = place_is v.jobs.items number ∙ f.at in
     let aside : IsAside v v1 f.place f.running f.running = record { core = same_core; jobs = same_jobs ∙ sym (set_same v.jobs.items f.place f.running f.there); number = refl; heard = refl; keeps = keeps } in
     let gone = is_left v v1 (devices holds faults ps) w number f.place action f.running f.running stands next at f.there aside v2 reply answer t stopped in
-    let happens = happens_by w new moment number action (Ended (machine_answer answer)) stands.core.is_open next acts in
+    let happens = happens_by w new moment number action (Ended (machine_answer answer)) stands.core.is_open stands.core.none_alone next acts in
     let core = gone.fed w new (Ended (machine_answer answer)) moment stands.core happens (record { tells = tells; entry = λ a is mine. (let e : None ≡ Some a = sym none ∙ is in absurd (none_some a e)) }) in
     let are : AreRunning (setup_in w) v2.jobs.items new.jobs = subst (λ (js : List Job). AreRunning (setup_in w) v2.jobs.items js) (sym jobs) gone.jobs in
     let keeps2 : KeepsAll v v2 = record {
@@ -164,11 +166,11 @@ beyond_of rs r a holds holds' appends = subst (λ (n : ℕ). Goes (SameFrom n) h
 
 -- ---- images
 
-pub all_images : (told : Option Cells) (new : State) → AllStandFor new.records told → StandsForState told new
+pub all_images : (told : Option Cells) (new : State) → AllStandFor new.records told → FirstStands told new
 all_images None new all = tt
 all_images (Some cells) new all = λ image is. inl (inl (all image is))
 
-pub doubted_images : (told : Option Cells) (new : State) (entry : Record) (d : Doubt) → new.doubt ≡ Some d → d.entry ≡ entry → MayStandFor new.records entry told → StandsForState told new
+pub doubted_images : (told : Option Cells) (new : State) (entry : Record) (d : Doubt) → new.doubt ≡ Some d → d.entry ≡ entry → MayStandFor new.records entry told → FirstStands told new
 doubted_images None new entry d doubt same may = tt
 doubted_images (Some cells) new entry d doubt same may = λ image is. elim (may image is) [
   | inl s ↦ inl (inl s)
@@ -195,6 +197,7 @@ subject_kept w job AuditJob many = cond_false (nat_lt job.place 4) (Rattle.hail_
       | inr f ↦ f
     ]
 subject_kept w job RepairJob many = refl
+subject_kept w job UpgradeJob many = refl
 
 -- ---- the append in flight
 
@@ -223,9 +226,9 @@ module _ (v : Vault) (w : State) (holds holds' : Option Cells) (faults faults' m
 
   begun : Appends w.records (entry_of entry) f.append holds
   begun = record {
-    records = stands.core.sound.in_grammar;
+    records = grammar-core v.core w stands.core;
     entry = good.spelled;
-    gate = (let size = length-before_gate w.records stands.core.sound.in_grammar in let end = stands.core.end in let g = gate_is in let a = at in omega (arith, size, end, g, a));
+    gate = (let size = length-before_gate w.records (grammar-core v.core w stands.core) in let end = stands.core.end in let g = gate_is in let a = at in omega (arith, size, end, g, a));
     body = body_is;
     disk = subst (λ (n : ℕ). IfSome holds (IsAfterMoves n (before_gate w.records) (body_of f.append))) (sym moves_is) closed;
   }
@@ -298,7 +301,7 @@ module _ (v : Vault) (w : State) (holds holds' : Option Cells) (faults faults' m
         setup = setup_same w new refl;
         handed = handed_same ps w new stands.devices.providers refl (λ j. refl);
         faults = refl;
-        images = subst (λ (t : Option Cells). StandsForState t new) (sym made.1) (images_on holds w new refl refl stands.devices.images);
+        images = subst (λ (t : Option Cells). FirstStands t new) (sym made.1) (images_on holds w new refl refl (first-images holds w (whole-core v.core w stands.core) stands.devices.images));
         flight = λ free. subst (λ (t : Option Cells). IsFlight v.flight w.append w.records t) (sym made.1) (stands.flight free);
       })
       alone (λ on. goes_still (text_size (records_in_flight new.records new.append)) holds holds' made.1) (λ e. cc)

@@ -21,10 +21,11 @@ use Rattle.vault.specs.declared.turn.Answer.{Answer}
 use Rattle.vault.specs.declared.turn.Turn.{Turn}
 use Rattle.vault.specs.declared.vault.Vault.{Vault}
 use Rattle.vault.specs.Calls.{EndsCells, MovesCells}
-use Rattle.vault.specs.Devices.{devices}
+use Rattle.vault_open.specs.Devices.{devices}
 use Rattle.vault.specs.Running.{IsStopped}
 use Rattle.vault.specs.Seen.{vault_entry, closed_gate_of}
 use Rattle.vault.specs.Stands.{Stands, Comes}
+use Rattle.vault.proofs.FirstVersion.{grammar-core}
 use Rattle.vault.proofs.LaterMoves.{next, held, mine, made_so_far, entry_is}
 
 -- an append at the closed gate with this record, so many moves of which are made
@@ -59,7 +60,7 @@ append_of v w holds faults number ps stands action comes later f is entry given 
     let m = mine v w holds faults number ps stands action comes later f is in
     let own : a.0.job ≡ number = a.2.0 ∙ number_of w.jobs number next.job next.runs in
     let same : a.0.entry ≡ entry = (let e : Some a.0.entry ≡ Some entry = sym (entry_is v w holds faults number ps stands action comes later own) ∙ given in cc) in
-    let size = length-before_gate w.records stands.core.sound.in_grammar in
+    let size = length-before_gate w.records (grammar-core v.core w stands.core) in
     let end = stands.core.end in
     let gate = m.1.gate in
     record {

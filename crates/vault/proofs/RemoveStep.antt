@@ -5,7 +5,7 @@ use Rattle.hail_devices.specs.Cells.{Cells}
 use Rattle.hail_devices.specs.Providers.{Provider}
 use Rattle.hail_devices.specs.ProviderCalls.{Removes}
 use Rattle.hail_machine.specs.Actions.{Remove, actions_left}
-use Rattle.hail_machine.specs.Jobs.{Kind, PutJob, GetJob, DropJob, AuditJob, RepairJob, Job, advanced}
+use Rattle.hail_machine.specs.Jobs.{Kind, PutJob, GetJob, DropJob, AuditJob, RepairJob, UpgradeJob, Job, advanced}
 use Rattle.hail_machine.specs.States.{State, setup_in, going_on, with_provider}
 use Rattle.hail_machine.specs.Steps.{next_action}
 use Rattle.vault_core.specs.Carried.{ComesNext}
@@ -16,7 +16,7 @@ use Rattle.vault.specs.declared.tasks.Task.TheVariants as task
 use Rattle.vault.specs.declared.turn.Turn.TheVariants as turn
 use Rattle.vault.specs.declared.vault.Vault.{Vault}
 use Rattle.hail_openings.specs.Opened.{AreHanded}
-use Rattle.vault.specs.Devices.{devices}
+use Rattle.vault_open.specs.Devices.{devices}
 use Rattle.vault.specs.Running.{KeepsAll, IsFed}
 use Rattle.vault.specs.Stands.{Stands, Comes, MakesStep}
 use Rattle.vault.specs.Tasks.{IsTask, IsRunning}
@@ -38,6 +38,7 @@ module _ (w : State) (job : Job) (k o : ℕ) (next : next_action w job ≡ Some 
       by_kind (DropJob name) h = h
       by_kind AuditJob h = absurd h
       by_kind RepairJob h = absurd h
+      by_kind UpgradeJob h = absurd h
 
   -- a put and a drop work with the same as before
   runs_on : (r : Running) → IsRunning (setup_in w) r job → IsRunning (setup_in w) r (advanced job)

@@ -10,7 +10,7 @@ use Rattle.sound_states.proofs.Written.{setup-providers}
 use Rattle.vault.specs.declared.bench.Bench.{Bench}
 use Rattle.vault.specs.declared.blocks.Blocks.{Blocks}
 use Rattle.vault.specs.declared.vault.Vault.{Vault}
-use Rattle.vault.specs.Devices.{Devices}
+use Rattle.vault_open.specs.Devices.{Devices}
 use Rattle.vault.specs.Orders.{Between}
 use Rattle.vault.specs.Stands.{Stands}
 use Rattle.vault.specs.Tasks.{IsRepair}

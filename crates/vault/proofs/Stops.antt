@@ -25,7 +25,7 @@ use Rattle.vault.specs.declared.turn.Turn.{Turn}
 use Rattle.vault.specs.declared.turn.Turn.TheVariants as turn
 use Rattle.vault.specs.declared.vault.Vault.{Vault}
 use Rattle.hail_openings.specs.Opened.{AreHanded}
-use Rattle.vault.specs.Devices.{Devices, devices}
+use Rattle.vault_open.specs.Devices.{Devices, devices}
 use Rattle.vault.specs.Outcomes.{machine_answer}
 use Rattle.vault.specs.Running.{place_in, heard_of, KeepsAll, IsFed, HasStopped, IsStopped}
 use Rattle.vault.specs.Stands.{Stands, MakesStep, MakesTurn}
@@ -124,7 +124,7 @@ ends_by v v1 v2 w new holds faults moment number place ps ps' action r r' reply 
     absurd (not_gone v v1 (devices holds faults ps) w number place action r r' stands next at there aside v2 reply answer stopped)
 ends_by v v1 v2 w new holds faults moment number place ps ps' action r r' reply answer (Some t) stands next acts quiet jobs at there aside flight stopped tells handed whole =
     let left = is_left v v1 (devices holds faults ps) w number place action r r' stands next at there aside v2 reply answer t stopped in
-    let happens = happens_by w new moment number action (Ended (machine_answer answer)) stands.core.is_open next acts in
+    let happens = happens_by w new moment number action (Ended (machine_answer answer)) stands.core.is_open stands.core.none_alone next acts in
     let core = left.fed w new (Ended (machine_answer answer)) moment stands.core happens (record { tells = tells; entry = λ a is mine. entry_kept v.core w w.append number stands.core.append a (sym quiet.append ∙ is) mine }) in
     let are : AreRunning (setup_in w) v2.jobs.items new.jobs = subst (λ (js : List Job). AreRunning (setup_in w) v2.jobs.items js) (sym jobs) left.jobs in
     let keeps : KeepsAll v v2 = record {

@@ -10,13 +10,14 @@ use Rattle.hail_field.specs.declared.symbol.Symbol.{Symbol}
 use Rattle.hail_records.specs.Records.{Setup}
 use Rattle.hail_machine.specs.Actions.{Action, Store, actions_of, actions_left}
 use Rattle.hail_machine.specs.Given.{symbols_given}
-use Rattle.hail_machine.specs.Jobs.{Kind, PutJob, GetJob, DropJob, AuditJob, RepairJob, Given, Job, advanced, without_job}
+use Rattle.hail_machine.specs.Jobs.{Kind, PutJob, GetJob, DropJob, AuditJob, RepairJob, UpgradeJob, Given, Job, advanced, without_job}
 use Rattle.hail_machine.specs.Setups.{object_of}
 use Rattle.hail_machine.specs.States.{State, setup_in, going_on, ended, with_provider}
 use Rattle.hail_machine.specs.Steps.{next_action, block_to_store}
 use Rattle.hail_machine.proofs.JobLists.{number_of}
 use Rattle.provider_model.specs.declared.fault.StoreFault.{StoreFault}
 use Rattle.provider_model.specs.declared.fault.StoreFault.TheVariants as store_fault
+use Rattle.sound_states.specs.SoundJobs.{IsPlainJob}
 use Rattle.sound_states.proofs.Orders.{next-left}
 use Rattle.vault_core.specs.Carried.{ComesNext}
 use Rattle.vault_core.specs.declared.reply.Reply.TheVariants as reply
@@ -31,13 +32,14 @@ use Rattle.vault.specs.declared.turn.Turn.{Turn}
 use Rattle.vault.specs.declared.turn.Turn.TheVariants as turn
 use Rattle.vault.specs.declared.vault.Vault.{Vault}
 use Rattle.hail_openings.specs.Opened.{AreHanded}
-use Rattle.vault.specs.Devices.{devices}
+use Rattle.vault_open.specs.Devices.{devices}
 use Rattle.vault.specs.Orders.{Phase, Between, Fetching, Opened, GoesOn}
 use Rattle.vault.specs.Running.{place_in, heard_of, KeepsAll, IsFed, IsStopped}
 use Rattle.vault.specs.Stands.{Stands, Comes, MakesStep, MakesTurn}
 use Rattle.vault.specs.Storing.{turned, stored_block, KeepsTask, IsStorer}
 use Rattle.provider_model.specs.Seen.{StoresAs}
 use Rattle.vault.specs.Tasks.{bench_object, fetched_in, IsBench, IsInWork, IsRepair, IsTask, IsRunning}
+use Rattle.vault.proofs.FirstVersion.{plain-core, put-plain, worked-plain}
 use Rattle.vault.proofs.Allowed.{IsAllowed, next_allowed}
 use Rattle.vault.proofs.Stops.{IsAside, ends_by}
 use Rattle.vault.proofs.Ways.{actions_same, at_place, is_handed, handed_on, goes_on}
@@ -87,6 +89,7 @@ module _ (w : State) (job : Job) (k o s : ℕ) (next : next_action w job ≡ Som
       by_kind (DropJob name) h = absurd h
       by_kind AuditJob h = absurd h
       by_kind RepairJob h = h
+      by_kind UpgradeJob h = absurd h
 
   after : List Action
   after = drop (job.place + 1) (actions_of (setup_in w) job)
@@ -109,18 +112,18 @@ module _ (w : State) (job : Job) (k o s : ℕ) (next : next_action w job ≡ Som
       by_task (task.Repair t) is = subst (λ (m : ℕ). k < m) (sym (bench_count (setup_in w) t.bench is.bench)) within
 
   -- it stores the block that the machine says
-  pub block_is : (r : Running) → IsRunning (setup_in w) r job → stored_block r.task o k s ≡ block_to_store w job job.kind k o s
-  block_is r running = by_task r.task (listed r running)
+  pub block_is : IsPlainJob (setup_in w) job → (r : Running) → IsRunning (setup_in w) r job → stored_block r.task o k s ≡ block_to_store w job job.kind k o s
+  block_is plain r running = by_task r.task (listed r running)
     where
       by_task : (t : Task) → IsTask (setup_in w) job (Store k o s ∷ drop (job.place + 1) (actions_of (setup_in w) job)) t → stored_block t o k s ≡ block_to_store w job job.kind k o s
       by_task (task.Put t) is =
-          ap (λ (x : Object). column_of_symbols x (symbols_in x t.bytes s) k s) (turned_is (setup_in w) t.bench o is.bench)
+          ap (λ (x : Object). column_of_symbols x (symbols_in x t.bytes s) k s) (turned_is (setup_in w) t.bench o is.bench ∙ put-plain w job o plain)
           ∙ ap (λ (kind : Kind). block_to_store w job kind k o s) (sym is.kind)
       by_task (task.Get t) is = absurd (not_allowed (GetJob is.name) is.kind)
       by_task task.Drop is = absurd (not_allowed (DropJob is.name) is.kind)
       by_task (task.Audit t) is = absurd (not_allowed AuditJob is.kind)
       by_task (task.Repair t) is =
-          (λ i. column_of_symbols (turned_is (setup_in w) t.bench o is.bench i)
+          (λ i. column_of_symbols ((turned_is (setup_in w) t.bench o is.bench ∙ worked-plain w job o plain) i)
           (rows_are (setup_in w).n k o s (drop (job.place + 1) (actions_of (setup_in w) job)) is.phase t.blocks t.bench.rows.items job.given is.order is.in_work i) k s)
           ∙ ap (λ (kind : Kind). block_to_store w job kind k o s) (sym is.kind)
 
@@ -218,7 +221,7 @@ module _ (v : Vault) (w : State) (holds : Option Cells) (faults moment number k 
           let new : State = record (going_on w (advanced coming.job)) { providers = with_provider w.providers k q } in
           let call : Stores o s (block_to_store w coming.job coming.job.kind k o s) (w.providers k) q =
           subst (λ (x : Provider). Stores o s (block_to_store w coming.job coming.job.kind k o s) x q) seen
-          (subst (λ (b : List ℕ). Stores o s b p q) (block_is w coming.job k o s coming.comes r runs) stores) in
+          (subst (λ (b : List ℕ). Stores o s b p q) (block_is w coming.job k o s coming.comes (plain-core v.core w number coming.job stands.core coming.runs) r runs) stores) in
           goes_on v v' w new holds faults moment number place ps ps' (Store k o s) r' (advanced coming.job) stands coming
           (q, call, refl)
           (record { records = refl; doubt = refl; append = refl; faults = refl; barred = refl })

@@ -7,7 +7,7 @@ use Rattle.hail_codes.specs.Points.{upto}
 use Rattle.hail_records.specs.Records.{Setup}
 use Rattle.hail_machine.specs.Actions.{Action, Store, Fetch, Work, End, append_actions, on_each_stripe, open_actions, rewrite_actions, actions_of}
 use Rattle.hail_machine.specs.Jobs.{Pinned, Job, RepairJob}
-use Rattle.hail_machine.specs.Setups.{stripes_of}
+use Rattle.hail_machine.specs.Setups.{profiled, stripes_of}
 use Rattle.std.proofs.lemmas.List.FromFn.{length-range_with_len}
 use Rattle.std.proofs.lemmas.List.Sums.{sum_by-append}
 use Rattle.vault.specs.Orders.{Between, Fetching, Opened, GoesOn, OpensFrom, is_fetch, is_work, fetches_left, works_left}
@@ -72,12 +72,12 @@ module _ (s : Setup) (some : 1 ≤ s.n) where
       (one-on job o t _ (stripes-on job o ts rest on))
 
   files-on : (job : Job) (fs : List Pinned) (rest : List Action) → GoesEitherWay s.n rest
-      → GoesEitherWay s.n (flat_map (λ (f : Pinned). on_each_stripe s (length f.bytes) (λ t. open_actions s f.id t ++ rewrite_actions s job f.id t)) fs ++ rest)
+      → GoesEitherWay s.n (flat_map (λ (f : Pinned). on_each_stripe (profiled s f.profile) (length f.bytes) (λ t. open_actions s f.id t ++ rewrite_actions s job f.id t)) fs ++ rest)
   files-on job [] rest on = on
   files-on job (f ∷ fs) rest on =
-      subst (GoesEitherWay s.n) (sym (append_assoc (on_each_stripe s (length f.bytes) (λ t. open_actions s f.id t ++ rewrite_actions s job f.id t))
-      (flat_map (λ (f : Pinned). on_each_stripe s (length f.bytes) (λ t. open_actions s f.id t ++ rewrite_actions s job f.id t)) fs) rest))
-      (stripes-on job f.id (upto (stripes_of s (length f.bytes))) _ (files-on job fs rest on))
+      subst (GoesEitherWay s.n) (sym (append_assoc (on_each_stripe (profiled s f.profile) (length f.bytes) (λ t. open_actions s f.id t ++ rewrite_actions s job f.id t))
+      (flat_map (λ (f : Pinned). on_each_stripe (profiled s f.profile) (length f.bytes) (λ t. open_actions s f.id t ++ rewrite_actions s job f.id t)) fs) rest))
+      (stripes-on job f.id (upto (stripes_of (profiled s f.profile) (length f.bytes))) _ (files-on job fs rest on))
 
   pub repair-order : (job : Job) → job.kind ≡ RepairJob → GoesOn s.n Between (actions_of s job)
   unfolding actions_of

@@ -11,18 +11,18 @@ use Rattle.hail_records.specs.Table.{setup_of}
 use Rattle.hail_records.specs.Journal.{StandsOrIsEmpty, text_size}
 use Rattle.hail_machine.specs.Actions.{Action, actions_of, actions_by}
 use Rattle.hail_machine.specs.Events.{Outcome, Step, More}
-use Rattle.hail_machine.specs.Jobs.{Kind, PutJob, GetJob, DropJob, AuditJob, RepairJob, Given, Job, with_job}
+use Rattle.hail_machine.specs.Jobs.{Kind, PutJob, GetJob, DropJob, AuditJob, RepairJob, UpgradeJob, Given, Job, with_job}
 use Rattle.hail_machine.specs.Machine.{Happens}
 use Rattle.hail_machine.specs.Setups.{setup_or_none}
-use Rattle.hail_machine.specs.Stands.{StandsForState}
-use Rattle.hail_machine.specs.States.{State, Append, setup_in, with_provider}
-use Rattle.hail_machine.specs.Steps.{Acts, ActsOrWaits, StepsOn, StepsJob, StepsOpen, Steps}
+use Rattle.hail_machine.specs.States.{State, Append, Alone, setup_in, with_provider}
+use Rattle.hail_machine.specs.Steps.{Acts, ActsOrWaits, StepsOn, StepsJob, StepsOne, StepsOpen, Steps}
 use Rattle.hail_machine.proofs.JobLists.{cond_true, cond_false, number_of}
 use Rattle.vault_core.specs.Carried.{CoreIs, ComesNext, IsCoreFlight}
 use Rattle.vault_core.specs.Coming.{entry_in}
 use Rattle.vault_core.specs.View.{CoreView}
 use Rattle.hail_openings.specs.Opened.{AreHanded}
-use Rattle.vault.specs.Devices.{Devices, devices, IsSameBeyond, records_in_flight}
+use Rattle.vault_open.specs.Devices.{Devices, devices}
+use Rattle.vault.specs.Devices.{IsSameBeyond, records_in_flight}
 use Rattle.vault.specs.declared.vault.Vault.{Vault}
 use Rattle.vault.specs.declared.flight.Flight.{Flight}
 use Rattle.record_codec.specs.declared.setup.Setup.{Setup as SetupValue}
@@ -38,18 +38,21 @@ use Rattle.vault_core.specs.declared.reply.Reply.{Reply}
 use Rattle.vault_core.specs.declared.reply.Reply.TheVariants as reply
 use Rattle.vault.specs.Stands.{Stands, IsFlight, IsShaped, MakesStep}
 use Rattle.vault.specs.Tasks.{IsRunning, AreRunning}
+use Rattle.vault_open.proofs.FirstVersion.{FirstStands, first-images, images-first}
+use Rattle.vault.proofs.FirstVersion.{whole-core}
 use Rattle.vault.proofs.JobPlaces.{Found, found, place_is, put_back}
 use Rattle.journal_core.proofs.BeyondLemmas.{goes_still}
 
 -- what comes of the next action of a job is a step of the machine
-pub happens_by : (w new : State) (moment number : ℕ) (action : Action) (outcome : Outcome) → w.is_open ≡ true → (next : ComesNext w number action None) → Acts w next.job action outcome new
+pub happens_by : (w new : State) (moment number : ℕ) (action : Action) (outcome : Outcome) → w.is_open ≡ true → w.alone ≡ None → (next : ComesNext w number action None) → Acts w next.job action outcome new
     → Happens 8 moment w (Step number) outcome new
-happens_by w new moment number action outcome opened next acts =
+happens_by w new moment number action outcome opened lone next acts =
     subst (λ (b : Bool). Steps w number b outcome new) (sym opened)
     (subst (λ (b : Bool). StepsOpen w number b outcome new) (sym next.unbarred)
+    (subst (λ (o : Option Alone). StepsOne w number o outcome new) (sym lone)
     (subst (λ (o : Option Job). StepsJob w o outcome new) (sym next.runs)
     (subst (λ (o : Option Action). StepsOn w next.job o outcome new) (sym next.comes)
-    (subst (λ (h : Option ℕ). ActsOrWaits w next.job action h outcome new) (sym next.holder) acts))))
+    (subst (λ (h : Option ℕ). ActsOrWaits w next.job action h outcome new) (sym next.holder) acts)))))
 
 -- the actions of a job do not depend on its place and on what it was given
 pub actions_same : (s : Setup) (j : Job) (place : ℕ) (given : List Given) → actions_of s (record j { place = place; given = given }) ≡ actions_of s j
@@ -62,6 +65,7 @@ actions_same s j place given = by_kind j.kind
     by_kind (DropJob name) = refl
     by_kind AuditJob = refl
     by_kind RepairJob = refl
+    by_kind UpgradeJob = refl
 
 -- a state whose setup is the same
 pub setup_same : (w new : State) → new.records ≡ w.records → setup_in new ≡ setup_in w
@@ -69,7 +73,7 @@ unfolding setup_in
 setup_same w new is = ap (λ (rs : List Record). setup_or_none (setup_of rs)) is
 
 -- what the images stand for, where neither records nor a doubt changed
-pub images_on : (told : Option Cells) (w new : State) → new.records ≡ w.records → new.doubt ≡ w.doubt → StandsForState told w → StandsForState told new
+pub images_on : (told : Option Cells) (w new : State) → new.records ≡ w.records → new.doubt ≡ w.doubt → FirstStands told w → FirstStands told new
 images_on None w new records doubt stands = tt
 images_on (Some cells) w new records doubt stands = λ image is. elim (stands image is) [
   | inl s ↦ inl (subst (StandsOrIsEmpty image) (sym records) s)
@@ -122,7 +126,7 @@ pub stands_on : (v v' : Vault) (w new : State) (holds : Option Cells) (faults : 
     → CoreIs v'.core new → KeepsAll v v' → v'.flight ≡ v.flight → AreRunning (setup_in w) v'.jobs.items new.jobs → Stands v' (devices holds faults ps') new
 stands_on v v' w new holds faults ps ps' stands quiet handed core keeps flight jobs = record {
   devices = record {
-    images = images_on holds w new quiet.records quiet.doubt stands.devices.images;
+    images = images-first holds new (whole-core v'.core new core) (images_on holds w new quiet.records quiet.doubt (first-images holds w (whole-core v.core w stands.core) stands.devices.images));
     faults = quiet.faults ∙ stands.devices.faults;
     providers = handed;
   };
@@ -156,7 +160,7 @@ pub goes_told : (v v' : Vault) (w new : State) (holds : Option Cells) (faults mo
     → AreHanded ps' new → KeepsAll v v' → v'.flight ≡ v.flight → IsFed v.core number answer v'.core → Tells number answer More new
     → MakesStep w moment number turn.More v' (devices holds faults ps) (devices holds faults ps')
 goes_told v v' w new holds faults moment number place ps ps' action r j answer stands next acts quiet jobs numbered running at jobs' handed keeps flight fed tells =
-    let happens = happens_by w new moment number action More stands.core.is_open next acts in
+    let happens = happens_by w new moment number action More stands.core.is_open stands.core.none_alone next acts in
     let mine : j.number ≡ number = numbered ∙ number_of w.jobs number next.job next.runs in
     let core = fed w new More moment stands.core happens (record { tells = tells; entry = λ a is mine. entry_kept v.core w w.append number stands.core.append a (sym quiet.append ∙ is) mine }) in
     let are : AreRunning (setup_in w) v'.jobs.items new.jobs =

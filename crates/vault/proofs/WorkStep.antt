@@ -13,10 +13,12 @@ use Rattle.hail_columns.proofs.SymbolBytes.{length-bytes_of_symbols}
 use Rattle.hail_machine.specs.Actions.{Action, Work, actions_of, actions_left}
 use Rattle.hail_machine.specs.Given.{blocks_given, symbols_given}
 use Rattle.hail_machine.specs.Jobs.{Kind, PutJob, DropJob, AuditJob, Given, Worked, Job, advanced_with, without_job}
-use Rattle.hail_machine.specs.States.{State, setup_in, object_in, going_on, ended}
+use Rattle.hail_machine.specs.Setups.{object_of}
+use Rattle.hail_machine.specs.States.{State, setup_in, worked_object, going_on, ended}
 use Rattle.hail_machine.specs.Steps.{next_action}
 use Rattle.hail_machine.proofs.JobLists.{number_of}
 use Rattle.column_codec.specs.declared.opening.RowLost.{RowLost}
+use Rattle.sound_states.specs.SoundJobs.{IsPlainJob}
 use Rattle.sound_states.proofs.Orders.{next-left}
 use Rattle.vault_core.specs.Carried.{ComesNext}
 use Rattle.vault_core.specs.declared.reply.Reply.TheVariants as reply
@@ -30,13 +32,14 @@ use Rattle.vault.specs.declared.turn.Answer.TheVariants as answer
 use Rattle.vault.specs.declared.turn.Turn.{Turn}
 use Rattle.vault.specs.declared.turn.Turn.TheVariants as turn
 use Rattle.vault.specs.declared.vault.Vault.{Vault}
-use Rattle.vault.specs.Devices.{Devices}
+use Rattle.vault_open.specs.Devices.{Devices}
 use Rattle.vault.specs.Heard.{fetched_entries, blocks_in}
 use Rattle.vault.specs.Opening.{work_blocks, OpensRows, LosesWork, TakesWork, KeepsHeard, WorksAs, CanWork}
 use Rattle.vault.specs.Orders.{Opened, fetches_left, works_left, is_fetch, is_work}
 use Rattle.vault.specs.Running.{place_in, heard_of, KeepsAll, IsFed, IsStopped}
 use Rattle.vault.specs.Stands.{Stands, Comes, MakesStep, MakesTurn}
 use Rattle.vault.specs.Tasks.{bench_object, IsGet, IsRepair, IsTask, IsRunning, HasFetched}
+use Rattle.vault.proofs.FirstVersion.{plain-core, worked-plain}
 use Rattle.vault.proofs.Allowed.{IsAllowed, next_allowed}
 use Rattle.vault.proofs.StoreStep.{turned_is, bench_after, bench_count}
 use Rattle.vault.proofs.Stops.{ends_by}
@@ -64,7 +67,7 @@ bytes_after id k rows bytes given is =
 
 -- ---- the job
 
-module _ (w : State) (job : Job) (o s : ℕ) (next : next_action w job ≡ Some (Work o s)) where
+module _ (w : State) (job : Job) (o s : ℕ) (next : next_action w job ≡ Some (Work o s)) (plain : IsPlainJob (setup_in w) job) where
   not_allowed : (kind : Kind) → job.kind ≡ kind → IsAllowed (setup_in w).n kind (Work o s)
   not_allowed kind is = subst (λ (x : Kind). IsAllowed (setup_in w).n x (Work o s)) is (next_allowed w job (Work o s) next)
 
@@ -133,15 +136,15 @@ module _ (w : State) (job : Job) (o s : ℕ) (next : next_action w job ≡ Some 
   rows_of t = []
 
   -- they are what the machine's work gives
-  pub gives : (r : Running) (u : Task) → IsRunning (setup_in w) r job → OpensRows r.task u o s → GivesSymbols (object_in w o) s (blocks_given job.given (setup_in w).n o s) (rows_of u)
+  pub gives : (r : Running) (u : Task) → IsRunning (setup_in w) r job → OpensRows r.task u o s → GivesSymbols (worked_object w job o) s (blocks_given job.given (setup_in w).n o s) (rows_of u)
   gives r u running opens = by_task r.task u (listed r running) opens
     where
-      by_task : (t u : Task) → IsTask (setup_in w) job (Work o s ∷ tail) t → OpensRows t u o s → GivesSymbols (object_in w o) s (blocks_given job.given (setup_in w).n o s) (rows_of u)
+      by_task : (t u : Task) → IsTask (setup_in w) job (Work o s ∷ tail) t → OpensRows t u o s → GivesSymbols (worked_object w job o) s (blocks_given job.given (setup_in w).n o s) (rows_of u)
       by_task (task.Get t) (task.Get u) is opens =
-          subst (λ (x : Object). GivesSymbols x s (blocks_given job.given (setup_in w).n o s) u.bench.rows.items) (turned_is (setup_in w) t.bench o is.bench)
+          subst (λ (x : Object). GivesSymbols x s (blocks_given job.given (setup_in w).n o s) u.bench.rows.items) (turned_is (setup_in w) t.bench o is.bench ∙ worked-plain w job o plain)
           (subst (λ (l : List SeenBlock). GivesSymbols (Rattle.vault.specs.Storing.turned t.bench o) s l u.bench.rows.items) (get_blocks t is) opens)
       by_task (task.Repair t) (task.Repair u) is opens =
-          subst (λ (x : Object). GivesSymbols x s (blocks_given job.given (setup_in w).n o s) u.bench.rows.items) (turned_is (setup_in w) t.bench o is.bench)
+          subst (λ (x : Object). GivesSymbols x s (blocks_given job.given (setup_in w).n o s) u.bench.rows.items) (turned_is (setup_in w) t.bench o is.bench ∙ worked-plain w job o plain)
           (subst (λ (l : List SeenBlock). GivesSymbols (Rattle.vault.specs.Storing.turned t.bench o) s l u.bench.rows.items) (repair_blocks t is) opens)
       by_task (task.Get t) (task.Put u) is opens = absurd opens
       by_task (task.Get t) task.Drop is opens = absurd opens
@@ -156,15 +159,15 @@ module _ (w : State) (job : Job) (o s : ℕ) (next : next_action w job ≡ Some 
       by_task (task.Audit t) u is opens = absurd opens
 
   -- a row that is lost is the one that the machine's work loses
-  pub loses : (r : Running) (row : ℕ) → IsRunning (setup_in w) r job → LosesWork r.task o s row → LosesRow (object_in w o) s (blocks_given job.given (setup_in w).n o s) row
+  pub loses : (r : Running) (row : ℕ) → IsRunning (setup_in w) r job → LosesWork r.task o s row → LosesRow (worked_object w job o) s (blocks_given job.given (setup_in w).n o s) row
   loses r row running lost = by_task r.task (listed r running) lost
     where
-      by_task : (t : Task) → IsTask (setup_in w) job (Work o s ∷ tail) t → LosesWork t o s row → LosesRow (object_in w o) s (blocks_given job.given (setup_in w).n o s) row
+      by_task : (t : Task) → IsTask (setup_in w) job (Work o s ∷ tail) t → LosesWork t o s row → LosesRow (worked_object w job o) s (blocks_given job.given (setup_in w).n o s) row
       by_task (task.Get t) is lost =
-          subst (λ (x : Object). LosesRow x s (blocks_given job.given (setup_in w).n o s) row) (turned_is (setup_in w) t.bench o is.bench)
+          subst (λ (x : Object). LosesRow x s (blocks_given job.given (setup_in w).n o s) row) (turned_is (setup_in w) t.bench o is.bench ∙ worked-plain w job o plain)
           (subst (λ (l : List SeenBlock). LosesRow (Rattle.vault.specs.Storing.turned t.bench o) s l row) (get_blocks t is) lost)
       by_task (task.Repair t) is lost =
-          subst (λ (x : Object). LosesRow x s (blocks_given job.given (setup_in w).n o s) row) (turned_is (setup_in w) t.bench o is.bench)
+          subst (λ (x : Object). LosesRow x s (blocks_given job.given (setup_in w).n o s) row) (turned_is (setup_in w) t.bench o is.bench ∙ worked-plain w job o plain)
           (subst (λ (l : List SeenBlock). LosesRow (Rattle.vault.specs.Storing.turned t.bench o) s l row) (repair_blocks t is) lost)
       by_task (task.Put t) is lost = absurd lost
       by_task task.Drop is lost = absurd lost
@@ -176,15 +179,15 @@ module _ (w : State) (job : Job) (o s : ℕ) (next : next_action w job ≡ Some 
     abbrev next_job : Job
     next_job = advanced_with job (Worked o s rows)
 
-    get_after : (t u : GetTask) → IsGet (setup_in w) t job (Work o s ∷ tail) → TakesWork (task.Get t) (task.Get u) o → u.bench.rows.items ≡ rows → length rows ≡ stripe_symbols (object_in w o) → IsGet (setup_in w) u next_job tail
+    get_after : (t u : GetTask) → IsGet (setup_in w) t job (Work o s ∷ tail) → TakesWork (task.Get t) (task.Get u) o → u.bench.rows.items ≡ rows → length rows ≡ stripe_symbols (object_of (setup_in w) o) → IsGet (setup_in w) u next_job tail
     get_after t u is takes rows_is size =
         let st = setup_in w in
         let moved = takes.0 in
         let turned_to = takes.2 ∙ turned_is st t.bench o is.bench in
         let long : length u.bytes.items ≡ length t.bytes.items + 16 * length rows =
         ap length takes.3 ∙ length-append t.bytes.items (bytes_of_symbols u.bench.rows.items) ∙ ap (λ (m : ℕ). length t.bytes.items + m) (length-bytes_of_symbols u.bench.rows.items ∙ ap (λ (l : List ℕ). 16 * length l) rows_is) in
-        let per : stripe_symbols (bench_object t.bench) ≡ stripe_symbols (object_in w o) = ap stripe_symbols is.bench in
-        let per' : stripe_symbols (bench_object u.bench) ≡ stripe_symbols (object_in w o) = ap stripe_symbols turned_to in
+        let per : stripe_symbols (bench_object t.bench) ≡ stripe_symbols (object_of (setup_in w) o) = ap stripe_symbols is.bench in
+        let per' : stripe_symbols (bench_object u.bench) ≡ stripe_symbols (object_of (setup_in w) o) = ap stripe_symbols turned_to in
         let works = ap (λ (m : ℕ). m * (16 * stripe_symbols (bench_object t.bench))) works_are in
         record {
           name = is.name;
@@ -243,10 +246,10 @@ module _ (w : State) (job : Job) (o s : ℕ) (next : next_action w job ≡ Some 
   runs_on r r' running number opens takes = record {
     number = number ∙ running.number;
     task = subst (λ (l : List Action). IsTask (setup_in w) (advanced_with job (Worked o s (rows_of r'.task))) l r'.task) (sym (ap (drop (job.place + 1)) (actions_same (setup_in w) job (job.place + 1) (Worked o s (rows_of r'.task) ∷ job.given))))
-        (by_task r.task r'.task (listed r running) (gives r r'.task running opens).size takes);
+        (by_task r.task r'.task (listed r running) ((gives r r'.task running opens).size ∙ ap stripe_symbols (sym (worked-plain w job o plain))) takes);
   }
     where
-      by_task : (t u : Task) → IsTask (setup_in w) job (Work o s ∷ tail) t → length (rows_of u) ≡ stripe_symbols (object_in w o) → TakesWork t u o → IsTask (setup_in w) (advanced_with job (Worked o s (rows_of u))) tail u
+      by_task : (t u : Task) → IsTask (setup_in w) job (Work o s ∷ tail) t → length (rows_of u) ≡ stripe_symbols (object_of (setup_in w) o) → TakesWork t u o → IsTask (setup_in w) (advanced_with job (Worked o s (rows_of u))) tail u
       by_task (task.Get t) (task.Get u) is size takes = get_after u.bench.rows.items t u is takes refl size
       by_task (task.Repair t) (task.Repair u) is size takes = repair_after u.bench.rows.items t u is takes refl
       by_task (task.Get t) (task.Put u) is size takes = absurd takes
@@ -281,13 +284,16 @@ module _ (v : Vault) (w : State) (d : Devices) (moment number o s : ℕ) (stands
   coming : ComesNext w number (Work o s) None
   coming = comes.machine w stands.core
 
+  plain_job : IsPlainJob (setup_in w) coming.job
+  plain_job = plain-core v.core w number coming.job stands.core coming.runs
+
   module _ (place : ℕ) (r : Running) (at : place_in v.jobs.items number ≡ Some place) (there : slice_get v.jobs.items place ≡ Some r) where
     runs : IsRunning (setup_in w) r coming.job
     runs = at_place v d w number place (Work o s) r stands coming at there
 
     -- there is something to open
     pub work_there : CanWork r.task
-    work_there = can_work w coming.job o s coming.comes r runs
+    work_there = can_work w coming.job o s coming.comes plain_job r runs
 
     module _ (r' : Running) (same_number : r'.number ≡ r.number) where
       -- work that is done is a step of the machine
@@ -295,13 +301,13 @@ module _ (v : Vault) (w : State) (d : Devices) (moment number o s : ℕ) (stands
           → MakesStep w moment number turn.More v' d d
       work_step v' result x is works jobs keeps_all flight fed =
           let done : OpensRows r.task r'.task o s × TakesWork r.task r'.task o = subst (λ (y : Result Unit RowLost). WorksAs r.task r'.task o s y) is works in
-          let rows = rows_of w coming.job o s coming.comes r'.task in
+          let rows = rows_of w coming.job o s coming.comes plain_job r'.task in
           let new : State = going_on w (advanced_with coming.job (Worked o s rows)) in
           goes_on v v' w new d.holds d.faults moment number place d.providers d.providers (Work o s) r' (advanced_with coming.job (Worked o s rows)) stands coming
-          (rows, gives w coming.job o s coming.comes r r'.task runs done.0, refl)
+          (rows, gives w coming.job o s coming.comes plain_job r r'.task runs done.0, refl)
           (record { records = refl; doubt = refl; append = refl; faults = refl; barred = refl })
           refl refl
-          (runs_on w coming.job o s coming.comes r r' runs same_number done.0 done.1)
+          (runs_on w coming.job o s coming.comes plain_job r r' runs same_number done.0 done.1)
           at jobs
           (handed_same d.providers w new stands.devices.providers refl (λ j. refl))
           keeps_all flight fed
@@ -314,7 +320,7 @@ module _ (v : Vault) (w : State) (d : Devices) (moment number o s : ℕ) (stands
           let loss : LosesWork r.task o s lost.row × KeepsHeard r.task r'.task = subst (λ (y : Result Unit RowLost). WorksAs r.task r'.task o s y) is works in
           let new : State = ended w coming.job in
           ends_by v v1 v2 w new d.holds d.faults moment number place d.providers d.providers (Work o s) r r' (reply.Lost row) (answer.Lost s row) turn stands coming
-          (refl, loses w coming.job o s coming.comes r row runs (subst (λ (m : ℕ). LosesWork r.task o s m) (sym row_is) loss.0), refl)
+          (refl, loses w coming.job o s coming.comes plain_job r row runs (subst (λ (m : ℕ). LosesWork r.task o s m) (sym row_is) loss.0), refl)
           (record { records = refl; doubt = refl; append = refl; faults = refl; barred = refl })
           (ap (without_job w.jobs) (number_of w.jobs number coming.job coming.runs))
           at there

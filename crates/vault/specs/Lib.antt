@@ -14,11 +14,6 @@ pub mod Flights
 pub mod Running
 pub mod Stands
 pub mod Calls
-pub mod Causes
-pub mod Inits
-pub mod Faults
-pub mod Folding
 pub mod Fresh
-pub mod Preparing
 pub mod Benches
 pub mod Ending

@@ -3,12 +3,10 @@
 --   begin_outcome result  == of a begin
 --   machine_answer answer      == how a job ended
 --   outcome_of turn       == of a step
---   init_outcome result   == of an init
 --   IfEnded turn P        == P holds of the job's end, where the step was its last
 --   IsNoAction turn           == a step that made no action
 --   HasPaddedCounts answer == the counts of an audit are padded
 use Rattle.std.specs.Prelude.{ℕ, Result, Ok, Err}
-use Rattle.hail_machine.specs.Refusals.{Refusal}
 use Rattle.hail_machine.specs.Refusals as refusal
 use Rattle.hail_machine.specs.Answers as answers
 use Rattle.hail_machine.specs.Events as events
@@ -16,8 +14,6 @@ use Rattle.hail_machine.specs.Events.{Outcome}
 use Rattle.record_codec.specs.Entries.{counted, IsPadded}
 use Rattle.vault_core.specs.declared.wish.BeginFault.{BeginFault}
 use Rattle.vault_core.specs.Carried.{refusal_of}
-use Rattle.vault.specs.declared.fault.InitFault.{InitFault}
-use Rattle.vault.specs.declared.fault.InitFault.TheVariants as init_fault
 use Rattle.vault.specs.declared.turn.Answer.{Answer}
 use Rattle.vault.specs.declared.turn.Answer.TheVariants as answer
 use Rattle.vault.specs.declared.turn.Ended.{Ended}
@@ -66,16 +62,3 @@ IsNoAction (turn.Done ended) = ⊥
 abbrev pub HasPaddedCounts : Answer → Type 0
 HasPaddedCounts (answer.Audited number undecided counts) = IsPadded counts
 HasPaddedCounts a = Unit {0}
-
--- why an init was refused
-abbrev pub init_refusal : InitFault → Refusal
-init_refusal init_fault.BadSetup = refusal.BadSetup
-init_refusal init_fault.DiskFault = refusal.DiskFault
-init_refusal (init_fault.BadJournal at) = refusal.BadJournal at
-init_refusal init_fault.Already = refusal.Already
-init_refusal init_fault.Memory = refusal.Memory
-
--- the outcome of an init
-abbrev pub init_outcome : Result Unit InitFault → Outcome
-init_outcome (Ok done) = events.Ready
-init_outcome (Err fault) = events.Refused (init_refusal fault)

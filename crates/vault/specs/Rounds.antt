@@ -10,6 +10,7 @@ use Rattle.std.specs.List.{flat_map}
 use Rattle.hail_columns.specs.Verdicts.{Sums}
 use Rattle.hail_records.specs.Records.{Setup}
 use Rattle.hail_machine.specs.Jobs.{Pinned, Job}
+use Rattle.hail_machine.specs.Setups.{profiled}
 use Rattle.hail_machine.specs.Actions.{Action, Ask, End, rounds_of}
 use Rattle.hail_machine.specs.Audits.{JudgesRound}
 
@@ -21,7 +22,8 @@ pub record Round : Type 0 where
 -- the rounds of files, in order
 abbrev pub rounds_in : Setup → List Pinned → List Round
 rounds_in s fs =
-    flat_map (λ (f : Pinned). map (λ r. record { file = f; number = r }) (rounds_of s (length f.bytes))) fs
+    flat_map (λ (f : Pinned). map (λ r. record { file = f; number = r })
+    (rounds_of (profiled s f.profile) (length f.bytes))) fs
 
 -- rounds are judged one after the other
 abbrev pub JudgesEach : Setup → Job → List Round → Sums → Sums → Type 0

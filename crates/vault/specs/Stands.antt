@@ -38,7 +38,8 @@ use Rattle.vault_core.specs.declared.wish.BeginFault.{BeginFault}
 use Rattle.vault.specs.declared.flight.Flight.{Flight}
 use Rattle.vault.specs.declared.vault.Vault.{Vault}
 use Rattle.vault.specs.declared.turn.Turn.{Turn}
-use Rattle.vault.specs.Devices.{Devices, AreDevices, IsSameBeyond}
+use Rattle.vault_open.specs.Devices.{Devices, AreDevices}
+use Rattle.vault.specs.Devices.{IsSameBeyond}
 use Rattle.vault.specs.Outcomes.{outcome_of, begin_outcome, IfEnded}
 use Rattle.vault.specs.Tasks.{AreRunning}
 use Rattle.vault.specs.Seen.{vault_setup, master_of, table_of}

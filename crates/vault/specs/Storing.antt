@@ -7,13 +7,9 @@
 --   KeepsTask old new object == what the job works with is as before, but for its keys and what it makes
 --                               with them
 --   IsStorer task j         == a job that stores, and provider j is one of those of its object
-use Rattle.std.specs.Prelude.{◌≡◌, ℕ, ◌<◌, List, [], Result, Ok, Err}
+use Rattle.std.specs.Prelude.{◌≡◌, ℕ, ◌<◌, List, []}
 use Rattle.hail_columns.specs.Columns.{column_of_symbols}
 use Rattle.hail_columns.specs.Objects.{Object, symbols_in}
-use Rattle.hail_devices.specs.Providers.{Provider}
-use Rattle.hail_devices.specs.ProviderCalls.{Stores, FailsToStore, FindsNoMemory}
-use Rattle.provider_model.specs.declared.fault.StoreFault.{StoreFault}
-use Rattle.provider_model.specs.declared.fault.StoreFault.TheVariants as store_fault
 use Rattle.vault.specs.declared.bench.Bench.{Bench}
 use Rattle.vault.specs.declared.tasks.Task.{Task}
 use Rattle.vault.specs.declared.tasks.Task.TheVariants as task

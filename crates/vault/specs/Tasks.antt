@@ -21,7 +21,7 @@ use Rattle.file_layout.specs.Files as layout
 use Rattle.file_layout.specs.declared.file.FileShape.{FileShape}
 use Rattle.column_codec.specs.PresentBlocks.{present_blocks}
 use Rattle.hail_machine.specs.Jobs.{PutJob, GetJob, DropJob, AuditJob, RepairJob, Pinned, Given, Fetched, Answered, Job}
-use Rattle.hail_machine.specs.Setups.{object_of, stripes_of}
+use Rattle.hail_machine.specs.Setups.{object_of, pinned_stripes}
 use Rattle.hail_machine.specs.Given.{symbols_given, pinned_size}
 use Rattle.hail_machine.specs.Actions.{Action, actions_left}
 use Rattle.hail_machine.specs.Heard.{entries_of}
@@ -106,7 +106,7 @@ pub record IsGet (s : Setup) (t : GetTask) (job : Job) (rest : List Action) : Ty
   pub order : GoesOn s.n phase rest
   pub in_work : IsInWork phase t.fetched.blocks t.bench.rows.items job.given
   pub opened : ℕ
-  pub opens : OpensFrom file.id (stripes_of s (length file.bytes)) opened rest
+  pub opens : OpensFrom file.id (pinned_stripes s file) opened rest
   pub bytes : t.bytes.items ≡ flat_map (λ stripe. bytes_of_symbols (symbols_given job.given file.id stripe))
       (upto opened)
   pub room_fetches : vec_len t.fetched.fetches + fetches_left rest ≤ vec_capacity t.fetched.fetches

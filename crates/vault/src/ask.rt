@@ -11,7 +11,7 @@ ghost use Rattle.record_codec.specs.Entries.{IsPadded};
 ghost use Rattle.vault_core.specs.declared.pinned.Pinned.{Pinned as PinnedValue};
 ghost use Rattle.vault.specs.Asking.{length_among, length_in, IsQuestion, challenge_put, HasHeard, HasJudged, TakesAsk, HasRoomForAsk, CanJudge, CanAsk, Asked, MayAsk, TellsAsk, MayTell, MayPut};
 ghost use Rattle.vault.specs.Calls.{CalledOnce};
-ghost use Rattle.vault.specs.Devices.{devices};
+ghost use Rattle.vault_open.specs.Devices.{devices};
 ghost use Rattle.provider_model.specs.Seen.{provider_seen};
 ghost use Rattle.vault.specs.Stands.{Stands, Comes, MakesTurn};
 ghost use Rattle.vault.specs.declared.turn.Turn.TheVariants as turn;

@@ -2,12 +2,13 @@ ghost use Rattle.std.specs.Prelude.{◌≡◌, ◌*◌, length, All};
 ghost use Rattle.server_code.specs.Any.{code_profile};
 
 use crate::codec::Codec;
-use column_codec::{Block, ObjectKeys, RowLost, Trust};
+use column_codec::{Block, MasksAtHand, ObjectKeys, RowLost, Trust};
 use hail_field::Symbol;
 use server_code::AnyCode;
 
 /// What the stripes of an object are made and opened with: its keys, the server code of its profile, the symbols of one stripe
-/// in layout order, the block of one provider, room for a block of each, and who is trusted at the next stripe.
+/// in layout order, the block of one provider, room for a block of each, masks of the stripes that come, and who is trusted
+/// at the next one.
 #[derive(Drop)]
 pub struct Bench {
     pub keys: ObjectKeys,
@@ -15,6 +16,7 @@ pub struct Bench {
     pub rows: Vec<Symbol>,
     pub column: Vec<Symbol>,
     pub scratch: Vec<Block>,
+    pub masks: MasksAtHand,
     pub trust: Trust,
     ghost code_fits: { code_profile code ≡ keys.file.profile },
     ghost rows_fit: { length rows.items ≡ keys.file.shape.l * keys.file.profile.keep },
@@ -64,8 +66,14 @@ impl Bench {
         if provider >= usize::from(self.keys.file.shape.n) {
             return false;
         }
-        self.keys
-            .column_into(&self.code, stripe, &self.rows, provider, &mut self.column);
+        self.keys.column_into(
+            &self.code,
+            stripe,
+            &self.rows,
+            provider,
+            &mut self.masks,
+            &mut self.column,
+        );
         true
     }
 
@@ -90,6 +98,7 @@ impl Bench {
             seen,
             present,
             &mut self.trust,
+            &mut self.masks,
             &mut self.rows,
             &mut self.scratch,
             &mut codec.work,

@@ -5,7 +5,7 @@ ghost use Rattle.vault.specs.Benches.{IsBenchFor};
 
 use crate::bench::Bench;
 use crate::vault::Vault;
-use column_codec::{Block, ObjectKeys, Trust};
+use column_codec::{Block, MasksAtHand, ObjectKeys, Trust};
 use file_layout::FileShape;
 use hail_field::{Memory, Symbol};
 use key_schedule::Master;
@@ -47,6 +47,7 @@ impl Bench {
             rows,
             column,
             scratch,
+            masks: MasksAtHand::new(),
             trust: Trust::new(),
         })
     }

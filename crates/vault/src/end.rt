@@ -2,7 +2,7 @@ ghost use Rattle.std.specs.Prelude.{◌≡◌, ◌<◌, ℕ, [], Some, IfSome};
 ghost use Rattle.hail_machine.specs.Actions.{End};
 ghost use Rattle.hail_machine.specs.States.{State};
 ghost use Rattle.vault_core.specs.Coming.{TakesReply};
-ghost use Rattle.vault.specs.Devices.{Devices};
+ghost use Rattle.vault_open.specs.Devices.{Devices};
 ghost use Rattle.vault.specs.Ending.{answer_at_end};
 ghost use Rattle.vault.specs.Outcomes.{IfEnded, IsNoAction, HasPaddedCounts};
 ghost use Rattle.vault.specs.Running.{place_in, heard_of, IsStopped};

@@ -5,7 +5,7 @@ ghost use Rattle.hail_devices.specs.ProviderCalls.{Fetches as FetchesOf};
 ghost use Rattle.hail_machine.specs.Actions.{Fetch as FetchAction};
 ghost use Rattle.hail_machine.specs.States.{State};
 ghost use Rattle.vault.specs.Calls.{CalledOnce};
-ghost use Rattle.vault.specs.Devices.{devices};
+ghost use Rattle.vault_open.specs.Devices.{devices};
 ghost use Rattle.provider_model.specs.Seen.{provider_seen};
 ghost use Rattle.vault.specs.Blocks.{given_of};
 ghost use Rattle.vault.specs.Fetching.{TakesFetch, HasRoomFor, GrowsFetches, HasRoomForFetch, fetch_size};

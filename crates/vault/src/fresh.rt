@@ -1,40 +1,42 @@
 ghost use Rattle.std.specs.Prelude.{◌≡◌, ◌≤◌, ◌^◌, IfOk, IfErr, IsTrue, Some};
-ghost use Rattle.hail_records.specs.Records.{Setup as SetupData, is_setup};
-ghost use Rattle.vault.specs.Fresh.{IsFreshVault, IsFreshFault};
+ghost use Rattle.hail_records.specs.Records.{is_setup};
+ghost use Rattle.record_codec.specs.Entries.{with_master};
+ghost use Rattle.vault_open.specs.declared.fault.StartFault.TheVariants as start_fault;
+ghost use Rattle.vault.specs.Fresh.{IsFreshVault};
 
 use crate::codec::Codec;
-use crate::fault::StartFault;
 use crate::vault::Vault;
 use code_points::find_profile;
 use hail_field::Shape;
 use std::alloc::Global;
 use vault_core::Core;
-use vault_table::Table;
+use vault_open::{StartFault, Store};
 
-/// A vault with no job, over the table of a journal's text of `end` bytes; jobs are numbered from `first` on. Conditions:
-/// a setup of the table is within its limits, and `9 <= end <= 2^24`.
-pub(crate) fn open_fresh(
-    alloc: Global,
-    table: Table,
-    end: u64,
-    first: u32,
-) -> Result<Vault, StartFault>
-    requires set_up { (s : SetupData) → table.setup ≡ Some s → IsTrue (is_setup s) }
-    requires least { 9 ≤ end }
-    requires most { end ≤ 2 ^ 24 }
-    ensures ok { IfOk result (λ v. IsFreshVault v table end first) }
-    ensures refused { IfErr result (IsFreshFault table) }
+/// A vault with no job, over a store; jobs are numbered from `first` on. Conditions: its setup is the table's and within
+/// its limits, and its text has at least 9 bytes and at most 2^24.
+pub(crate) fn open_fresh(alloc: Global, store: Store, first: u32) -> Result<Vault, StartFault>
+    requires set_up { store.table.setup ≡ Some (with_master store.setup store.master.0) }
+    requires limits { IsTrue (is_setup (with_master store.setup store.master.0)) }
+    requires least { 9 ≤ store.end }
+    requires most { store.end ≤ 2 ^ 24 }
+    ensures ok { IfOk result (λ v. IsFreshVault v store first) }
+    ensures refused { IfErr result (λ why. why ≡ start_fault.Memory) }
 {
-    let Some((setup, master)) = table.setup() else {
-        return Err(StartFault::NotSetUp);
-    };
+    let Store {
+        table,
+        end,
+        setup,
+        master,
+    } = store;
     let Some(shape) = Shape::new(setup.n, setup.l, setup.b) else {
         unreachable!()
     };
     let Some(profile) = find_profile(setup.profile) else {
         unreachable!()
     };
-    let codec = Codec::new(alloc)?;
+    let Ok(codec) = Codec::new(alloc) else {
+        return Err(StartFault::Memory);
+    };
     Ok(Vault {
         alloc,
         core: Core::new(alloc, table, end, first),

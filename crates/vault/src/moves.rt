@@ -5,7 +5,7 @@ ghost use Rattle.hail_records.specs.Records.{Record as Entry};
 ghost use Rattle.hail_records.specs.Spellings.{spelling};
 ghost use Rattle.hail_machine.specs.Actions.{WriteBody, SyncBody, WriteGate, SyncGate};
 ghost use Rattle.hail_machine.specs.States.{State};
-ghost use Rattle.vault.specs.Devices.{devices};
+ghost use Rattle.vault_open.specs.Devices.{devices};
 ghost use Rattle.vault.specs.Stands.{Stands, Comes, MakesTurn};
 ghost use Rattle.vault.specs.declared.turn.Turn.TheVariants as turn;
 ghost use Rattle.vault.specs.Outcomes.{IfEnded, IsNoAction, HasPaddedCounts};

@@ -5,7 +5,7 @@ ghost use Rattle.hail_devices.specs.ProviderCalls.{Removes};
 ghost use Rattle.hail_machine.specs.Actions.{Remove};
 ghost use Rattle.hail_machine.specs.States.{State};
 ghost use Rattle.vault.specs.Calls.{CalledOnce};
-ghost use Rattle.vault.specs.Devices.{devices};
+ghost use Rattle.vault_open.specs.Devices.{devices};
 ghost use Rattle.provider_model.specs.Seen.{provider_seen};
 ghost use Rattle.vault.specs.Stands.{Stands, Comes, MakesTurn};
 ghost use Rattle.vault.specs.declared.turn.Turn.TheVariants as turn;

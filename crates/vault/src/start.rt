@@ -6,21 +6,19 @@ ghost use Rattle.hail_devices.specs.Told.{Goes};
 ghost use Rattle.hail_devices.specs.Providers.{Provider};
 ghost use Rattle.hail_records.specs.Records.{Record};
 ghost use Rattle.hail_machine.specs.States.{State};
-ghost use Rattle.vault.specs.declared.fault.StartFault.TheVariants as start_fault;
-ghost use Rattle.vault.specs.Devices.{devices};
+ghost use Rattle.vault_open.specs.declared.fault.StartFault.TheVariants as start_fault;
+ghost use Rattle.vault_open.specs.Devices.{devices};
 ghost use Rattle.hail_openings.specs.Journals.{journal_read, IsRead, IsResynced};
-ghost use Rattle.vault.specs.Causes.{IsStartFault, LiesInJournal};
+ghost use Rattle.vault_open.specs.Causes.{IsStartFault, LiesInJournal};
 ghost use Rattle.vault.specs.Seen.{next_job_of};
 ghost use Rattle.vault.specs.Stands.{Stands, Carries};
 ghost use Rattle.hail_openings.specs.Opened.{IsJustOpened};
 
-use crate::fault::StartFault;
-use crate::folding::fold_journal;
 use crate::fresh::open_fresh;
-use crate::reading::read_disk;
 use crate::vault::Vault;
 use disk_model::Disk;
 use std::alloc::Global;
+use vault_open::{StartFault, read_store};
 
 impl Vault {
     /// Opens a vault over what the disk reads; what lies beyond 2^24 bytes is not looked at. Jobs are numbered from `first` on.
@@ -39,10 +37,7 @@ impl Vault {
         ensures cause { HasCause (D.faults disk.old) (D.faults disk.new)
             (IsErrOf result start_fault.DiskFault) }
     {
-        let Some(bytes) = read_disk(alloc, disk)? else {
-            return Err(StartFault::NotSetUp);
-        };
-        let (table, end) = fold_journal(alloc, &bytes)?;
-        open_fresh(alloc, table, end, first)
+        let store = read_store(alloc, disk)?;
+        open_fresh(alloc, store, first)
     }
 }

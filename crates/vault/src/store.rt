@@ -5,7 +5,7 @@ ghost use Rattle.hail_devices.specs.Faults.{one_more};
 ghost use Rattle.hail_machine.specs.Actions.{Store};
 ghost use Rattle.hail_machine.specs.States.{State};
 ghost use Rattle.vault.specs.Calls.{CalledOnce};
-ghost use Rattle.vault.specs.Devices.{devices};
+ghost use Rattle.vault_open.specs.Devices.{devices};
 ghost use Rattle.vault.specs.Storing.{turned, stored_block, KeepsTask, IsStorer};
 ghost use Rattle.provider_model.specs.Seen.{StoresAs, provider_seen};
 ghost use Rattle.vault.specs.Stands.{Stands, Comes, MakesTurn};

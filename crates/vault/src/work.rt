@@ -2,7 +2,7 @@ ghost use Rattle.std.specs.Prelude.{◌≡◌, ◌+◌, ◌*◌, ◌≤◌, ◌+
 ghost use Rattle.hail_columns.specs.Objects.{bytes_of_symbols};
 ghost use Rattle.hail_machine.specs.Actions.{Work};
 ghost use Rattle.hail_machine.specs.States.{State};
-ghost use Rattle.vault.specs.Devices.{Devices};
+ghost use Rattle.vault_open.specs.Devices.{Devices};
 ghost use Rattle.vault.specs.Opening.{WorksAs, TakesWork, CanWork};
 ghost use Rattle.vault.specs.Running.{heard_of};
 ghost use Rattle.vault.specs.Stands.{Stands, Comes, MakesTurn};

@@ -29,6 +29,8 @@ use Rattle.vault_core.specs.Parts.{core_job, view_of, IsJobKept, IsCore}
 use Rattle.vault_core.specs.Refusing.{is_busy_in, word_refusal_in, is_used_up, is_full_in, or_full, refusal_in}
 use Rattle.vault_core.specs.Making.{cursor_first, starts_for, admitted, IsMade}
 use Rattle.vault_core.proofs.Counts.{gates_at, reserved_is, reserved_at}
+use Rattle.sound_states.proofs.Written.{file-first}
+use Rattle.vault_core.proofs.Plain.{pins-plain}
 use Rattle.vault_core.proofs.Joins.{made-is}
 use Rattle.vault_core.proofs.Refusals.{length-seen}
 use Rattle.vault_core.proofs.Kept.{rising_push}
@@ -148,13 +150,15 @@ pub core-begun : (c : CoreView) (w : State) (kind : Kind) (moment : ℕ) (v : Wi
     4 ≤ c.setup.n → c.setup.n ≤ 16 → IsMade c.table c.setup c.next_job v job → CoreIs (admitted c v job) (begun w moment kind)
 unfolding setup_in
 core-begun c w kind moment v job is of spelled allowed least most made = record {
-  sound = events-sound 8 moment w is.sound (Begin kind) (Begun w.next_job) (begun w moment kind) spelled (is.is_open, allowed, refl, refl);
+  sound = events-sound 8 moment w is.sound (omega arith, omega arith) (Begin kind) (Begun w.next_job) (begun w moment kind) spelled (is.is_open, allowed, refl, refl);
   is_open = is.is_open;
+  first = is.first;
+  none_alone = is.none_alone;
   table = record { setup = is.table.setup; version = is.table.version; files = is.table.files; started = is.table.started; id = is.table.id; audit = is.table.audit; running = is.table.running; due = is.table.due };
   setup = is.setup;
   end = is.end;
   jobs = zip-push (IsJobOf c.setup) c.jobs w.jobs (core_job c.setup.n job) (new_job w moment kind) is.jobs
-      (made-is c.table c.setup w moment v kind job (subst (λ (k : ℕ). IsMade c.table c.setup k v job) is.next_job made) least most is.table is.setup is.sound.files of);
+      (made-is c.table c.setup w moment v kind job (subst (λ (k : ℕ). IsMade c.table c.setup k v job) is.next_job made) least most is.table is.setup is.sound.files (pins-plain w kind (file-first 8 w is.sound is.first)) of);
   next_job = ap (λ (k : ℕ). k + 1) is.next_job;
   append = flight-more c v job w.append is.append;
   barred = is.barred;

@@ -1,5 +1,5 @@
 -- How many steps a job may still make falls with each of its steps.
-use Rattle.std.proofs.Common.{◌≡◌, ℕ, zero, suc, ◌+◌, ◌-◌, ◌<◌, ◌≤◌, Bool, true, false, List, [], ◌∷◌, Some, None, length, map, drop, set, get_or, inl, inr, refl, ap, sym, subst, ◌∙◌, arith, Global}
+use Rattle.std.proofs.Common.{◌≡◌, ℕ, zero, suc, ◌+◌, ◌<◌, ◌≤◌, Bool, true, false, List, [], ◌∷◌, Some, None, length, map, drop, set, get_or, inl, inr, refl, ap, sym, subst, ◌∙◌, arith, Global}
 use Rattle.std.specs.Prelude.{Option, ◌==◌, position, ◌&&◌, nat_lt, slice_get, remove, unwrap_or, if◌then◌else◌}
 use Rattle.std.specs.List.{All}
 use Rattle.std.specs.Option.{option_map}

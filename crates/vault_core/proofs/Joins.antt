@@ -11,7 +11,7 @@ use Rattle.hail_columns.specs.Verdicts.{Sums}
 use Rattle.hail_records.specs.Records.{Setup}
 use Rattle.hail_records.specs.Table.{File, Due, find_file, files_of, file_of, due_of}
 use Rattle.hail_records.proofs.FilesLaws.{find-files_of}
-use Rattle.hail_machine.specs.Setups.{stripes_of}
+use Rattle.hail_machine.specs.Setups.{profiled, stripes_of}
 use Rattle.hail_machine.specs.Jobs.{Kind, PutJob, GetJob, DropJob, AuditJob, RepairJob}
 use Rattle.hail_machine.specs.Jobs.{Job as MachineJob, Pinned as PinnedBytes}
 use Rattle.hail_machine.specs.Actions.{Action, Store, Ask, Work, End, append_actions, on_each_provider, on_each_stripe, store_actions, open_actions, rewrite_actions, rounds_of, remove_actions, actions_by, actions_of, actions_left}
@@ -32,6 +32,7 @@ use Rattle.vault_core.specs.Rest.{numbers, call_of, calls_from, rewrite_of, rewr
 use Rattle.vault_core.specs.Carried.{IsKindOf, pin_of, has_asked, opens, IsJobOf}
 use Rattle.vault_core.specs.Parts.{core_job, is_opening}
 use Rattle.vault_core.specs.Making.{pin_of_file, put_pin, pins_of, pins_found, pins_for, targets_of, turns_for, tasks_made, subject_for, cursor_first, IsMade}
+use Rattle.vault_core.proofs.Plain.{ArePlain, flat-plain}
 use Rattle.vault_core.proofs.Rests.{turns_none}
 use Rattle.vault_core.proofs.Begun.{front_of, take-zeros, made-rest}
 
@@ -131,15 +132,16 @@ HasNoPins (wish.Drop name) pins = pins ≡ []
 HasNoPins v pins = Unit {0}
 
 -- the actions on the files of a new job
-files-are : (s : Setup) (j : MachineJob) (v : Wish) (fl : List Bool) (g : PinnedBytes → List Action) → ((f : PinnedBytes) → turns_from 0 s.n v fl f.id (turns_for s v (length f.bytes)) ≡ g f) → (mp : List PinnedBytes) →
-    tasks_of s.n v fl (tasks_made (turns_for s v) (map pin_of mp)) ≡ flat_map g mp
-files-are s j v fl g h mp = tasks-pins s.n v fl (turns_for s v) (map pin_of mp)
+files-are : (s : Setup) (j : MachineJob) (v : Wish) (fl : List Bool) (g : ℕ → PinnedBytes → List Action) → ((f : PinnedBytes) → turns_from 0 s.n v fl f.id (turns_for s v (length f.bytes)) ≡ g s.profile f) → (mp : List PinnedBytes) → ArePlain s mp →
+    tasks_of s.n v fl (tasks_made (turns_for s v) (map pin_of mp)) ≡ flat_map (λ f. g f.profile f) mp
+files-are s j v fl g h mp plain = tasks-pins s.n v fl (turns_for s v) (map pin_of mp)
     ∙ (flat_map-map (λ (p : Pinned). turns_from 0 s.n v fl p.id (turns_for s v p.length)) pin_of mp
-    ∙ flat-same (λ (f : PinnedBytes). turns_from 0 s.n v fl f.id (turns_for s v (length f.bytes))) g mp h)
+    ∙ (flat-same (λ (f : PinnedBytes). turns_from 0 s.n v fl f.id (turns_for s v (length f.bytes))) (g s.profile) mp h
+    ∙ flat-plain s g mp plain))
 
-pub actions-are : (s : Setup) (j : MachineJob) (v : Wish) (k : Kind) (fl : List Bool) → IsKindOf v k → HasNoPins v j.pinned → j.older ≡ [] → ((name bytes : List ℕ) → k ≡ PutJob name bytes → j.subject ≡ 0) → ((i : ℕ) → i < s.n → flag_at fl i ≡ j.flagged i) →
+pub actions-are : (s : Setup) (j : MachineJob) (v : Wish) (k : Kind) (fl : List Bool) → j.profile ≡ s.profile → ArePlain s j.pinned → IsKindOf v k → HasNoPins v j.pinned → j.older ≡ [] → ((name bytes : List ℕ) → k ≡ PutJob name bytes → j.subject ≡ 0) → ((i : ℕ) → i < s.n → flag_at fl i ≡ j.flagged i) →
     front_of v ++ (tasks_of s.n v fl (tasks_made (turns_for s v) (targets_of v (map pin_of j.pinned))) ++ closing_of v) ≡ actions_by s j k
-actions-are s j (wish.Put name size) (PutJob n b) fl h z o u flags =
+actions-are s j (wish.Put name size) (PutJob n b) fl own plain h z o u flags =
     ap (λ (xs : List Action). append_actions ++ (xs ++ (append_actions ++ End ∷ []))) stores
     ∙ ap (λ (xs : List ℕ). append_actions ++ (store_actions s j b ++ (append_actions ++ (remove_actions s (record j { older = xs }) ++ End ∷ [])))) (sym o)
   where
@@ -148,20 +150,21 @@ actions-are s j (wish.Put name size) (PutJob n b) fl h z o u flags =
         ∙ (no-more (turns_from 0 s.n (wish.Put name size) fl 0 (stripes_of s size))
         ∙ (ap (λ (k : ℕ). turns_from 0 s.n (wish.Put name size) fl 0 (stripes_of s k)) (sym h.1)
         ∙ (turns-each s.n (wish.Put name size) fl 0 (stripes_of s (length b)) (λ stripe. on_each_provider s (λ i. Store i 0 stripe)) (put-turn s name size fl 0)
-        ∙ ap (λ (k : ℕ). on_each_stripe s (length b) (λ stripe. on_each_provider s (λ i. Store i k stripe))) (sym (u n b refl)))))
-actions-are s j (wish.Get name) (GetJob n) fl h z o u flags = ap (λ (xs : List Action). xs ++ End ∷ [])
-    (files-are s j (wish.Get name) fl (λ f. on_each_stripe s (length f.bytes) (open_actions s f.id)) (λ f. turns-each s.n (wish.Get name) fl f.id (stripes_of s (length f.bytes)) (open_actions s f.id) (get-turn s name fl f.id)) j.pinned)
-actions-are s j (wish.Drop name) (DropJob n) fl h z o u flags =
+        ∙ (ap (λ (k : ℕ). on_each_stripe s (length b) (λ stripe. on_each_provider s (λ i. Store i k stripe))) (sym (u n b refl))
+        ∙ ap (λ (q : ℕ). on_each_stripe (profiled s q) (length b) (λ stripe. on_each_provider s (λ i. Store i j.subject stripe))) (sym own)))))
+actions-are s j (wish.Get name) (GetJob n) fl own plain h z o u flags = ap (λ (xs : List Action). xs ++ End ∷ [])
+    (files-are s j (wish.Get name) fl (λ q f. on_each_stripe (profiled s q) (length f.bytes) (open_actions s f.id)) (λ f. turns-each s.n (wish.Get name) fl f.id (stripes_of s (length f.bytes)) (open_actions s f.id) (get-turn s name fl f.id)) j.pinned plain)
+actions-are s j (wish.Drop name) (DropJob n) fl own plain h z o u flags =
     ap (λ (ps : List PinnedBytes). append_actions ++ (tasks_of s.n (wish.Drop name) fl (tasks_made (turns_for s (wish.Drop name)) (map pin_of ps)) ++ End ∷ [])) z
     ∙ ap (λ (xs : List ℕ). append_actions ++ (remove_actions s (record j { older = xs }) ++ End ∷ [])) (sym o)
-actions-are s j wish.Audit AuditJob fl h z o u flags = ap (λ (xs : List Action). append_actions ++ (xs ++ (append_actions ++ End ∷ [])))
-    (files-are s j wish.Audit fl (λ f. flat_map (λ round. on_each_provider s (λ i. Ask i f.id round)) (rounds_of s (length f.bytes)))
+actions-are s j wish.Audit AuditJob fl own plain h z o u flags = ap (λ (xs : List Action). append_actions ++ (xs ++ (append_actions ++ End ∷ [])))
+    (files-are s j wish.Audit fl (λ q f. flat_map (λ round. on_each_provider s (λ i. Ask i f.id round)) (rounds_of (profiled s q) (length f.bytes)))
     (λ f. turns-each s.n wish.Audit fl f.id (turns_for s wish.Audit (length f.bytes)) (λ round. on_each_provider s (λ i. Ask i f.id round)) (audit-turn s fl f.id)
-    ∙ ap (flat_map (λ round. on_each_provider s (λ i. Ask i f.id round))) (rounds-are s (length f.bytes))) j.pinned)
-actions-are s j wish.Repair RepairJob fl h z o u flags = ap (λ (xs : List Action). xs ++ (append_actions ++ End ∷ []))
-    (files-are s j wish.Repair fl (λ f. on_each_stripe s (length f.bytes) (λ stripe. open_actions s f.id stripe ++ rewrite_actions s j f.id stripe))
-    (λ f. turns-each s.n wish.Repair fl f.id (stripes_of s (length f.bytes)) (λ stripe. open_actions s f.id stripe ++ rewrite_actions s j f.id stripe) (λ t. repair-turn s j fl f.id t flags)) j.pinned)
-actions-are s j v k fl h z o u flags = absurd h
+    ∙ ap (flat_map (λ round. on_each_provider s (λ i. Ask i f.id round))) (rounds-are s (length f.bytes))) j.pinned plain)
+actions-are s j wish.Repair RepairJob fl own plain h z o u flags = ap (λ (xs : List Action). xs ++ (append_actions ++ End ∷ []))
+    (files-are s j wish.Repair fl (λ q f. on_each_stripe (profiled s q) (length f.bytes) (λ stripe. open_actions s f.id stripe ++ rewrite_actions s j f.id stripe))
+    (λ f. turns-each s.n wish.Repair fl f.id (stripes_of s (length f.bytes)) (λ stripe. open_actions s f.id stripe ++ rewrite_actions s j f.id stripe) (λ t. repair-turn s j fl f.id t flags)) j.pinned plain)
+actions-are s j v k fl own plain h z o u flags = absurd h
 
 -- ---- the job
 
@@ -210,7 +213,7 @@ abbrev sums_of : List ℕ → ℕ → Sums
 sums_of counts undecided = record { counts = counts; undecided = undecided }
 
 module _ (t : Kept) (s : Setup) (w : State) (moment : ℕ) (v : Wish) (k : Kind) (job : Job) (made : IsMade t s w.next_job v job) (least : 4 ≤ s.n) (most : s.n ≤ 16)
-    (fold : IsFoldOf w.records t) (setup : s ≡ setup_in w) (held : AreHeld w.bytes w.records) (kind : IsKindOf v k) where
+    (fold : IsFoldOf w.records t) (setup : s ≡ setup_in w) (held : AreHeld w.bytes w.records) (plain : ArePlain (setup_in w) (pinned_for w k)) (kind : IsKindOf v k) where
   made-pins : job.pinned.items ≡ map pin_of (pinned_for w k)
   made-pins = made.pinned ∙ pins-are t w v k fold held kind
 
@@ -222,7 +225,7 @@ module _ (t : Kept) (s : Setup) (w : State) (moment : ℕ) (v : Wish) (k : Kind)
   made-actions = made-rest t s w.next_job v job made least most
       ∙ (ap (λ (ts : List Task). front_of v ++ (tasks_of s.n job.wish job.flagged ts ++ closing_of job.wish)) (made.tasks ∙ ap (λ (ps : List Pinned). tasks_made (turns_for s v) (targets_of v ps)) made-pins)
       ∙ (ap (λ (x : Wish). front_of v ++ (tasks_of s.n x job.flagged (tasks_made (turns_for s v) (targets_of v (map pin_of (pinned_for w k)))) ++ closing_of x)) made.wish
-      ∙ actions-are s (new_job w moment k) v k job.flagged kind (no-pins w v k kind) refl (put-unnumbered w k) made-flags))
+      ∙ actions-are s (new_job w moment k) v k job.flagged (ap (λ (x : Setup). x.profile) (sym setup)) (λ f i. plain f i ∙ ap (λ (x : Setup). x.profile) (sym setup)) kind (no-pins w v k kind) refl (put-unnumbered w k) made-flags))
 
   made-sums : sums_of (counted job.counts) job.undecided ≡ sums_of (replicate s.n 0) 0
   made-sums = ap (λ (c : Counts). sums_of (counted c) job.undecided) made.counts

@@ -1,5 +1,5 @@
 -- The sums of an audit, before an action and after it.
-use Rattle.std.proofs.Common.{◌≡◌, ℕ, ◌+◌, Bool, true, false, List, [], Some, drop, inl, inr, refl, ap, sym, ◌∙◌}
+use Rattle.std.proofs.Common.{◌≡◌, ℕ, ◌+◌, Bool, true, false, List, Some, drop, inl, inr, refl, ap, sym, ◌∙◌}
 use Rattle.std.specs.Prelude.{Option, ◌⊎◌, ◌&&◌, not, slice_get, IsTrue, nat_lt}
 use Rattle.std.proofs.lemmas.Bool.{false≢true, not-true, and_parts}
 use Rattle.std.proofs.Math.Bool.{and-true}

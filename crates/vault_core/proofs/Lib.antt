@@ -17,6 +17,7 @@ pub mod Closing
 pub mod Refusals
 pub mod Pins
 pub mod Begun
+pub mod Plain
 pub mod Joins
 pub mod Admitted
 pub mod Replied

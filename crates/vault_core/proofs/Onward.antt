@@ -9,7 +9,7 @@ use Rattle.hail_codes.specs.Points.{upto}
 use Rattle.hail_columns.specs.Verdicts.{Sums, Judges}
 use Rattle.hail_columns.specs.Challenges.{challenge_of}
 use Rattle.hail_records.specs.Records.{Setup}
-use Rattle.hail_machine.specs.Setups.{object_of}
+use Rattle.hail_machine.specs.Setups.{profiled, object_of}
 use Rattle.hail_machine.specs.Jobs.{Kind, PutJob, DropJob, AuditJob, Pinned, Given, Job}
 use Rattle.hail_machine.specs.Actions.{Action, WriteBody, SyncBody, WriteGate, SyncGate, Store, Fetch, Ask, Work, Remove, End, append_actions, on_each_provider, rounds_of, ask_actions, actions_of, actions_left}
 use Rattle.hail_machine.specs.Given.{answers_given}
@@ -65,14 +65,14 @@ module _ (s : Setup) (i j : Job) (given : i.given ≡ j.given) (subject : i.subj
   rounds_same f [] old new h = h
   rounds_same f (r ∷ rs) old new h = (
     h.0,
-    subst (λ (n : ℕ). Judges (object_of s f.id) (challenge_of (object_of s f.id) (length f.bytes) s.picks n r) (answers_given j.given s.n f.id r) old h.0) subject
-        (subst (λ (g : List Given). Judges (object_of s f.id) (challenge_of (object_of s f.id) (length f.bytes) s.picks i.subject r) (answers_given g s.n f.id r) old h.0) given h.1),
+    subst (λ (n : ℕ). Judges (object_of (profiled s f.profile) f.id) (challenge_of (object_of (profiled s f.profile) f.id) (length f.bytes) s.picks n r) (answers_given j.given s.n f.id r) old h.0) subject
+        (subst (λ (g : List Given). Judges (object_of (profiled s f.profile) f.id) (challenge_of (object_of (profiled s f.profile) f.id) (length f.bytes) s.picks i.subject r) (answers_given g s.n f.id r) old h.0) given h.1),
     rounds_same f rs h.0 new h.2,
   )
 
   files_same : (fs : List Pinned) (old new : Sums) → JudgesFiles s i fs old new → JudgesFiles s j fs old new
   files_same [] old new h = h
-  files_same (f ∷ fs) old new h = (h.0, rounds_same f (rounds_of s (length f.bytes)) old h.0 h.1, files_same fs h.0 new h.2)
+  files_same (f ∷ fs) old new h = (h.0, rounds_same f (rounds_of (profiled s f.profile) (length f.bytes)) old h.0 h.1, files_same fs h.0 new h.2)
 
   pub sums-same : (sums : Sums) → i.pinned ≡ j.pinned → HasSums s i sums → HasSums s j sums
   sums-same sums pinned h = subst (λ (fs : List Pinned). JudgesFiles s j fs (record { counts = replicate s.n 0; undecided = 0 }) sums) pinned (files_same i.pinned (record { counts = replicate s.n 0; undecided = 0 }) sums h)
@@ -80,7 +80,7 @@ module _ (s : Setup) (i j : Job) (given : i.given ≡ j.given) (subject : i.subj
 -- an audit with nothing to ask has no sums
 module _ (s : Setup) (m : Job) (some : 0 < s.n) where
   asks_of : Pinned → List Action
-  asks_of f = flat_map (λ round. on_each_provider s (λ j. Ask j f.id round)) (rounds_of s (length f.bytes))
+  asks_of f = flat_map (λ round. on_each_provider s (λ j. Ask j f.id round)) (rounds_of (profiled s f.profile) (length f.bytes))
 
   providers : (n : ℕ) → 0 < n → (f : ℕ → Action) (xs : List Action) → map f (upto n) ++ xs ≡ [] → ⊥
   providers zero l f xs e = omega arith
@@ -94,12 +94,12 @@ module _ (s : Setup) (m : Job) (some : 0 < s.n) where
   none_both [] ys e = (refl, e)
   none_both (x ∷ xs) ys e = let f : x ∷ (xs ++ ys) ≡ [] = e in cc
 
-  no_files : (fs : List Pinned) (sums : Sums) → flat_map (λ (f : Pinned). flat_map (λ round. on_each_provider s (λ j. Ask j f.id round)) (rounds_of s (length f.bytes))) fs ≡ [] → JudgesFiles s m fs sums sums
+  no_files : (fs : List Pinned) (sums : Sums) → flat_map (λ (f : Pinned). flat_map (λ round. on_each_provider s (λ j. Ask j f.id round)) (rounds_of (profiled s f.profile) (length f.bytes))) fs ≡ [] → JudgesFiles s m fs sums sums
   no_files [] sums e = refl
   no_files (f ∷ fs) sums e =
-      let b = none_both (flat_map (λ round. on_each_provider s (λ j. Ask j f.id round)) (rounds_of s (length f.bytes)))
-      (flat_map (λ (f : Pinned). flat_map (λ round. on_each_provider s (λ j. Ask j f.id round)) (rounds_of s (length f.bytes))) fs) e in
-      (sums, no_rounds f (rounds_of s (length f.bytes)) sums b.0, no_files fs sums b.1)
+      let b = none_both (flat_map (λ round. on_each_provider s (λ j. Ask j f.id round)) (rounds_of (profiled s f.profile) (length f.bytes)))
+      (flat_map (λ (f : Pinned). flat_map (λ round. on_each_provider s (λ j. Ask j f.id round)) (rounds_of (profiled s f.profile) (length f.bytes))) fs) e in
+      (sums, no_rounds f (rounds_of (profiled s f.profile) (length f.bytes)) sums b.0, no_files fs sums b.1)
 
   pub no-sums : ask_actions s m ≡ [] → HasSums s m (record { counts = replicate s.n 0; undecided = 0 })
   no-sums e = no_files m.pinned (record { counts = replicate s.n 0; undecided = 0 }) e
@@ -114,8 +114,8 @@ NoAsk a = asks_next (Some a) ≡ false
 
 asks_ask : (s : Setup) (m : Job) → Each IsAnAsk (ask_actions s m)
 unfolding IsAnAsk
-asks_ask s m = each_flat IsAnAsk (λ (f : Pinned). flat_map (λ round. on_each_provider s (λ j. Ask j f.id round)) (rounds_of s (length f.bytes))) m.pinned
-    (λ f. each_flat IsAnAsk (λ round. on_each_provider s (λ j. Ask j f.id round)) (rounds_of s (length f.bytes)) (λ r. each_map IsAnAsk (λ j. Ask j f.id r) (upto s.n) (λ j. refl)))
+asks_ask s m = each_flat IsAnAsk (λ (f : Pinned). flat_map (λ round. on_each_provider s (λ j. Ask j f.id round)) (rounds_of (profiled s f.profile) (length f.bytes))) m.pinned
+    (λ f. each_flat IsAnAsk (λ round. on_each_provider s (λ j. Ask j f.id round)) (rounds_of (profiled s f.profile) (length f.bytes)) (λ r. each_map IsAnAsk (λ j. Ask j f.id r) (upto s.n) (λ j. refl)))
 
 -- behind asks comes the first move of the next append
 ask_then : (xs ys : List Action) (p j o t : ℕ) → Each IsAnAsk xs → Each NoAsk ys → slice_get (xs ++ WriteBody ∷ ys) p ≡ Some (Ask j o t) →
@@ -167,8 +167,8 @@ audit-action s m a kind e = each_get IsAudits (append_actions ++ audit_rest s m)
     (ap (λ (xs : List Action). slice_get xs m.place) (sym (audit-list s m kind)) ∙ e)
   where
     asks : Each IsAudits (ask_actions s m)
-    asks = each_flat IsAudits (λ (f : Pinned). flat_map (λ round. on_each_provider s (λ j. Ask j f.id round)) (rounds_of s (length f.bytes))) m.pinned
-        (λ f. each_flat IsAudits (λ round. on_each_provider s (λ j. Ask j f.id round)) (rounds_of s (length f.bytes)) (λ r. each_map IsAudits (λ j. Ask j f.id r) (upto s.n) (λ j. tt)))
+    asks = each_flat IsAudits (λ (f : Pinned). flat_map (λ round. on_each_provider s (λ j. Ask j f.id round)) (rounds_of (profiled s f.profile) (length f.bytes))) m.pinned
+        (λ f. each_flat IsAudits (λ round. on_each_provider s (λ j. Ask j f.id round)) (rounds_of (profiled s f.profile) (length f.bytes)) (λ r. each_map IsAudits (λ j. Ask j f.id r) (upto s.n) (λ j. tt)))
 
 -- ---- a job that has made a plain action
 

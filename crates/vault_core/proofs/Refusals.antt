@@ -8,18 +8,18 @@ use Rattle.std.proofs.lemmas.Bool.{cases_Bool, lt-ltb, ltb-true}
 use Rattle.std.proofs.lemmas.Bool.Decides.{nat_tests}
 use Rattle.std.proofs.lemmas.List.Sums.{sum_by-cons}
 use Rattle.hail_records.specs.Records.{Setup, is_name, largest_file, largest_journal, most_files}
-use Rattle.hail_records.specs.Journal.{text_size}
-use Rattle.hail_records.specs.Table.{File, is_same_name, find_file, files_of}
+use Rattle.hail_records.specs.Table.{File, version_of, is_same_name, find_file, files_of}
 use Rattle.hail_records.proofs.FilesLaws.{find-files_of}
 use Rattle.hail_machine.specs.Jobs.{Kind, PutJob, GetJob, DropJob, AuditJob, RepairJob}
 use Rattle.hail_machine.specs.Jobs.{Job as MachineJob}
 use Rattle.hail_machine.specs.Refusals as refusal
 use Rattle.hail_machine.specs.Refusals.{Refusal, first_refusal}
-use Rattle.hail_machine.specs.States.{State, setup_in, file_in}
+use Rattle.hail_machine.specs.States.{State, Alone, setup_in, file_in, journal_end}
 use Rattle.hail_machine.specs.Space.{append_sizes, reserved, is_full, is_too_full, are_numbers_used_up}
-use Rattle.hail_machine.specs.Begins.{is_put_or_check, is_check, is_busy, is_name_among, with_puts, names_in, names_taken, is_crowded_state, begin_refusal}
+use Rattle.hail_machine.specs.Begins.{is_put_or_check, is_check, is_upgrade, is_shut, are_jobs_in_the_way, is_busy, is_name_among, with_puts, names_in, names_taken, is_crowded_state, begin_refusal}
 use Rattle.sound_states.proofs.NamesTaken.{are_put, listed-taken, listed-with_puts, listed-files_of, length-names_in}
 use Rattle.sound_states.proofs.NamesTaken.{puts_name as machine_puts}
+use Rattle.sound_states.proofs.Written.{end-first}
 use Rattle.vault_table.specs.Values.{Kept}
 use Rattle.vault_core.specs.declared.wish.Wish.{Wish}
 use Rattle.vault_core.specs.declared.wish.Wish.TheVariants as wish
@@ -28,6 +28,7 @@ use Rattle.vault_core.specs.declared.wish.BeginFault.TheVariants as fault
 use Rattle.vault_core.specs.declared.job.Job.{Job}
 use Rattle.vault_core.specs.declared.own.Core.TheInside.{Inside}
 use Rattle.vault_core.specs.View.{CoreJob, CoreView}
+use Rattle.vault_core.proofs.Standing.{refused_early}
 use Rattle.vault_core.specs.Parts.{core_job, view_of}
 use Rattle.vault_core.specs.Reserves.{sizes_of, reserved_of}
 use Rattle.vault_core.specs.Carried.{IsKindOf, IsJobOf, CoreIs, refusal_of}
@@ -183,7 +184,7 @@ puts_is name wish.Audit AuditJob h = refl
 puts_is name wish.Repair RepairJob h = refl
 puts_is name w k h = absurd h
 
-sizes_is : (s : Setup) (w : Wish) (k : Kind) → IsKindOf w k → sizes_of s.n w ≡ append_sizes s k
+sizes_is : (s : Setup) (w : Wish) (k : Kind) → IsKindOf w k → sizes_of s.n w ≡ append_sizes 1 s k
 sizes_is s (wish.Put own size) (PutJob n b) h = ap (λ (m : List ℕ). (11 + length m) ∷ 14 ∷ []) (sym h.0)
 sizes_is s (wish.Get own) (GetJob n) h = refl
 sizes_is s (wish.Drop own) (DropJob n) h = ap (λ (m : List ℕ). (3 + length m) ∷ []) (sym h)
@@ -191,16 +192,16 @@ sizes_is s wish.Audit AuditJob h = refl
 sizes_is s wish.Repair RepairJob h = refl
 sizes_is s w k h = absurd h
 
-reserved_is : (s : Setup) (c : CoreJob) (j : MachineJob) → IsJobOf s c j → reserved_of s.n c ≡ reserved s j
+reserved_is : (s : Setup) (c : CoreJob) (j : MachineJob) → IsJobOf s c j → reserved_of s.n c ≡ reserved 1 s j
 reserved_is s c j is = let e = sizes_is s c.wish j.kind is.kind in let r = is.rest in rw (e, r) refl
 
-pub room-jobs : (s : Setup) (cs : List CoreJob) (js : List MachineJob) → AllZip (IsJobOf s) cs js → sum_by (reserved_of s.n) cs ≡ sum_by (reserved s) js
+pub room-jobs : (s : Setup) (cs : List CoreJob) (js : List MachineJob) → AllZip (IsJobOf s) cs js → sum_by (reserved_of s.n) cs ≡ sum_by (reserved 1 s) js
 room-jobs s [] [] is = refl
 room-jobs s [] (j ∷ js) is = absurd is
 room-jobs s (c ∷ cs) [] is = absurd is
 room-jobs s (c ∷ cs) (j ∷ js) is =
     let a = sum_by-cons (reserved_of s.n) c cs in
-    let b = sum_by-cons (reserved s) j js in
+    let b = sum_by-cons (reserved 1 s) j js in
     let e = reserved_is s c j is.0 in
     let i = room-jobs s cs js is.1 in
     omega (arith, a, b, e, i)
@@ -291,15 +292,39 @@ repair_causes false false false f = refl
 repair_causes false false true true = refl
 repair_causes false false true false = refl
 
+-- no job of a core is an upgrade
+no_upgrade : (v : Wish) (k : Kind) → IsKindOf v k → is_upgrade k ≡ false
+no_upgrade (wish.Put name size) (PutJob n b) h = refl
+no_upgrade (wish.Get name) (GetJob n) h = refl
+no_upgrade (wish.Drop name) (DropJob n) h = refl
+no_upgrade wish.Audit AuditJob h = refl
+no_upgrade wish.Repair RepairJob h = refl
+no_upgrade v k h = absurd h
+
+no_upgrades : (s : Setup) (cs : List CoreJob) (js : List MachineJob) → AllZip (IsJobOf s) cs js → list_any (λ (j : MachineJob). is_upgrade j.kind) js ≡ false
+no_upgrades s [] [] is = refl
+no_upgrades s [] (j ∷ js) is = absurd is
+no_upgrades s (c ∷ cs) [] is = absurd is
+no_upgrades s (c ∷ cs) (j ∷ js) is = let e = no_upgrade c.wish j.kind is.0.kind in let i = no_upgrades s cs js is.1 in rw (e, i) refl
+
+-- so nothing keeps every job from beginning
+pub unshut : (c : CoreView) (w : State) → CoreIs c w → is_shut w ≡ false
+unshut c w is = ap (λ (o : Option Alone). is_some o || list_any (λ (j : MachineJob). is_upgrade j.kind) w.jobs) is.none_alone ∙ no_upgrades c.setup c.jobs w.jobs is.jobs
+
+pub early_shut : (c : CoreView) (w : State) → CoreIs c w → refused_early w.is_barred (length w.jobs)
+    ≡ first_refusal (record { applies = w.is_barred; refusal = refusal.MustReopen } ∷ record { applies = is_shut w || nat_le 8 (length w.jobs); refusal = refusal.Busy } ∷ [])
+early_shut c w is = ap (λ (b : Bool). first_refusal (record { applies = w.is_barred; refusal = refusal.MustReopen } ∷ record { applies = b || nat_le 8 (length w.jobs); refusal = refusal.Busy } ∷ []))
+    (sym (unshut c w is))
+
 module _ (c : CoreView) (w : State) (is : CoreIs c w) where
   busy_is : (v : Wish) (k : Kind) → IsKindOf v k → is_busy_in c v ≡ is_busy 8 w k
-  busy_is v k h = ap (λ (b : Bool). b || is_kept_out (wishes_of c.jobs) v) (ap (nat_le 8) (length-jobs c.setup c.jobs w.jobs is.jobs)) ∙ by v k h
+  busy_is v k h = ap (λ (b : Bool). b || is_kept_out (wishes_of c.jobs) v) (ap (nat_le 8) (length-jobs c.setup c.jobs w.jobs is.jobs)) ∙ (by v k h ∙ ap (λ (b : Bool). b || are_jobs_in_the_way 8 w k) (sym (unshut c w is)))
     where
       or_false : (b : Bool) → (b || false) ≡ b
       or_false true = refl
       or_false false = refl
 
-      by : (u : Wish) (l : Kind) → IsKindOf u l → (nat_le 8 (length w.jobs) || is_kept_out (wishes_of c.jobs) u) ≡ is_busy 8 w l
+      by : (u : Wish) (l : Kind) → IsKindOf u l → (nat_le 8 (length w.jobs) || is_kept_out (wishes_of c.jobs) u) ≡ are_jobs_in_the_way 8 w l
       by (wish.Put name size) (PutJob n b) g = or_false (nat_le 8 (length w.jobs))
       by (wish.Get name) (GetJob n) g = or_false (nat_le 8 (length w.jobs))
       by (wish.Drop name) (DropJob n) g = or_false (nat_le 8 (length w.jobs))
@@ -310,11 +335,11 @@ module _ (c : CoreView) (w : State) (is : CoreIs c w) where
   too_full_is : (v : Wish) (k : Kind) → IsKindOf v k → is_too_full_in c v ≡ is_too_full w k
   too_full_is v k h = ap (nat_lt largest_journal) (total (setup_in w) is.setup)
     where
-      total : (s : Setup) → c.setup ≡ s → (c.end + sum_by (reserved_of c.setup.n) c.jobs + sum (sizes_of c.setup.n v)) ≡ (text_size w.records + sum_by (reserved s) w.jobs + sum (append_sizes s k))
+      total : (s : Setup) → c.setup ≡ s → (c.end + sum_by (reserved_of c.setup.n) c.jobs + sum (sizes_of c.setup.n v)) ≡ (journal_end w + sum_by (reserved (version_of w.records) s) w.jobs + sum (append_sizes (version_of w.records) s k))
       total s e =
-          let a = is.end in
-          let b = room-jobs c.setup c.jobs w.jobs is.jobs ∙ ap (λ (t : Setup). sum_by (reserved t) w.jobs) e in
-          let d = ap (λ (xs : List ℕ). sum xs) (sizes_is c.setup v k h ∙ ap (λ (t : Setup). append_sizes t k) e) in
+          let a = is.end ∙ sym (end-first 8 w is.sound is.first) in
+          let b = room-jobs c.setup c.jobs w.jobs is.jobs ∙ (ap (λ (t : Setup). sum_by (reserved 1 t) w.jobs) e ∙ ap (λ (i : ℕ). sum_by (reserved i s) w.jobs) (sym is.first)) in
+          let d = ap (λ (xs : List ℕ). sum xs) (sizes_is c.setup v k h ∙ (ap (λ (t : Setup). append_sizes 1 t k) e ∙ ap (λ (i : ℕ). append_sizes i s k) (sym is.first))) in
           omega (arith, a, b, d)
 
   used_up_is : (v : Wish) (k : Kind) → IsKindOf v k → is_used_up c.table v ≡ are_numbers_used_up w k

@@ -5,14 +5,14 @@ use Rattle.std.specs.Option.{option_map}
 use Rattle.std.proofs.lemmas.Bool.{cases_Bool, le-ltb, ne_eqb, false≢true}
 use Rattle.plain_facts.proofs.Each.{each_get, each_append, each_map, each_flat}
 use Rattle.hail_records.specs.Records.{Setup, Record, PutStart, PutDone, Drop, AuditStart, AuditDone, RepairDone}
-use Rattle.hail_records.specs.Table.{File, find_file, file_of, next_id}
+use Rattle.hail_records.specs.Table.{File, version_of, find_file, file_of, next_id}
 use Rattle.hail_records.proofs.FilesLaws.{find-files_of}
 use Rattle.hail_machine.specs.Jobs.{Kind, PutJob, GetJob, DropJob, AuditJob, RepairJob, Pinned, Job, job_of}
 use Rattle.hail_machine.specs.Actions.{Action, WriteBody, SyncBody, WriteGate, SyncGate, Store, Fetch, Ask, Work, Remove, End, append_actions, on_each_provider, on_each_stripe, open_actions, read_actions, remove_actions, actions_by, actions_of, actions_left, ends_append}
 use Rattle.hail_codes.specs.Points.{upto}
-use Rattle.hail_machine.specs.Setups.{stripes_of}
+use Rattle.hail_machine.specs.Setups.{profiled, stripes_of}
 use Rattle.hail_machine.specs.States.{State, Append, setup_in, file_in}
-use Rattle.hail_machine.specs.Appends.{Writes, is_first_append}
+use Rattle.hail_machine.specs.Appends.{Writes, done_record, is_first_append}
 use Rattle.hail_machine.specs.Refusals.{Refusal, MustReopen, Busy}
 use Rattle.hail_machine.specs.Left.{most_left, removes_older}
 use Rattle.hail_machine.specs.Steps.{is_idle_drop, next_action, holder_of}
@@ -130,9 +130,9 @@ no_ask (Some End) h = refl
 pub asked_moving : (c : CoreJob) → c.wish ≡ wish.Audit → c.opening ≡ false → is_move (slice_get c.rest 0) ≡ true → has_asked c ≡ true
 asked_moving c g o mv = rw (g, o, no_ask (slice_get c.rest 0) mv) refl
 
-pub writes_same : (w : State) (t : Kept) (c : CoreJob) (m : Job) (entry : Record) → IsFoldOf w.records t → IsJobOf (setup_in w) c m → is_move (slice_get c.rest 0) ≡ true →
+pub writes_same : (w : State) (t : Kept) (c : CoreJob) (m : Job) (entry : Record) → version_of w.records ≡ 1 → IsFoldOf w.records t → IsJobOf (setup_in w) c m → is_move (slice_get c.rest 0) ≡ true →
     written_by t c c.wish ≡ Some entry → Writes w m m.kind entry
-writes_same w t c m entry f is mv e = by c.wish m.kind refl refl is.kind
+writes_same w t c m entry first f is mv e = by c.wish m.kind refl refl is.kind
   where
     is_it : (r : Record) → written_by t c c.wish ≡ Some r → entry ≡ r
     is_it r h = (let s : Some entry ≡ Some r = sym e ∙ h in cc)
@@ -150,7 +150,8 @@ writes_same w t c m entry f is mv e = by c.wish m.kind refl refl is.kind
         ∙ (ap (λ (i : ℕ). if is_first_append m then PutStart i name else PutDone c.subject size) f.id
         ∙ (ap (λ (x : List ℕ). if is_first_append m then PutStart (next_id w.records) x else PutDone c.subject size) (sym h.0)
         ∙ (ap (λ (i : ℕ). if is_first_append m then PutStart (next_id w.records) called else PutDone i size) is.subject
-        ∙ ap (λ (i : ℕ). if is_first_append m then PutStart (next_id w.records) called else PutDone m.subject i) (sym h.1)))))
+        ∙ (ap (λ (i : ℕ). if is_first_append m then PutStart (next_id w.records) called else PutDone m.subject i) (sym h.1)
+        ∙ ap (λ (v : ℕ). if is_first_append m then PutStart (next_id w.records) called else done_record v m.subject (length bytes) m.profile) (sym first))))))
     by (wish.Get name) (GetJob called) g k h = (let s : None ≡ Some entry = sym (ap (written_by t c) g) ∙ e in cc)
     by (wish.Drop name) (DropJob called) g k h = is_it (Drop name) (ap (written_by t c) g) ∙ ap Drop (sym h)
     by wish.Audit AuditJob g k h = elim (cases_Bool (is_first_append m)) [
@@ -357,8 +358,8 @@ get_moves : (s : Setup) (m : Job) (name : List ℕ) (a : Action) → m.kind ≡ 
 unfolding NoMove
 get_moves s m name a k e = each_get NoMove (actions_by s m (GetJob name)) m.place a
     (each_append NoMove (read_actions s m.pinned) (End ∷ [])
-    (each_flat NoMove (λ (f : Pinned). on_each_stripe s (length f.bytes) (open_actions s f.id)) m.pinned
-    (λ f. each_flat NoMove (open_actions s f.id) (upto (stripes_of s (length f.bytes)))
+    (each_flat NoMove (λ (f : Pinned). on_each_stripe (profiled s f.profile) (length f.bytes) (open_actions s f.id)) m.pinned
+    (λ f. each_flat NoMove (open_actions s f.id) (upto (stripes_of (profiled s f.profile) (length f.bytes)))
     (λ t. each_append NoMove (on_each_provider s (λ j. Fetch j f.id t)) (Work f.id t ∷ []) (each_map NoMove (λ j. Fetch j f.id t) (upto s.n) (λ j. refl)) (refl, tt))))
     (refl, tt))
     (ap (λ (xs : List Action). slice_get xs m.place) (sym (actions_of_kind s m (GetJob name) k)) ∙ e)
@@ -438,7 +439,7 @@ entry_machine c w k (Some r) is e =
       job = p.job;
       runs = p.runs;
       moves = ap is_move (next_same w c.table f.0 p.job is.table q) ∙ a.0;
-      writes = writes_same w c.table f.0 p.job r is.table q (head_moves c.table f.0 a.0) a.1;
+      writes = writes_same w c.table f.0 p.job r is.first is.table q (head_moves c.table f.0 a.0) a.1;
     }
 
 -- ---- no begin of a put, a get or a drop

@@ -6,17 +6,17 @@ use Rattle.std.proofs.lemmas.Bool.{eq-eqb, ne_eqb, false≢true}
 use Rattle.std.proofs.Math.Bool.{and-false, and-true}
 use Rattle.hail_records.specs.Records.{Record, Setup, PutStart, PutDone, Drop, AuditStart, AuditDone, RepairDone, record_size}
 use Rattle.hail_records.specs.Journal.{text_size}
-use Rattle.hail_records.specs.Table.{setup_of}
+use Rattle.hail_records.specs.Table.{setup_of, version_of}
 use Rattle.hail_records.specs.Acceptance.{refused}
 use Rattle.hail_machine.specs.Jobs.{AuditJob, Given, Fetched, Answered, Worked, Job, job_of, with_job, without_job}
 use Rattle.hail_machine.specs.Actions.{Action, WriteBody, SyncBody, WriteGate, SyncGate, Store, Fetch, Ask, Work, Remove, End, actions_of, actions_left}
-use Rattle.hail_machine.specs.Answers.{Answer, Put, Got, Dropped, Audited, Repaired, Lost, ProviderFault, DiskFault, Memory}
+use Rattle.hail_machine.specs.Answers.{Answer, Put, Got, Dropped, Audited, Repaired, Lost, ProviderFault, DiskFault, Memory, Upgraded, Scrubbed, Packed}
 use Rattle.hail_machine.specs.Events.{Outcome, Refused, More, Waiting, Ended, Step}
-use Rattle.hail_machine.specs.States.{State, Append, setup_in, going_on, ended, with_provider}
+use Rattle.hail_machine.specs.States.{State, Append, Alone, setup_in, going_on, ended, with_provider}
 use Rattle.hail_devices.specs.Providers.{Provider}
 use Rattle.hail_machine.specs.Audits.{HasSums}
 use Rattle.hail_machine.specs.Appends.{Moves, subject_drawn, taken_out, begun_append, done_append}
-use Rattle.hail_machine.specs.Steps.{Acts, Steps, StepsOpen, StepsJob, StepsOn, ActsOrWaits, next_action, holder_of}
+use Rattle.hail_machine.specs.Steps.{Acts, Steps, StepsOpen, StepsOne, StepsJob, StepsOn, ActsOrWaits, next_action, holder_of}
 use Rattle.hail_machine.specs.Machine.{Happens}
 use Rattle.hail_machine.proofs.JobLists.{number_of, found_itself, same_value}
 use Rattle.hail_machine.proofs.PinFacts.{setup_same}
@@ -79,8 +79,9 @@ on_machine c w new k place r action outcome moment s is l h =
     let same : n.job ≡ p.job = same_value (job_of w.jobs k) n.job p.job n.runs p.runs in
     let next : next_action w p.job ≡ Some action = subst (λ (j : Job). next_action w j ≡ Some action) same n.comes in
     let opened : StepsOpen w k w.is_barred outcome new = subst (λ (b : Bool). Steps w k b outcome new) is.is_open h in
-    let unbarred : StepsJob w (job_of w.jobs k) outcome new = subst (λ (b : Bool). StepsOpen w k b outcome new) n.unbarred opened in
-    let here : StepsOn w p.job (next_action w p.job) outcome new = subst (λ (o : Option Job). StepsJob w o outcome new) p.runs unbarred in
+    let unbarred : StepsOne w k w.alone outcome new = subst (λ (b : Bool). StepsOpen w k b outcome new) n.unbarred opened in
+    let stepping : StepsJob w (job_of w.jobs k) outcome new = subst (λ (x : Option Alone). StepsOne w k x outcome new) is.none_alone unbarred in
+    let here : StepsOn w p.job (next_action w p.job) outcome new = subst (λ (o : Option Job). StepsJob w o outcome new) p.runs stepping in
     let on : ActsOrWaits w p.job action (holder_of w.append action) outcome new = subst (λ (o : Option Action). StepsOn w p.job o outcome new) next here in
     record {
       job = p.job;
@@ -90,7 +91,7 @@ on_machine c w new k place r action outcome moment s is l h =
       next = next;
       holder = n.holder;
       acts = subst (λ (o : Option ℕ). ActsOrWaits w p.job action o outcome new) n.holder on;
-      sound = events-sound 8 moment w is.sound (Step k) outcome new l h;
+      sound = events-sound 8 moment w is.sound (omega arith, omega arith) (Step k) outcome new l h;
       sound_job = is.sound.jobs k p.job p.runs;
       stands = is;
       runs = s.runs;
@@ -107,6 +108,7 @@ pub record Stays (w new : State) : Type 0 where
   pub is_open : new.is_open ≡ w.is_open
   pub records : new.records ≡ w.records
   pub next_job : new.next_job ≡ w.next_job
+  pub alone : new.alone ≡ w.alone
 
 -- a job goes on
 set_stands : (c : CoreView) (w new : State) (k place : ℕ) (cj : CoreJob) (m : Job) (flight : Option ℕ) → CoreIs c w → IsSound 8 new → IsFirst c.jobs k place → Stays w new →
@@ -117,6 +119,8 @@ set_stands c w new k place cj m flight is sound first stays bar js number job fl
     record {
       sound = sound;
       is_open = stays.is_open ∙ is.is_open;
+      first = ap version_of stays.records ∙ is.first;
+      none_alone = stays.alone ∙ is.none_alone;
       table = subst (λ (rs : List Record). IsFoldOf rs c.table) (sym stays.records) is.table;
       setup = is.setup ∙ sym setup;
       end = is.end ∙ ap text_size (sym stays.records);
@@ -136,6 +140,8 @@ remove_stands c w new k place flight b is sound first stays bar js fl =
     record {
       sound = sound;
       is_open = stays.is_open ∙ is.is_open;
+      first = ap version_of stays.records ∙ is.first;
+      none_alone = stays.alone ∙ is.none_alone;
       table = subst (λ (rs : List Record). IsFoldOf rs c.table) (sym stays.records) is.table;
       setup = is.setup ∙ sym setup;
       end = is.end ∙ ap text_size (sym stays.records);
@@ -199,14 +205,14 @@ module _ (c : CoreView) (w new : State) (k place : ℕ) (cj : CoreJob) (a : Acti
 
   off_arm : (p : ℕ → Provider) → is_move (Some a) ≡ false → new ≡ record (ended w o.job) { providers = p } → CoreIs (stopped c place) new
   off_arm p h e =
-      remove_stands c w new k place (freed c place) c.barred o.stands o.sound o.first (record { is_open = ap (λ (s : State). s.is_open) e; records = ap (λ (s : State). s.records) e; next_job = ap (λ (s : State). s.next_job) e })
+      remove_stands c w new k place (freed c place) c.barred o.stands o.sound o.first (record { is_open = ap (λ (s : State). s.is_open) e; records = ap (λ (s : State). s.records) e; next_job = ap (λ (s : State). s.next_job) e; alone = ap (λ (s : State). s.alone) e })
       (o.stands.barred ∙ sym (ap (λ (s : State). s.is_barred) e)) (ap (λ (s : State). s.jobs) e ∙ ap (without_job w.jobs) o.number)
       (subst (IsCoreFlight (stopped c place)) (sym (ap (λ (s : State). s.append) e)) (flight_off c w k place cj o.stands o.first o.here o.runs o.called (still h)))
 
   on_arm : (p : ℕ → Provider) (x : CoreJob) (m : Job) → x.number ≡ k → m.number ≡ k → is_move (Some a) ≡ false → new ≡ record (going_on w m) { providers = p } → IsJobOf (setup_in w) x m →
       CoreIs (with_at c place x) new
   on_arm p x m n q h e job =
-      set_stands c w new k place x m c.append o.stands o.sound o.first (record { is_open = ap (λ (s : State). s.is_open) e; records = ap (λ (s : State). s.records) e; next_job = ap (λ (s : State). s.next_job) e })
+      set_stands c w new k place x m c.append o.stands o.sound o.first (record { is_open = ap (λ (s : State). s.is_open) e; records = ap (λ (s : State). s.records) e; next_job = ap (λ (s : State). s.next_job) e; alone = ap (λ (s : State). s.alone) e })
       (ap (λ (s : State). s.is_barred) e) (ap (λ (s : State). s.jobs) e) q job
       (subst (IsCoreFlight (with_at c place x)) (sym (ap (λ (s : State). s.append) e)) (flight_on c w k place cj o.stands o.first o.here o.runs o.called (still h) x n))
 
@@ -315,21 +321,21 @@ written_drawn t j xs h = by j.wish
     by wish.Audit = ap (λ (b : Bool). Some (if b then AuditStart t.next_audit else AuditDone (number_drawn t j wish.Audit) j.sums.undecided j.sums.counts)) (opening (number_drawn t j wish.Audit)) ∙ ap {B = Option Record} Some (audit j.opening)
     by wish.Repair = refl
 
--- no job writes a setup
-no_setup : (t : Kept) (j : CoreJob) (v : Wish) (e : Record) (rs : List Record) → written_by t j v ≡ Some e → setup_of (e ∷ rs) ≡ setup_of rs
+-- no job writes a setup, or the second version
+no_setup : (t : Kept) (j : CoreJob) (v : Wish) (e : Record) (rs : List Record) → written_by t j v ≡ Some e → (setup_of (e ∷ rs) ≡ setup_of rs) × (version_of (e ∷ rs) ≡ version_of rs)
 no_setup t j (wish.Put name size) e rs h = by j.opening h
   where
-    by : (b : Bool) → Some (if b then PutStart (id_after t) name else PutDone j.subject size) ≡ Some e → setup_of (e ∷ rs) ≡ setup_of rs
-    by true g = (let i : PutStart (id_after t) name ≡ e = cc in ap (λ (r : Record). setup_of (r ∷ rs)) (sym i))
-    by false g = (let i : PutDone j.subject size ≡ e = cc in ap (λ (r : Record). setup_of (r ∷ rs)) (sym i))
+    by : (b : Bool) → Some (if b then PutStart (id_after t) name else PutDone j.subject size) ≡ Some e → (setup_of (e ∷ rs) ≡ setup_of rs) × (version_of (e ∷ rs) ≡ version_of rs)
+    by true g = (let i : PutStart (id_after t) name ≡ e = cc in (ap (λ (r : Record). setup_of (r ∷ rs)) (sym i), ap (λ (r : Record). version_of (r ∷ rs)) (sym i)))
+    by false g = (let i : PutDone j.subject size ≡ e = cc in (ap (λ (r : Record). setup_of (r ∷ rs)) (sym i), ap (λ (r : Record). version_of (r ∷ rs)) (sym i)))
 no_setup t j (wish.Get name) e rs h = let g : None ≡ Some e = h in cc
-no_setup t j (wish.Drop name) e rs h = let g : Some (Drop name) ≡ Some e = h in let i : Drop name ≡ e = cc in ap (λ (r : Record). setup_of (r ∷ rs)) (sym i)
+no_setup t j (wish.Drop name) e rs h = let g : Some (Drop name) ≡ Some e = h in let i : Drop name ≡ e = cc in (ap (λ (r : Record). setup_of (r ∷ rs)) (sym i), ap (λ (r : Record). version_of (r ∷ rs)) (sym i))
 no_setup t j wish.Audit e rs h = by j.opening h
   where
-    by : (b : Bool) → Some (if b then AuditStart t.next_audit else AuditDone j.subject j.sums.undecided j.sums.counts) ≡ Some e → setup_of (e ∷ rs) ≡ setup_of rs
-    by true g = (let i : AuditStart t.next_audit ≡ e = cc in ap (λ (r : Record). setup_of (r ∷ rs)) (sym i))
-    by false g = (let i : AuditDone j.subject j.sums.undecided j.sums.counts ≡ e = cc in ap (λ (r : Record). setup_of (r ∷ rs)) (sym i))
-no_setup t j wish.Repair e rs h = let g : Some (RepairDone j.subject) ≡ Some e = h in let i : RepairDone j.subject ≡ e = cc in ap (λ (r : Record). setup_of (r ∷ rs)) (sym i)
+    by : (b : Bool) → Some (if b then AuditStart t.next_audit else AuditDone j.subject j.sums.undecided j.sums.counts) ≡ Some e → (setup_of (e ∷ rs) ≡ setup_of rs) × (version_of (e ∷ rs) ≡ version_of rs)
+    by true g = (let i : AuditStart t.next_audit ≡ e = cc in (ap (λ (r : Record). setup_of (r ∷ rs)) (sym i), ap (λ (r : Record). version_of (r ∷ rs)) (sym i)))
+    by false g = (let i : AuditDone j.subject j.sums.undecided j.sums.counts ≡ e = cc in (ap (λ (r : Record). setup_of (r ∷ rs)) (sym i), ap (λ (r : Record). version_of (r ∷ rs)) (sym i)))
+no_setup t j wish.Repair e rs h = let g : Some (RepairDone j.subject) ≡ Some e = h in let i : RepairDone j.subject ≡ e = cc in (ap (λ (r : Record). setup_of (r ∷ rs)) (sym i), ap (λ (r : Record). version_of (r ∷ rs)) (sym i))
 
 module _ (c : CoreView) (w new : State) (k place : ℕ) (cj : CoreJob) (a : Action) (outcome : Outcome) (o : OnMachine c w new k place cj a outcome) where
   -- a job that is at a later move of its append, after this step
@@ -375,7 +381,7 @@ drawn_arm : (c : CoreView) (w new : State) (k place : ℕ) (cj : CoreJob) (outco
 drawn_arm c w new k place cj outcome o entry told faults e =
     let job = on-drawn w c.table cj o.job (moves_made w.append k) o.stands.table o.is o.next o.sound_job.order o.sound_job.undecided in
     let f : new.append ≡ Some (record { job = o.job.number; entry = entry; moves = 1 }) = ap (λ (s : State). s.append) e in
-    let stays : Stays w new = record { is_open = ap (λ (s : State). s.is_open) e; records = ap (λ (s : State). s.records) e; next_job = ap (λ (s : State). s.next_job) e } in
+    let stays : Stays w new = record { is_open = ap (λ (s : State). s.is_open) e; records = ap (λ (s : State). s.records) e; next_job = ap (λ (s : State). s.next_job) e; alone = ap (λ (s : State). s.alone) e } in
     let g : entry_in c k ≡ Some entry = told (record { job = o.job.number; entry = entry; moves = 1 }) f o.number in
     let h : entry_of_job c.table cj ≡ Some entry = sym (ap (entry_of_found c.table) o.runs) ∙ g in
     let writes = written_drawn c.table cj (drop (o.job.place + 1) (actions_of (setup_in w) o.job)) (left-here w cj o.job WriteBody o.is o.next (λ x. cc)) ∙ (in_append c.table cj entry h).1 in
@@ -392,7 +398,7 @@ gated_arm c cnew w new k place cj outcome o y at own gates faults e =
     let writes = written_now c w new k place cj SyncGate outcome o y at (own ∙ o.number) in
     let has = gates y.entry w.records writes o.stands.table (o.stands.sound.append y at).follows.accepted in
     let records : new.records ≡ y.entry ∷ w.records = ap (λ (s : State). s.records) e in
-    let setup : setup_in new ≡ setup_in w = setup_same new w (ap setup_of records ∙ no_setup c.table cj cj.wish y.entry w.records writes) in
+    let setup : setup_in new ≡ setup_in w = setup_same new w (ap setup_of records ∙ (no_setup c.table cj cj.wish y.entry w.records writes).0) in
     let some : 0 < (setup_in w).n = (let p = (setup-providers 8 w o.stands.sound o.stands.is_open).0 in omega (arith, p)) in
     let all : AllZip (IsJobOf (setup_in w)) c.jobs w.jobs = subst (λ (s : Setup). AllZip (IsJobOf s) c.jobs w.jobs) o.stands.setup o.stands.jobs in
     let job = on-gated w c.table c.jobs cj o.job o.stands.table all o.is o.next some o.sound_job.undecided in
@@ -403,6 +409,8 @@ gated_arm c cnew w new k place cj outcome o y at own gates faults e =
     subst (λ (x : CoreView). CoreIs x new) (sym has.others) (record {
       sound = o.sound;
       is_open = ap (λ (s : State). s.is_open) e ∙ o.stands.is_open;
+      first = ap version_of records ∙ ((no_setup c.table cj cj.wish y.entry w.records writes).1 ∙ o.stands.first);
+      none_alone = ap (λ (s : State). s.alone) e ∙ o.stands.none_alone;
       table = subst (λ (rs : List Record). IsFoldOf rs cnew.table) (sym records) has.table;
       setup = o.stands.setup ∙ sym setup;
       end = (let a = ap text_size records in let b = o.stands.end in let d : text_size (y.entry ∷ w.records) ≡ text_size w.records + (1 + record_size y.entry) = refl in omega (arith, a, b, d));
@@ -420,6 +428,9 @@ moves_well w m a flight (Lost stripe row) new e h = absurd e
 moves_well w m a flight (ProviderFault j) new e h = absurd e
 moves_well w m a flight DiskFault new e h = absurd e
 moves_well w m a flight Memory new e h = absurd e
+moves_well w m a flight Upgraded new e h = absurd e
+moves_well w m a flight (Scrubbed stripes symbols blocks) new e h = absurd e
+moves_well w m a flight (Packed before after) new e h = absurd e
 moves_well w m WriteBody flight Put new e h = absurd h
 moves_well w m WriteBody flight (Got bytes) new e h = absurd h
 moves_well w m WriteBody flight Dropped new e h = absurd h
@@ -456,6 +467,9 @@ goes_well w m a (Lost stripe row) new n e h = absurd e
 goes_well w m a (ProviderFault j) new n e h = absurd e
 goes_well w m a DiskFault new n e h = absurd e
 goes_well w m a Memory new n e h = absurd e
+goes_well w m a Upgraded new n e h = absurd e
+goes_well w m a (Scrubbed stripes symbols blocks) new n e h = absurd e
+goes_well w m a (Packed before after) new n e h = absurd e
 goes_well w m End answer new n e h = absurd (n refl)
 goes_well w m WriteBody answer new n e h = moves_well w m WriteBody w.append answer new e h
 goes_well w m SyncBody answer new n e h = moves_well w m SyncBody w.append answer new e h
@@ -517,7 +531,7 @@ more_done c w new k place cj SyncBody o p h = by w.append refl o.acts
     by (Some y) e g = move_arm c w new k place cj SyncBody More o y (record y { moves = y.moves + 1 }) 1 (λ x. cc) refl refl
         (ap (λ (x : Option Action). asks_next x && begins_append (slice_get cj.rest 1)) (head-here w cj o.job SyncBody o.is o.next (λ x. cc))) (omega arith) e g.0.0 refl refl
         (let m = g.0.1 in omega (arith, m)) (ap (λ (s : State). s.append) g.1.2) (ap (λ (s : State). s.jobs) g.1.2) (ap (λ (s : State). s.is_barred) g.1.2)
-        (record { is_open = ap (λ (s : State). s.is_open) g.1.2; records = ap (λ (s : State). s.records) g.1.2; next_job = ap (λ (s : State). s.next_job) g.1.2 })
+        (record { is_open = ap (λ (s : State). s.is_open) g.1.2; records = ap (λ (s : State). s.records) g.1.2; next_job = ap (λ (s : State). s.next_job) g.1.2; alone = ap (λ (s : State). s.alone) g.1.2 })
 more_done c w new k place cj WriteGate o p h = by w.append refl o.acts
   where
     by : (f : Option Append) → w.append ≡ f → Moves w o.job WriteGate f More new → CoreIs (with_at c place (stepped cj)) new
@@ -525,7 +539,7 @@ more_done c w new k place cj WriteGate o p h = by w.append refl o.acts
     by (Some y) e g = move_arm c w new k place cj WriteGate More o y (record y { moves = y.moves + 1 }) 2 (λ x. cc) refl refl
         (ap (λ (x : Option Action). asks_next x && begins_append (slice_get cj.rest 1)) (head-here w cj o.job WriteGate o.is o.next (λ x. cc))) (omega arith) e g.0.0 refl refl
         (let m = g.0.1 in omega (arith, m)) (ap (λ (s : State). s.append) g.1.2) (ap (λ (s : State). s.jobs) g.1.2) (ap (λ (s : State). s.is_barred) g.1.2)
-        (record { is_open = ap (λ (s : State). s.is_open) g.1.2; records = ap (λ (s : State). s.records) g.1.2; next_job = ap (λ (s : State). s.next_job) g.1.2 })
+        (record { is_open = ap (λ (s : State). s.is_open) g.1.2; records = ap (λ (s : State). s.records) g.1.2; next_job = ap (λ (s : State). s.next_job) g.1.2; alone = ap (λ (s : State). s.alone) g.1.2 })
 more_done c w new k place cj (Store j object stripe) o p h = plain_arm c w new k place cj (Store j object stripe) More o (with_provider w.providers j o.acts.0) o.job.given (λ x. cc) refl refl
     (ap (λ (x : Option Action). asks_next x && begins_append (slice_get cj.rest 1)) (head-here w cj o.job (Store j object stripe) o.is o.next (λ x. cc))) (inl refl) o.acts.2
 more_done c w new k place cj (Remove j object) o p h = plain_arm c w new k place cj (Remove j object) More o (with_provider w.providers j o.acts.0) o.job.given (λ x. cc) refl refl
@@ -565,13 +579,13 @@ stops_failed c w new k place cj a j object stripe outcome o e t = store_fails c 
 -- failed: a move of an append
 moves_fail : (w : State) (m : Job) (a : Action) (flight : Option Append) (new : State) → is_store a ≡ false → Moves w m a flight (Ended DiskFault) new → Stays w new × (new.is_barred ≡ true) × (new.jobs ≡ without_job w.jobs m.number)
 moves_fail w m WriteBody flight new n h =
-    (record { is_open = ap (λ (s : State). s.is_open) h.3; records = ap (λ (s : State). s.records) h.3; next_job = ap (λ (s : State). s.next_job) h.3 }, ap (λ (s : State). s.is_barred) h.3, ap (λ (s : State). s.jobs) h.3)
+    (record { is_open = ap (λ (s : State). s.is_open) h.3; records = ap (λ (s : State). s.records) h.3; next_job = ap (λ (s : State). s.next_job) h.3; alone = ap (λ (s : State). s.alone) h.3 }, ap (λ (s : State). s.is_barred) h.3, ap (λ (s : State). s.jobs) h.3)
 moves_fail w m SyncBody (Some y) new n h =
-    (record { is_open = ap (λ (s : State). s.is_open) h.1.3; records = ap (λ (s : State). s.records) h.1.3; next_job = ap (λ (s : State). s.next_job) h.1.3 }, ap (λ (s : State). s.is_barred) h.1.3, ap (λ (s : State). s.jobs) h.1.3)
+    (record { is_open = ap (λ (s : State). s.is_open) h.1.3; records = ap (λ (s : State). s.records) h.1.3; next_job = ap (λ (s : State). s.next_job) h.1.3; alone = ap (λ (s : State). s.alone) h.1.3 }, ap (λ (s : State). s.is_barred) h.1.3, ap (λ (s : State). s.jobs) h.1.3)
 moves_fail w m WriteGate (Some y) new n h =
-    (record { is_open = ap (λ (s : State). s.is_open) h.1.3; records = ap (λ (s : State). s.records) h.1.3; next_job = ap (λ (s : State). s.next_job) h.1.3 }, ap (λ (s : State). s.is_barred) h.1.3, ap (λ (s : State). s.jobs) h.1.3)
+    (record { is_open = ap (λ (s : State). s.is_open) h.1.3; records = ap (λ (s : State). s.records) h.1.3; next_job = ap (λ (s : State). s.next_job) h.1.3; alone = ap (λ (s : State). s.alone) h.1.3 }, ap (λ (s : State). s.is_barred) h.1.3, ap (λ (s : State). s.jobs) h.1.3)
 moves_fail w m SyncGate (Some y) new n h =
-    (record { is_open = ap (λ (s : State). s.is_open) h.1.3; records = ap (λ (s : State). s.records) h.1.3; next_job = ap (λ (s : State). s.next_job) h.1.3 }, ap (λ (s : State). s.is_barred) h.1.3, ap (λ (s : State). s.jobs) h.1.3)
+    (record { is_open = ap (λ (s : State). s.is_open) h.1.3; records = ap (λ (s : State). s.records) h.1.3; next_job = ap (λ (s : State). s.next_job) h.1.3; alone = ap (λ (s : State). s.alone) h.1.3 }, ap (λ (s : State). s.is_barred) h.1.3, ap (λ (s : State). s.jobs) h.1.3)
 moves_fail w m SyncBody None new n h = absurd h
 moves_fail w m WriteGate None new n h = absurd h
 moves_fail w m SyncGate None new n h = absurd h
@@ -626,14 +640,14 @@ memory_ends c w new k place cj WriteBody o r =
     (let h : Moves w o.job WriteBody w.append (Ended Memory) new = o.acts in
     let none = none_flies w.append o.holder in
     free_arm c w new k place cj WriteBody (Ended Memory) o (inl (core_none c w.append o.stands.append none))
-    (record { is_open = ap (λ (s : State). s.is_open) h.2; records = ap (λ (s : State). s.records) h.2; next_job = ap (λ (s : State). s.next_job) h.2 })
+    (record { is_open = ap (λ (s : State). s.is_open) h.2; records = ap (λ (s : State). s.records) h.2; next_job = ap (λ (s : State). s.next_job) h.2; alone = ap (λ (s : State). s.alone) h.2 })
     (ap (λ (s : State). s.is_barred) h.2) (ap (λ (s : State). s.jobs) h.2) (ap (λ (s : State). s.append) h.2 ∙ none))
 memory_ends c w new k place cj WriteGate o r = by w.append refl o.acts
   where
     by : (f : Option Append) → w.append ≡ f → Moves w o.job WriteGate f (Ended Memory) new → CoreIs (stopped c place) new
     by None e h = absurd h
     by (Some y) e h = free_arm c w new k place cj WriteGate (Ended Memory) o (inr (holds c w new k place cj WriteGate (Ended Memory) o y e ∙ ap (λ (i : ℕ). Some i) (h.0.0 ∙ o.number)))
-        (record { is_open = ap (λ (s : State). s.is_open) h.1.2; records = ap (λ (s : State). s.records) h.1.2; next_job = ap (λ (s : State). s.next_job) h.1.2 })
+        (record { is_open = ap (λ (s : State). s.is_open) h.1.2; records = ap (λ (s : State). s.records) h.1.2; next_job = ap (λ (s : State). s.next_job) h.1.2; alone = ap (λ (s : State). s.alone) h.1.2 })
         (ap (λ (s : State). s.is_barred) h.1.2) (ap (λ (s : State). s.jobs) h.1.2) (ap (λ (s : State). s.append) h.1.2)
 memory_ends c w new k place cj (Store j object stripe) o r = off_arm c w new k place cj (Store j object stripe) (Ended Memory) o (with_provider w.providers j o.acts.0) refl o.acts.2
 memory_ends c w new k place cj SyncBody o r = absurd r

@@ -7,8 +7,8 @@ use Rattle.std.proofs.Math.Bool.{and-true}
 use Rattle.hail_codes.specs.Points.{upto}
 use Rattle.hail_records.specs.Records.{Setup}
 use Rattle.hail_records.specs.Table.{next_id, next_audit}
-use Rattle.hail_machine.specs.Setups.{stripes_of}
-use Rattle.hail_machine.specs.Jobs.{Kind, PutJob, GetJob, DropJob, AuditJob, RepairJob, Given, Job}
+use Rattle.hail_machine.specs.Setups.{profiled, stripes_of}
+use Rattle.hail_machine.specs.Jobs.{Kind, PutJob, GetJob, DropJob, AuditJob, RepairJob, UpgradeJob, Given, Job}
 use Rattle.hail_machine.specs.Actions.{Action, WriteBody, SyncGate, Store, End, append_actions, store_actions, remove_actions, actions_by, actions_of, actions_left, appends_left}
 use Rattle.hail_machine.specs.States.{State, setup_in}
 use Rattle.hail_machine.specs.Appends.{subject_drawn, is_first_append}
@@ -73,7 +73,7 @@ renamed_stripes n k o (t ∷ ts) =
 put_renamed : (s : Setup) (m : Job) (name bytes : List ℕ) (k : ℕ) (given : List Given) → m.kind ≡ PutJob name bytes → m.older ≡ [] →
     actions_of s (onward m k given) ≡ map (renamed k) (actions_of s m)
 put_renamed s m name bytes k given kind older =
-    let stores : store_actions s (onward m k given) bytes ≡ map (renamed k) (store_actions s m bytes) = renamed_stripes s.n k m.subject (upto (stripes_of s (length bytes))) in
+    let stores : store_actions s (onward m k given) bytes ≡ map (renamed k) (store_actions s m bytes) = renamed_stripes s.n k m.subject (upto (stripes_of (profiled s m.profile) (length bytes))) in
     let none : remove_actions s m ≡ [] = ap (λ (os : List ℕ). remove_actions s (record m { older = os })) older in
     let none_on : remove_actions s (onward m k given) ≡ [] = ap (λ (os : List ℕ). remove_actions s (record m { older = os })) older in
     put-list s (onward m k given) name bytes kind
@@ -128,6 +128,7 @@ not_put (GetJob name) = inr (λ n b e. cc)
 not_put (DropJob name) = inr (λ n b e. cc)
 not_put AuditJob = inr (λ n b e. cc)
 not_put RepairJob = inr (λ n b e. cc)
+not_put UpgradeJob = inr (λ n b e. cc)
 
 module _ (w : State) (t : Kept) (c : CoreJob) (m : Job) (moves : ℕ) (f : IsFoldOf w.records t) (is : IsJobOf (setup_in w) c m) (next : next_action w m ≡ Some WriteBody)
     (order : IsInOrder moves (actions_left (setup_in w) m)) (undecided : 0 < appends_left (setup_in w) m → m.older ≡ []) where

@@ -7,7 +7,8 @@
 --   IsJobOf s c j          == a job of a core stands for a job of the machine
 --   IsCoreFlight c append      == the append in flight is that of the same job, and its record is the one
 --                                 that this job writes
---   CoreIs c w             == a core stands for a state of the machine: its vault is open
+--   CoreIs c w             == a core stands for a state of the machine: its vault is open, the journal has
+--                             its first version, and nothing runs alone
 --   refusal_of fault       == the machine's refusal
 --   begun w moment kind    == the state after a begin
 --   IsNextOf w number next == what comes next for a job in a state of the machine
@@ -16,6 +17,7 @@ use Rattle.std.specs.Prelude.{◌≡◌, ℕ, ◌+◌, ◌<◌, ◌&&◌, Bool, 
 use Rattle.std.specs.List.{AllZip}
 use Rattle.hail_records.specs.Records.{Setup, Record}
 use Rattle.hail_records.specs.Journal.{text_size}
+use Rattle.hail_records.specs.Table.{version_of}
 use Rattle.hail_machine.specs.Jobs.{Kind, PutJob, GetJob, DropJob, AuditJob, RepairJob, Job, job_of}
 use Rattle.hail_machine.specs.Jobs.{Pinned as PinnedBytes}
 use Rattle.hail_machine.specs.Actions.{Action, actions_left}
@@ -88,6 +90,8 @@ IsCoreFlight c (Some a) = (c.append ≡ Some a.job) × (entry_in c a.job ≡ Som
 pub record CoreIs (c : CoreView) (w : State) : Type 0 where
   pub sound : IsSound 8 w
   pub is_open : w.is_open ≡ true
+  pub first : version_of w.records ≡ 1
+  pub none_alone : w.alone ≡ None
   pub table : IsFoldOf w.records c.table
   pub setup : c.setup ≡ setup_in w
   pub end : c.end ≡ text_size w.records

@@ -1,6 +1,7 @@
-use crate::setups::{InMemory, SIX, open_store};
+use crate::deeds::Deed::{Begins, Runs};
+use crate::deeds::after;
+use crate::setups::{InMemory, SIX};
 use crate::store::{Job, Seen};
-use std::alloc::Global;
 use std::test::Fail;
 
 /// How often the providers of a store were asked.
@@ -34,32 +35,37 @@ fn asks_of(store: &InMemory, place: usize) -> u32 {
 /// A file of three stripes of 384 bytes, the last of them not full.
 const LONG: &[u8] = &[7; 1000];
 
-/// A store with one file of three stripes, of which an audit is begun as the second job.
-fn audited(alloc: Global) -> Option<InMemory> {
-    let mut store = open_store(alloc, &SIX)?;
-    let job = store.begin(Job::Put(b"long", LONG)).ok()?;
-    let end = store.run(job);
-    if end != (27, Seen::Put) || store.begin(Job::Audit) != Ok(2) {
-        return None;
+/// The place of the provider that was asked last, of so many asks.
+fn last_of(asked: u32) -> usize {
+    (asked as usize + 5) % 6
+}
+
+/// The first step of the second job, an audit of four rounds, that comes to an end, or after which the providers were asked otherwise
+/// than once a step from the fifth on, each once a round.
+fn first_wrong_step(store: &mut InMemory) -> Option<u32> {
+    for made in 1..33u32 {
+        let more = store.step(2) == Seen::More;
+        let asked = made.clamp(4, 28) - 4;
+        let last = asks_of(store, last_of(asked)) == asked.div_ceil(6);
+        if !more || asks(store) != asked || !last {
+            return Some(made);
+        }
     }
-    Some(store)
+    None
 }
 
 #[test]
 fn an_audit_asks_once_a_round_and_provider(rt: HostRuntime) -> Result<(), Fail> {
-    let mut store = audited(rt.alloc()).expect(&rt, "an audit is begun");
-    let before = others(&store);
-    assert_eq!(rt; before, 18);
-    for made in 1..33u32 {
-        assert_eq!(rt; store.step(2), Seen::More, "step {made}");
-        let wanted = made.clamp(4, 28) - 4;
-        assert_eq!(rt; asks(&store), wanted, "step {made}");
-        let last = (wanted as usize + 5) % 6;
-        let rounds = wanted.div_ceil(6);
-        assert_eq!(rt; asks_of(&store, last), rounds, "step {made}");
-    }
-    assert_eq!(rt; store.step(2), Seen::Audited(1));
+    let begun = [
+        Begins(Job::Put(b"long", LONG), Ok(1)),
+        Runs(1, 27, Seen::Put),
+        Begins(Job::Audit, Ok(2)),
+    ];
+    let mut store = after(rt.alloc(), &SIX, &begun).expect(&rt, "an audit is begun");
+    assert_eq!(rt; others(&store), 18);
+    assert_eq!(rt; first_wrong_step(&mut store), None);
+    assert!(rt; store.step(2) == Seen::Audited(1));
     assert_eq!(rt; asks(&store), 24);
-    assert_eq!(rt; others(&store), before);
+    assert_eq!(rt; others(&store), 18);
     Ok(())
 }

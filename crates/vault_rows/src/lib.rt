@@ -6,6 +6,8 @@ mod asking;
 #[cfg(test)]
 mod counted;
 #[cfg(test)]
+mod deeds;
+#[cfg(test)]
 mod rebuilding;
 #[cfg(test)]
 mod setups;

@@ -1,8 +1,9 @@
-use crate::setups::{InMemory, SIX, first_block, open_store};
+use crate::deeds::Deed::{Begins, Reopens, Runs, Steps};
+use crate::deeds::after;
+use crate::setups::{InMemory, SIX, first_block};
 use crate::store::{Job, Seen};
 use hail_field::Symbol;
 use provider_model::Tamper;
-use std::alloc::Global;
 use std::test::Fail;
 use vault::BeginFault;
 
@@ -23,32 +24,28 @@ fn lose_first(store: &mut InMemory) -> bool {
     }
 }
 
-/// A store with one file of one stripe.
-fn stored(alloc: Global) -> Option<InMemory> {
-    let mut store = open_store(alloc, &SIX)?;
-    let job = store.begin(Job::Put(b"a", b"old")).ok()?;
-    match store.run(job) {
-        (15, Seen::Put) => Some(store),
-        _ => None,
-    }
-}
-
 #[test]
 fn a_cut_repair_stays_due(rt: HostRuntime) -> Result<(), Fail> {
-    let mut store = stored(rt.alloc()).expect(&rt, "a file is stored");
+    let stored = [
+        Begins(Job::Put(b"a", b"old"), Ok(1)),
+        Runs(1, 15, Seen::Put),
+    ];
+    let mut store = after(rt.alloc(), &SIX, &stored).expect(&rt, "a file is stored");
     let blocks = first_blocks(&store);
     assert!(rt; blocks.iter().all(Option::is_some));
     assert!(rt; lose_first(&mut store));
-    assert_eq!(rt; store.begin(Job::Audit), Ok(2));
-    assert_eq!(rt; store.run(2), (33, Seen::Audited(1)));
-    assert_eq!(rt; store.begin(Job::Repair), Ok(3));
-    assert_eq!(rt; store.steps(3, 10), Seen::More);
-    store.stop(&[]);
-    assert!(rt; store.open());
-    assert_eq!(rt; store.begin(Job::Audit), Err(BeginFault::RepairDue));
-    assert_eq!(rt; store.begin(Job::Repair), Ok(1));
-    assert_eq!(rt; store.run(1), (13, Seen::Repaired(1)));
-    assert_eq!(rt; first_blocks(&store), blocks);
-    assert_eq!(rt; store.begin(Job::Repair), Err(BeginFault::NothingDue));
+    let deeds = [
+        Begins(Job::Audit, Ok(2)),
+        Runs(2, 33, Seen::Audited(1)),
+        Begins(Job::Repair, Ok(3)),
+        Steps(3, 10, Seen::More),
+        Reopens(&[]),
+        Begins(Job::Audit, Err(BeginFault::RepairDue)),
+        Begins(Job::Repair, Ok(1)),
+        Runs(1, 13, Seen::Repaired(1)),
+        Begins(Job::Repair, Err(BeginFault::NothingDue)),
+    ];
+    assert_eq!(rt; store.first_wrong(&deeds), deeds.len());
+    assert!(rt; first_blocks(&store) == blocks);
     Ok(())
 }

@@ -46,11 +46,10 @@ pub fn open_store(alloc: Global, setup: &Setup) -> Option<InMemory> {
     let disk = SureDisk::new(alloc, &[]).ok()?;
     let providers = providers(alloc, setup.n)?;
     let mut store = Store::new(alloc, disk, providers);
-    if store.set_up(setup) && store.open() {
-        Some(store)
-    } else {
-        None
+    if !store.set_up(setup) || !store.open() {
+        return None;
     }
+    Some(store)
 }
 
 /// The first block of an object that a provider of a store holds, of 16 symbols.

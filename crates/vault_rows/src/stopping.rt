@@ -1,58 +1,38 @@
-use crate::setups::{FOUR, InMemory, holders, open_store};
+use crate::deeds::Deed::{self, Begins, Ends, Held, Next, Reopens, Runs, Steps};
+use crate::deeds::first_wrong;
+use crate::setups::FOUR;
+use crate::sharing::STORED;
 use crate::store::{Job, Seen, Text};
 use std::alloc::Global;
-use std::test::Fail;
-
-/// What a put left that was cut: how its last step ended, the text that a get gives, and the number of the next object.
-type Left = (Seen, Seen, u64);
 
 /// A put of the new text over the old one has so many steps: two appends, four stores, four removals and the end.
 const STEPS: u32 = 17;
 
-/// A store with a file of the old text, of which a put of the new one is begun as the second job.
-fn replaced(alloc: Global) -> Option<InMemory> {
-    let mut store = open_store(alloc, &FOUR)?;
-    let first = store.begin(Job::Put(b"a", b"old")).ok()?;
-    let end = store.run(first);
-    let second = store.begin(Job::Put(b"a", b"new")).ok()?;
-    if end == (13, Seen::Put) && second == 2 {
-        Some(store)
-    } else {
-        None
-    }
+/// What a put leaves that is cut: how its last step ended, the text that a get gives, and the number of the next object.
+type Left = (Seen, Text, u64);
+
+/// A put of the new text is cut after so many steps, with the disk stopped by these picks. A get then gives one of the two texts, and the
+/// next put draws a number under which no provider held a block.
+fn cut(steps: u32, picks: &'static [u8], left: Left) -> [Deed; 10] {
+    let (last, text, number) = left;
+    [
+        Begins(Job::Put(b"a", b"new"), Ok(2)),
+        Steps(2, steps, last),
+        Reopens(picks),
+        Begins(Job::Get(b"a"), Ok(1)),
+        Ends(1, Seen::Got(text)),
+        Next(number),
+        Held(number, 0),
+        Begins(Job::Put(b"b", b"new"), Ok(2)),
+        Runs(2, 13, Seen::Put),
+        Held(number, 4),
+    ]
 }
 
-/// What a get gives.
-fn got(store: &mut InMemory) -> Option<Seen> {
-    let job = store.begin(Job::Get(b"a")).ok()?;
-    let (_, end) = store.run(job);
-    Some(end)
-}
-
-/// The object number that the next put draws, if that put ends well and no provider held a block under the number.
-fn fresh_number(store: &mut InMemory) -> Option<u64> {
-    let next = store.vault.as_ref()?.table().next_id();
-    let held = holders(store, next);
-    let job = store.begin(Job::Put(b"b", b"new")).ok()?;
-    let end = store.run(job);
-    if held == 0 && end == (13, Seen::Put) && holders(store, next) == 4 {
-        Some(next)
-    } else {
-        None
-    }
-}
-
-/// What a put left that was cut after so many steps, with the disk stopped by these picks.
-fn left_by(alloc: Global, steps: u32, picks: &[u8]) -> Option<Left> {
-    let mut store = replaced(alloc)?;
-    let last = store.steps(2, steps);
-    store.stop(picks);
-    if !store.open() {
-        return None;
-    }
-    let text = got(&mut store)?;
-    let number = fresh_number(&mut store)?;
-    Some((last, text, number))
+/// Whether a put that is cut leaves this.
+fn leaves(alloc: Global, steps: u32, picks: &'static [u8], left: Left) -> bool {
+    let deeds = cut(steps, picks, left);
+    first_wrong(alloc, &FOUR, &STORED, &deeds) == deeds.len()
 }
 
 /// What it is to leave, where the gates that a stop may undo stay open, or are closed. The fourth and the twelfth step
@@ -67,13 +47,13 @@ fn wanted(steps: u32, open: bool) -> Left {
     let drawn = steps >= 4 || (open && steps == 3);
     let text = if replaced { Text::New } else { Text::Old };
     let number = if drawn { 3 } else { 2 };
-    (last, Seen::Got(text), number)
+    (last, text, number)
 }
 
 /// The first number of steps after which a put that is cut and stopped by these picks leaves something else.
-fn first_wrong(alloc: Global, picks: &[u8], open: bool) -> Option<u32> {
+fn first_wrong_cut(alloc: Global, picks: &'static [u8], open: bool) -> Option<u32> {
     for steps in 0..STEPS + 1 {
-        if left_by(alloc, steps, picks) != Some(wanted(steps, open)) {
+        if !leaves(alloc, steps, picks, wanted(steps, open)) {
             return Some(steps);
         }
     }
@@ -90,7 +70,7 @@ fn cuts_leave_the_old_text_or_the_new(rt: HostRuntime) {
     ];
     for (picks, open) in rows {
         assert_eq!(rt;
-            first_wrong(rt.alloc(), picks, open),
+            first_wrong_cut(rt.alloc(), picks, open),
             None,
             "with {picks:?}"
         );
@@ -106,11 +86,7 @@ fn cuts_at_the_last_gate(rt: HostRuntime) {
         (11, &[], Text::New),
     ];
     for (steps, picks, text) in rows {
-        let left = left_by(rt.alloc(), steps, picks);
-        assert_eq!(rt;
-            left,
-            Some((Seen::More, Seen::Got(text), 3)),
-            "after {steps} steps"
-        );
+        let left = leaves(rt.alloc(), steps, picks, (Seen::More, text, 3));
+        assert!(rt; left, "after {steps} steps");
     }
 }

@@ -10,7 +10,7 @@ use vault::{Answer, BeginFault, Turn, Vault, init};
 const KEY: &[u8] = b"000102030405060708090a0b0c0d0e0f101112131415161718191a1b1c1d1e1f";
 
 /// What a step or a run of a job came to.
-#[derive(Clone, Copy, Debug, PartialEq, Eq)]
+#[derive(Clone, Copy, PartialEq, Eq)]
 pub enum Seen {
     More,
     Waiting(u32),
@@ -27,7 +27,7 @@ pub enum Seen {
 }
 
 /// What the bytes of a file are.
-#[derive(Clone, Copy, Debug, PartialEq, Eq)]
+#[derive(Clone, Copy, PartialEq, Eq)]
 pub enum Text {
     Old,
     New,
@@ -35,7 +35,7 @@ pub enum Text {
 }
 
 /// A job that is begun.
-#[derive(Clone, Copy, Debug)]
+#[derive(Clone, Copy)]
 pub enum Job {
     Put(&'static [u8], &'static [u8]),
     Get(&'static [u8]),
@@ -170,6 +170,11 @@ impl<D: Disk + Drop, P: Provider + Drop> Store<D, P> {
     pub fn stop(&mut self, picks: &[u8]) {
         self.vault = None;
         self.disk.stop(picks);
+    }
+
+    /// The number that the next object is given, where the vault is open.
+    pub fn next_id(&self) -> Option<u64> {
+        Some(self.vault.as_ref()?.table().next_id())
     }
 
     /// Begins a job.

@@ -95,11 +95,6 @@ has-setup t (Resume id audit) other p = grind (arith, p)
 has-setup t (InEffect id size profile name) other p = grind (arith, p)
 has-setup t (RepairDue number counts) other p = grind (arith, p)
 
-from-found : (started : List (Option (List ℕ))) (k : ℕ) (d : Option (List ℕ)) → k < length started → started_from started k ≡ get_or started k d
-from-found [] k d lt = absurd (omega (arith, lt))
-from-found (s ∷ started) zero d lt = refl
-from-found (s ∷ started) (suc k) d lt = from-found started k d (omega (arith, lt))
-
 from-past : (started : List (Option (List ℕ))) (k : ℕ) → length started ≤ k → started_from started k ≡ None
 from-past [] k le = refl
 from-past (s ∷ started) zero le = absurd (omega (arith, le))
@@ -182,15 +177,6 @@ goes-on t rs (RepairDue number counts) is p =
     record { setup = is.setup; version = is.version; files = is.files; started = is.started; id = is.id; audit = is.audit; running = is.running; due = refl }
 
 -- ---- reading a started put
-
-pub at-found : (started : List (Option (List ℕ))) (passed id : ℕ) (d : Option (List ℕ)) → passed < id → id - passed - 1 < length started → started_from started (id - suc passed) ≡ get_or started (id - passed - 1) d
-at-found started passed id d later lt = let p : id - suc passed ≡ id - passed - 1 = omega arith in rw p (from-found started (id - passed - 1) d lt)
-
-pub at-past : (started : List (Option (List ℕ))) (passed id : ℕ) → passed < id → length started ≤ id - passed - 1 → started_from started (id - suc passed) ≡ None
-at-past started passed id later le = from-past started (id - suc passed) (omega (arith, later, le))
-
-pub later_than : (passed id : ℕ) (started : List (Option (List ℕ))) → passed < id → (if nat_le id passed then None else started_from started (id - suc passed)) ≡ started_from started (id - suc passed)
-later_than passed id started lt = grind (arith, nat_tests, lt)
 
 -- the place of a started put is inside
 pub at-inside : (t : Kept) (id : ℕ) (name : List ℕ) → started_at t id ≡ Some name → (t.passed < id) × (id - t.passed - 1 < length t.started)

@@ -2,3 +2,4 @@ pub mod Fold
 pub mod Orders
 pub mod Places
 pub mod Taken
+pub mod KeptNames

@@ -3,3 +3,4 @@ pub mod Values
 pub mod Parts
 pub mod Causes
 pub mod Examples
+pub mod Starts

@@ -13,18 +13,17 @@ kept_of a = record {
   version = a.version;
   files = map file_of_entry a.files.items;
   passed = a.passed;
-  started = a.started.items;
+  started = a.started.names;
   next_audit = a.next_audit;
   running = a.running;
   due = option_map due_of_pair a.due;
-  spare = a.spare;
+  spare = a.started.spare;
 }
 
--- The files stand in byte order of their names, with room for 1,024; started puts have the room that was
--- reserved, and the next id is a number of eight bytes.
+-- The files stand in byte order of their names, with room for 1,024, and the next id is a number of eight
+-- bytes.
 pub record IsTable (a : Inside) : Type 0 where
   pub ordered : IsTrue (are_ordered (map file_of_entry a.files.items))
   pub room : 1024 ≤ vec_capacity a.files
-  pub reserved : length a.started.items + a.spare ≤ vec_capacity a.started
-  pub below : suc (a.passed + length a.started.items) < 2 ^ 64
+  pub below : suc (a.passed + length a.started.names) < 2 ^ 64
   pub padded : IfSome a.due (λ x. IsPadded x.1)

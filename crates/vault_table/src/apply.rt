@@ -9,10 +9,10 @@ ghost use Rattle.vault_table.specs.Causes.{Applies, EndsStartedPut, IsCause, is_
 
 use crate::entry::{Entry, Refused};
 use crate::files::{drop_file, has_id, put_file};
-use crate::started::started_name;
 use crate::table::Table;
 use key_schedule::Master;
 use record_codec::{Counts, Name, Record, Setup};
+use stream_model::Memory;
 
 impl Table {
     /// Goes on by a record, or says why it may not follow, and then stays as it is. Only a `PutStart` with nothing reserved
@@ -81,22 +81,27 @@ impl Table {
         if id != self.next_id() || id == u64::MAX {
             return Err(Refused::BadId);
         }
-        if self.spare > 0 {
-            self.started.push_reserved(Some(*name));
-            self.spare -= 1;
-            return Ok(());
-        }
-        match self.started.push(Some(*name)) {
+        match self.started.push(name) {
             Ok(()) => Ok(()),
-            Err(_) => Err(Refused::Memory),
+            Err(Memory) => Err(Refused::Memory),
         }
+    }
+
+    /// The name under which a put was started and is not done, where the first place is that of the id after `passed`.
+    fn started_name(&self, id: u64) -> Option<Name>
+        ensures { result ≡ started_at self.now id }
+    {
+        if id <= self.passed {
+            return None;
+        }
+        self.started.name((id - self.passed - 1) as usize)
     }
 
     /// Takes the end of a put, whatever the version.
     fn end_put(&mut self, id: u64, size: u32, profile: u8) -> Result<(), Refused>
         ensures { EndsStartedPut self.old id size profile result self.new }
     {
-        match started_name(self.passed, &self.started, id) {
+        match self.started_name(id) {
             Some(name) => {
                 let file = Entry {
                     name,
@@ -107,7 +112,7 @@ impl Table {
                 if !put_file(&mut self.files, file) {
                     return Err(Refused::TooMany);
                 }
-                self.started[(id - self.passed - 1) as usize] = None;
+                self.started.end((id - self.passed - 1) as usize);
                 Ok(())
             }
             None => Err(Refused::NotStarted),
@@ -207,7 +212,7 @@ impl Table {
     fn is_in_use(&self, id: u64) -> bool
         ensures { result ≡ (is_file_id self.now.files id || is_some (started_at self.now id)) }
     {
-        has_id(&self.files, id) || started_name(self.passed, &self.started, id).is_some()
+        has_id(&self.files, id) || self.started_name(id).is_some()
     }
 
     /// Takes the due audit of a packed journal: its number is drawn, none is due, and its counts flag a provider.

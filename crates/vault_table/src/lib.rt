@@ -6,7 +6,7 @@ mod entry;
 mod files;
 pub mod laws;
 mod names;
-mod started;
+mod starts;
 mod table;
 
 pub use entry::{Entry, Refused};

@@ -6,6 +6,7 @@ ghost use Rattle.vault_table.specs.Values.{file_of_entry, due_of_pair, setup_of_
 
 use crate::entry::Entry;
 use crate::files::{MOST_FILES, find};
+use crate::starts::Starts;
 use key_schedule::Master;
 use record_codec::{Counts, Name, Setup};
 use std::alloc::Global;
@@ -20,8 +21,7 @@ pub struct Table {
     pub(crate) version: u8,
     pub(crate) files: Vec<Entry>,
     pub(crate) passed: u64,
-    pub(crate) started: Vec<Option<Name>>,
-    pub(crate) spare: usize,
+    pub(crate) started: Starts,
     pub(crate) next_audit: u64,
     pub(crate) running: Option<u64>,
     pub(crate) due: Option<(u64, Counts)>,
@@ -51,8 +51,7 @@ impl Table {
             version: 1,
             files,
             passed: 0,
-            started: Vec::new(alloc),
-            spare: 0,
+            started: Starts::new(alloc),
             next_audit: 1,
             running: None,
             due: None,
@@ -64,14 +63,7 @@ impl Table {
         ensures ok { OnOk result (self.new ≡ record self.old { spare = suc self.old.spare }) }
         ensures err { OnErr result (self.new ≡ self.old) }
     {
-        match self.spare.checked_add(1) {
-            Some(spare) => {
-                self.started.reserve(spare)?;
-                self.spare = spare;
-                Ok(())
-            }
-            None => Err(Memory),
-        }
+        self.started.reserve()
     }
 
     /// The file in effect under a name.

@@ -1,11 +1,11 @@
 use Rattle.std.proofs.Common.{[]}
-use Rattle.hail_machine.specs.Jobs.{PutJob, GetJob, DropJob, AuditJob, RepairJob}
-use Rattle.hail_machine.specs.Answers.{Put, Got, Dropped, Audited, Repaired, Lost, ProviderFault, DiskFault, Memory}
-use Rattle.command_runs.specs.Devices.{named, four_records, byte_records, byte_audited_records, byte_repaired_records, to_put, byte_stored, put_failed, put_cut, put_unmade, byte_kept, dropped, mended, got, own_blocks_heard, all_lost, found_lost, no_blocks, damaged, byte_audited, answers_heard, due, repaired, due_lost, repair_lost, repair_failed}
+use Rattle.hail_machine.specs.Jobs.{PutJob, GetJob, DropJob, AuditJob, RepairJob, UpgradeJob}
+use Rattle.hail_machine.specs.Answers.{Put, Got, Dropped, Audited, Repaired, Upgraded, Lost, ProviderFault, DiskFault, Memory}
+use Rattle.command_runs.specs.Devices.{named, four_records, byte_records, byte_audited_records, byte_repaired_records, to_put, byte_stored, put_failed, put_cut, put_unmade, byte_kept, dropped, mended, got, own_blocks_heard, all_lost, found_lost, no_blocks, damaged, byte_audited, answers_heard, due, repaired, due_lost, repair_lost, repair_failed, all_hidden}
 use Rattle.damage_run.specs.Points.{counts}
 use Rattle.damage_run.specs.Schedule.{byte}
-use Rattle.command_runs.proofs.Stores.{put-old, stored-sure, mended-sure, robbed-old, damaged-sure, due-sure, robbed_due-old}
-use Rattle.command_runs.proofs.Somewhere.{somewhere}
+use Rattle.command_runs.proofs.Stores.{put-old, stored-sure, mended-sure, robbed-old, damaged-sure, due-sure, robbed_due-old, hidden-fresh}
+use Rattle.command_runs.proofs.Somewhere.{somewhere-opened, somewhere}
 use Rattle.command_runs.proofs.StoredPut.{alone as put_alone}
 use Rattle.command_runs.proofs.FailedPut.{alone as failed_put_alone}
 use Rattle.command_runs.proofs.CutPut.{alone as cut_put_alone}
@@ -17,6 +17,7 @@ use Rattle.command_runs.proofs.DoneAudit.{alone as audit_alone}
 use Rattle.command_runs.proofs.DoneRepair.{alone as repair_alone}
 use Rattle.command_runs.proofs.LostRepair.{alone as lost_repair_alone}
 use Rattle.command_runs.proofs.FailedRepair.{alone as failed_repair_alone}
+use Rattle.command_runs.proofs.DoneUpgrade.{alone as upgrade_alone}
 use Rattle.command_runs.proofs.laws.jobs_run_alone.Goals as goal
 
 pub returns-clause-put : goal.returns-clause-put
@@ -51,3 +52,6 @@ returns-clause-lost_repair c = somewhere c.opened_states.ensures.opened c.opened
 
 pub returns-clause-failed_repair : goal.returns-clause-failed_repair
 returns-clause-failed_repair c = somewhere c.opened_states.ensures.opened c.opened_states.ensures.there_is_one byte_audited_records (RepairJob) (ProviderFault 2) due repair_failed [] due-sure failed_repair_alone
+
+pub returns-clause-upgrade : goal.returns-clause-upgrade
+returns-clause-upgrade c = somewhere-opened c.opened_states.ensures.opened c.opened_states.ensures.there_is_one four_records (UpgradeJob) (Upgraded) all_hidden all_hidden [] hidden-fresh upgrade_alone

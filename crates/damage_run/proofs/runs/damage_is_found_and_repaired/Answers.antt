@@ -10,4 +10,4 @@ returns-clause-run c = (moments, outright)
 pub returns-clause-halves : goal.returns-clause-halves
 returns-clause-halves c ms o =
     (let h = headline 8 set_up ms o.clean o.run in
-    (h, h.gets_are_right, h.calm_gets_end_well o.tell o.calm o.found))
+    (h, h.gets_are_right, h.calm_gets_end_well o.tell o.calm o.scrubs o.found))

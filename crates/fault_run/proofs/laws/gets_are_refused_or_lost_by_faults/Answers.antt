@@ -20,5 +20,5 @@ returns-clause-lost c = λ ms f h. lost_by c.the_start_is_a_mark.ensures c.gets_
 
 pub returns-clause-missed : goal.returns-clause-missed
 returns-clause-missed c = λ ms f h. (let q = h.get_missed in
-    elim (c.damage_of_pinned_files_is_new.ensures.fetched 8 (λ moments. 0) set_up (first_moments 20 ms) 2 q.job (record { id = 1; bytes = byte }) 0 0 None
+    elim (c.damage_of_pinned_files_is_new.ensures.fetched 8 (λ moments. 0) set_up (first_moments 20 ms) 2 q.job (record { id = 1; profile = 0; bytes = byte }) 0 0 None
     (marked_to c.the_start_is_a_mark.ensures ms 20 f) q.runs q.pinned q.provider_in q.stripe_in q.missed refl) [ inl r ↦ inl r | inr r ↦ inr r.1 ])

@@ -1,5 +1,5 @@
 use Rattle.std.proofs.Common.{arith}
-use Rattle.vault.proofs.Limits.{key-spelled}
+use Rattle.vault_open.proofs.Limits.{key-spelled}
 use Rattle.hail_client.proofs.open.key_is_spelled.Goals as goal
 
 pub returns : goal.returns

@@ -1,4 +1,4 @@
-use Rattle.std.proofs.Common.{◌≡◌, ◌+◌, ◌≤◌, length}
+use Rattle.std.proofs.Common.{◌+◌, ◌≤◌, length}
 use Rattle.std.specs.Vec.Iter.{into_iter_items}
 use Rattle.schedule_text.specs.Events.{commands_of}
 use Rattle.hail_replay.specs.Heard.{entries_heard}

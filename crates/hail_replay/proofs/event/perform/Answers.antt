@@ -3,10 +3,10 @@ use Rattle.std.specs.Prelude.{IsSome}
 use Rattle.std.proofs.lemmas.List.{length-map}
 use Rattle.hail_devices.specs.Providers.{HasPlace, with_symbol, without_block}
 use Rattle.hail_devices.proofs.Lasting.{is_some-goes}
-use Rattle.hail_machine.specs.Events.{Init, Alter, Lose, Stop, Stopped, Reopen}
+use Rattle.hail_machine.specs.Events.{Init, Alter, Lose, Stop, Reopen}
 use Rattle.hail_machine.specs.Jobs.{PutJob, GetJob, DropJob, AuditJob, RepairJob}
 use Rattle.record_codec.specs.Entries.{with_master}
-use Rattle.vault.specs.Devices.{devices}
+use Rattle.vault_open.specs.Devices.{devices}
 use Rattle.provider_model.specs.Seen.{provider_seen}
 use Rattle.hail_client.specs.Outcomes.{replace_outcome}
 use Rattle.transcript_lines.specs.declared.came.Came.TheVariants as came

@@ -3,10 +3,10 @@ use Rattle.sound_states.proofs.Records.{file-spelled, sound-accepted}
 use Rattle.sound_states.proofs.laws.files_are_fit.Goals as goal
 
 pub returns-clause-name : goal.returns-clause-name
-returns-clause-name c limit w name file S h = (file-spelled w.records name file S.in_grammar h).0
+returns-clause-name c limit w name file S h = (file-spelled w.records name file S.spelled h).0
 
 pub returns-clause-size : goal.returns-clause-size
-returns-clause-size c limit w name file S h = (file-spelled w.records name file S.in_grammar h).1
+returns-clause-size c limit w name file S h = (file-spelled w.records name file S.spelled h).1
 
 pub returns-clause-drawn : goal.returns-clause-drawn
 returns-clause-drawn c limit w name file S h = ((sound-accepted w.records S.accepted).file name file h).0

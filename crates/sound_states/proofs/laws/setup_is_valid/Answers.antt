@@ -5,7 +5,7 @@ use Rattle.hail_machine.specs.States.{setup_in}
 use Rattle.sound_states.proofs.laws.setup_is_valid.Goals as goal
 
 pub returns-clause-in_effect : goal.returns-clause-in_effect
-returns-clause-in_effect c limit w s S h = setup-spelled w.records s S.in_grammar h
+returns-clause-in_effect c limit w s S h = setup-spelled w.records s S.spelled h
 
 pub returns-clause-opened : goal.returns-clause-opened
 returns-clause-opened c = set_up-in

@@ -7,13 +7,13 @@ pub returns-clause-running : goal.returns-clause-running
 returns-clause-running c limit start ms number job name bytes clean run runs kind late = put_running limit start clean ms run number job name bytes runs kind late
 
 pub returns-clause-in_doubt : goal.returns-clause-in_doubt
-returns-clause-in_doubt c limit start ms d id size clean run in_doubt is = doubt_put limit start clean ms run d id size in_doubt is
+returns-clause-in_doubt c limit start ms d version id size profile clean run in_doubt is own = doubt_put limit start clean ms run d version id size profile in_doubt is own
 
 pub returns-clause-came : goal.returns-clause-came
-returns-clause-came c limit start m ms id size clean run came = came_put limit start clean m ms run id size came
+returns-clause-came c limit start m ms version id size profile clean run came own = came_put limit start clean m ms run version id size profile came own
 
 pub returns-clause-stay : goal.returns-clause-stay
-returns-clause-stay c limit start later ms m id size clean run came =
+returns-clause-stay c limit start later ms m version id size profile clean run came own =
     (let here = run_part limit start later (m ∷ ms) run in
-    let put = came_put limit start clean m ms here id size came in
-    (put.0, put.1, came_stands limit start clean m ms here later id size run put.0 put.1))
+    let put = came_put limit start clean m ms here version id size profile came own in
+    (put.0, put.1, came_stands limit start clean m ms here later id size profile run put.0 put.1))

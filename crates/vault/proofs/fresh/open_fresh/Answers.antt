@@ -1,4 +1,3 @@
-use Rattle.std.proofs.Common.{sym}
 use Rattle.std.proofs.lemmas.Bool.{false≢true}
 use Rattle.record_codec.specs.Entries.{with_master}
 use Rattle.vault.proofs.Limits.{setup-shape, setup-profile}
@@ -6,10 +5,10 @@ use Rattle.vault.proofs.fresh.open_fresh.Goals as goal
 
 pub unreachable-requires : goal.unreachable-requires
 unreachable-requires c =
-    let s = with_master c.in-Some.setup c.in-Some.master.0 in
-    false≢true (c.in_default-new.ensures.fits.1 (setup-shape s (c.requires.set_up s (sym c.in-Some.ensures))))
+    let s = with_master c.args.store.setup c.args.store.master.0 in
+    false≢true (c.in_default.ensures.fits.1 (setup-shape s c.requires.limits))
 
 pub unreachable-requires-in_default-find_profile : goal.unreachable-requires-in_default-find_profile
 unreachable-requires-in_default-find_profile c =
-    let s = with_master c.in-Some.setup c.in-Some.master.0 in
-    false≢true (c.in_default-find_profile.ensures.known.1 (setup-profile s (c.requires.set_up s (sym c.in-Some.ensures))))
+    let s = with_master c.args.store.setup c.args.store.master.0 in
+    false≢true (c.in_default-find_profile.ensures.known.1 (setup-profile s c.requires.limits))

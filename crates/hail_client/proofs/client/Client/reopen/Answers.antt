@@ -1,6 +1,6 @@
 use Rattle.std.proofs.Common.{Err, ap, arith}
 use Rattle.record_codec.specs.declared.setup.Setup.{Setup}
-use Rattle.vault.specs.declared.fault.StartFault.{StartFault}
+use Rattle.vault_open.specs.declared.fault.StartFault.{StartFault}
 use Rattle.hail_client.proofs.Reopening.{refused-event, few-event, opened-event}
 use Rattle.hail_client.proofs.Anew.{by-told, refused-anew, few-are, enough-are, left-standing, opens-over}
 use Rattle.hail_client.proofs.client.Client.reopen.Goals as goal

@@ -1,4 +1,4 @@
-use Rattle.std.proofs.Common.{◌≡◌, List, true, length, map}
+use Rattle.std.proofs.Common.{◌≡◌, List, true, length}
 use Rattle.std.specs.Prelude.{is_some}
 use Rattle.hail_machine.specs.Runs.{Moment}
 use Rattle.hail_machine.specs.States.{State}

@@ -9,12 +9,12 @@ use Rattle.vault_core.specs.declared.wish.BeginFault.{BeginFault}
 use Rattle.vault_core.specs.declared.wish.BeginFault.TheVariants as fault
 use Rattle.vault.specs.declared.tasks.Running.{Running}
 use Rattle.vault.specs.declared.vault.Vault.{Vault}
-use Rattle.vault.specs.Devices.{Devices}
+use Rattle.vault_open.specs.Devices.{Devices}
 use Rattle.vault.specs.Running.{KeepsAll}
 use Rattle.vault.specs.Stands.{Stands, MakesBegin}
 use Rattle.vault.specs.Tasks.{AreRunning}
 use Rattle.vault.proofs.Begun.{admitted}
-use Rattle.vault.proofs.InitEvents.{err-is}
+use Rattle.vault_open.proofs.InitEvents.{err-is}
 use Rattle.vault.proofs.Ways.{stands_on, handed_same}
 use Rattle.vault.proofs.vault.Vault.admit.Goals as goal
 

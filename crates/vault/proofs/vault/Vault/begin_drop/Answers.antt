@@ -3,7 +3,7 @@ use Rattle.hail_machine.specs.Jobs.{DropJob}
 use Rattle.vault_core.specs.declared.wish.BeginFault.{BeginFault}
 use Rattle.vault.specs.Stands.{MakesBegin}
 use Rattle.vault.proofs.Begun.{causes_of_name, turned_down}
-use Rattle.vault.proofs.InitEvents.{err-is}
+use Rattle.vault_open.proofs.InitEvents.{err-is}
 use Rattle.vault.proofs.vault.Vault.begin_drop.Goals as goal
 
 pub returns-in_err-name-clause-machine : goal.returns-in_err-name-clause-machine

@@ -8,7 +8,7 @@ use Rattle.vault.specs.Benches.{IsBenchFor, IsNewGet}
 use Rattle.vault.specs.Seen.{table_of}
 use Rattle.vault.specs.Stands.{MakesBegin}
 use Rattle.vault.proofs.Begun.{causes_of_name, turned_down}
-use Rattle.vault.proofs.InitEvents.{err-is}
+use Rattle.vault_open.proofs.InitEvents.{err-is}
 use Rattle.vault.proofs.Puts.{name_cause}
 use Rattle.vault.proofs.GetBegins.{found-in, no-such-name, size-fits, get-task, least}
 use Rattle.vault.proofs.vault.Vault.begin_get.Goals as goal

@@ -4,7 +4,7 @@ use Rattle.vault_core.specs.declared.wish.BeginFault.{BeginFault}
 use Rattle.vault.specs.Stands.{MakesBegin}
 use Rattle.vault.proofs.Begun.{turned_down}
 use Rattle.vault.proofs.Puts.{causes_of_put}
-use Rattle.vault.proofs.InitEvents.{err-is}
+use Rattle.vault_open.proofs.InitEvents.{err-is}
 use Rattle.vault.proofs.vault.Vault.begin_put.Goals as goal
 
 pub returns-in_err-name-clause-machine : goal.returns-in_err-name-clause-machine

@@ -1,6 +1,6 @@
 use Rattle.std.proofs.Common.{Option, map, subst}
 use Rattle.vault.specs.declared.turn.Turn.{Turn}
-use Rattle.vault.specs.Devices.{devices}
+use Rattle.vault_open.specs.Devices.{devices}
 use Rattle.provider_model.specs.Seen.{provider_seen}
 use Rattle.vault.specs.Stands.{MakesTurn}
 use Rattle.vault.proofs.vault.Vault.step.Goals as goal

@@ -1,0 +1,18 @@
+use Rattle.std.proofs.Common.{ap, ◌∙◌, arith, [], length, ◌*◌}
+use Rattle.std.proofs.lemmas.List.{get_or_default}
+use Rattle.hail_columns.specs.Keys.{masks_from}
+use Rattle.file_layout.specs.Files.{shaped_object}
+use Rattle.column_codec.proofs.RowLemmas.{masked-each, masks_front}
+use Rattle.column_codec.proofs.keys.ObjectKeys.add_short.Goals as goal
+
+pub returns : goal.returns
+returns c =
+    let keys = c.args.self.now in
+    let file = keys.file in
+    let block = c.args.block.now in
+    let o = shaped_object keys.master.0 file in
+    masked-each o c.args.provider (c.args.stripe * length block) block c.add_each.new.out _ (omega arith)
+    (masks_front c.fill.new.out _ _ _ (length block) c.args.stripe (omega (arith, c.requires.block)) c.fill.ensures
+    ∙ ap (λ key. masks_from key (c.args.stripe * length block) (length block))
+    (get_or_default keys.mask_keys c.args.provider _ [] (omega (arith, c.requires.provider, file.shape.fits.1)) ∙ keys.mask_keys_are c.args.provider c.requires.provider))
+    c.add_each.ensures

@@ -1,0 +1,34 @@
+-- The run of the second version is calm, counted from its finished scrub.
+use Rattle.std.proofs.Common.{◌≡◌, ℕ, Bool, true, false, ◌&&◌, List, [], ◌∷◌, Option, Some, None, refl, ap, sym, subst, ◌∙◌}
+use Rattle.std.specs.Prelude.{nat_le}
+use Rattle.std.proofs.lemmas.Bool.{and_parts, leb-true}
+use Rattle.hail_machine.specs.States.{State, Scrub, Alone, Scrubbing, Packing, setup_in}
+use Rattle.hail_machine.specs.Runs.{Moment, first_moments}
+use Rattle.hail_machine.specs.Calm.{Mark, replaced_count}
+use Rattle.hail_machine.specs.Scrubs.{scrubbed, AreScrubsCalm, IsScrubCalm}
+use Rattle.hail_machine.specs.Examples.{set_up}
+use Rattle.damage_run.proofs.CalmRun.{calm_by_test}
+use Rattle.upgrade_run.proofs.Run.{moments}
+
+-- calm scrubs, as a test
+abbrev is_scrub_calm_for : Mark → List Moment → State → Option Alone → Bool
+is_scrub_calm_for mark ms w None = true
+is_scrub_calm_for mark ms w (Some (Packing pack)) = true
+is_scrub_calm_for mark ms w (Some (Scrubbing scrub)) = nat_le (replaced_count w (mark (first_moments scrub.begun ms)) ms) (setup_in w).b
+
+abbrev are_scrubs_calm : Mark → List Moment → Bool
+are_scrubs_calm mark [] = true
+are_scrubs_calm mark (m ∷ ms) = is_scrub_calm_for mark (m ∷ ms) m.state m.state.alone && are_scrubs_calm mark ms
+
+scrubs_calm_by_test : (mark : Mark) (ms : List Moment) → are_scrubs_calm mark ms ≡ true → AreScrubsCalm mark ms
+scrubs_calm_by_test mark [] h = tt
+scrubs_calm_by_test mark (m ∷ ms) h = (let p = and_parts (is_scrub_calm_for mark (m ∷ ms) m.state m.state.alone) (are_scrubs_calm mark ms) h in
+    (λ scrub at. leb-true _ _ (subst (λ x. is_scrub_calm_for mark (m ∷ ms) m.state x ≡ true) at p.0), scrubs_calm_by_test mark ms p.1))
+
+pub scrub_calm : IsScrubCalm set_up moments
+unfolding setup_in
+scrub_calm = record { jobs = calm_by_test (scrubbed set_up) moments refl; scrubs = scrubs_calm_by_test (scrubbed set_up) moments refl }
+
+pub mark_is : scrubbed set_up moments ≡ 22
+unfolding setup_in
+mark_is = refl

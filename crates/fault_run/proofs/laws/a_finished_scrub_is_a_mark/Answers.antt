@@ -1,0 +1,15 @@
+use Rattle.std.proofs.Common.{refl}
+use Rattle.hail_machine.specs.Examples.{set_up}
+use Rattle.upgrade_run.proofs.Run.{moments, outright}
+use Rattle.fault_run.proofs.Mended.{scrub_calm, mark_is}
+use Rattle.fault_run.proofs.laws.a_finished_scrub_is_a_mark.Goals as goal
+
+pub returns : goal.returns
+returns c = (
+  moments,
+  outright,
+  scrub_calm,
+  mark_is,
+  c.finished_scrubs_are_marks.ensures.marks 8 set_up moments outright.clean (λ j. refl) outright.run scrub_calm,
+  c.finished_scrubs_are_marks.ensures.half 8 set_up moments outright.clean (λ j. refl) outright.run scrub_calm,
+)

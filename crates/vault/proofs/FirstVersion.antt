@@ -1,0 +1,44 @@
+-- While the journal has its first version: the objects of jobs.
+use Rattle.std.proofs.Common.{◌≡◌, ℕ, suc, ◌==◌, List, [], ◌∷◌, Some, inl, inr, refl, ap, sym, ◌∙◌, arith}
+use Rattle.std.specs.Prelude.{IsTrue}
+use Rattle.std.specs.List.{list_all, Contains}
+use Rattle.std.proofs.lemmas.Bool.{cases_Bool}
+use Rattle.hail_records.specs.Records.{is_in_grammar}
+use Rattle.hail_machine.specs.Jobs.{Pinned, Job, job_of}
+use Rattle.hail_machine.specs.Given.{pinned_profile}
+use Rattle.hail_machine.specs.Setups.{profiled, object_of}
+use Rattle.hail_machine.specs.States.{State, setup_in, put_object, worked_object}
+use Rattle.hail_machine.proofs.JobLists.{cond_true, cond_false}
+use Rattle.sound_states.specs.Sound.{IsWholeJournal}
+use Rattle.sound_states.specs.SoundJobs.{IsPlainJob}
+use Rattle.sound_states.proofs.Written.{whole-first, grammar-now}
+use Rattle.vault_core.specs.View.{CoreView}
+use Rattle.vault_core.specs.Carried.{CoreIs}
+
+-- ---- a core's state
+
+pub whole-core : (c : CoreView) (w : State) → CoreIs c w → IsWholeJournal w
+whole-core c w is = whole-first 8 w is.sound is.first
+
+pub grammar-core : (c : CoreView) (w : State) → CoreIs c w → IsTrue (list_all is_in_grammar w.records)
+grammar-core c w is = grammar-now 8 w is.sound is.first
+
+pub plain-core : (c : CoreView) (w : State) (number : ℕ) (job : Job) → CoreIs c w → job_of w.jobs number ≡ Some job → IsPlainJob (setup_in w) job
+plain-core c w number job is runs = (is.sound.jobs number job runs).plain is.first
+
+-- ---- objects
+
+-- among files of one profile each number has it
+pub profile-among : (profile : ℕ) (pinned : List Pinned) (id : ℕ) → ((f : Pinned) → Contains pinned f → f.profile ≡ profile) → pinned_profile profile pinned id ≡ profile
+profile-among profile [] id h = refl
+profile-among profile (f ∷ fs) id h = elim (cases_Bool (f.id == id)) [
+  | inl t ↦ cond_true (f.id == id) f.profile (pinned_profile profile fs id) t ∙ h f (0, omega arith, refl)
+  | inr n ↦ cond_false (f.id == id) f.profile (pinned_profile profile fs id) n ∙ profile-among profile fs id (λ g c. h g (suc c.0, omega (arith, c.1), c.2))
+]
+
+-- the objects of a job are the setup's
+pub worked-plain : (w : State) (job : Job) (o : ℕ) → IsPlainJob (setup_in w) job → object_of (setup_in w) o ≡ worked_object w job o
+worked-plain w job o plain = ap (λ (p : ℕ). object_of (profiled (setup_in w) p) o) (sym (profile-among (setup_in w).profile job.pinned o plain.pinned))
+
+pub put-plain : (w : State) (job : Job) (o : ℕ) → IsPlainJob (setup_in w) job → object_of (setup_in w) o ≡ put_object w job o
+put-plain w job o plain = ap (λ (p : ℕ). object_of (profiled (setup_in w) p) o) (sym plain.own)

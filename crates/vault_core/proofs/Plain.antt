@@ -1,0 +1,66 @@
+-- While the journal has its first version: the end of its text, and the profile of every file that a job works on.
+use Rattle.std.proofs.Common.{◌≡◌, ℕ, List, [], ◌∷◌, Option, Some, None, inl, inr, refl, ap, sym, subst, ◌∙◌}
+use Rattle.std.specs.Prelude.{nat_lt, if◌then◌else◌}
+use Rattle.std.specs.List.{flat_map}
+use Rattle.std.proofs.lemmas.Bool.{cases_Bool}
+use Rattle.plain_facts.specs.Lists.{In}
+use Rattle.hail_records.specs.Records.{Setup}
+use Rattle.hail_records.specs.Table.{File, files_of}
+use Rattle.hail_records.specs.Journal.{text_size}
+use Rattle.hail_records.specs.Areas.{Area, A, end_in}
+use Rattle.hail_records.proofs.AreaLaws.{text_size-end}
+use Rattle.hail_machine.specs.Jobs.{Kind, PutJob, GetJob, DropJob, AuditJob, RepairJob, UpgradeJob, Pinned}
+use Rattle.hail_machine.specs.Actions.{Action}
+use Rattle.hail_machine.specs.States.{State, setup_in, file_in, journal_end}
+use Rattle.hail_machine.specs.Begins.{pinned_file, pin, pin_all, pin_one, pinned_for}
+use Rattle.hail_machine.proofs.RecordFacts.{listed_file}
+use Rattle.sound_states.specs.Sound.{IsWholeJournal}
+
+-- the end of a whole journal
+pub first-end : (w : State) → IsWholeJournal w → journal_end w ≡ text_size w.records
+first-end w whole = ap (λ (a : Area). end_in a w.journal) whole.area ∙ (ap (end_in A) whole.journal ∙ text_size-end w.records)
+
+-- files of the setup's profile
+abbrev pub ArePlain : Setup → List Pinned → Type 0
+ArePlain s pins = (f : Pinned) → In f pins → f.profile ≡ s.profile
+
+-- what is done for each of them by its profile is done by the setup's
+pub flat-plain : (s : Setup) (g : ℕ → Pinned → List Action) (pins : List Pinned) → ArePlain s pins → flat_map (g s.profile) pins ≡ flat_map (λ f. g f.profile f) pins
+flat-plain s g [] h = refl
+flat-plain s g (f ∷ fs) h = rw (h f (inl refl), flat-plain s g fs (λ x i. h x (inr i))) refl
+
+none-plain : (s : Setup) → ArePlain s []
+none-plain s f i = absurd i
+
+more-plain : (s : Setup) (p : Pinned) (ps : List Pinned) → p.profile ≡ s.profile → ArePlain s ps → ArePlain s (p ∷ ps)
+more-plain s p ps e h f (inl i) = ap (λ (x : Pinned). x.profile) i ∙ e
+more-plain s p ps e h f (inr i) = h f i
+
+pin-plain : (s : Setup) (p : Pinned) (ps : List Pinned) → p.profile ≡ s.profile → ArePlain s ps → ArePlain s (pin p ps)
+pin-plain s p [] e h = more-plain s p [] e h
+pin-plain s p (q ∷ qs) e h = elim (cases_Bool (nat_lt p.id q.id)) [
+  | inl t ↦ subst (ArePlain s) (sym (ap (λ b. if b then p ∷ q ∷ qs else q ∷ pin p qs) t)) (more-plain s p (q ∷ qs) e h)
+  | inr f ↦ subst (ArePlain s) (sym (ap (λ b. if b then p ∷ q ∷ qs else q ∷ pin p qs) f))
+      (more-plain s q (pin p qs) (h q (inl refl)) (pin-plain s p qs e (λ x i. h x (inr i))))
+]
+
+-- a file in effect has the setup's profile
+abbrev pub AreFilesPlain : State → Type 0
+AreFilesPlain w = (name : List ℕ) (file : File) → file_in w name ≡ Some file → file.profile ≡ (setup_in w).profile
+
+all-plain : (w : State) (fs : List File) → ((f : File) → In f fs → f.profile ≡ (setup_in w).profile) → ArePlain (setup_in w) (pin_all w fs)
+all-plain w [] h = none-plain (setup_in w)
+all-plain w (f ∷ fs) h = pin-plain (setup_in w) (pinned_file w f) (pin_all w fs) (h f (inl refl)) (all-plain w fs (λ x i. h x (inr i)))
+
+one-plain : (w : State) (o : Option File) → ((f : File) → o ≡ Some f → f.profile ≡ (setup_in w).profile) → ArePlain (setup_in w) (pin_one w o)
+one-plain w None h = none-plain (setup_in w)
+one-plain w (Some f) h = more-plain (setup_in w) (pinned_file w f) [] (h f refl) (none-plain (setup_in w))
+
+-- so has each file that a new job works on
+pub pins-plain : (w : State) (k : Kind) → AreFilesPlain w → ArePlain (setup_in w) (pinned_for w k)
+pins-plain w (PutJob name bytes) h = none-plain (setup_in w)
+pins-plain w (GetJob name) h = one-plain w (file_in w name) (h name)
+pins-plain w (DropJob name) h = none-plain (setup_in w)
+pins-plain w AuditJob h = all-plain w (files_of w.records) (λ f i. h f.name f (listed_file w.records f i))
+pins-plain w RepairJob h = all-plain w (files_of w.records) (λ f i. h f.name f (listed_file w.records f i))
+pins-plain w UpgradeJob h = none-plain (setup_in w)

@@ -1,0 +1,11 @@
+pub mod Answers
+pub mod Limits
+pub mod FirstVersion
+pub mod Texts
+pub mod Readings
+pub mod Foldings
+pub mod Stores
+pub mod Emptied
+pub mod FirstRecord
+pub mod Prepared
+pub mod InitEvents

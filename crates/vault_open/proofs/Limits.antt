@@ -1,0 +1,11 @@
+-- What a master key is.
+use Rattle.std.proofs.Common.{◌≡◌, ℕ, List, length, arith}
+use Rattle.std.specs.Prelude.{IsTrue}
+use Rattle.std.proofs.lemmas.Bool.Decides.{nat_tests}
+use Rattle.hail_records.specs.Records.{is_master}
+use Rattle.record_codec.proofs.Fields.{IsBytes}
+use Rattle.record_codec.proofs.Takes.{IsBytes-all}
+
+-- 32 bytes are a master key
+pub key-spelled : (key : List ℕ) → length key ≡ 32 → IsBytes key → IsTrue (is_master key)
+key-spelled key long fits = grind (arith, nat_tests, long, IsBytes-all key fits)

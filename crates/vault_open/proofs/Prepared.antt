@@ -1,0 +1,97 @@
+-- A disk that is made ready for its first record, and what a failed init leaves of it.
+use Rattle.std.proofs.Common.{◌≡◌, ◌⊎◌, inl, inr, ℕ, ◌<◌, ◌≤◌, List, [], ◌∷◌, length, drop, Option, Some, None, refl, sym, ap, ◌∙◌, subst, arith, length-take}
+use Rattle.std.specs.Prelude.{IfSome}
+use Rattle.std.specs.Option.{option_map}
+use Rattle.std.proofs.lemmas.List.{drop_all}
+use Rattle.hail_devices.specs.Cells.{Cells, reads}
+use Rattle.hail_devices.specs.Disks.{synced}
+use Rattle.hail_devices.specs.Images.{IsImage, EachImage}
+use Rattle.hail_devices.specs.Told.{Goes}
+use Rattle.hail_records.specs.Records.{Setup, SetUp, largest_journal}
+use Rattle.hail_records.specs.Journal.{StandsFor}
+use Rattle.hail_records.proofs.Standing.{stands-front}
+use Rattle.journal_core.specs.Moves.{MayStandFor}
+use Rattle.vault_open.specs.declared.fault.InitFault.{InitFault}
+use Rattle.vault_open.specs.declared.fault.InitFault.TheVariants as init_fault
+use Rattle.hail_openings.specs.Journals.{journal_read, IsResynced, MayBeLeft}
+use Rattle.hail_openings.proofs.Resyncs.{image-resynced}
+use Rattle.vault_open.specs.Causes.{IsInitFault}
+use Rattle.vault_open.specs.Preparing.{IsBlank, IsReadied, IsHalfReady, emptied, IsTextFault}
+use Rattle.vault_open.proofs.Readings.{reads-synced}
+use Rattle.vault_open.proofs.Stores.{IsLookedAt}
+use Rattle.vault_open.proofs.Emptied.{emptied-is, text-blank}
+
+abbrev IsShort : Cells → Type 0
+IsShort cells = length (reads cells) ≤ 9
+
+-- ---- what a fault leaves
+
+half-image : (cells : Cells) (new : Option Cells) → Goes IsResynced (Some cells) new → EachImage new (IsImage cells)
+half-image cells None goes = absurd goes
+half-image cells (Some new) goes = image-resynced cells new goes
+
+pub half-resynced : (told new : Option Cells) → Goes IsResynced told new → IfSome told (λ cells. IsHalfReady cells new)
+half-resynced None new goes = tt
+half-resynced (Some cells) new goes = inl (half-image cells new goes)
+
+pub half-empty : (told mid new : Option Cells) → mid ≡ option_map synced told → IfSome told IsShort → (IfSome mid IsShort → EachImage new (λ image. length image ≤ 9))
+    → IfSome told (λ cells. IsHalfReady cells new)
+half-empty None mid new is short left = tt
+half-empty (Some cells) mid new is short left =
+    inr (short, left (subst (λ (o : Option Cells). IfSome o IsShort) (sym is) (subst (λ (l : List ℕ). length l ≤ 9) (sym (reads-synced cells)) short)))
+
+-- ---- why it is not made ready
+
+text-at : (cells : Cells) (bytes : List ℕ) (why : InitFault) (s : Setup) → (9 < length (reads cells)) × (bytes ≡ journal_read cells) → IsTextFault bytes why → IsInitFault (journal_read cells) s why
+text-at cells bytes (init_fault.BadJournal at) s is bad = (omega (arith, is.0, length-take largest_journal (reads cells)), subst (λ (l : List ℕ). IsTextFault l (init_fault.BadJournal at)) is.1 bad)
+text-at cells bytes init_fault.Already s is bad = (omega (arith, is.0, length-take largest_journal (reads cells)), subst (λ (l : List ℕ). IsTextFault l init_fault.Already) is.1 bad)
+text-at cells bytes init_fault.Memory s is bad = absurd bad
+text-at cells bytes init_fault.BadSetup s is bad = absurd bad
+text-at cells bytes init_fault.DiskFault s is bad = absurd bad
+
+pub text_fault : (told : Option Cells) (bytes : List ℕ) (why : InitFault) (s : Setup) → IsLookedAt told bytes → IsTextFault bytes why → IfSome told (λ cells. IsInitFault (journal_read cells) s why)
+text_fault None bytes why s is bad = tt
+text_fault (Some cells) bytes why s is bad = text-at cells bytes why s is bad
+
+-- ---- how it is made ready
+
+pub readied-empty : (told mid new : Option Cells) → mid ≡ option_map synced told → new ≡ option_map emptied mid → IfSome told IsShort → Goes IsReadied told new
+readied-empty None mid new is made short = subst (λ (o : Option Cells). Goes IsReadied None o) (sym (made ∙ ap (option_map emptied) is)) tt
+readied-empty (Some cells) mid new is made short =
+    let short_synced : length (reads (synced cells)) ≤ 9 = subst (λ (l : List ℕ). length l ≤ 9) (sym (reads-synced cells)) short in
+    let whole = emptied-is (synced cells) short_synced in
+    subst (λ (o : Option Cells). Goes IsReadied (Some cells) o) (sym (made ∙ ap (option_map emptied) is)) (record {
+      free = inl short;
+      blank = subst IsBlank (sym whole) text-blank;
+      same = ap (λ (c : Cells). drop 9 (reads c)) whole ∙ sym (drop_all 9 (reads cells) short);
+    })
+
+pub readied-read : (told mid : Option Cells) (bytes : List ℕ) → mid ≡ option_map synced told → IsLookedAt told bytes → StandsFor bytes [] → Goes IsReadied told mid
+readied-read None mid bytes is looked stands = subst (λ (o : Option Cells). Goes IsReadied None o) (sym is) tt
+readied-read (Some cells) mid bytes is looked stands =
+    let read : StandsFor (journal_read cells) [] = subst (λ (l : List ℕ). StandsFor l []) looked.1 stands in
+    subst (λ (o : Option Cells). Goes IsReadied (Some cells) o) (sym is) (record {
+      free = inr read;
+      blank = record { bytes = reads cells; firm_is = refl; stands = stands-front largest_journal (reads cells) [] read };
+      same = ap (drop 9) (reads-synced cells);
+    })
+
+-- ---- what a failed init leaves
+
+each-left : (s : Setup) (cells : Cells) (new : Option Cells) (P : List ℕ → Type 0) → ((image : List ℕ) → P image → MayBeLeft s cells image) → EachImage new P → EachImage new (MayBeLeft s cells)
+each-left s cells None P step all = tt
+each-left s cells (Some new) P step all = λ image of. step image (all image of)
+
+half-left-at : (s : Setup) (cells : Cells) (new : Option Cells) → IsHalfReady cells new → EachImage new (MayBeLeft s cells)
+half-left-at s cells new (inl same) = each-left s cells new (IsImage cells) (λ image is. inl is) same
+half-left-at s cells new (inr short) = each-left s cells new (λ image. length image ≤ 9) (λ image is. inr (inl short.0, inl is)) short.1
+
+pub half-left : (s : Setup) (told new : Option Cells) → IfSome told (λ cells. IsHalfReady cells new) → IfSome told (λ cells. EachImage new (MayBeLeft s cells))
+half-left s None new half = tt
+half-left s (Some cells) new half = half-left-at s cells new half
+
+pub append-left : (s : Setup) (told mid new : Option Cells) → Goes IsReadied told mid → MayStandFor [] (SetUp s) new → IfSome told (λ cells. EachImage new (MayBeLeft s cells))
+append-left s None mid new ready stands = tt
+append-left s (Some cells) None new ready stands = absurd ready
+append-left s (Some cells) (Some mid) new ready stands =
+    each-left s cells new (λ image. StandsFor image [] ⊎ StandsFor image (SetUp s ∷ [])) (λ image is. inr (ready.free, inr is)) stands

@@ -1,0 +1,85 @@
+-- A store as a start reads it, and why none was read.
+use Rattle.std.proofs.Common.{◌≡◌, ◌≢◌, inl, inr, ℕ, ◌<◌, ◌≤◌, ◌&&◌, List, [], length, Option, Some, None, refl, sym, ap, ◌∙◌, subst, arith, length-take}
+use Rattle.std.specs.Prelude.{IfSome, IsTrue}
+use Rattle.std.specs.Option.{option_map}
+use Rattle.plain_facts.proofs.Options.{some-not-none}
+use Rattle.hail_devices.specs.Cells.{Cells, reads}
+use Rattle.hail_devices.specs.Disks.{synced}
+use Rattle.hail_records.specs.Records.{Record, Setup, is_setup, is_master, largest_journal}
+use Rattle.hail_records.specs.Journal.{before_gate, StandsFor}
+use Rattle.hail_records.specs.Table.{setup_of}
+use Rattle.hail_records.proofs.Standing.{stands-front}
+use Rattle.record_codec.specs.Entries.{with_master}
+use Rattle.journal_core.specs.Moves.{IsClosed}
+use Rattle.journal_core.proofs.Meanings.{read_is_closed}
+use Rattle.sound_states.proofs.Records.{none-set_up, all-spelled, setup-spelled}
+use Rattle.vault_table.specs.Values.{Kept}
+use Rattle.vault_open.specs.declared.fault.StartFault.{StartFault}
+use Rattle.vault_open.specs.declared.fault.StartFault.TheVariants as start_fault
+use Rattle.vault_open.specs.declared.store.Store.{Store}
+use Rattle.hail_openings.specs.Journals.{journal_read, IsRead}
+use Rattle.vault_open.specs.Causes.{IsStartFault}
+use Rattle.vault_open.specs.Folding.{IsFolded, IsFoldFault}
+use Rattle.vault_open.specs.Stores.{IsStoreOf}
+
+-- these bytes were looked at, of a disk that tells what it holds
+abbrev pub IsLookedAt : Option Cells → List ℕ → Type 0
+IsLookedAt told bytes = IfSome told (λ cells. (9 < length (reads cells)) × (bytes ≡ journal_read cells))
+
+-- ---- why no store is read
+
+pub short_fault : (told : Option Cells) → IfSome told (λ cells. length (reads cells) ≤ 9) → IfSome told (λ cells. IsStartFault (journal_read cells) start_fault.NotSetUp)
+short_fault None is = tt
+short_fault (Some cells) is = inl (omega (arith, is, length-take largest_journal (reads cells)))
+
+fault_at : (cells : Cells) (bytes : List ℕ) (why : StartFault) → (9 < length (reads cells)) × (bytes ≡ journal_read cells) → IsFoldFault bytes why → IsStartFault (journal_read cells) why
+fault_at cells bytes (start_fault.BadJournal at) is bad = (omega (arith, is.0, length-take largest_journal (reads cells)), subst (λ (l : List ℕ). IsFoldFault l (start_fault.BadJournal at)) is.1 bad)
+fault_at cells bytes start_fault.Memory is bad = tt
+fault_at cells bytes start_fault.NotSetUp is bad = absurd bad
+fault_at cells bytes start_fault.DiskFault is bad = absurd bad
+
+pub fold_fault : (told : Option Cells) (bytes : List ℕ) (why : StartFault) → IsLookedAt told bytes → IsFoldFault bytes why → IfSome told (λ cells. IsStartFault (journal_read cells) why)
+fold_fault None bytes why is bad = tt
+fold_fault (Some cells) bytes why is bad = fault_at cells bytes why is bad
+
+module _ (bytes : List ℕ) (rs : List Record) (t : Kept) (end : ℕ) (is : IsFolded bytes rs t end) where
+  none_read : t.setup ≡ None → StandsFor bytes []
+  none_read none = subst (λ (l : List Record). StandsFor bytes l) (none-set_up rs is.accepted (let e = sym is.folds.setup ∙ none in rw e refl)) is.stands
+
+  pub none_fault : (told : Option Cells) → IsLookedAt told bytes → t.setup ≡ None → IfSome told (λ cells. IsStartFault (journal_read cells) start_fault.NotSetUp)
+  none_fault None looked none = tt
+  none_fault (Some cells) looked none = inr (subst (λ (l : List ℕ). StandsFor l []) looked.1 (none_read none))
+
+  limits : (s : Setup) → t.setup ≡ Some s → IsTrue (is_setup s)
+  limits s e =
+      let good : IsTrue (is_setup s && is_master s.master) = setup-spelled rs s (all-spelled rs is.stands.in_grammar) (sym is.folds.setup ∙ e) in
+      grind (arith, good)
+
+  -- ---- the store that is read
+
+  module _ (s : Setup) (found : t.setup ≡ Some s) where
+    some : rs ≢ []
+    some none = some-not-none t.setup s found (is.folds.setup ∙ ap setup_of none)
+
+    whole : (told : Option Cells) → IsLookedAt told bytes → IfSome told (λ cells. (9 < length (reads cells)) × StandsFor (journal_read cells) rs)
+    whole None looked = tt
+    whole (Some cells) looked = (looked.0, subst (λ (l : List ℕ). StandsFor l rs) looked.1 is.stands)
+
+    pub read : (told : Option Cells) → IsLookedAt told bytes → IsRead told rs
+    read told looked = record { some = some; in_grammar = is.stands.in_grammar; accepted = is.accepted; room = is.room; reads_are = whole told looked }
+
+  closed : (told now : Option Cells) → now ≡ option_map synced told → IsLookedAt told bytes → IfSome now (IsClosed (before_gate rs))
+  closed None now same looked = subst (λ (o : Option Cells). IfSome o (IsClosed (before_gate rs))) (sym same) tt
+  closed (Some cells) now same looked =
+      subst (λ (o : Option Cells). IfSome o (IsClosed (before_gate rs))) (sym same)
+      (read_is_closed (reads cells) rs (stands-front largest_journal (reads cells) rs (subst (λ (l : List ℕ). StandsFor l rs) looked.1 is.stands)))
+
+  pub stored : (store : Store) (told now : Option Cells) → store.table ≡ t → store.end ≡ end → t.setup ≡ Some (with_master store.setup store.master.0)
+      → now ≡ option_map synced told → IsLookedAt told bytes → IsStoreOf store rs now
+  stored store told now table_is end_is found same looked = record {
+    folds = rw table_is is.folds;
+    setup = rw table_is found;
+    limits = limits (with_master store.setup store.master.0) found;
+    end = end_is ∙ is.end_is;
+    closed = closed told now same looked;
+  }

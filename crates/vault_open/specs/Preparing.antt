@@ -1,0 +1,76 @@
+-- How a disk is made ready for its first record and gets it, and what a fault leaves of it.
+--
+--   IsBlank cells           == a disk reads a journal with no record, and no byte is loose
+--   emptied cells           == the disk after the text of no record was written to its front, and a sync
+--   IsReadied old new       == a disk that has no record was made blank, and reads past nine bytes as before
+--   IsHalfReady old new     == what a fault on the way leaves
+--   with_first_record s cells      == the disk after the four moves that bring its first record, a setup
+--   first_answer r          == the answer to a journal whose first record is this
+--   IsFirstAnswer rs answer == the answer to records, by the first one
+--   IsTextFault bytes fault == why bytes are no journal with no record
+use Rattle.std.specs.Prelude.{◌≡◌, ◌⊎◌, ℕ, ◌≤◌, List, [], ◌∷◌, ◌++◌, length, drop, Option, Result, Ok, Err}
+use Rattle.hail_devices.specs.Cells.{Cells, reads, firm}
+use Rattle.hail_devices.specs.Disks.{written, synced}
+use Rattle.hail_devices.specs.Images.{IsImage, EachImage}
+use Rattle.hail_records.specs.Records.{Setup, Record, SetUp}
+use Rattle.hail_records.specs.Spellings.{spelling}
+use Rattle.hail_records.specs.Journal.{text, StandsFor}
+use Rattle.record_codec.specs.declared.records.Record.{Record as RecordValue}
+use Rattle.record_codec.specs.declared.records.Record.TheVariants as kind
+use Rattle.vault_open.specs.declared.fault.InitFault.{InitFault}
+use Rattle.vault_open.specs.declared.fault.InitFault.TheVariants as init_fault
+use Rattle.hail_openings.specs.Journals.{IsFree, BeginsWithSetup, BeginsOtherwise, IsBadInit}
+
+-- a disk reads a journal with no record, and no byte is loose
+pub record IsBlank (cells : Cells) : Type 0 where
+  pub bytes : List ℕ
+  pub firm_is : cells ≡ firm bytes
+  pub stands : StandsFor bytes []
+
+-- the text of no record is written to the front, and the disk is synced
+abbrev pub emptied : Cells → Cells
+emptied cells = synced (written 0 (text []) cells)
+
+-- each image has at most nine bytes
+abbrev pub AreShort : Cells → Type 0
+AreShort cells = (image : List ℕ) → IsImage cells image → length image ≤ 9
+
+-- a disk that has no record was made blank, and reads past nine bytes as before
+pub record IsReadied (old new : Cells) : Type 0 where
+  pub free : IsFree old
+  pub blank : IsBlank new
+  pub same : drop 9 (reads new) ≡ drop 9 (reads old)
+
+-- what a fault on the way leaves: images that the disk had, or such as count as empty where it did
+abbrev pub IsHalfReady : Cells → Option Cells → Type 0
+IsHalfReady old new =
+    EachImage new (IsImage old) ⊎ ((length (reads old) ≤ 9) × EachImage new (λ image. length image ≤ 9))
+
+-- the four moves that bring the first record, a setup
+abbrev pub with_first_record : Setup → Cells → Cells
+with_first_record s cells =
+    synced (written 8 (1 ∷ []) (synced (written 9 (spelling (SetUp s) ++ 0 ∷ []) cells)))
+
+-- the answer to a journal whose first record is this
+abbrev pub first_answer : RecordValue → InitFault
+first_answer (kind.Setup setup master) = init_fault.Already
+first_answer r = init_fault.BadJournal 9
+
+-- the answer to records, by the first one
+abbrev pub IsFirstFault : List Record → InitFault → Type 0
+IsFirstFault rs init_fault.Already = BeginsWithSetup rs
+IsFirstFault rs (init_fault.BadJournal at) = BeginsOtherwise rs × (at ≡ 9)
+IsFirstFault rs why = ⊥
+
+-- the answer to records, of which there may be none
+abbrev pub IsFirstAnswer : List Record → Result Unit InitFault → Type 0
+IsFirstAnswer rs (Ok done) = rs ≡ []
+IsFirstAnswer rs (Err why) = IsFirstFault rs why
+
+-- why bytes are no journal with no record
+abbrev pub IsTextFault : List ℕ → InitFault → Type 0
+IsTextFault bytes (init_fault.BadJournal at) = IsBadInit bytes at
+IsTextFault bytes init_fault.Already = (rs : List Record) × StandsFor bytes rs × BeginsWithSetup rs
+IsTextFault bytes init_fault.Memory = ⊥
+IsTextFault bytes init_fault.BadSetup = ⊥
+IsTextFault bytes init_fault.DiskFault = ⊥

@@ -1,0 +1,141 @@
+ghost use Rattle.std.specs.Prelude.{◌≡◌, ◌≤◌, ◌^◌, [], ◌∷◌, List, ℕ, length, IfOk, IfErr, IfSome, OnOk, OnErr, IsErrOf, IsTrue, is_some};
+ghost use Rattle.std.specs.Option.{option_map};
+ghost use Rattle.stream_model.specs.declared.fault.WriteFault.TheVariants as write_fault;
+ghost use Rattle.hail_devices.specs.Cells.{reads};
+ghost use Rattle.hail_devices.specs.Disks.{synced};
+ghost use Rattle.hail_devices.specs.Faults.{HasCause};
+ghost use Rattle.hail_devices.specs.Images.{EachImage};
+ghost use Rattle.hail_devices.specs.Told.{Goes};
+ghost use Rattle.hail_records.specs.Records.{Record as Entry, Setup as SetupData, SetUp, is_setup, is_master, is_in_grammar};
+ghost use Rattle.hail_records.specs.Journal.{StandsFor};
+ghost use Rattle.record_codec.specs.Entries.{entry_of, with_master, IsInGrammar};
+ghost use Rattle.journal_core.specs.Moves.{MayStandFor};
+ghost use Rattle.vault_open.specs.declared.fault.InitFault.TheVariants as init_fault;
+ghost use Rattle.hail_openings.specs.Journals.{journal_read};
+ghost use Rattle.vault_open.specs.Causes.{IsInitFault, IsNoWrite};
+ghost use Rattle.vault_open.specs.Preparing.{IsBlank, emptied, IsReadied, IsHalfReady, with_first_record, first_answer, IsFirstAnswer, IsTextFault};
+
+use crate::fault::InitFault;
+use crate::reading::read_disk;
+use disk_model::Disk;
+use journal_core::{Append, first_gate, next_record};
+use key_schedule::Master;
+use record_codec::{Record, Setup};
+use std::alloc::Global;
+use stream_model::WriteFault;
+
+/// The text of no record: the magic and a closed gate.
+const NO_RECORD: [u8; 9] = *b"HAILJRN1\0";
+
+/// The offset of the first gate.
+const FIRST_GATE: u64 = 8;
+
+/// Writes the text of no record to the front of a disk.
+fn make_empty<D: Disk>(disk: &mut D) -> Result<(), WriteFault>
+    ensures ok { OnOk result (D.holds disk.new ≡ option_map emptied (D.holds disk.old)) }
+    ensures left { OnErr result (IfSome (D.holds disk.old) (λ cells. length (reads cells) ≤ 9) → EachImage
+        (D.holds disk.new) (λ image. length image ≤ 9)) }
+    ensures tells { is_some (D.holds disk.new) ≡ is_some (D.holds disk.old) }
+    ensures cause { HasCause (D.faults disk.old) (D.faults disk.new) (IsErrOf result write_fault.Failed) }
+{
+    disk.write_at(0, &NO_RECORD)?;
+    disk.sync()?;
+    Ok(())
+}
+
+/// The answer to a journal with a first record.
+fn answer_to(first: &Record) -> InitFault
+    ensures { result ≡ first_answer first.now }
+{
+    match first {
+        Record::Setup { .. } => InitFault::Already,
+        _ => InitFault::BadJournal { at: FIRST_GATE + 1 },
+    }
+}
+
+/// The answer to one record more: that to the first one stays.
+fn answer_with(answer: Result<(), InitFault>, entry: &Record) -> Result<(), InitFault>
+    ensures { (rs : List Entry) → IsFirstAnswer rs answer
+        → IsFirstAnswer (entry_of entry.now ∷ rs) result }
+{
+    match answer {
+        Ok(()) => Err(answer_to(entry)),
+        Err(fault) => Err(fault),
+    }
+}
+
+/// Whether bytes are a journal with no record, and else why not.
+fn has_no_record(bytes: &[u8]) -> Result<(), InitFault>
+    ensures ok { OnOk result (StandsFor bytes.now []) }
+    ensures refused { IfErr result (IsTextFault bytes.now) }
+{
+    let mut gate = first_gate(bytes)?;
+    let mut answer = Ok(());
+    while let Some((entry, next)) = next_record(bytes, gate)? {
+        answer = answer_with(answer, &entry);
+        gate = next;
+    }
+    answer
+}
+
+/// Makes a disk ready for its first record: it reads a journal with no record, and no byte is loose.
+pub(crate) fn prepare<D: Disk>(alloc: Global, disk: &mut D) -> Result<(), InitFault>
+    ensures ok { OnOk result (Goes IsReadied (D.holds disk.old) (D.holds disk.new)) }
+    ensures refused { (s : SetupData)
+        → IfErr result (λ why. IfSome (D.holds disk.old)
+        (λ cells. IsInitFault (journal_read cells) s why)) }
+    ensures unjudged { IsErrOf result init_fault.BadSetup → ⊥ }
+    ensures looked { IfErr result (λ why. IsNoWrite why → D.holds disk.new ≡ option_map synced
+        (D.holds disk.old)) }
+    ensures left { OnErr result (IfSome (D.holds disk.old) (λ cells. IsHalfReady cells (D.holds disk.new))) }
+    ensures tells { is_some (D.holds disk.new) ≡ is_some (D.holds disk.old) }
+    ensures cause { HasCause (D.faults disk.old) (D.faults disk.new) (IsErrOf result init_fault.DiskFault) }
+{
+    match read_disk(alloc, disk)? {
+        None => make_empty(disk)?,
+        Some(bytes) => has_no_record(&bytes)?,
+    }
+    Ok(())
+}
+
+/// A master key is one of the grammar.
+fn key_is_spelled(key: &[u8])
+    requires { length key.now ≡ 32 }
+    ensures { IsTrue (is_master key.now) }
+{}
+
+/// The record of a setup.
+fn setup_record(master: [u8; 32], setup: &Setup) -> Record
+    requires { IsTrue (is_setup (with_master setup.now master)) }
+    ensures entry { entry_of result ≡ SetUp (with_master setup.now master) }
+    ensures in_grammar { IsInGrammar result }
+{
+    key_is_spelled(&master);
+    Record::Setup {
+        setup: *setup,
+        master,
+    }
+}
+
+/// Brings a blank disk its first record, the setup, by the four moves of an append.
+pub(crate) fn append_setup<D: Disk>(
+    disk: &mut D,
+    master: &Master,
+    setup: &Setup,
+) -> Result<(), WriteFault>
+    requires { IsTrue (is_setup (with_master setup.now master.now.0)) }
+    ensures ok { OnOk result (D.holds disk.new ≡ option_map
+        (with_first_record (with_master setup.now master.now.0)) (D.holds disk.old)) }
+    ensures spelled { IsTrue (is_in_grammar (SetUp (with_master setup.now master.now.0))) }
+    ensures left { OnErr result (IfSome (D.holds disk.old) IsBlank → MayStandFor []
+        (SetUp (with_master setup.now master.now.0)) (D.holds disk.new)) }
+    ensures tells { is_some (D.holds disk.new) ≡ is_some (D.holds disk.old) }
+    ensures cause { HasCause (D.faults disk.old) (D.faults disk.new) (IsErrOf result write_fault.Failed) }
+{
+    let mut append = Append::new(FIRST_GATE, &setup_record(master.0, setup));
+    append.turn(disk)?;
+    append.turn(disk)?;
+    append.turn(disk)?;
+    append.turn(disk)?;
+    Ok(())
+}

@@ -1,0 +1,56 @@
+ghost use Rattle.std.specs.Prelude.{◌≡◌, ◌↔◌, ℕ, false, List, IfSome, IfErr, OnOk, OnErr, IsErrOf, is_some};
+ghost use Rattle.hail_devices.specs.Faults.{HasCause};
+ghost use Rattle.hail_devices.specs.Images.{EachImage};
+ghost use Rattle.hail_devices.specs.Told.{Goes};
+ghost use Rattle.hail_devices.specs.Providers.{Provider};
+ghost use Rattle.hail_records.specs.Records.{is_setup};
+ghost use Rattle.record_codec.specs.Entries.{with_master};
+ghost use Rattle.hail_machine.specs.States.{State};
+ghost use Rattle.vault_open.specs.declared.fault.InitFault.TheVariants as init_fault;
+ghost use Rattle.vault_open.specs.Devices.{devices, AreDevices};
+ghost use Rattle.hail_openings.specs.Journals.{journal_read, IsResynced, MayBeLeft, IsSetUpOn};
+ghost use Rattle.vault_open.specs.Causes.{IsInitFault, IsNoWrite};
+ghost use Rattle.vault_open.specs.Inits.{MakesInit, MayInit};
+
+use crate::fault::InitFault;
+use crate::preparing::{append_setup, prepare};
+use disk_model::Disk;
+use key_schedule::Master;
+use record_codec::Setup;
+use std::alloc::Global;
+
+/// Sets a store up on a disk: its journal has the setup and the key as its one record. A disk of at most nine bytes counts as
+/// empty, and a journal with no record is kept as it is, and what
+/// lies beyond 2^24 bytes is not looked at. After a fault of the disk the call may be made again, unless the
+/// store is set up.
+pub fn init<D: Disk>(
+    alloc: Global,
+    disk: &mut D,
+    master: &Master,
+    setup: &Setup,
+) -> Result<(), InitFault>
+    ensures ok { OnOk result (Goes (IsSetUpOn (with_master setup.now master.now.0)) (D.holds disk.old)
+        (D.holds disk.new)) }
+    ensures bad_setup { IsErrOf result init_fault.BadSetup
+        ↔ (is_setup (with_master setup.now master.now.0) ≡ false) }
+    ensures unlooked { IsErrOf result init_fault.BadSetup → disk.new ≡ disk.old }
+    ensures refused { IfErr result (λ why. IfSome (D.holds disk.old)
+        (λ cells. IsInitFault (journal_read cells) (with_master setup.now master.now.0) why)) }
+    ensures looked { IfErr result (λ why. IsNoWrite why → Goes IsResynced (D.holds disk.old)
+        (D.holds disk.new)) }
+    ensures left { OnErr result (IfSome (D.holds disk.old)
+        (λ cells. EachImage (D.holds disk.new) (MayBeLeft (with_master setup.now master.now.0) cells))) }
+    ensures tells { is_some (D.holds disk.new) ≡ is_some (D.holds disk.old) }
+    ensures cause { HasCause (D.faults disk.old) (D.faults disk.new) (IsErrOf result init_fault.DiskFault) }
+    ensures machine { (w : State) (providers : List Provider) (moment : ℕ) → MayInit w (D.holds disk.old)
+        → AreDevices (devices (D.holds disk.old) (D.faults disk.old) providers) w
+        → MakesInit w moment (with_master setup.now master.now.0) result
+        (devices (D.holds disk.new) (D.faults disk.new) providers) }
+{
+    if !setup.check() {
+        return Err(InitFault::BadSetup);
+    }
+    prepare(alloc, disk)?;
+    append_setup(disk, master, setup)?;
+    Ok(())
+}

@@ -1,0 +1,58 @@
+ghost use Rattle.std.specs.Prelude.{◌≡◌, List, IfSome, IfOk, IfErr, OnOk, IsErrOf, is_some};
+ghost use Rattle.std.specs.Option.{option_map};
+ghost use Rattle.hail_devices.specs.Disks.{synced};
+ghost use Rattle.hail_devices.specs.Faults.{HasCause};
+ghost use Rattle.hail_devices.specs.Told.{Goes};
+ghost use Rattle.hail_records.specs.Records.{Record};
+ghost use Rattle.hail_openings.specs.Journals.{journal_read, IsRead, IsResynced};
+ghost use Rattle.vault_open.specs.declared.fault.StartFault.TheVariants as start_fault;
+ghost use Rattle.vault_open.specs.Causes.{IsStartFault, LiesInJournal};
+ghost use Rattle.vault_open.specs.Stores.{IsStoreOf};
+
+use crate::fault::StartFault;
+use crate::folding::fold_journal;
+use crate::reading::read_disk;
+use disk_model::Disk;
+use key_schedule::Master;
+use record_codec::Setup;
+use std::alloc::Global;
+use vault_table::Table;
+
+/// What a start reads of a disk: the fold of its records, the setup and the key among them, and the length of their text in
+/// bytes, the closed gate included.
+#[derive(Drop)]
+pub struct Store {
+    pub table: Table,
+    pub end: u64,
+    pub setup: Setup,
+    pub master: Master,
+}
+
+/// Reads the store on a disk, after a sync; what lies beyond 2^24 bytes is not looked at.
+pub fn read_store<D: Disk>(alloc: Global, disk: &mut D) -> Result<Store, StartFault>
+    ensures read { IfOk result (λ store. (rs : List Record) × IsRead (D.holds disk.old) rs
+        × IsStoreOf store rs (D.holds disk.new)) }
+    ensures refused { IfErr result
+        (λ why. IfSome (D.holds disk.old) (λ cells. IsStartFault (journal_read cells) why)) }
+    ensures synced { OnOk result (D.holds disk.new ≡ option_map synced (D.holds disk.old)) }
+    ensures resynced { IfErr result
+        (λ why. LiesInJournal why → D.holds disk.new ≡ option_map synced (D.holds disk.old)) }
+    ensures disk { Goes IsResynced (D.holds disk.old) (D.holds disk.new) }
+    ensures tells { is_some (D.holds disk.new) ≡ is_some (D.holds disk.old) }
+    ensures cause { HasCause (D.faults disk.old) (D.faults disk.new)
+        (IsErrOf result start_fault.DiskFault) }
+{
+    let Some(bytes) = read_disk(alloc, disk)? else {
+        return Err(StartFault::NotSetUp);
+    };
+    let (table, end) = fold_journal(alloc, &bytes)?;
+    let Some((setup, master)) = table.setup() else {
+        return Err(StartFault::NotSetUp);
+    };
+    Ok(Store {
+        table,
+        end,
+        setup,
+        master,
+    })
+}
