@@ -43,7 +43,7 @@ impl ObjectKeys {
         add_each(block, &buffer[..size]);
     }
 
-    /// Adds a provider's masks to a block of a stripe, which also takes them off.
+    /// Adds a provider's masks to a block of a stripe, at most 128 symbols, which also takes them off.
     pub fn add_masks(
         &self,
         stripe: u32,

@@ -48,8 +48,10 @@ impl ObjectKeys {
         }
     }
 
-    /// Fills the blocks of all providers of a stripe of a file of these bytes, with masks. They keep their sizes, so
-    /// the next stripe can be made in them.
+    /// Fills the blocks that the providers are to hold of a stripe of a file of these bytes (HAIL, 2009): n blocks of as many
+    /// symbols as the profile has, in the order of providers, with masks on the secondary ones. Bytes past the file's end
+    /// count as zeros. It takes no memory and refuses nothing. Blocks keep their sizes, so the next stripe can be made in
+    /// them; `masks` spares making masks again, and decides nothing.
     #[tactic(auto, using(crate::proofs::Places::stripe_small, crate::proofs::RowLemmas::profile_small))]
     pub fn encode_stripe(
         &self,

@@ -83,7 +83,7 @@ pub struct MasksAtHand {
 }
 
 impl MasksAtHand {
-    /// Of no object yet.
+    /// Masks of no object yet: a provider's are made when its first block is.
     pub fn new() -> MasksAtHand {
         MasksAtHand {
             windows: [MaskWindow::new(&[0; 32], 0); 16],

@@ -112,8 +112,8 @@ pub fn headline_of_it()
     finished_scrubs_are_marks();
 }
 
-/// The mark of a finished scrub, of the run of the second version: its scrub mends a block that was altered before, and the get that comes after
-/// counts from the scrub's begin, at event 22.
+/// The mark of a finished scrub, of the run of the second version: its scrub mends a block that was altered before, and the get that comes
+/// after counts from the scrub's begin, at event 22.
 pub fn a_finished_scrub_is_a_mark()
     ensures { (ms : List Moment) × HasAll ms × IsScrubCalm set_up ms × (scrubbed set_up ms ≡ 22)
         × IsMarkedRun 8 (scrubbed set_up) set_up ms × SecondHalf set_up ms }

@@ -23,7 +23,8 @@ ghost use Rattle.mark_laws.specs.Marks.{WasWrong, Remains, IsEndOfPut, PrecedesP
 ghost use Rattle.mark_laws.specs.MarkedRuns.{BeginsNoScrub, IsMarkedRun, IsCalmRun};
 ghost use Rattle.mark_laws.specs.Sharp.{GivesOrIsLost};
 
-/// The second half of the main theorem: in every calm run, with calm scrubs, in which no audit missed damage, of providers that tell what they hold, every
+/// The second half of the main theorem: in every calm run, with calm scrubs, in which no audit missed damage, of providers that tell what
+/// they hold, every
 /// get of a stored name that a step ended gave the bytes that were in effect under it at its begin, unless the count of the disk or of
 /// a provider rose since; and its begin was refused for MustReopen, Busy or Memory alone.
 pub fn second_half()
