@@ -8,7 +8,7 @@ use Rattle.hail_records.specs.Records.{Setup, is_name, largest_file}
 use Rattle.hail_records.specs.Table.{File, find_file}
 use Rattle.hail_records.proofs.FilesLaws.{find-files_of}
 use Rattle.hail_machine.specs.Actions.{End, open_actions, actions_left, actions_of}
-use Rattle.hail_machine.specs.Begins.{new_job, pin_one, pinned_file}
+use Rattle.hail_machine.specs.Begins.{new_job, pin_found, pinned_file}
 use Rattle.hail_machine.specs.Jobs.{GetJob}
 use Rattle.hail_machine.specs.Refusals as refusal
 use Rattle.hail_machine.specs.Refusals.{first_refusal}
@@ -76,7 +76,7 @@ module _ (v : Vault) (d : Devices) (w : State) (moment : ℕ) (stands : Stands v
         name = name;
         kind = refl;
         file = pinned_file w file;
-        pinned = ap (pin_one w) found;
+        pinned = ap (pin_found (pinned_file w)) found;
         length_is = new.length_is ∙ same_length;
         bench = subst (IsBench s) (sym new.bench_is) is_bench;
         size = new.size_is ∙ ap (λ (b : Bench). b.keys.file.profile.size) (sym new.bench_is);
