@@ -90,8 +90,10 @@ any_job test (x ∷ js) k j h none = elim (cases_Bool (test x)) [
 ]
 
 -- the aim of a running job, where no aim passes a test
-pub any_aim : (test : Aim → Bool) (js : List Job) (k : ℕ) (j : Job) → job_of js k ≡ Some j → list_any test (aims_of js) ≡ false → test (aim_of j.kind) ≡ false
-any_aim test js k j h none = any_job (λ (x : Job). test (aim_of x.kind)) js k j h (sym (any-aims test js) ∙ none)
+pub any_aim : (test : Aim → Bool) (js : List Job) (k : ℕ) (j : Job) → job_of js k ≡ Some j
+    → list_any test (aims_of js) ≡ false → test (aim_of j.kind) ≡ false
+any_aim test js k j h none =
+    any_job (λ (x : Job). test (aim_of x.kind)) js k j h (sym (any-aims test js) ∙ none)
 
 pub not_pinned : (w : State) (k : ℕ) (j : Job) (f : Pinned) (id : ℕ) → is_pinned w id ≡ false → job_of w.jobs k ≡ Some j → In f j.pinned → f.id ≡ id → ⊥
 not_pinned w k j f id none runs i e = false≢true (sym (any_job (λ (x : Job). list_any (λ (p : Pinned). p.id == id) x.pinned) w.jobs k j runs none) ∙ any_pinned j.pinned id f i e)
@@ -133,10 +135,12 @@ taken w job UpgradeJob o h = absurd h
 
 -- ---- begins of audits and repairs
 
-pub check_alone : (limit : ℕ) (w : State) (kind : Kind) (profile : Option ℕ) → refusal_of_begin limit w kind profile ≡ None → is_check (aim_of kind) ≡ true →
-    (k : ℕ) (j : Job) → job_of w.jobs k ≡ Some j → is_check (aim_of j.kind) ≡ false
+pub check_alone : (limit : ℕ) (w : State) (kind : Kind) (profile : Option ℕ)
+    → refusal_of_begin limit w kind profile ≡ None → is_check (aim_of kind) ≡ true
+    → (k : ℕ) (j : Job) → job_of w.jobs k ≡ Some j → is_check (aim_of j.kind) ≡ false
 check_alone limit w kind profile none check k j runs =
-    by kind check (right_false (is_shut (sight_of w)) (are_jobs_in_the_way limit (aims_of w.jobs) (aim_of kind)) (not_busy limit w kind profile none))
+    by kind check (right_false (is_shut (sight_of w)) (are_jobs_in_the_way limit (aims_of w.jobs) (aim_of kind))
+    (not_busy limit w kind profile none))
   where
     not_put : (aim : Aim) → is_put_or_check aim ≡ false → is_check aim ≡ false
     not_put (ToPut name size) h = refl
@@ -146,7 +150,8 @@ check_alone limit w kind profile none check k j runs =
     not_put ToRepair h = h
     not_put ToUpgrade h = h
 
-    by : (kd : Kind) → is_check (aim_of kd) ≡ true → are_jobs_in_the_way limit (aims_of w.jobs) (aim_of kd) ≡ false → is_check (aim_of j.kind) ≡ false
+    by : (kd : Kind) → is_check (aim_of kd) ≡ true
+        → are_jobs_in_the_way limit (aims_of w.jobs) (aim_of kd) ≡ false → is_check (aim_of j.kind) ≡ false
     by AuditJob c h = not_put (aim_of j.kind) (any_aim is_put_or_check w.jobs k j runs (right_false _ _ h))
     by RepairJob c h = any_aim is_check w.jobs k j runs (right_false _ _ h)
     by UpgradeJob c h = absurd (false≢true c)

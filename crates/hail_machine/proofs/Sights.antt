@@ -7,7 +7,8 @@ use Rattle.hail_machine.specs.Jobs.{Aim, aim_of, Job}
 use Rattle.hail_machine.specs.States.{State, file_in}
 use Rattle.hail_machine.specs.Sights.{aims_of, sight_of, is_stored}
 
-pub any-aims : (test : Aim → Bool) (js : List Job) → list_any test (aims_of js) ≡ list_any (λ (j : Job). test (aim_of j.kind)) js
+pub any-aims : (test : Aim → Bool) (js : List Job)
+    → list_any test (aims_of js) ≡ list_any (λ (j : Job). test (aim_of j.kind)) js
 any-aims test [] = refl
 any-aims test (j ∷ js) = ap (λ b. test (aim_of j.kind) || b) (any-aims test js)
 
