@@ -1,25 +1,23 @@
 -- Files in effect, files that jobs work on, and objects that they take away.
-use Rattle.std.proofs.Common.{◌≡◌, ℕ, ◌<◌, ◌≤◌, ◌==◌, Bool, true, false, ◌⊎◌, ◌||◌, List, [], ◌∷◌, length, Option, Some, None, refl, ap, sym, subst, ◌∙◌, inl, inr}
+use Rattle.std.proofs.Common.{◌≡◌, ℕ, ◌<◌, ◌≤◌, ◌==◌, Bool, true, false, ◌⊎◌, List, [], ◌∷◌, length, Option, Some, None, refl, ap, sym, subst, ◌∙◌, inl, inr}
 use Rattle.std.specs.Prelude.{nat_lt}
 use Rattle.std.specs.List.{list_any}
 use Rattle.std.proofs.lemmas.Bool.{eq-eqb, cases_Bool, cases_lt, false≢true}
-use Rattle.hail_records.specs.Records.{Record, PutStart, PutDone, Drop, AuditStart, AuditDone, RepairDone, Version}
+use Rattle.hail_records.specs.Records.{Record, PutStart, Drop, AuditStart, AuditDone, RepairDone, Version}
 use Rattle.hail_records.specs.Table.{File, next_id, files_of, version_of}
 use Rattle.hail_machine.specs.Jobs.{Kind, PutJob, GetJob, DropJob, AuditJob, RepairJob, UpgradeJob, Aim, ToPut, ToGet, ToDrop, ToAudit, ToRepair, ToUpgrade, aim_of, Pinned, Job, job_of}
 use Rattle.hail_machine.specs.Actions.{machine_pins}
-use Rattle.hail_machine.specs.Refusals.{Cause, first_refusal}
 use Rattle.hail_machine.specs.States.{State, file_in}
 use Rattle.hail_machine.specs.Begins.{refusal_of_begin, pinned_file, pin_by, pin_all, pin_found, pinned_for}
 use Rattle.hail_machine.specs.Sights.{aims_of, sight_of, is_check, is_put_or_check, is_shut, are_jobs_in_the_way}
 use Rattle.hail_machine.specs.Appends.{Writes, is_first_append, is_pinned, removable, taken_out, done_record}
 use Rattle.hail_machine.proofs.Done.{by_version}
-use Rattle.hail_machine.proofs.Refused.{not_busy, right_false, left_false}
+use Rattle.hail_machine.proofs.Refused.{not_busy, right_false}
 use Rattle.hail_machine.proofs.JobLists.{cond_true, cond_false, same_value}
 use Rattle.hail_machine.proofs.Sights.{any-aims}
 use Rattle.hail_machine.proofs.Numbers.{first_above, first_below}
 use Rattle.hail_machine.proofs.RecordFacts.{IsProper, listed_file}
 use Rattle.plain_facts.specs.Lists.{In}
-use Rattle.hail_machine.specs.Refusals as refusal
 
 -- ---- what begins pin
 

@@ -1,5 +1,5 @@
 -- The aims of running jobs, and the names in effect that a sight finds.
-use Rattle.std.proofs.Common.{◌≡◌, Bool, ◌||◌, ℕ, suc, List, [], ◌∷◌, length, Option, Some, refl, ap, sym, ◌∙◌}
+use Rattle.std.proofs.Common.{◌≡◌, Bool, ◌||◌, ℕ, suc, List, [], ◌∷◌, length, refl, ap}
 use Rattle.std.specs.Prelude.{is_some}
 use Rattle.std.specs.List.{list_any}
 use Rattle.hail_records.proofs.FilesLaws.{find-files_of}
