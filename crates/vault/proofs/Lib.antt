@@ -19,7 +19,7 @@ pub mod StripeOrders
 pub mod RepairBegins
 pub mod Moving
 pub mod MoveStep
-pub mod LaterMoves
+pub mod AppendMoves
 pub mod GetBegins
 pub mod AuditBegins
 pub mod AskOrders

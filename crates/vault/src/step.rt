@@ -3,14 +3,14 @@ ghost use Rattle.hail_devices.specs.Faults.{one_more};
 ghost use Rattle.hail_machine.specs.States.{State};
 ghost use Rattle.hail_records.specs.Records.{Record as Entry};
 ghost use Rattle.hail_records.specs.Spellings.{spelling};
-ghost use Rattle.vault.specs.Calls.{calls_disk, called_provider, moves_before_next, CalledOnce, MovesCells};
+ghost use Rattle.vault.specs.Calls.{moves_before_next, CalledOnce, MovesCells};
 ghost use Rattle.vault_open.specs.Devices.{Devices};
 ghost use Rattle.vault.specs.Devices.{devices_seen};
 ghost use Rattle.vault.specs.Outcomes.{IfEnded, IsNoAction, HasPaddedCounts};
 ghost use Rattle.vault.specs.declared.turn.Turn.TheVariants as turn;
 ghost use Rattle.vault.specs.Seen.{provider_count, coming_of, vault_entry, closed_gate_of, left_of, IsUnchanged};
 ghost use Rattle.vault.specs.Stands.{Stands, Comes, MakesStep, MakesTurn};
-ghost use Rattle.vault_core.specs.Coming.{Acts, IsNoJob, seen_action};
+ghost use Rattle.vault_core.specs.Coming.{Acts, IsNoJob, seen_action, calls_disk, called_provider};
 
 use crate::turn::Turn;
 use crate::vault::Vault;
@@ -104,10 +104,9 @@ impl Vault {
         ensures acted { IfSome result (λ turn. IsNoAction turn → ⊥) }
     {
         match action {
-            Action::WriteBody => self.write_body(job, disk),
-            Action::SyncBody => self.sync_body(job, disk),
-            Action::WriteGate => self.write_gate(job, disk),
-            Action::SyncGate => self.sync_gate(job, disk),
+            Action::WriteBody | Action::SyncBody | Action::WriteGate | Action::SyncGate => {
+                self.move_append(job, disk)
+            }
             Action::Store {
                 provider,
                 object,

@@ -8,6 +8,7 @@ pub mod Drawing
 pub mod Places
 pub mod Gating
 pub mod Pairs
+pub mod NextMoves
 pub mod Standing
 pub mod Fits
 pub mod Onward

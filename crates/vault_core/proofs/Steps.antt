@@ -634,7 +634,7 @@ bars_failed c w new k place cj a (Refused x) o n r t = absurd t
 bars_failed c w new k place cj a (Waiting x) o n r t = absurd t
 bars_failed c w new k place cj a outcome o n r t = absurd t
 
--- memory: a write, or a store
+-- memory: a write, or a store; a sync takes none
 memory_ends : (c : CoreView) (w new : State) (k place : ℕ) (cj : CoreJob) (a : Action) (o : OnMachine c w new k place cj a (Ended Memory)) → HasReply c k (ActsNext a) reply.Memory → CoreIs (stopped c place) new
 memory_ends c w new k place cj WriteBody o r =
     (let h : Moves w o.job WriteBody w.append (Ended Memory) new = o.acts in
@@ -650,8 +650,16 @@ memory_ends c w new k place cj WriteGate o r = by w.append refl o.acts
         (record { is_open = ap (λ (s : State). s.is_open) h.1.2; records = ap (λ (s : State). s.records) h.1.2; next_job = ap (λ (s : State). s.next_job) h.1.2; alone = ap (λ (s : State). s.alone) h.1.2 })
         (ap (λ (s : State). s.is_barred) h.1.2) (ap (λ (s : State). s.jobs) h.1.2) (ap (λ (s : State). s.append) h.1.2)
 memory_ends c w new k place cj (Store j object stripe) o r = off_arm c w new k place cj (Store j object stripe) (Ended Memory) o (with_provider w.providers j o.acts.0) refl o.acts.2
-memory_ends c w new k place cj SyncBody o r = absurd r
-memory_ends c w new k place cj SyncGate o r = absurd r
+memory_ends c w new k place cj SyncBody o r = by w.append o.acts
+  where
+    by : (f : Option Append) → Moves w o.job SyncBody f (Ended Memory) new → CoreIs (stopped c place) new
+    by None h = absurd h
+    by (Some y) h = absurd h
+memory_ends c w new k place cj SyncGate o r = by w.append o.acts
+  where
+    by : (f : Option Append) → Moves w o.job SyncGate f (Ended Memory) new → CoreIs (stopped c place) new
+    by None h = absurd h
+    by (Some y) h = absurd h
 memory_ends c w new k place cj (Fetch j object stripe) o r = absurd r
 memory_ends c w new k place cj (Ask j object round) o r = absurd r
 memory_ends c w new k place cj (Work object stripe) o r = absurd r

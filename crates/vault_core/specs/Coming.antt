@@ -9,6 +9,8 @@
 --   left_in c number    == the same of the job of a number; None where there is none
 --   core_left c number    == the same; 0 where there is none
 --   entry_in c number   == the record that the job's append writes; None outside an append
+--   called_provider coming == the provider that the next action calls: of a store, a fetch, an ask, a removal
+--   calls_disk coming      == what comes next is a move of an append, the only action that calls the disk
 --   HasReply c number coming reply  == the reply is one that this action has
 --   TakesReply c number reply  == the reply is one that the next action has
 use Rattle.std.specs.Prelude.{◌≡◌, ℕ, ◌+◌, ◌&&◌, Bool, true, false, not, List, length, Option, None, Some, is_some, nat_lt, unwrap_or, count_by, slice_get, if◌then◌else◌}
@@ -137,6 +139,24 @@ entry_of_found t (Some j) = entry_of_job t j
 abbrev pub entry_in : CoreView → ℕ → Option Record
 entry_in c number = entry_of_found c.table (job_in c.jobs number)
 
+-- the provider that an action calls
+abbrev pub provider_of : Action → Option ℕ
+provider_of (Store j object stripe) = Some j
+provider_of (Fetch j object stripe) = Some j
+provider_of (Ask j object round) = Some j
+provider_of (Remove j object) = Some j
+provider_of action = None
+
+-- the provider that the next action calls
+abbrev pub called_provider : Coming → Option ℕ
+called_provider (Acts action) = provider_of action
+called_provider coming = None
+
+-- what comes next is a move of an append, the only action that calls the disk
+abbrev pub calls_disk : Coming → Bool
+calls_disk (Acts action) = is_move (Some action)
+calls_disk coming = false
+
 -- an action asks a provider
 abbrev pub asks_next : Option Action → Bool
 asks_next (Some (Ask j object round)) = true
@@ -158,11 +178,13 @@ HasReply c number (Acts WriteBody) reply.Failed = Unit {0}
 HasReply c number (Acts WriteBody) reply.Memory = Unit {0}
 HasReply c number (Acts SyncBody) reply.Done = Unit {0}
 HasReply c number (Acts SyncBody) reply.Failed = Unit {0}
+HasReply c number (Acts SyncBody) reply.Memory = Unit {0}
 HasReply c number (Acts WriteGate) reply.Done = Unit {0}
 HasReply c number (Acts WriteGate) reply.Failed = Unit {0}
 HasReply c number (Acts WriteGate) reply.Memory = Unit {0}
 HasReply c number (Acts SyncGate) reply.Done = Unit {0}
 HasReply c number (Acts SyncGate) reply.Failed = Unit {0}
+HasReply c number (Acts SyncGate) reply.Memory = Unit {0}
 HasReply c number (Acts (Store j object stripe)) reply.Done = Unit {0}
 HasReply c number (Acts (Store j object stripe)) reply.Failed = Unit {0}
 HasReply c number (Acts (Store j object stripe)) reply.Memory = Unit {0}

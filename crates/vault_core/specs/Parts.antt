@@ -98,6 +98,11 @@ is_closer wish.Audit = true
 is_closer wish.Repair = true
 is_closer w = false
 
+-- a wish that has an append
+abbrev pub has_append : Wish → Bool
+has_append (wish.Get name) = false
+has_append w = true
+
 -- a wish that calls providers
 abbrev pub is_caller : Wish → Bool
 is_caller (wish.Drop name) = false

@@ -1,11 +1,11 @@
-ghost use Rattle.std.specs.Prelude.{◌≡◌, ◌<◌, ◌≤◌, ◌==◌, ℕ, Some, IfSome, slice_get};
+ghost use Rattle.std.specs.Prelude.{◌≡◌, ◌<◌, ◌≤◌, ◌==◌, ℕ, Some, true, IfSome, IsSome, slice_get};
 ghost use Rattle.std.specs.Option.{option_map};
 ghost use Rattle.std.specs.List.{list_any};
 ghost use Rattle.record_codec.specs.Entries.{entry_of, IsInGrammar};
 ghost use Rattle.vault_core.specs.declared.pinned.Pinned.{Pinned as PinnedFile};
-ghost use Rattle.vault_core.specs.Coming.{seen_action, action_next, entry_of_job, written_by, is_last_ask, is_idle};
+ghost use Rattle.vault_core.specs.Coming.{seen_action, action_next, entry_of_job, written_by, is_last_ask, is_idle, is_move, provider_of};
 ghost use Rattle.vault_core.specs.Rest.{call_of, rest_of};
-ghost use Rattle.vault_core.specs.Parts.{core_job, IsJobKept, is_opening, is_unbegun, is_past};
+ghost use Rattle.vault_core.specs.Parts.{core_job, IsJobKept, has_append, is_opening, is_unbegun, is_past};
 
 use crate::action::Action;
 use crate::cursor::{Cursor, Move, Spot};
@@ -64,8 +64,11 @@ fn call(wish: &Wish, spot: &Spot, provider: u32) -> Action
 impl Job {
     /// The next of the actions that the job has not yet made.
     pub fn action(&self) -> Action
-        ensures { (n : ℕ) → IsJobKept n self.now
+        ensures value { (n : ℕ) → IsJobKept n self.now
             → slice_get (rest_of n self.now) 0 ≡ Some (seen_action result) }
+        ensures within { (n j : ℕ) → IsJobKept n self.now → provider_of (seen_action result) ≡ Some j → j < n }
+        ensures appends { (n : ℕ) → IsJobKept n self.now → is_move (Some (seen_action result)) ≡ true
+            → has_append self.now.wish ≡ true }
     {
         match self.cursor {
             Cursor::Opening { at } => at.action(),
@@ -104,8 +107,11 @@ impl Job {
 
     /// The next action of the job over a table.
     pub fn action_over(&self, table: &Table) -> Action
-        ensures { (n : ℕ) → IsJobKept n self.now
+        ensures value { (n : ℕ) → IsJobKept n self.now
             → action_next table.now (core_job n self.now) ≡ Some (seen_action result) }
+        ensures within { (n j : ℕ) → IsJobKept n self.now → provider_of (seen_action result) ≡ Some j → j < n }
+        ensures appends { (n : ℕ) → IsJobKept n self.now → is_move (Some (seen_action result)) ≡ true
+            → has_append self.now.wish ≡ true }
     {
         if self.is_idle(table) {
             return Action::End;
@@ -131,6 +137,7 @@ impl Job {
     pub fn record(&self, table: &Table) -> Option<Record>
         ensures value { (n : ℕ) → option_map entry_of result ≡ written_by table.now (core_job n self.now)
             self.now.wish }
+        ensures there { has_append self.now.wish ≡ true → IsSome result }
         ensures in_grammar { (n : ℕ) → 4 ≤ n → n ≤ 16 → IsJobKept n self.now
             → IfSome result (λ entry. IsInGrammar entry) }
     {
@@ -155,6 +162,8 @@ impl Job {
     pub fn entry_over(&self, table: &Table) -> Option<Record>
         ensures value { (n : ℕ) → IsJobKept n self.now
             → option_map entry_of result ≡ entry_of_job table.now (core_job n self.now) }
+        ensures there { (n : ℕ) → IsJobKept n self.now
+            → is_move (action_next table.now (core_job n self.now)) ≡ true → IsSome result }
         ensures in_grammar { (n : ℕ) → 4 ≤ n → n ≤ 16 → IsJobKept n self.now
             → IfSome result (λ entry. IsInGrammar entry) }
     {

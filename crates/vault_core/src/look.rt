@@ -1,4 +1,4 @@
-ghost use Rattle.std.specs.Prelude.{◌≡◌, ◌+◌, ◌<◌, ◌≤◌, ◌^◌, ◌||◌, List, ℕ, Option, None, Some, length, IsTrue, IfSome, if◌then◌else◌, nat_le, ◌∷◌, []};
+ghost use Rattle.std.specs.Prelude.{◌≡◌, ◌+◌, ◌<◌, ◌≤◌, ◌^◌, ◌||◌, List, ℕ, Option, None, Some, length, IsTrue, true, IfSome, IsSome, if◌then◌else◌, nat_le, ◌∷◌, []};
 ghost use Rattle.std.specs.Option.{option_map};
 ghost use Rattle.hail_records.specs.Records.{record_size};
 ghost use Rattle.hail_machine.specs.Jobs.{job_of};
@@ -12,7 +12,7 @@ ghost use Rattle.hail_machine.specs.Refusals.{first_refusal};
 ghost use Rattle.hail_columns.specs.Verdicts.{Sums};
 ghost use Rattle.record_codec.specs.Entries.{entry_of, counted, IsInGrammar, IsPadded};
 ghost use Rattle.vault_core.specs.View.{job_in, CoreJob};
-ghost use Rattle.vault_core.specs.Coming.{seen_next, waits_or_acts, next_in, left_in, entry_in, is_last_ask_of};
+ghost use Rattle.vault_core.specs.Coming.{seen_next, waits_or_acts, next_in, left_in, entry_in, is_last_ask_of, called_provider, calls_disk};
 ghost use Rattle.vault_core.specs.Reserves.{Reserves};
 ghost use Rattle.vault_core.specs.Parts.{core_job, IsJobKept};
 ghost use Rattle.vault_core.specs.Carried.{CoreIs, refusal_of, IsNextOf, IsEntryOf};
@@ -32,7 +32,8 @@ pub const MOST_JOBS: usize = 8;
 impl Core {
     /// The length of the journal's text with all appends that are done, its closed gate included.
     pub fn end(&self) -> u64
-        ensures { result ≡ self.now.end }
+        ensures value { result ≡ self.now.end }
+        ensures least { 9 ≤ result }
     {
         self.end
     }
@@ -96,7 +97,8 @@ impl Core {
 
     /// The first move of an append, unless another one is in flight.
     fn start(&self) -> Next
-        ensures { seen_next result ≡ waits_or_acts self.now.append (Some WriteBody) }
+        ensures value { seen_next result ≡ waits_or_acts self.now.append (Some WriteBody) }
+        ensures alone { called_provider (seen_next result) ≡ None }
     {
         match self.append {
             Some(holder) => Next::Waiting { holder },
@@ -106,7 +108,8 @@ impl Core {
 
     /// What comes next for a job, read off the core alone.
     fn coming(&self, job: u32) -> Next
-        ensures { seen_next result ≡ next_in self.now job }
+        ensures value { seen_next result ≡ next_in self.now job }
+        ensures within { (j : ℕ) → called_provider (seen_next result) ≡ Some j → j < self.now.setup.n }
     {
         if self.barred {
             return Next::MustReopen;
@@ -123,6 +126,7 @@ impl Core {
     /// What comes next for a job.
     pub fn next(&self, job: u32) -> Next
         ensures value { seen_next result ≡ next_in self.now job }
+        ensures within { (j : ℕ) → called_provider (next_in self.now job) ≡ Some j → j < self.now.setup.n }
         ensures machine { (w : State) → CoreIs self.now w → IsNextOf w job result }
     {
         self.coming(job)
@@ -145,6 +149,7 @@ impl Core {
     /// The record that the job's current append writes, read off the core alone.
     fn writing(&self, job: u32) -> Option<Record>
         ensures value { option_map entry_of result ≡ entry_in self.now job }
+        ensures there { calls_disk (next_in self.now job) ≡ true → IsSome result }
         ensures in_grammar { IfSome result (λ entry. IsInGrammar entry) }
         ensures room { IfSome result (λ entry. self.now.end + (1 + record_size (entry_of entry)) ≤ 2 ^ 24) }
     {
@@ -155,6 +160,7 @@ impl Core {
     /// The record that the job's current append writes; None outside an append.
     pub fn entry(&self, job: u32) -> Option<Record>
         ensures value { option_map entry_of result ≡ entry_in self.now job }
+        ensures there { calls_disk (next_in self.now job) ≡ true → IsSome result }
         ensures machine { (w : State) → CoreIs self.now w → IsEntryOf w job (option_map entry_of result) }
         ensures in_grammar { IfSome result (λ entry. IsInGrammar entry) }
         ensures room { IfSome result (λ entry. self.now.end + (1 + record_size (entry_of entry)) ≤ 2 ^ 24) }
