@@ -69,5 +69,5 @@ others_product-append x (p ∷ ps) qs = go (nat_eq p x) (others_product-append x
     go false h = cc (h, nim_ring.mul_assoc (nim_add x p) (others_product x ps) (others_product x qs))
 
 -- one point more
-pub upto-more : (n : ℕ) → upto (n + 1) ≡ upto n ++ n ∷ []
-upto-more n = range_with_len-append 0 n 1 ∙ ap (λ a. upto n ++ a ∷ []) (zero-add n)
+pub upto_more : (n : ℕ) → upto (n + 1) ≡ upto n ++ n ∷ []
+upto_more n = range_with_len-append 0 n 1 ∙ ap (λ a. upto n ++ a ∷ []) (zero-add n)

@@ -45,10 +45,6 @@ IsStill (Work o t) = ⊥
 IsStill (Remove k o) = ⊥
 IsStill action = Unit {0}
 
-upgrade-list : (s : Setup) (job : Job) → job.kind ≡ UpgradeJob → actions_of s job ≡ append_actions ++ End ∷ []
-unfolding actions_of
-upgrade-list s job kind = ap (actions_by s job) kind
-
 module _ (start new : State) (how : Answer) (heard : List Entry) (O : IsOpenAtRest start 1) (E : Ends start UpgradeJob how heard new) where
   abbrev upgrade_with : With
   upgrade_with = with_job_of start UpgradeJob E.job

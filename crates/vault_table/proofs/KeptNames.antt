@@ -58,6 +58,7 @@ name-at (s ∷ sizes) letters zero l = refl
 name-at (s ∷ sizes) letters (suc k) l = name-at sizes (drop (s % 128) letters) k (omega (arith, l))
     ∙ ap (name_of (get_or sizes k 0)) (drop-drop (begins_at sizes k) (s % 128) letters)
 
+-- past the last there is none
 pub name-past : (names : List (Option (List ℕ))) (k : ℕ) → length names ≤ k → started_from names k ≡ None
 name-past [] k l = refl
 name-past (n ∷ names) zero l = absurd (omega (arith, l))
