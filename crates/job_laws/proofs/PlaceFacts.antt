@@ -6,7 +6,7 @@ use Rattle.std.proofs.lemmas.Bool.{cases_eq, eq-eqb, ne_eqb}
 use Rattle.std.proofs.lemmas.List.{append_assoc, append-nil}
 use Rattle.std.proofs.lemmas.List.Sums.{sum_by-append}
 use Rattle.plain_facts.specs.Lists.{Each, In}
-use Rattle.plain_facts.proofs.Each.{each_get, each_append, each_map, each_mono}
+use Rattle.plain_facts.proofs.Each.{each_get, each_append, each_map, each_mono, in_left, in_right}
 use Rattle.hail_codes.specs.Points.{upto}
 use Rattle.hail_columns.specs.Opened.{SeenBlock, GivesSymbols}
 use Rattle.hail_devices.specs.Providers.{Held, sized}

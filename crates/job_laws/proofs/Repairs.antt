@@ -6,7 +6,7 @@ use Rattle.std.specs.List.{flat_map}
 use Rattle.std.proofs.lemmas.Bool.{eq-eqb, false≢true}
 use Rattle.std.proofs.lemmas.List.{append_assoc, append-nil}
 use Rattle.plain_facts.specs.Lists.{Each, In}
-use Rattle.plain_facts.proofs.Each.{each_get, each_append, each_map, each_mono, each_take, in_contains}
+use Rattle.plain_facts.proofs.Each.{each_get, each_append, each_map, each_mono, each_take, in_contains, in_left, in_right}
 use Rattle.plain_facts.proofs.Lists.{drop-get}
 use Rattle.hail_codes.specs.Points.{upto}
 use Rattle.hail_columns.specs.Objects.{Object}
@@ -61,7 +61,7 @@ use Rattle.job_laws.proofs.Questions.{each-in, all-each}
 use Rattle.job_laws.proofs.Heard.{IsNot}
 use Rattle.job_laws.proofs.Rewritten.{IsNoneOf, IsBefore, AreOrdered, IsRepairing, column_at, after, after-either, after-none, after-some, Told, made-told, works-opened}
 use Rattle.job_laws.proofs.Places.{fetches_at, actions_at, IsAt, at-place, repairs-places, AreApart, all-apart, ordered-places, Cut, cut-at}
-use Rattle.job_laws.proofs.PlaceFacts.{FetchesAll, OpensAll, opens-fetches, opens-done, fetches-done, told-places, lacks-places, gives-places, work-cut, store-cut, IsStoreOf, in-left, in-right, stores-of, stores-all, stores-wider, stored-at, no-stores}
+use Rattle.job_laws.proofs.PlaceFacts.{FetchesAll, OpensAll, opens-fetches, opens-done, fetches-done, told-places, lacks-places, gives-places, work-cut, store-cut, IsStoreOf, stores-of, stores-all, stores-wider, stored-at, no-stores}
 
 ordered-take : (xs : List Action) (p : ℕ) → AreOrdered xs → AreOrdered (take p xs)
 ordered-take xs zero o = tt

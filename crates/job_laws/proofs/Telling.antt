@@ -1,14 +1,14 @@
 -- From the run of a job, as a command tells it, to what it leaves.
-use Rattle.std.proofs.Common.{◌≡◌, ℕ, zero, suc, ◌<◌, ◌≤◌, ◌==◌, ◌&&◌, ◌⊎◌, true, false, cond, List, [], ◌∷◌, length, replicate, Option, None, Some, refl, ap, sym, subst, ◌∙◌, inl, inr, arith}
+use Rattle.std.proofs.Common.{◌≡◌, ℕ, zero, suc, ◌<◌, ◌≤◌, ◌⊎◌, true, false, List, [], ◌∷◌, length, replicate, Option, None, Some, refl, sym, subst, ◌∙◌, inl, inr, arith}
 use Rattle.std.specs.Prelude.{slice_get, is_some, IsSomeAnd}
 use Rattle.std.specs.Option.{option_map}
-use Rattle.std.proofs.lemmas.Bool.{cases_Bool, cases_lt, eq-eqb, eqb-true, and_parts, and_from, false≢true}
+use Rattle.std.proofs.lemmas.Bool.{cases_Bool, cases_lt, false≢true}
 use Rattle.std.proofs.lemmas.List.{length-replicate}
 use Rattle.hail_devices.specs.Cells.{Cells}
 use Rattle.hail_devices.specs.Images.{EachImage}
 use Rattle.hail_devices.specs.Providers.{Provider}
-use Rattle.hail_records.specs.Records.{Record, SetUp, PutStart, PutDone, Drop, AuditStart, AuditDone, RepairDone, PutDoneIn, Version, Resume, InEffect, RepairDue}
-use Rattle.hail_records.specs.Table.{file_of, files_of, setup_of}
+use Rattle.hail_records.specs.Records.{Record}
+use Rattle.hail_records.specs.Table.{files_of, setup_of}
 use Rattle.hail_records.specs.Acceptance.{AreAccepted}
 use Rattle.hail_records.specs.Areas.{A}
 use Rattle.hail_records.specs.Journal.{StandsFor, StandsOrIsEmpty}
@@ -19,7 +19,6 @@ use Rattle.hail_machine.specs.Events.{IsSpelledKind}
 use Rattle.hail_machine.specs.Heard.{Entry}
 use Rattle.hail_machine.specs.States.{State, Doubt}
 use Rattle.hail_machine.specs.Stands.{StandsPlain, StandsWithDoubt, StandsSwitched}
-use Rattle.hail_machine.proofs.JobLists.{cond_true, cond_false, same_value}
 use Rattle.hail_machine.proofs.Given.{zeros-bytes}
 use Rattle.hail_commands.specs.Seen.{Seen, nobody, provider_at}
 use Rattle.hail_commands.specs.Opens as opens
@@ -27,7 +26,7 @@ use Rattle.hail_commands.specs.Ran.{ran_from, ran_alone}
 use Rattle.hail_openings.specs.Opened.{IsOpenedOver, IsOpenAtRest}
 use Rattle.hail_commands.specs.JobRuns.{RunsJob}
 use Rattle.hail_commands.specs.Jobs.{Leaves, LeftAlone, RanAlone, RunsAlone}
-use Rattle.sound_states.proofs.Records.{none-set_up, sound-accepted, start-named}
+use Rattle.sound_states.proofs.Records.{none-set_up}
 use Rattle.sound_states.specs.Sound.{IsWholeJournal}
 use Rattle.job_laws.proofs.Runs.{job-ends, opened-over}
 use Rattle.job_laws.proofs.Whole.{runs-whole}

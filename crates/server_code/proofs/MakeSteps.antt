@@ -1,9 +1,8 @@
 -- The steps of making the rows of coefficients.
-use Rattle.std.proofs.Common.{◌≡◌, ◌∷◌, ◌≤◌, ◌<◌, ◌+◌, ◌-◌, ◌*◌, ◌++◌, ◌⊎◌, inl, inr, ℕ, suc, List, [], length, take, drop, sym, ap, ◌∙◌, arith, mul-le-mul_right, suc-mul, zero-mul, length-append, length-drop}
+use Rattle.std.proofs.Common.{◌≡◌, ◌≤◌, ◌<◌, ◌+◌, ◌-◌, ◌*◌, ◌++◌, ◌⊎◌, inl, inr, ℕ, suc, List, [], length, take, drop, sym, ap, ◌∙◌, arith, mul-le-mul_right, suc-mul, zero-mul, length-append, length-drop}
 use Rattle.std.proofs.Math.Seq.{drop-append_seam}
 use Rattle.std.proofs.lemmas.List.{drop-append-le, take-append-le, take_all}
 use Rattle.hail_codes.specs.Profiles.{Profile}
-use Rattle.hail_codes.specs.Points.{upto}
 use Rattle.hail_codes.specs.ServerCode.{IsGeneratorRow}
 use Rattle.server_code.specs.Generator.{row_at, IsGenerator}
 

@@ -1,14 +1,14 @@
 -- The steps of the products of bytes, and of the products of symbols that are looked up.
-use Rattle.std.proofs.Common.{◌≡◌, ℕ, ◌+◌, ◌*◌, ◌/◌, ◌^◌, ◌<◌, ◌⊎◌, inl, inr, ◌==◌, true, List, length, map, get_or, set, replicate, bit_and, bit_xor, w8, Fits, refl, sym, ap, ap₂, ◌∙◌, arith, eqb-true, zero-add}
+use Rattle.std.proofs.Common.{◌≡◌, ℕ, ◌+◌, ◌*◌, ◌/◌, ◌<◌, ◌⊎◌, inl, inr, ◌==◌, true, List, length, map, get_or, set, replicate, bit_and, bit_xor, w8, refl, sym, ap, ap₂, ◌∙◌, arith, eqb-true}
 use Rattle.std.proofs.lemmas.Nat.{and_le_r}
 use Rattle.std.proofs.lemmas.List.{ext_get_or, length-map, get_or-map, get_or-set_same, get_or-set_other}
-use Rattle.std.proofs.lemmas.Simd.{Each1-all, Each1-weaker, Each1-zip2, Each1-get_or, Each2-splat, below_from_Fits, length-zip2, get_or-zip2, get_or-replicate, swz_l, SwzOk, SwzOk-from_below, length-swz_l, get_or-swz_l_below}
-use lib.Lanes.{zip2, Each1}
+use Rattle.std.proofs.lemmas.Simd.{Each1-get_or, below_from_Fits, length-zip2, get_or-zip2, swz_l, length-swz_l}
+use lib.Lanes.{zip2}
 use Rattle.field_laws.proofs.Ring.{add_mul}
 use Rattle.hail_field.specs.Nim.{nim_add, nim_mul}
 use Rattle.hail_field.proofs.AllNumbers.{nim_ring}
 use Rattle.hail_field.proofs.Table.{holds_below, at_each}
-use Rattle.hail_field.proofs.Multiples.{AreLanes, down, low_ok, high_ok, looked_up}
+use Rattle.hail_field.proofs.Multiples.{AreLanes, down, looked_up}
 use Rattle.server_code.specs.Products.{AreMultiples}
 use Rattle.server_code.specs.declared.products.Multiples.{Multiples}
 use Rattle.server_code.proofs.MakeSteps.{last_or_before}
