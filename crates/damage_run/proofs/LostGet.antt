@@ -26,7 +26,7 @@ use Rattle.damage_run.proofs.InRepair.{robbed}
 
 -- two places of four agree at most
 module _ (p : List ℕ) (a b c d : ℕ) (s t : Option ℕ) where
-  at_most_two : agree p (a ∷ b ∷ c ∷ d ∷ []) (None ∷ None ∷ s ∷ t ∷ []) ≤ 2
+  pub at_most_two : agree p (a ∷ b ∷ c ∷ d ∷ []) (None ∷ None ∷ s ∷ t ∷ []) ≤ 2
   unfolding agree_over is_seen_over
   at_most_two = by (is_seen (value p c) s) (is_seen (value p d) t)
     where

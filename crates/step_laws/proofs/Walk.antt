@@ -1,7 +1,8 @@
 -- What each event does to the jobs that run, and to what is in doubt.
 use Rattle.std.proofs.Common.{◌≡◌, ℕ, ◌==◌, Bool, true, false, List, [], ◌∷◌, Option, Some, None, refl, ap, sym, subst, ◌∙◌, inl, inr}
-use Rattle.std.specs.Prelude.{IsSome, is_some, nat_lt}
-use Rattle.std.proofs.lemmas.Bool.{eq-eqb, false≢true}
+use Rattle.std.specs.Prelude.{IsSome, nat_lt}
+use Rattle.std.proofs.lemmas.Bool.{eq-eqb}
+use Rattle.plain_facts.proofs.Options.{is_some-none}
 use Rattle.hail_columns.specs.Opened.{GivesSymbols}
 use Rattle.hail_records.specs.Records.{Setup, SetUp, is_setup}
 use Rattle.hail_records.specs.Table.{setup_of}
@@ -299,14 +300,10 @@ module _ (moment : ℕ) (old : State) where
   reopens (Refused refusal.Memory) new (faults, low, is) = no_jobs moment old Reopen (Refused refusal.Memory) new (ap (λ (w : State). w.jobs) is) (λ d h. Doubted.kept (ap (λ (w : State). w.doubt) (sym is) ∙ h) (ap (λ (w : State). w.records) is))
   reopens r new h = absurd h
 
-  none_setup : (o : Option Setup) → is_some o ≡ false → o ≡ None
-  none_setup None h = refl
-  none_setup (Some s) h = absurd (false≢true (sym h))
-
   left_doubt : (s : Setup) (doubt : Option Doubt) (new : State) → LeavesDoubt old s doubt → new.records ≡ old.records → (d : Doubt) → doubt ≡ Some d → Doubted old new d
   left_doubt s doubt new (inl is) rec d h = Doubted.kept (sym is ∙ h) rec
   left_doubt s doubt new (inr (none, is)) rec d h = (let g : Some (record { entry = SetUp s; maker = None }) ≡ Some d = sym is ∙ h in
-      let f : record { entry = SetUp s; maker = None } ≡ d = cc in Doubted.set_up s (sym f) (ap setup_of rec ∙ none_setup (setup_of old.records) none))
+      let f : record { entry = SetUp s; maker = None } ≡ d = cc in Doubted.set_up s (sym f) (ap setup_of rec ∙ is_some-none (setup_of old.records) none))
 
   init_not : (s : Setup) (r : Outcome) (k : ℕ) → Init s ≡ Step k → r ≡ More → ⊥
   init_not s r k e m = cc
