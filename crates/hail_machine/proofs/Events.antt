@@ -136,6 +136,11 @@ stored_value old job j object stripe p call i o s b e h =
             let k : with_block object stripe (block_to_store old job job.kind j object stripe) x object stripe ≡ b = cc in
             sym k ∙ cond_true ((object == object) && (stripe == stripe)) (Some (block_to_store old job job.kind j object stripe)) (x object stripe) (and_from (object == object) (stripe == stripe) (eq-eqb object object refl) (eq-eqb stripe stripe refl)))
 
+-- settling leaves nothing in doubt
+pub settled_doubt : (left mid : State) → Settles left mid → mid.doubt ≡ None
+settled_doubt left mid (inl is) = ap (λ (w : State). w.doubt) is
+settled_doubt left mid (inr (d, in_doubt, is)) = ap (λ (w : State). w.doubt) is
+
 module _ (limit moment : ℕ) (old : State) where
   -- of a call that leaves what the provider holds
   leaves : (e : Event) (r : Outcome) (j : ℕ) (p : Provider) (new : State) → p.held ≡ (old.providers j).held → new.providers ≡ with_provider old.providers j p → (i o s : ℕ) → Block_is old e r new i o s
@@ -503,10 +508,6 @@ module _ (limit moment : ℕ) (old : State) where
   settled_jobs : (left mid : State) → Settles left mid → (mid.jobs ≡ left.jobs) × (mid.append ≡ left.append) × (mid.providers ≡ left.providers) × (mid.bytes ≡ left.bytes) × (mid.is_open ≡ left.is_open)
   settled_jobs left mid (inl is) = (ap (λ (w : State). w.jobs) is, ap (λ (w : State). w.append) is, ap (λ (w : State). w.providers) is, ap (λ (w : State). w.bytes) is, ap (λ (w : State). w.is_open) is)
   settled_jobs left mid (inr (d, in_doubt, is)) = (ap (λ (w : State). w.jobs) is, ap (λ (w : State). w.append) is, ap (λ (w : State). w.providers) is, ap (λ (w : State). w.bytes) is, ap (λ (w : State). w.is_open) is)
-
-  settled_doubt : (left mid : State) → Settles left mid → mid.doubt ≡ None
-  settled_doubt left mid (inl is) = ap (λ (w : State). w.doubt) is
-  settled_doubt left mid (inr (d, in_doubt, is)) = ap (λ (w : State). w.doubt) is
 
   records_of : (mid new : State) → new.records ≡ mid.records → (mid.records ≡ old.records) ⊎ ((d : Doubt) × (old.doubt ≡ Some d) × (mid.records ≡ d.entry ∷ old.records)) → Records_is old new
   records_of mid new is (inl e) = Records_is.same (is ∙ e)

@@ -206,7 +206,8 @@ module _ (limit : ℕ) (start : State) (m : Moment) (ms : List Moment) (N : num.
     | Job_is.begun kind profile is k_is none_ rec ↦ ap setup_of rec
     | Job_is.plain x action runs next_is is_plain goes rec st ↦ ap setup_of rec
     | Job_is.drew x runs next_is none_ is rec ↦ ap setup_of rec
-    | Job_is.finished x a runs next_is flight mine is rec none_ ↦ setup_one a x flight runs mine rec
+    | Job_is.finished x a runs next_is flight mine is rec none_ ↦
+        ap setup_of rec ∙ wrote_setup x x.kind a.entry (now start ms).records (F.wrote a x flight (subst (λ n. job_of (now start ms).jobs n ≡ Some x) (sym mine) runs))
   ]
 
   pub setup_stays : (k : ℕ) (j : Job) → job_of m.state.jobs k ≡ Some j → setup_in m.state ≡ setup_in (now start ms)

@@ -15,7 +15,7 @@ use Rattle.hail_machine.specs.Refusals as refusal
 use Rattle.hail_machine.specs.Refusals.{Refusal}
 use Rattle.hail_machine.specs.Answers as answer
 use Rattle.hail_machine.specs.Events.{Event, Init, Begin, BeginAt, BeginScrub, BeginPack, Step, Alter, Lose, Stop, Reopen, Names, Continue, Outcome, Ready, Refused, Opened, Begun, More, Waiting, Ended, Replaced, NothingHeld, Stopped, Listed, Closed, Continued}
-use Rattle.hail_machine.specs.States.{State, Append, Doubt, Alone, worked_object, setup_in, with_provider, Settles}
+use Rattle.hail_machine.specs.States.{State, Append, Doubt, Alone, worked_object, setup_in, with_provider}
 use Rattle.hail_machine.specs.Begins.{beginning, BeginsAt}
 use Rattle.hail_machine.specs.Given.{blocks_given}
 use Rattle.hail_machine.specs.Audits.{asked_challenge}
@@ -30,6 +30,8 @@ use Rattle.hail_machine.proofs.Changes.{IsLone}
 use Rattle.hail_machine.proofs.JobLists.{cond_true, number_of, found_with, found_without, found_more, found_none}
 use Rattle.calm_laws.specs.Origins.{IsHeldThen}
 use Rattle.calm_laws.proofs.GetEnds.{none_beside}
+use Rattle.hail_machine.proofs.Events.{settled_doubt}
+use Rattle.calm_laws.proofs.Origin.{settled_jobs}
 use Rattle.step_laws.specs.Gave.{IsAnsweredThen}
 
 -- what an action gave
@@ -279,14 +281,6 @@ module _ (moment : ℕ) (old : State) where
 
   begin_pack_not : (k : ℕ) (r : Outcome) → BeginPack ≡ Step k → r ≡ More → ⊥
   begin_pack_not k r e m = cc
-
-  settled_doubt : (left mid : State) → Settles left mid → mid.doubt ≡ None
-  settled_doubt left mid (inl is) = ap (λ (w : State). w.doubt) is
-  settled_doubt left mid (inr (d, at, is)) = ap (λ (w : State). w.doubt) is
-
-  settled_jobs : (left mid : State) → Settles left mid → mid.jobs ≡ left.jobs
-  settled_jobs left mid (inl is) = ap (λ (w : State). w.jobs) is
-  settled_jobs left mid (inr (d, at, is)) = ap (λ (w : State). w.jobs) is
 
   stops : (picks : List ℕ) (r : Outcome) (new : State) → Stops old r new → Walked moment old (Stop picks) r new
   stops picks Stopped new (journal, area, holds, h) = no_jobs moment old (Stop picks) Stopped new (settled_jobs (reread old journal area) new h) (no_doubt new.doubt old new (settled_doubt (reread old journal area) new h))
