@@ -37,7 +37,7 @@ use Rattle.command_laws.proofs.JobEnds.{images-have, refused-same, unstarted-sam
 -- ---- nothing is fetched
 
 -- how often a provider was fetched from
-fetches_of : Provider → ℕ
+abbrev fetches_of : Provider → ℕ
 fetches_of p = p.fetches
 
 pub put-fetches : (name : List ℕ) (old new : Seen) (end : Ending) → AnswersPut name old new end → SameFetches old new

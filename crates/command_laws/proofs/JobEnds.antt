@@ -416,7 +416,7 @@ left-same of records kind how old new heard left same j = elim (cases_lt j (setu
 ]
 
 -- what a provider tells that it holds
-held_by : Provider → Option Held
+abbrev held_by : Provider → Option Held
 held_by p = p.held
 
 pub get-holds : (name : List ℕ) (old new : Seen) (end : Ending) → AnswersAlone (GetJob name) old new end → SameHolds old new

@@ -1,5 +1,5 @@
 -- Points that are apart, and the products of their sums.
-use Rattle.std.proofs.Common.{◌≡◌, ◌≢◌, ◌≤◌, ◌<◌, ◌+◌, ◌++◌, ◌⊎◌, inl, inr, ℕ, zero, suc, sym, ◌∙◌, ap, refl, arith, List, [], ◌∷◌, Bool, true, false, cond, nat_eq, eqb-true, zero-add}
+use Rattle.std.proofs.Common.{◌≡◌, ◌≢◌, ◌≤◌, ◌<◌, ◌+◌, ◌-◌, ◌++◌, ◌⊎◌, inl, inr, ℕ, zero, suc, sym, ◌∙◌, ap, refl, arith, List, [], ◌∷◌, Bool, true, false, cond, nat_eq, eqb-true, zero-add, add-one}
 use Rattle.std.specs.List.{range_with_len}
 use Rattle.plain_facts.specs.Lists.{Each}
 use Rattle.field_laws.specs.Field.{Apart}
@@ -33,6 +33,10 @@ range_with_len-append a (suc m) n =
     let e : suc m + n ≡ suc (m + n) = omega arith in
     let f : a + suc m ≡ a + 1 + m = omega arith in
     rw (e, f) (ap (λ t. a ∷ t) (range_with_len-append (a + 1) m n))
+
+-- the first of the numbers up to an end, and the others
+pub range_with_len-step : (a end : ℕ) → a < end → range_with_len a (end - a) ≡ a ∷ range_with_len (a + 1) (end - (a + 1))
+range_with_len-step a end h = let e : end - a ≡ (end - (a + 1)) + 1 = omega arith in rw (e, add-one) refl
 
 -- the test finds that numbers differ
 pub nat_eq-differ : (p x : ℕ) → x ≢ p → nat_eq p x ≡ false
