@@ -1,62 +1,25 @@
 -- Blocks that are absent take nothing from accepted rows: only wrong ones that are there could forge one.
-use Rattle.std.proofs.Common.{◌≡◌, ℕ, suc, ◌+◌, ◌*◌, ◌<◌, ◌≤◌, ◌&&◌, true, List, length, drop, map, get_or, Some, None, refl, ap, sym, ◌∙◌, inl, inr, arith, get_or-take, get_or-drop}
+use Rattle.std.proofs.Common.{◌≡◌, ℕ, ◌+◌, ◌*◌, ◌<◌, ◌≤◌, ◌&&◌, true, List, length, Some, None, refl, ap, sym, ◌∙◌, inl, inr, arith}
 use Rattle.std.specs.Prelude.{is_some, slice_index}
 use Rattle.std.proofs.lemmas.Bool.{and_parts, and_from, false≢true}
-use Rattle.std.proofs.Math.Nat.{mul-le-mul_right}
-use Rattle.std.proofs.lemmas.List.FromFn.{get_or-map-range_with_len, fill_by_all}
 use Rattle.std.proofs.lemmas.Option.{get_or_from_slice_get}
 use Rattle.plain_facts.proofs.Lists.{map-range_at, same_or_other}
-use Rattle.plain_facts.proofs.Places.{IsPlace, place-of}
 use Rattle.hail_field.specs.Shape.{IsShape}
 use Rattle.poly_laws.specs.Poly.{is_seen as is_seen_over}
-use Rattle.hail_codes.specs.Polynomials.{value, interpolate, is_seen}
+use Rattle.hail_codes.specs.Polynomials.{value, is_seen}
 use Rattle.hail_codes.specs.Points.{upto, values_at}
 use Rattle.hail_codes.specs.Profiles.{profile_of}
 use Rattle.hail_codes.specs.ServerCode.{codeword}
-use Rattle.hail_columns.specs.Objects.{Object, stripes, stripe_symbols, symbol_of, symbols_in, kept_by, point}
+use Rattle.hail_columns.specs.Objects.{Object, stripes, symbols_in, kept_by, point}
 use Rattle.hail_columns.specs.Columns.{primary_row, is_wrong_block}
 use Rattle.hail_columns.specs.Opened.{SeenBlock, OpensTo, AllOpen, symbol_in, block_at, AcceptsRow, AcceptsSymbols, GivesSymbols}
 use Rattle.hail_columns.specs.Forgeries.{count_of, is_agreeing, IsRow, IsStripeForgery}
-use Rattle.hail_columns.proofs.ColumnLaws.{value-interpolate_upto}
-use Rattle.hail_columns.proofs.SecondaryLaws.{length-kept_by}
 use Rattle.column_laws.proofs.UniqueLaws.{profile-room}
-use Rattle.column_laws.proofs.RightBlocks.{length-symbols_in}
+use Rattle.column_laws.proofs.RightRows.{kept-symbol}
 use Rattle.column_laws.proofs.Counts.{count_of-within, opens-at}
 use Rattle.column_laws.proofs.OtherRows.{forgery-of_other}
+use Rattle.run_laws.proofs.Files.{IsRightRow, right-symbols}
 use Rattle.calm_laws.specs.FewWrong.{is_wrong_seen}
-
-module _ (o : Object) (bytes : List ℕ) where
-  -- a symbol of a stripe, in layout order
-  abbrev own : ℕ → ℕ → ℕ
-  own stripe i = symbol_of bytes (stripe * stripe_symbols o + i)
-
-  -- a primary symbol at a kept place is the file's
-  primary-symbol : (stripe place j : ℕ) → place < o.profile.keep → place < o.profile.size → j < o.shape.l →
-      slice_index (codeword o.profile (kept_by o (symbols_in o bytes stripe) j)) place ≡ own stripe (j * o.profile.keep + place)
-  primary-symbol stripe place j kept within below =
-      let symbols = symbols_in o bytes stripe in
-      let mine = kept_by o symbols j in
-      let more : suc j * o.profile.keep ≤ o.shape.l * o.profile.keep = mul-le-mul_right o.profile.keep below in
-      let split : suc j * o.profile.keep ≡ j * o.profile.keep + o.profile.keep = grind arith in
-      let same : mine ≡ map (λ k. own stripe (j * o.profile.keep + k)) (upto o.profile.keep) =
-      fill_by_all (λ k. own stripe (j * o.profile.keep + k)) mine o.profile.keep 0 (length-kept_by o symbols j (length-symbols_in o bytes stripe) below)
-      (λ k less. get_or-take o.profile.keep (drop (j * o.profile.keep) symbols) k 0 less
-      ∙ get_or-drop (j * o.profile.keep) symbols k 0
-      ∙ get_or-map-range_with_len (own stripe) 0 (stripe_symbols o) (j * o.profile.keep + k) (j * o.profile.keep + k) 0 (omega (arith, less, more, split)) (omega arith)) in
-      get_or-map-range_with_len (value (interpolate (upto o.profile.keep) mine)) 0 o.profile.size place place 0 within (omega arith)
-      ∙ ap (λ ks. value (interpolate (upto o.profile.keep) ks) place) same
-      ∙ value-interpolate_upto (λ k. own stripe (j * o.profile.keep + k)) o.profile.keep place kept
-
-  -- the symbols of a row are the file's
-  abbrev IsRightRow : ℕ → List ℕ → ℕ → Type 0
-  IsRightRow stripe symbols place = (j : ℕ) → j < o.shape.l → get_or symbols (j * o.profile.keep + place) 0 ≡ own stripe (j * o.profile.keep + place)
-
-  right-symbols : (stripe : ℕ) (symbols : List ℕ) → length symbols ≡ stripe_symbols o → ((place : ℕ) → place < o.profile.keep → IsRightRow stripe symbols place) → symbols ≡ symbols_in o bytes stripe
-  right-symbols stripe symbols size rows =
-      fill_by_all (own stripe) symbols (stripe_symbols o) 0 size (λ i below. at i (place-of o.shape.l o.profile.keep i below))
-    where
-      at : (i : ℕ) → IsPlace o.shape.l o.profile.keep i → get_or symbols i 0 ≡ own stripe i
-      at i h = ap (λ k. get_or symbols k 0) h.sum ∙ rows h.place h.place_in h.block h.block_in ∙ ap (own stripe) (sym h.sum)
 
 -- a provider that agrees with a polynomial gave a block
 agrees_seen : (o : Object) (j stripe place v : ℕ) (seen opened : SeenBlock) → OpensTo o j stripe seen opened → is_seen v (symbol_in place opened) ≡ true → is_some seen ≡ true
@@ -90,4 +53,4 @@ own_symbols o bytes number stripe seen symbols is shape below few gives = right-
         get_or_from_slice_get symbols (j * o.profile.keep + place) (value one.row j) 0 (one.values j l)
         ∙ map-range_at (value one.row) (λ k. slice_index (codeword o.profile (kept_by o (symbols_in o bytes stripe) k)) place) 0 o.shape.l
         (own_row o bytes number stripe place seen gives.opened one.row is shape (record { stripe_in = below; place_in = kept }) few gives.opens one.accepted) j (omega arith) (omega (arith, l))
-        ∙ primary-symbol o bytes stripe place j kept (omega (arith, kept, profile-room o number is)) l
+        ∙ kept-symbol o bytes stripe place j kept (omega (arith, kept, profile-room o number is)) l

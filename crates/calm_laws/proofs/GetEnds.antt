@@ -30,10 +30,10 @@ use Rattle.hail_machine.specs.Machine.{Happens}
 use Rattle.hail_machine.specs.Runs.{Moment, now, first_moments, IsRun}
 use Rattle.hail_machine.specs.Heard.{heard_by, given_to}
 use Rattle.hail_machine.proofs.JobLists.{same_value, found_none}
-use Rattle.hail_machine.proofs.Changes.{Grown, Job_is, IsLone, Changes}
+use Rattle.hail_machine.proofs.Changes.{IsLone, Changes}
 use Rattle.hail_machine.proofs.Events.{changes}
 use Rattle.hail_machine.proofs.Numbers.{next_by, next_is_by}
-use Rattle.hail_machine.proofs.PinFacts.{Pins_is, pins_is, setup_same, setup_one, wrote_setup}
+use Rattle.hail_machine.proofs.PinFacts.{Pins_is, pins_is, setup_same, setup_kept}
 use Rattle.hail_machine.proofs.Held.{All, all, first_more, first_all}
 use Rattle.hail_machine.proofs.Gets.{HasFile, own_profile, got_is_opened, heard_blocks, get_file}
 use Rattle.hail_machine.proofs.Given.{block_at-given}
@@ -52,18 +52,6 @@ abbrev pub HaveFiles : State → List Moment → Type 0
 HaveFiles start ms = (k : ℕ) (j : Job) (name : List ℕ) → job_of (now start ms).jobs k ≡ Some j → j.kind ≡ GetJob name → HasFile (begin_of start ms j) (now start ms) j name
 
 module _ (limit : ℕ) (start : State) (m : Moment) (ms : List Moment) (A : All start ms) (F : HaveFiles start ms) (X : Changes limit (length ms) (now start ms) m.event m.outcome m.state) where
-  -- the setup stays while a job runs on
-  setup_kept : (k : ℕ) (j : Job) → job_of m.state.jobs k ≡ Some j → setup_of m.state.records ≡ setup_of (now start ms).records
-  setup_kept k j h = elim (X.job k j h) [
-    | Job_is.kept r (Grown.as_before rec) ↦ ap setup_of rec
-    | Job_is.kept r (Grown.by_other x a runs next_is flight mine other rec) ↦ setup_one limit start m ms A.numbers A.pins X a x flight runs mine rec
-    | Job_is.begun kd wish is k_is allowed rec ↦ ap setup_of rec
-    | Job_is.plain x action runs next_is is_plain goes rec st ↦ ap setup_of rec
-    | Job_is.drew x runs next_is none_ is rec ↦ ap setup_of rec
-    | Job_is.finished x a runs next_is flight mine is rec none_ ↦
-        ap setup_of rec ∙ wrote_setup x x.kind a.entry (now start ms).records (A.pins.wrote a x flight (subst (λ n. job_of (now start ms).jobs n ≡ Some x) (sym mine) runs))
-  ]
-
   file_step : HaveFiles start (m ∷ ms)
   file_step k j name h kind = elim (pins_is limit start m ms A.numbers A.pins X k j h) [
     | Pins_is.had x runs pinned kind_x begun g ↦
@@ -73,7 +61,7 @@ module _ (limit : ℕ) (start : State) (m : Moment) (ms : List Moment) (A : All 
           file = f.file;
           in_effect = ap (λ (b : State). file_in b name) (sym same) ∙ f.in_effect;
           pinned = pinned ∙ (f.pinned ∙ ap (λ (b : State). pinned_file b f.file ∷ []) same);
-          setup = setup_kept k j h ∙ (f.setup ∙ ap (λ (b : State). setup_of b.records) same);
+          setup = setup_kept limit start m ms A.numbers A.pins X k j h ∙ (f.setup ∙ ap (λ (b : State). setup_of b.records) same);
         })
     | Pins_is.new_one kd wish is k_is allowed rec ↦
         (let kd_is : kd ≡ GetJob name = sym (ap (λ (x : Job). x.kind) is) ∙ kind in

@@ -40,6 +40,11 @@ data Gift_is (old new : State) (k : ℕ) (j : Job) : Type 0 where
 abbrev Gifts : State → State → Type 0
 Gifts old new = (k : ℕ) (j : Job) → job_of new.jobs k ≡ Some j → Gift_is old new k j
 
+-- settling what is in doubt leaves the jobs
+pub settled_jobs : (left mid : State) → Settles left mid → mid.jobs ≡ left.jobs
+settled_jobs left mid (inl is) = ap (λ (w : State). w.jobs) is
+settled_jobs left mid (inr (d, at, is)) = ap (λ (w : State). w.jobs) is
+
 module _ (old : State) where
   same_jobs : (new : State) → new.jobs ≡ old.jobs → Gifts old new
   same_jobs new jobs k j h = Gift_is.had j (ap (λ l. job_of l k) (sym jobs) ∙ h) refl refl refl
@@ -145,18 +150,14 @@ module _ (old : State) where
   ]
   begins limit moment kind profile r new h = absurd h
 
-  settled : (left mid : State) → Settles left mid → mid.jobs ≡ left.jobs
-  settled left mid (inl is) = ap (λ (w : State). w.jobs) is
-  settled left mid (inr (d, at, is)) = ap (λ (w : State). w.jobs) is
-
   stops : (r : Outcome) (new : State) → Stops old r new → Gifts old new
-  stops Stopped new (journal, area, holds, h) = no_jobs new (settled (reread old journal area) new h)
+  stops Stopped new (journal, area, holds, h) = no_jobs new (settled_jobs (reread old journal area) new h)
   stops r new h = absurd h
 
   reopens : (r : Outcome) (new : State) → Reopens old r new → Gifts old new
-  reopens Opened new (mid, (journal, area, holds, s), up, enough, (faults, low, is)) = no_jobs new (ap (λ (w : State). w.jobs) is ∙ settled (reread old journal area) mid s)
-  reopens (Refused refusal.NotSetUp) new (mid, (journal, area, holds, s), nothing, (faults, low, is)) = no_jobs new (ap (λ (w : State). w.jobs) is ∙ settled (reread old journal area) mid s)
-  reopens (Refused refusal.TooFewProviders) new (mid, (journal, area, holds, s), up, few, (faults, low, is)) = no_jobs new (ap (λ (w : State). w.jobs) is ∙ settled (reread old journal area) mid s)
+  reopens Opened new (mid, (journal, area, holds, s), up, enough, (faults, low, is)) = no_jobs new (ap (λ (w : State). w.jobs) is ∙ settled_jobs (reread old journal area) mid s)
+  reopens (Refused refusal.NotSetUp) new (mid, (journal, area, holds, s), nothing, (faults, low, is)) = no_jobs new (ap (λ (w : State). w.jobs) is ∙ settled_jobs (reread old journal area) mid s)
+  reopens (Refused refusal.TooFewProviders) new (mid, (journal, area, holds, s), up, few, (faults, low, is)) = no_jobs new (ap (λ (w : State). w.jobs) is ∙ settled_jobs (reread old journal area) mid s)
   reopens (Refused refusal.DiskFault) new (faults, low, rose, is) = no_jobs new (ap (λ (w : State). w.jobs) is)
   reopens (Refused refusal.Memory) new (faults, low, is) = no_jobs new (ap (λ (w : State). w.jobs) is)
   reopens r new h = absurd h
@@ -164,8 +165,8 @@ module _ (old : State) where
   inits_closed : (s : Setup) (r : Outcome) (new : State) → InitsClosed old s r new → Gifts old new
   inits_closed s (Refused refusal.DiskFault) new (doubt, leaves_it, (faults, low, rose, is)) = same_jobs new (ap (λ (w : State). w.jobs) is)
   inits_closed s (Refused refusal.Memory) new (doubt, leaves_it, (faults, low, is)) = same_jobs new (ap (λ (w : State). w.jobs) is)
-  inits_closed s (Refused refusal.Already) new (mid, settles, up, (faults, low, is)) = same_jobs new (ap (λ (w : State). w.jobs) is ∙ settled old mid settles)
-  inits_closed s Ready new (mid, settles, nothing, (faults, low, is)) = same_jobs new (ap (λ (w : State). w.jobs) is ∙ settled old mid settles)
+  inits_closed s (Refused refusal.Already) new (mid, settles, up, (faults, low, is)) = same_jobs new (ap (λ (w : State). w.jobs) is ∙ settled_jobs old mid settles)
+  inits_closed s Ready new (mid, settles, nothing, (faults, low, is)) = same_jobs new (ap (λ (w : State). w.jobs) is ∙ settled_jobs old mid settles)
   inits_closed s r new h = absurd h
 
   inits_by : (s : Setup) (good : Bool) (r : Outcome) (new : State) → InitsBy old s good r new → Gifts old new

@@ -5,7 +5,8 @@ use Rattle.std.proofs.lemmas.List.Edits.{fill_by_more}
 use Rattle.rand_chacha.specs.ChaCha.{ChaCha, word_at, key_of, of_seed}
 use Rattle.hail_columns.specs.Keys.{stream_symbol}
 use Rattle.hail_columns.specs.Challenges.{alpha, picked_row}
-use Rattle.challenge.specs.Rows.{at_word, moved_on, next_symbol, next_rows}
+use Rattle.hail_columns.specs.Generator.{moved_on, next_symbol}
+use Rattle.challenge.specs.Rows.{at_word, next_rows}
 
 -- one row more is drawn
 pub draw_more : (g : ChaCha) (rows i x : ℕ) (out : List ℕ) → i < length out → x ≡ next_rows g rows i

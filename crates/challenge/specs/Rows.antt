@@ -1,30 +1,18 @@
 -- The words that a challenge is drawn from.
 --
 --   at_word key place      == the generator of stream 0 under a key, at a word
---   moved_on g words       == a generator some words further on
---   next_symbol g          == a symbol: the next four words, the first one lowest
 --   next_number g          == a number below 2 ^ 64: the next two words, the low one first
 --   next_rows g rows k     == the row that the k-th such number falls on, below rows
 --   AreRows seed rows picks drawn == the first of the rows drawn are those of the picks
 --   AreBelow rows picks drawn     == they are below the number of rows
 use Rattle.std.specs.Prelude.{◌≡◌, ◌<◌, ℕ, ◌+◌, ◌*◌, ◌%◌, ◌^◌, List, slice_index}
 use Rattle.rand_chacha.specs.ChaCha.{ChaCha, word_at, of_seed}
+use Rattle.hail_columns.specs.Generator.{moved_on}
 use Rattle.hail_columns.specs.Challenges.{picked_row}
 
 -- the generator under a key, at a word
 abbrev pub at_word : List ℕ → ℕ → ChaCha
 at_word key place = record (of_seed key) { word_pos = place }
-
--- the generator some words further on
-abbrev pub moved_on : ChaCha → ℕ → ChaCha
-moved_on g words = record g { word_pos = g.word_pos + words }
-
--- the symbol of the four words at the generator's place, the first word lowest
-abbrev pub next_symbol : ChaCha → ℕ
-next_symbol g =
-    word_at 10 g.key g.stream g.word_pos + word_at 10 g.key g.stream (g.word_pos + 1) * 2 ^ 32
-    + word_at 10 g.key g.stream (g.word_pos + 2) * 2 ^ 64
-    + word_at 10 g.key g.stream (g.word_pos + 3) * 2 ^ 96
 
 -- the number of the two words at the generator's place, the low one first
 abbrev pub next_number : ChaCha → ℕ

@@ -1,5 +1,5 @@
 -- The steps of the loops of the generator.
-use Rattle.std.proofs.Common.{◌≡◌, ◌≤◌, ◌<◌, ◌+◌, ◌-◌, ◌∷◌, ℕ, refl, sym, ap, ◌∙◌, arith, add-one}
+use Rattle.std.proofs.Common.{◌≡◌, ◌≤◌, ◌<◌, ◌+◌, ◌-◌, ℕ, sym, ap, ◌∙◌, arith}
 use Rattle.std.specs.List.{range_with_len}
 use Rattle.hail_field.specs.Nim.{nim, nim_add, nim_mul}
 use Rattle.hail_field.proofs.AllNumbers.{nim_laws, nim_ring}
@@ -7,6 +7,7 @@ use Rattle.poly_laws.specs.Poly.{value as value_over, vanish as vanish_over}
 use Rattle.poly_laws.proofs.Interpolate.{value-vanish}
 use Rattle.hail_codes.specs.Polynomials.{value, vanish}
 use Rattle.hail_codes.specs.Profiles.{profile_of}
+use Rattle.hail_codes.proofs.Points.{range_with_len-step}
 use Rattle.hail_codes.proofs.Profiles.{size_is}
 
 -- the product over no points
@@ -18,9 +19,7 @@ product_start x place n none = rw none (sym (ap (nim_add 1) (nim_ring.mul_zero x
 pub product_step : (x place end : ℕ) → place < end →
     value (vanish (range_with_len place (end - place))) x ≡ nim_mul (nim_add place x) (value (vanish (range_with_len (place + 1) (end - (place + 1)))) x)
 product_step x place end h =
-    let e : end - place ≡ (end - (place + 1)) + 1 = omega arith in
-    let more : range_with_len place (end - place) ≡ place ∷ range_with_len (place + 1) (end - (place + 1)) = rw (e, add-one) refl in
-    ap (λ ps. value (vanish ps) x) more ∙ value-vanish nim nim_laws place (range_with_len (place + 1) (end - (place + 1))) x
+    ap (λ ps. value (vanish ps) x) (range_with_len-step place end h) ∙ value-vanish nim nim_laws place (range_with_len (place + 1) (end - (place + 1))) x
 
 -- in a row of the table no more symbols are kept than a block has
 pub keep_below : (number size keep : ℕ) → size ≡ (profile_of number).size → keep ≡ (profile_of number).keep → keep ≤ size

@@ -13,7 +13,7 @@ use Rattle.poly_laws.proofs.Trim.{length-trim, value-trim}
 use Rattle.poly_laws.proofs.Agree.{agree_same}
 use Rattle.poly_laws.proofs.Roots.{plus_zero, same_values}
 use Rattle.poly_laws.proofs.Interpolate.{length-interpolate, interpolate_takes}
-use Rattle.hail_codes.specs.Polynomials.{value, agree, is_seen, trim, interpolate, Takes}
+use Rattle.hail_codes.specs.Polynomials.{value, agree, is_seen, trim, interpolate, TakesSymbols}
 use Rattle.hail_codes.specs.DispersalCode.{Accepts}
 
 -- chosen symbols, each with its point
@@ -23,7 +23,7 @@ pub record Chosen : Type 0 where
 
 -- no accepted polynomial takes the chosen symbols and, with the places from `at` on, agrees with all but b places
 pub record AcceptsNoneFrom (points : List ℕ) (seen : List (Option ℕ)) (l b at : ℕ) (chosen : Chosen) : Type 0 where
-  pub none : (p : List ℕ) → Accepts points seen l b p → Takes p chosen.points chosen.symbols →
+  pub none : (p : List ℕ) → Accepts points seen l b p → TakesSymbols p chosen.points chosen.symbols →
       length points ≤ length chosen.points + agree p (drop at points) (drop at seen) + b → ⊥
 
 -- one place more in the agreements
@@ -79,7 +79,7 @@ full_accepts_none points seen l b at xs ys d hx hy few =
     one_not_zero : ◌≡◌ {A = ℕ} 1 0 → ⊥
     one_not_zero = omega arith
 
-    meet : (p q us ws : List ℕ) → Takes p us ws → Takes q us ws → Each (λ x. value p x ≡ value q x) us
+    meet : (p q us ws : List ℕ) → TakesSymbols p us ws → TakesSymbols q us ws → Each (λ x. value p x ≡ value q x) us
     meet p q [] ws h k = tt
     meet p q (u ∷ us) [] h k = absurd h
     meet p q (u ∷ us) (w ∷ ws) h k = (h.0 ∙ sym k.0, meet p q us ws h.1 k.1)
@@ -116,7 +116,7 @@ absent_accepts_none points seen l b at chosen d lt even is_none h =
     }
 
 -- one value more is taken
-Takes-with : (p xs ys : List ℕ) (x y : ℕ) → length ys ≡ length xs → Takes p xs ys → value p x ≡ y → Takes p (xs ++ x ∷ []) (ys ++ y ∷ [])
+Takes-with : (p xs ys : List ℕ) (x y : ℕ) → length ys ≡ length xs → TakesSymbols p xs ys → value p x ≡ y → TakesSymbols p (xs ++ x ∷ []) (ys ++ y ∷ [])
 Takes-with p [] [] x y n h e = (e, tt)
 Takes-with p [] (b ∷ ys) x y n h e = absurd (omega arith)
 Takes-with p (a ∷ xs) [] x y n h e = absurd h
@@ -134,7 +134,7 @@ present_accepts_none points seen l b at x y xs ys d lt even same read_x is_some 
     read_y : Some y ≡ get_or seen at (Some y)
     read_y = sym is_some ∙ get_or_default seen at d (Some y) (omega arith)
 
-    go : (p : List ℕ) → Accepts points seen l b p → Takes p xs ys → length points ≤ length xs + agree p (drop at points) (drop at seen) + b →
+    go : (p : List ℕ) → Accepts points seen l b p → TakesSymbols p xs ys → length points ≤ length xs + agree p (drop at points) (drop at seen) + b →
         (t : Bool) → eqb y (value p (get_or points at 0)) ≡ t → ⊥
     go p accepts takes left t e = split t e (rw (is_seen-some nim (value p (get_or points at 0)) y, e) at (agree_step p points seen at (Some y) lt (omega arith) read_y))
       where

@@ -1,7 +1,6 @@
 -- The primary symbols of a row, and the points that they stand at.
 use Rattle.std.specs.Prelude.{◌≡◌, ℕ, zero, suc, ◌+◌, ◌*◌, ◌<◌, ◌≤◌, ◌≢◌, ◌%◌, true, false, All, List, [], ◌∷◌, ◌++◌, length, map, take, drop, slice_index, if◌then◌else◌}
 use Rattle.std.proofs.Common.{arith, ap, sym, refl, ◌∙◌, get_or}
-use Rattle.std.specs.List.{range_with_len}
 use Rattle.std.proofs.lemmas.List.{ext_get_or, get_or-take, get_or-drop, length-take-le}
 use Rattle.std.proofs.lemmas.List.FromFn.{length-map-range_with_len, get_or-map-range_with_len}
 use Rattle.plain_facts.proofs.Lists.{take-front, map-range_same}
@@ -18,7 +17,7 @@ use Rattle.hail_columns.specs.Opened.{masked}
 use Rattle.hail_codes.specs.Sums.{dot}
 use Rattle.hail_columns.proofs.PointLaws.{point-low}
 use Rattle.hail_columns.proofs.ColumnLaws.{value-interpolate_upto, length-column_of_symbols}
-use Rattle.hail_columns.proofs.SecondaryLaws.{column_polynomial, value-column_polynomial, length-column_polynomial, length-kept_by, codeword-values, point-outside, secondary-column}
+use Rattle.hail_columns.proofs.SecondaryLaws.{column_polynomial, value-column_polynomial, length-column_polynomial, length-kept_by, codeword-values, point-outside, secondary-column, masked-on}
 use Rattle.hail_columns.proofs.MaskLengths.{length-masked}
 use Rattle.column_codec.specs.ObjectKeys.{ArePoints, AreWeights}
 use Rattle.column_codec.specs.Rows.{symbols_at, row_value}
@@ -59,13 +58,6 @@ weighted-row o symbols weights place x long within fits are =
     ∙ sym (are.gives (primary_row o symbols place) (length-map-range_with_len (λ j. slice_index (codeword o.profile (kept_by o symbols j)) place) 0 o.shape.l))
 
 -- a secondary column is the codeword of its kept rows with the masks
-masked-on : (o : Object) (j row : ℕ) (f : ℕ → ℕ) (a n : ℕ) →
-    masked o j (row + a) (map f (range_with_len a n)) ≡ map (λ place. nim_add (f place) (mask o.master o.id j (row + place))) (range_with_len a n)
-masked-on o j row f a zero = refl
-masked-on o j row f a (suc n) =
-    let next : row + a + 1 ≡ row + (a + 1) = omega arith in
-    (λ i. nim_add (f a) (mask o.master o.id j (row + a)) ∷ (ap (λ r. masked o j r (map f (range_with_len (a + 1) n))) next ∙ masked-on o j row f (a + 1) n) i)
-
 pub secondary-encoded : (o : Object) (symbols : List ℕ) (j stripe : ℕ) → length symbols ≡ stripe_symbols o → o.profile.keep ≤ o.profile.size → o.shape.l ≤ j → j < 256 →
     masked o j (stripe * o.profile.size) (codeword o.profile (map (row_value o symbols j) (upto o.profile.keep))) ≡ column_of_symbols o symbols j stripe
 secondary-encoded o symbols j stripe long fits second below =

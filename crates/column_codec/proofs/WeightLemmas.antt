@@ -1,6 +1,6 @@
 -- The weights by which a value of a polynomial is a sum over its values at the points 0 to l - 1.
 use Rattle.std.specs.Prelude.{◌≡◌, ◌≢◌, ◌≤◌, ◌<◌, ◌+◌, ◌-◌, ◌*◌, ◌==◌, if◌then◌else◌, ℕ, zero, suc, List, [], ◌∷◌, length, map, take, replicate, ◌++◌, slice_index}
-use Rattle.std.proofs.Common.{arith, ap, sym, refl, ◌∙◌, get_or, add-one}
+use Rattle.std.proofs.Common.{arith, ap, sym, refl, ◌∙◌, get_or}
 use Rattle.std.specs.List.{range_with_len}
 use Rattle.std.proofs.lemmas.List.{get_or-take, length-take-le, length-replicate}
 use Rattle.std.proofs.lemmas.List.FromFn.{length-range_with_len, length-map-range_with_len, map-range_with_len_more, fill_by_all}
@@ -18,7 +18,7 @@ use Rattle.hail_columns.proofs.ColumnLaws.{value-interpolate_upto}
 use Rattle.hail_codes.specs.Polynomials.{value, interpolate}
 use Rattle.hail_codes.specs.Points.{upto, others_product}
 use Rattle.hail_codes.specs.Sums.{dot}
-use Rattle.hail_codes.proofs.Points.{Apart-range, others_product-outside}
+use Rattle.hail_codes.proofs.Points.{Apart-range, range_with_len-step, others_product-outside}
 use Rattle.hail_codes.proofs.Lagrange.{part, dot-scaled, value-interpolate, nim_inv-mul, gap_not_zero, others_product-not_zero}
 use Rattle.column_codec.specs.ObjectKeys.{AreWeights}
 use Rattle.column_codec.specs.Rows.{symbols_at}
@@ -33,9 +33,7 @@ pub gaps_step : (x p end : ℕ) → p < end →
     others_product x (range_with_len p (end - p))
     ≡ (if p == x then others_product x (range_with_len (p + 1) (end - (p + 1))) else nim_mul (nim_add x p) (others_product x (range_with_len (p + 1) (end - (p + 1)))))
 unfolding others_product
-gaps_step x p end h =
-    let e : end - p ≡ (end - (p + 1)) + 1 = omega arith in
-    rw (e, add-one) refl
+gaps_step x p end h = ap (others_product x) (range_with_len-step p end h)
 
 -- the product of a point's gaps with one to another point is not zero
 pub gaps_not_zero : (x p l : ℕ) → x ≢ p → nim_mul (nim_add x p) (others_product p (upto l)) ≢ 0

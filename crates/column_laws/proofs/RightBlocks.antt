@@ -18,7 +18,7 @@ use Rattle.hail_columns.proofs.MaskLengths.{length-bare}
 use Rattle.column_laws.proofs.UniqueLaws.{opens-unique}
 
 -- a polynomial agrees with a block where the block does not differ from its values
-agree-differences : (p xs ys : List ℕ) → length ys ≡ length xs → agree p xs (map Some ys) + differences ys (values_at xs p) ≡ length xs
+pub agree-differences : (p xs ys : List ℕ) → length ys ≡ length xs → agree p xs (map Some ys) + differences ys (values_at xs p) ≡ length xs
 unfolding agree_over is_seen_over
 agree-differences p [] [] even = omega arith
 agree-differences p [] (y ∷ ys) even = absurd (omega (arith, even))

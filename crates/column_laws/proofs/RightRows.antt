@@ -1,5 +1,5 @@
 -- Where few blocks of a stripe are wrong, rows are accepted with the file's own polynomials.
-use Rattle.std.specs.Prelude.{◌≡◌, ℕ, suc, ◌+◌, ◌-◌, ◌*◌, ◌<◌, ◌≤◌, true, false, List, map, drop, get_or, slice_get, Option, Some}
+use Rattle.std.specs.Prelude.{◌≡◌, ℕ, suc, ◌+◌, ◌-◌, ◌*◌, ◌<◌, ◌≤◌, true, false, List, map, drop, get_or, slice_get, slice_index, Option, Some}
 use Rattle.std.proofs.Common.{arith, ap, sym, ◌∙◌, get_or-take, get_or-drop, subst}
 use Rattle.std.proofs.Math.Nat.{mul-le-mul_right}
 use Rattle.std.proofs.lemmas.List.FromFn.{length-map-range_with_len, get_or-map-range_with_len, fill_by_all}
@@ -11,6 +11,7 @@ use Rattle.poly_laws.specs.Poly.{is_seen as is_seen_over}
 use Rattle.hail_codes.specs.Polynomials.{value, interpolate, is_seen}
 use Rattle.hail_codes.specs.Points.{upto}
 use Rattle.hail_codes.specs.Profiles.{profile_of}
+use Rattle.hail_codes.specs.ServerCode.{codeword}
 use Rattle.hail_columns.specs.Objects.{Object, stripe_symbols, symbol_of, symbols_in, kept_by, point}
 use Rattle.hail_columns.specs.Columns.{row_polynomial, is_wrong_block}
 use Rattle.hail_columns.specs.Opened.{SeenBlock, AllOpen, OpensTo, symbol_in, block_at, AcceptsRow, GivesSymbols}
@@ -48,10 +49,10 @@ row-right o bytes number stripe place seen opened is shape few all within =
       agrees = omega (arith, few, cover, agree-row o opened place row, length-map-range_with_len (point o) 0 o.shape.n);
     }
 
--- the polynomial of a row takes the file's symbols at the primary points
-pub row-symbol : (o : Object) (bytes : List ℕ) (stripe place j : ℕ) → place < o.profile.keep → place < o.profile.size → j < o.shape.l →
-    value (row_polynomial o (symbols_in o bytes stripe) place) j ≡ symbol_of bytes (stripe * stripe_symbols o + (j * o.profile.keep + place))
-row-symbol o bytes stripe place j kept within below =
+-- what a primary provider's codeword has at a kept place is the file's symbol
+pub kept-symbol : (o : Object) (bytes : List ℕ) (stripe place j : ℕ) → place < o.profile.keep → place < o.profile.size → j < o.shape.l →
+    slice_index (codeword o.profile (kept_by o (symbols_in o bytes stripe) j)) place ≡ symbol_of bytes (stripe * stripe_symbols o + (j * o.profile.keep + place))
+kept-symbol o bytes stripe place j kept within below =
     let symbols = symbols_in o bytes stripe in
     let of = λ (i : ℕ). symbol_of bytes (stripe * stripe_symbols o + i) in
     let own = λ (k : ℕ). of (j * o.profile.keep + k) in
@@ -63,10 +64,15 @@ row-symbol o bytes stripe place j kept within below =
     (λ k less. get_or-take o.profile.keep (drop (j * o.profile.keep) symbols) k 0 less
     ∙ get_or-drop (j * o.profile.keep) symbols k 0
     ∙ get_or-map-range_with_len of 0 (stripe_symbols o) (j * o.profile.keep + k) (j * o.profile.keep + k) 0 (omega (arith, less, more, split)) (omega arith)) in
-    value-row_polynomial o symbols place j below
-    ∙ get_or-map-range_with_len (value (interpolate (upto o.profile.keep) mine)) 0 o.profile.size place place 0 within (omega arith)
+    get_or-map-range_with_len (value (interpolate (upto o.profile.keep) mine)) 0 o.profile.size place place 0 within (omega arith)
     ∙ ap (λ ks. value (interpolate (upto o.profile.keep) ks) place) same
     ∙ value-interpolate_upto own o.profile.keep place kept
+
+-- the polynomial of a row takes the file's symbols at the primary points
+pub row-symbol : (o : Object) (bytes : List ℕ) (stripe place j : ℕ) → place < o.profile.keep → place < o.profile.size → j < o.shape.l →
+    value (row_polynomial o (symbols_in o bytes stripe) place) j ≡ symbol_of bytes (stripe * stripe_symbols o + (j * o.profile.keep + place))
+row-symbol o bytes stripe place j kept within below =
+    value-row_polynomial o (symbols_in o bytes stripe) place j below ∙ kept-symbol o bytes stripe place j kept within below
 
 pub symbols-right : (o : Object) (bytes : List ℕ) (number stripe : ℕ) (seen : List SeenBlock) (symbols : List ℕ) → o.profile ≡ profile_of number →
     IsShape o.shape.n o.shape.l o.shape.b → count_of (λ j. is_wrong_block o bytes j stripe (block_at seen j)) (upto o.shape.n) ≤ o.shape.b →

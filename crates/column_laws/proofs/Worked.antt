@@ -1,5 +1,5 @@
 -- The premises of the laws at the small object.
-use Rattle.std.specs.Prelude.{◌≡◌, ◌≢◌, ℕ, ◌||◌, ◌==◌, not, false, nat_lt, List, [], ◌∷◌, None, Some}
+use Rattle.std.specs.Prelude.{◌≡◌, ◌≢◌, ◌<◌, ℕ, ◌||◌, ◌==◌, not, false, nat_lt, List, [], ◌∷◌, None, Some}
 use Rattle.std.proofs.Common.{arith, ap, sym, refl, ◌∙◌}
 use Rattle.hail_field.specs.Shape.{IsShape}
 use Rattle.poly_laws.specs.Poly.{agree as agree_over, is_seen as is_seen_over}
@@ -9,7 +9,7 @@ use Rattle.hail_codes.specs.ServerCode.{differences}
 use Rattle.hail_codes.proofs.Codewords.{differences-same}
 use Rattle.hail_columns.specs.Objects.{Object, symbol_of, symbols_in, point}
 use Rattle.hail_columns.specs.Columns.{primary_row, row_polynomial, columns, is_wrong_block}
-use Rattle.hail_columns.specs.Opened.{block_at, AllOpen, AcceptsRow, GivesSymbols, LosesRow}
+use Rattle.hail_columns.specs.Opened.{bare, block_at, OpensTo, AllOpen, AcceptsRow, GivesSymbols, LosesRow}
 use Rattle.hail_columns.specs.Forgeries.{count_of, IsRow}
 use Rattle.hail_columns.proofs.ColumnLaws.{length-column_of_symbols}
 use Rattle.column_laws.specs.Example.{example, three_seen, three_opened}
@@ -28,6 +28,11 @@ column-right o bytes j stripe =
     go : (size fix : ℕ) → not (size == size) || nat_lt fix 0 ≡ false
     go size fix = grind arith
 
+-- and opens to itself without its masks
+pub opens-own : (o : Object) (bytes : List ℕ) (j stripe : ℕ) → j < 256 →
+    OpensTo o j stripe (Some (columns o bytes j stripe)) (Some (bare o j stripe (columns o bytes j stripe)))
+opens-own o bytes j stripe below = opens-right o bytes j stripe (Some (columns o bytes j stripe)) below (column-right o bytes j stripe)
+
 -- one of the four blocks is wrong
 pub one-wrong : (o : Object) (bytes : List ℕ) →
     count_of (λ j. is_wrong_block o bytes j 0 (block_at (three_seen o bytes) j)) (upto 4) ≡ 1
@@ -35,13 +40,7 @@ one-wrong o bytes = simp (column-right o bytes 0 0, column-right o bytes 1 0, co
 
 -- they open
 pub three-open : (o : Object) (bytes : List ℕ) → AllOpen o 0 0 (three_seen o bytes) (three_opened o bytes)
-three-open o bytes = (
-  opens-right o bytes 0 0 (Some (columns o bytes 0 0)) (omega arith) (column-right o bytes 0 0),
-  (
-    opens-right o bytes 1 0 (Some (columns o bytes 1 0)) (omega arith) (column-right o bytes 1 0),
-    (opens-right o bytes 2 0 (Some (columns o bytes 2 0)) (omega arith) (column-right o bytes 2 0), (refl, tt)),
-  ),
-)
+three-open o bytes = (opens-own o bytes 0 0 (omega arith), (opens-own o bytes 1 0 (omega arith), (opens-own o bytes 2 0 (omega arith), (refl, tt))))
 
 -- the shape
 pub example-shape : IsShape 4 1 1

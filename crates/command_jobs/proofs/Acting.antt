@@ -1,5 +1,5 @@
 -- What a step of the only job of a state does: it makes an action, and what is in effect or in flight grows.
-use Rattle.std.proofs.Common.{◌≡◌, ℕ, ◌+◌, ◌≤◌, ◌==◌, ◌⊎◌, List, [], ◌∷◌, length, Option, Some, None, refl, ap, sym, subst, ◌∙◌, inl, inr, arith}
+use Rattle.std.proofs.Common.{◌≡◌, ℕ, ◌+◌, ◌≤◌, ◌==◌, ◌⊎◌, List, [], ◌∷◌, Option, Some, None, refl, ap, sym, subst, ◌∙◌, inl, inr, arith}
 use Rattle.std.proofs.lemmas.Bool.{cases_Bool}
 use Rattle.plain_facts.proofs.Options.{some-not-none}
 use Rattle.hail_records.specs.Records.{Record}
@@ -18,7 +18,7 @@ use Rattle.sound_states.specs.Orders.{moves_before}
 use Rattle.sound_states.proofs.Given.{holder}
 use Rattle.hail_openings.specs.Opened.{IsOpenAtRest}
 use Rattle.lone_laws.specs.Walked.{Walked}
-use Rattle.lone_laws.proofs.Walk.{found}
+use Rattle.lone_laws.proofs.Walk.{found, none-alone}
 use Rattle.vault.specs.Devices.{records_in_flight}
 
 -- the only job of a list is the one that is found
@@ -141,19 +141,11 @@ module _ (start : State) (O : IsOpenAtRest start 1) (kind : Kind) (w : State) (j
       by_flight (Some a) f (Remove j object) next = refl
       by_flight (Some a) f End next = refl
 
-  -- nothing runs alone beside it
-  none-alone : w.alone ≡ None
-  none-alone = by_alone w.alone refl
-    where
-      by_alone : (o : Option Alone) → w.alone ≡ o → w.alone ≡ None
-      by_alone None e = e
-      by_alone (Some x) e = absurd (let none = ap length (sym W.jobs ∙ W.sound.lone x e) in omega (arith, none))
-
   -- a step makes the next action
   pub step-makes : (r : Outcome) (new : State) → Steps w 1 w.is_open r new → (action : Action) × (next_action w job ≡ Some action) × Acts w job action r new
   step-makes r new h =
       on (next_action w job) refl (subst (λ (o : Option Job). StepsJob w o r new) (found start O kind w job W)
-      (subst (λ (o : Option Alone). StepsOne w 1 o r new) none-alone (subst (λ b. StepsOpen w 1 b r new) W.unbarred (subst (λ b. Steps w 1 b r new) W.opened h))))
+      (subst (λ (o : Option Alone). StepsOne w 1 o r new) (none-alone start O kind w job W) (subst (λ b. StepsOpen w 1 b r new) W.unbarred (subst (λ b. Steps w 1 b r new) W.opened h))))
     where
       on : (o : Option Action) → next_action w job ≡ o → StepsOn w job o r new → (action : Action) × (next_action w job ≡ Some action) × Acts w job action r new
       on None e h = absurd h

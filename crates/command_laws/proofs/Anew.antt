@@ -1,9 +1,10 @@
 -- A repair with few providers that are wrong or fail writes the files' own blocks.
-use Rattle.std.proofs.Common.{◌≡◌, ℕ, zero, suc, ◌+◌, ◌<◌, ◌≤◌, ◌&&◌, ◌⊎◌, Bool, true, false, cond, List, [], ◌∷◌, ◌++◌, length, map, get_or, Option, None, Some, refl, ap, sym, subst, ◌∙◌, inl, inr, arith, All}
+use Rattle.std.proofs.Common.{◌≡◌, ℕ, zero, suc, ◌+◌, ◌<◌, ◌≤◌, ◌&&◌, ◌⊎◌, Bool, true, false, cond, List, [], ◌∷◌, length, map, get_or, Option, None, Some, refl, ap, sym, subst, ◌∙◌, inl, inr, arith, All}
 use Rattle.std.specs.Prelude.{IfSome, nat_lt, is_some, is_none}
-use Rattle.std.specs.List.{flat_map, range_with_len}
+use Rattle.std.specs.List.{range_with_len}
 use Rattle.std.proofs.lemmas.Bool.{cases_Bool, cases_eq, false≢true, or_parts}
 use Rattle.plain_facts.specs.Lists.{In}
+use Rattle.plain_facts.proofs.Each.{in_flat}
 use Rattle.hail_field.specs.Shape.{IsShape}
 use Rattle.hail_codes.specs.Points.{upto}
 use Rattle.hail_columns.specs.Objects.{Object, stripes, symbols_in}
@@ -38,26 +39,12 @@ use Rattle.job_laws.proofs.Plain.{numbered-file}
 
 -- ---- elements of lists
 
-in-left : {X : Type 0} (xs ys : List X) (z : X) → In z xs → In z (xs ++ ys)
-in-left [] ys z i = absurd i
-in-left (x ∷ xs) ys z (inl e) = inl e
-in-left (x ∷ xs) ys z (inr i) = inr (in-left xs ys z i)
-
-in-right : {X : Type 0} (xs ys : List X) (z : X) → In z ys → In z (xs ++ ys)
-in-right [] ys z i = i
-in-right (x ∷ xs) ys z i = inr (in-right xs ys z i)
-
 in-range : {X : Type 0} (f : ℕ → X) (a n j : ℕ) → a ≤ j → j < a + n → In (f j) (map f (range_with_len a n))
 in-range f a zero j l u = absurd (omega (arith, l, u))
 in-range f a (suc n) j l u = elim (cases_eq j a) [
   | inl e ↦ inl (ap f e)
   | inr m ↦ inr (in-range f (a + 1) n j (omega (arith, l, m)) (omega (arith, u)))
 ]
-
-in-flat : {X Y : Type 0} (g : X → List Y) (xs : List X) (x : X) (z : Y) → In x xs → In z (g x) → In z (flat_map g xs)
-in-flat g [] x z i h = absurd i
-in-flat g (y ∷ xs) x z (inl e) h = in-left (g y) (flat_map g xs) z (subst (λ q. In z (g q)) e h)
-in-flat g (y ∷ xs) x z (inr i) h = in-right (g y) (flat_map g xs) z (in-flat g xs x z i h)
 
 in-number : (f : File) (fs : List File) (z : File) → (z ≡ f) ⊎ In z fs → In z (with_number f fs)
 in-number f [] z (inl e) = inl e
@@ -125,7 +112,7 @@ module _ (x : Ran) (shape : IsShape (setup_at_begin x).n (setup_at_begin x).l (s
   place = record { object = file.id; stripe = stripe }
 
   asked : In place (places_of x)
-  asked = in-flat (λ (f : File). map (λ t. record { object = f.id; stripe = t }) (upto (stripes_of (profiled (setup_at_begin x) f.profile) f.size))) (files_by_number (files_of x.records)) file place
+  asked = in_flat (λ (f : File). map (λ t. record { object = f.id; stripe = t }) (upto (stripes_of (profiled (setup_at_begin x) f.profile) f.size))) (files_by_number (files_of x.records)) file place
       (in-by_number (files_of x.records) file (find-in (files_of x.records) name file (find-files_of x.records name ∙ in_effect)))
       (in-range (λ t. record { object = file.id; stripe = t }) 0 (stripes_at_begin x file) stripe (omega arith) (omega (arith, within)))
 

@@ -1,8 +1,9 @@
 -- Commands one after the other.
-use Rattle.std.proofs.Common.{◌≡◌, ◌≢◌, ℕ, ◌+◌, ◌<◌, ◌≤◌, ◌⊎◌, Bool, true, false, cond, not, List, [], ◌∷◌, length, Option, None, Some, refl, ap, sym, subst, ◌∙◌, inl, inr, arith}
+use Rattle.std.proofs.Common.{◌≡◌, ◌≢◌, ℕ, ◌+◌, ◌<◌, ◌≤◌, ◌⊎◌, Bool, true, false, cond, not, List, [], ◌∷◌, length, None, Some, refl, ap, sym, subst, ◌∙◌, inl, inr, arith}
 use Rattle.std.specs.Prelude.{is_some, nat_lt, ◌&&◌, ◌||◌}
-use Rattle.std.proofs.lemmas.Bool.{cases_Bool, false≢true, le-ltb}
+use Rattle.std.proofs.lemmas.Bool.{cases_Bool, le-ltb}
 use Rattle.std.proofs.lemmas.Bool.Decides.{nat_tests}
+use Rattle.plain_facts.proofs.Options.{is_some-none}
 use Rattle.hail_columns.specs.Verdicts.{is_flagged}
 use Rattle.hail_devices.specs.Cells.{Cells}
 use Rattle.hail_devices.specs.Faults.{Rose}
@@ -157,11 +158,7 @@ audit-due rs undecided counts due none is = elim (cases_Bool (exceeds (setup_of 
 
 -- an audit begins only where no repair is due
 none-due : (rs : List Record) (number : ℕ) → refused rs (AuditStart number) ≡ None → due_of rs ≡ None
-none-due rs number h = no-some (due_of rs) (grind (arith, nat_tests, h))
-  where
-    no-some : (o : Option Due) → is_some o ≡ false → o ≡ None
-    no-some None e = refl
-    no-some (Some d) e = absurd (false≢true (sym e))
+none-due rs number h = is_some-none (due_of rs) (grind (arith, nat_tests, h))
 
 audit-then : (records : List Record) (undecided : ℕ) (counts : List ℕ) (c d : Seen) → IsThen AuditAll records c d (after_audit records undecided counts)
 audit-then records undecided counts c d = inr (record { kind = AuditJob; of_command = refl; own = audit_records records undecided counts; are_own = (undecided, counts, refl); count = 2; after_is = refl })

@@ -130,8 +130,8 @@ module _ (n l b : ℕ) (seen : List (Option ℕ)) (old new : Seen) (end : Ending
     | inr memory ↦ (let e : 20 ≡ 70 = sym is ∙ memory in omega (arith, e))
   ]
 
-  shape-told : (IsShape n l b → ⊥) → (end.status ≡ 20) ⊎ (end.status ≡ 70)
-  shape-told none = (A.no_shape none).0
+  pub row-refused : (IsShape n l b → ⊥) → (end.status ≡ 20) ⊎ (end.status ≡ 70)
+  row-refused none = (A.no_shape none).0
 
   -- a shape is one, or some bound of it fails
   pub row-shape : end.status ≡ 4 → IsShape n l b
@@ -153,16 +153,13 @@ module _ (n l b : ℕ) (seen : List (Option ℕ)) (old new : Seen) (end : Ending
   ]
     where
       never : (IsShape n l b → ⊥) → IsShape n l b
-      never none = elim (shape-told none) [
+      never none = elim (row-refused none) [
         | inl twenty ↦ absurd (let e : 4 ≡ 20 = sym is ∙ twenty in omega (arith, e))
         | inr memory ↦ absurd (let e : 4 ≡ 70 = sym is ∙ memory in omega (arith, e))
       ]
 
   pub row-lost : IsShape n l b → AcceptsNone (upto n) seen l b → (end.status ≡ 4) ⊎ (end.status ≡ 70)
   row-lost shape none = told-twice _ (A.lost shape none)
-
-  pub row-refused : (IsShape n l b → ⊥) → (end.status ≡ 20) ⊎ (end.status ≡ 70)
-  row-refused none = shape-told none
 
 -- ---- all commands
 

@@ -1,7 +1,6 @@
 -- What a store that failed and a lost row leave, and that nothing is fetched by the other commands.
 use Rattle.std.proofs.Common.{◌≡◌, ◌≢◌, ℕ, ◌+◌, ◌<◌, ◌⊎◌, true, List, [], ◌∷◌, Option, None, Some, refl, ap, sym, subst, ◌∙◌, inl, inr, arith}
 use Rattle.std.specs.Prelude.{IsSomeAnd}
-use Rattle.std.proofs.lemmas.Bool.{cases_lt}
 use Rattle.plain_facts.proofs.Numbers.{not_two}
 use Rattle.hail_columns.specs.Verdicts.{is_flagged}
 use Rattle.hail_devices.specs.Cells.{Cells}
@@ -14,11 +13,10 @@ use Rattle.hail_records.specs.Table.{Due, due_of}
 use Rattle.hail_machine.specs.Jobs.{Kind, PutJob, GetJob, DropJob, AuditJob, RepairJob, UpgradeJob}
 use Rattle.hail_machine.specs.Answers as answer
 use Rattle.hail_machine.specs.Answers.{Answer}
-use Rattle.hail_machine.specs.Heard.{Entry}
 use Rattle.hail_machine.specs.Refusals.{Refusal}
 use Rattle.hail_commands.specs.Forms.{Command, Numbers, RowOf, InitWith, PutUnder, GetOf, DropOf, ListAll, AuditAll, RepairDue}
 use Rattle.hail_commands.specs.Sinking.{WritesLine}
-use Rattle.hail_commands.specs.Seen.{Seen, Ending, IsRefused, ReadsUpTo, provider_at, sinking}
+use Rattle.hail_commands.specs.Seen.{Seen, Ending, ReadsUpTo, provider_at, sinking}
 use Rattle.hail_commands.specs.Opens.{IsOpened, Unstarted, setup_in_effect}
 use Rattle.hail_commands.specs.Refusals.{status_of}
 use Rattle.hail_commands.specs.Ran.{Ran}
@@ -34,62 +32,52 @@ use Rattle.command_laws.specs.Kept.{SameFetches, stores_blocks, opens_rows, Fail
 use Rattle.command_laws.proofs.Known.{refused-not}
 use Rattle.command_laws.proofs.GetEnds.{ran_left}
 use Rattle.command_laws.proofs.RowCauses.{none-at}
-use Rattle.command_laws.proofs.JobEnds.{unstarted-refused, images-have}
+use Rattle.command_laws.proofs.JobEnds.{images-have, refused-same, unstarted-same, left-same}
 
 -- ---- nothing is fetched
 
-refused-fetches : (status at : ℕ) (old new : Seen) (end : Ending) → IsRefused status at old new end → SameFetches old new
-refused-fetches status at old new end r j = ap (λ ps. (provider_at ps j).fetches) r.providers
-
-unstarted-fetches : (old new : Seen) (end : Ending) → Unstarted old new end → SameFetches old new
-unstarted-fetches old new end u = (let r = unstarted-refused old new end u in refused-fetches r.0 r.1 old new end r.3)
-
--- jobs of the kinds that fetch nothing
-left-fetches : (records : List Record) (kind : Kind) (how : Answer) (old new : Seen) (heard : List Entry) (left : LeftAlone records kind how old new heard) →
-    ((j : ℕ) → j < (setup_in_effect records).n → (provider_at new.providers j).fetches ≡ (provider_at old.providers j).fetches) → SameFetches old new
-left-fetches records kind how old new heard left same j = elim (cases_lt j (setup_in_effect records).n) [
-  | inl l ↦ same j l
-  | inr l ↦ ap (λ (p : Provider). p.fetches) (left.leaves.others j l)
-]
+-- how often a provider was fetched from
+abbrev fetches_of : Provider → ℕ
+fetches_of p = p.fetches
 
 pub put-fetches : (name : List ℕ) (old new : Seen) (end : Ending) → AnswersPut name old new end → SameFetches old new
-put-fetches name old new end (AnswersPut.unstarted u same) = unstarted-fetches old new end u
-put-fetches name old new end (AnswersPut.source_fault records opened rose after taken r) = refused-fetches 14 0 old new end r
-put-fetches name old new end (AnswersPut.no_memory taken r) = refused-fetches 70 0 old new end r
-put-fetches name old new end (AnswersPut.begun records bytes opened read (AnswersJob.refused why is after r)) = refused-fetches _ 0 old new end r
-put-fetches name old new end (AnswersPut.begun records bytes opened read (AnswersJob.no_memory after r)) = refused-fetches 70 0 old new end r
+put-fetches name old new end (AnswersPut.unstarted u same) = unstarted-same fetches_of old new end u
+put-fetches name old new end (AnswersPut.source_fault records opened rose after taken r) = refused-same fetches_of 14 0 old new end r
+put-fetches name old new end (AnswersPut.no_memory taken r) = refused-same fetches_of 70 0 old new end r
+put-fetches name old new end (AnswersPut.begun records bytes opened read (AnswersJob.refused why is after r)) = refused-same fetches_of _ 0 old new end r
+put-fetches name old new end (AnswersPut.begun records bytes opened read (AnswersJob.no_memory after r)) = refused-same fetches_of 70 0 old new end r
 put-fetches name old new end (AnswersPut.begun records bytes opened read (AnswersJob.ended how none runs left by)) =
-    left-fetches records (PutJob name bytes) how old new end.heard left left.leaves.by_kind.1
+    left-same fetches_of records (PutJob name bytes) how old new end.heard left left.leaves.by_kind.1
 
 pub drop-fetches : (name : List ℕ) (old new : Seen) (end : Ending) → AnswersAlone (DropJob name) old new end → SameFetches old new
-drop-fetches name old new end (AnswersAlone.unstarted u) = unstarted-fetches old new end u
-drop-fetches name old new end (AnswersAlone.begun records opened (AnswersJob.refused why is after r)) = refused-fetches _ 0 old new end r
-drop-fetches name old new end (AnswersAlone.begun records opened (AnswersJob.no_memory after r)) = refused-fetches 70 0 old new end r
+drop-fetches name old new end (AnswersAlone.unstarted u) = unstarted-same fetches_of old new end u
+drop-fetches name old new end (AnswersAlone.begun records opened (AnswersJob.refused why is after r)) = refused-same fetches_of _ 0 old new end r
+drop-fetches name old new end (AnswersAlone.begun records opened (AnswersJob.no_memory after r)) = refused-same fetches_of 70 0 old new end r
 drop-fetches name old new end (AnswersAlone.begun records opened (AnswersJob.ended how none runs left by)) =
-    left-fetches records (DropJob name) how old new end.heard left left.leaves.by_kind.1
+    left-same fetches_of records (DropJob name) how old new end.heard left left.leaves.by_kind.1
 
 pub audit-fetches : (old new : Seen) (end : Ending) → AnswersAlone AuditJob old new end → SameFetches old new
-audit-fetches old new end (AnswersAlone.unstarted u) = unstarted-fetches old new end u
-audit-fetches old new end (AnswersAlone.begun records opened (AnswersJob.refused why is after r)) = refused-fetches _ 0 old new end r
-audit-fetches old new end (AnswersAlone.begun records opened (AnswersJob.no_memory after r)) = refused-fetches 70 0 old new end r
+audit-fetches old new end (AnswersAlone.unstarted u) = unstarted-same fetches_of old new end u
+audit-fetches old new end (AnswersAlone.begun records opened (AnswersJob.refused why is after r)) = refused-same fetches_of _ 0 old new end r
+audit-fetches old new end (AnswersAlone.begun records opened (AnswersJob.no_memory after r)) = refused-same fetches_of 70 0 old new end r
 audit-fetches old new end (AnswersAlone.begun records opened (AnswersJob.ended how none runs left by)) =
-    left-fetches records AuditJob how old new end.heard left left.leaves.by_kind.fetches
+    left-same fetches_of records AuditJob how old new end.heard left left.leaves.by_kind.fetches
 
 pub list-fetches : (old new : Seen) (end : Ending) → AnswersList old new end → SameFetches old new
-list-fetches old new end (AnswersList.unstarted u) = unstarted-fetches old new end u
-list-fetches old new end (AnswersList.no_memory r) = refused-fetches 70 0 old new end r
+list-fetches old new end (AnswersList.unstarted u) = unstarted-same fetches_of old new end u
+list-fetches old new end (AnswersList.no_memory r) = refused-same fetches_of 70 0 old new end r
 list-fetches old new end (AnswersList.listed records opened L) = λ j. ap (λ ps. (provider_at ps j).fetches) L.providers
 
 pub init-fetches : (numbers : Numbers) (old new : Seen) (end : Ending) → AnswersInit numbers old new end → SameFetches old new
-init-fetches numbers old new end (AnswersInit.bad_setup bad same r) = refused-fetches 20 0 old new end r
-init-fetches numbers old new end (AnswersInit.too_few_providers good few same r) = refused-fetches 22 0 old new end r
-init-fetches numbers old new end (AnswersInit.source_fault good enough rose taken r) = refused-fetches 14 0 old new end r
-init-fetches numbers old new end (AnswersInit.bad_key seen good enough read none r) = refused-fetches 18 0 old new end r
-init-fetches numbers old new end (AnswersInit.no_memory taken r) = refused-fetches 70 0 old new end r
+init-fetches numbers old new end (AnswersInit.bad_setup bad same r) = refused-same fetches_of 20 0 old new end r
+init-fetches numbers old new end (AnswersInit.too_few_providers good few same r) = refused-same fetches_of 22 0 old new end r
+init-fetches numbers old new end (AnswersInit.source_fault good enough rose taken r) = refused-same fetches_of 14 0 old new end r
+init-fetches numbers old new end (AnswersInit.bad_key seen good enough read none r) = refused-same fetches_of 18 0 old new end r
+init-fetches numbers old new end (AnswersInit.no_memory taken r) = refused-same fetches_of 70 0 old new end r
 init-fetches numbers old new end (AnswersInit.keyed seen key good enough read form (InitsDisk.disk_fault rose F)) = λ j. ap (λ ps. (provider_at ps j).fetches) F.providers
 init-fetches numbers old new end (AnswersInit.keyed seen key good enough read form (InitsDisk.no_memory F)) = λ j. ap (λ ps. (provider_at ps j).fetches) F.providers
-init-fetches numbers old new end (AnswersInit.keyed seen key good enough read form (InitsDisk.bad_journal at is r)) = refused-fetches 8 at old new end r
-init-fetches numbers old new end (AnswersInit.keyed seen key good enough read form (InitsDisk.already is r)) = refused-fetches 10 0 old new end r
+init-fetches numbers old new end (AnswersInit.keyed seen key good enough read form (InitsDisk.bad_journal at is r)) = refused-same fetches_of 8 at old new end r
+init-fetches numbers old new end (AnswersInit.keyed seen key good enough read form (InitsDisk.already is r)) = refused-same fetches_of 10 0 old new end r
 init-fetches numbers old new end (AnswersInit.keyed seen key good enough read form (InitsDisk.ready R)) = λ j. ap (λ ps. (provider_at ps j).fetches) R.providers
 
 -- ---- which answers end a command so

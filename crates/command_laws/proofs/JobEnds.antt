@@ -6,7 +6,7 @@ use Rattle.std.proofs.lemmas.List.{append-nil}
 use Rattle.hail_devices.specs.Cells.{Cells}
 use Rattle.hail_devices.specs.Faults.{Rose}
 use Rattle.hail_devices.specs.Images.{EachImage}
-use Rattle.hail_devices.specs.Providers.{Provider}
+use Rattle.hail_devices.specs.Providers.{Held, Provider}
 use Rattle.hail_devices.proofs.Lasting.{rose-before}
 use Rattle.hail_records.specs.Records.{Record, PutStart, largest_file}
 use Rattle.hail_records.specs.Journal.{StandsFor, StandsOrIsEmpty}
@@ -397,34 +397,43 @@ audit-order old new end (AnswersAlone.begun records opened (AnswersJob.ended how
 
 -- ---- what providers hold
 
-refused-holds : (status at : ℕ) (old new : Seen) (end : Ending) → IsRefused status at old new end → SameHolds old new
-refused-holds status at old new end r j = ap (λ ps. (provider_at ps j).held) r.providers
+-- ending refused leaves each provider as it was
+pub refused-same : {X : Type 0} (of : Provider → X) (status at : ℕ) (old new : Seen) (end : Ending) → IsRefused status at old new end →
+    (j : ℕ) → of (provider_at new.providers j) ≡ of (provider_at old.providers j)
+refused-same of status at old new end r j = ap (λ ps. of (provider_at ps j)) r.providers
 
-unstarted-holds : (old new : Seen) (end : Ending) → Unstarted old new end → SameHolds old new
-unstarted-holds old new end u = (let r = unstarted-refused old new end u in refused-holds r.0 r.1 old new end r.3)
+-- and so does ending before there is a job
+pub unstarted-same : {X : Type 0} (of : Provider → X) (old new : Seen) (end : Ending) → Unstarted old new end →
+    (j : ℕ) → of (provider_at new.providers j) ≡ of (provider_at old.providers j)
+unstarted-same of old new end u = (let r = unstarted-refused old new end u in refused-same of r.0 r.1 old new end r.3)
 
-left-holds : (records : List Record) (kind : Kind) (how : Answer) (old new : Seen) (heard : List Entry) (left : LeftAlone records kind how old new heard) →
-    ((j : ℕ) → j < (setup_in_effect records).n → (provider_at new.providers j).held ≡ (provider_at old.providers j).held) → SameHolds old new
-left-holds records kind how old new heard left same j = elim (cases_lt j (setup_in_effect records).n) [
+-- what a job leaves as it was at each provider of the setup is so at all
+pub left-same : {X : Type 0} (of : Provider → X) (records : List Record) (kind : Kind) (how : Answer) (old new : Seen) (heard : List Entry) (left : LeftAlone records kind how old new heard) →
+    ((j : ℕ) → j < (setup_in_effect records).n → of (provider_at new.providers j) ≡ of (provider_at old.providers j)) → (j : ℕ) → of (provider_at new.providers j) ≡ of (provider_at old.providers j)
+left-same of records kind how old new heard left same j = elim (cases_lt j (setup_in_effect records).n) [
   | inl l ↦ same j l
-  | inr l ↦ ap (λ (p : Provider). p.held) (left.leaves.others j l)
+  | inr l ↦ ap of (left.leaves.others j l)
 ]
 
+-- what a provider tells that it holds
+abbrev held_by : Provider → Option Held
+held_by p = p.held
+
 pub get-holds : (name : List ℕ) (old new : Seen) (end : Ending) → AnswersAlone (GetJob name) old new end → SameHolds old new
-get-holds name old new end (AnswersAlone.unstarted u) = unstarted-holds old new end u
-get-holds name old new end (AnswersAlone.begun records opened (AnswersJob.refused why is synced r)) = refused-holds _ 0 old new end r
-get-holds name old new end (AnswersAlone.begun records opened (AnswersJob.no_memory synced r)) = refused-holds 70 0 old new end r
+get-holds name old new end (AnswersAlone.unstarted u) = unstarted-same held_by old new end u
+get-holds name old new end (AnswersAlone.begun records opened (AnswersJob.refused why is synced r)) = refused-same held_by _ 0 old new end r
+get-holds name old new end (AnswersAlone.begun records opened (AnswersJob.no_memory synced r)) = refused-same held_by 70 0 old new end r
 get-holds name old new end (AnswersAlone.begun records opened (AnswersJob.ended how none runs left by)) =
-    left-holds records (GetJob name) how old new end.heard left left.leaves.by_kind.held
+    left-same held_by records (GetJob name) how old new end.heard left left.leaves.by_kind.held
 
 pub audit-holds : (old new : Seen) (end : Ending) → AnswersAlone AuditJob old new end → SameHolds old new
-audit-holds old new end (AnswersAlone.unstarted u) = unstarted-holds old new end u
-audit-holds old new end (AnswersAlone.begun records opened (AnswersJob.refused why is synced r)) = refused-holds _ 0 old new end r
-audit-holds old new end (AnswersAlone.begun records opened (AnswersJob.no_memory synced r)) = refused-holds 70 0 old new end r
+audit-holds old new end (AnswersAlone.unstarted u) = unstarted-same held_by old new end u
+audit-holds old new end (AnswersAlone.begun records opened (AnswersJob.refused why is synced r)) = refused-same held_by _ 0 old new end r
+audit-holds old new end (AnswersAlone.begun records opened (AnswersJob.no_memory synced r)) = refused-same held_by 70 0 old new end r
 audit-holds old new end (AnswersAlone.begun records opened (AnswersJob.ended how none runs left by)) =
-    left-holds records AuditJob how old new end.heard left left.leaves.by_kind.held
+    left-same held_by records AuditJob how old new end.heard left left.leaves.by_kind.held
 
 pub list-holds : (old new : Seen) (end : Ending) → AnswersList old new end → SameHolds old new
-list-holds old new end (AnswersList.unstarted u) = unstarted-holds old new end u
-list-holds old new end (AnswersList.no_memory r) = refused-holds 70 0 old new end r
+list-holds old new end (AnswersList.unstarted u) = unstarted-same held_by old new end u
+list-holds old new end (AnswersList.no_memory r) = refused-same held_by 70 0 old new end r
 list-holds old new end (AnswersList.listed records opened L) = λ j. ap (λ ps. (provider_at ps j).held) L.providers

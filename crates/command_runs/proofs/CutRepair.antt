@@ -13,7 +13,7 @@ use Rattle.hail_machine.specs.Examples.{empty_provider}
 use Rattle.hail_machine.specs.Machine.{Happens}
 use Rattle.hail_machine.specs.Runs.{Moment}
 use Rattle.hail_machine.specs.States.{State, setup_in, with_provider}
-use Rattle.step_laws.proofs.ByteSteps.{block_sized}
+use Rattle.step_laws.proofs.ByteSteps.{block_sized, symbols}
 use Rattle.hail_commands.specs.Forms.{RepairDue}
 use Rattle.hail_commands.specs.JobRuns.{AreSteps}
 use Rattle.hail_commands.specs.Jobs.{RanAlone, RunsAlone, AnswersJob}
@@ -26,7 +26,7 @@ use Rattle.command_laws.specs.Instances.{ends}
 use Rattle.command_runs.proofs.Shape.{formed, form-is, one_byte, one_byte-is}
 use Rattle.command_runs.proofs.Counting.{fetch-counts, store-counts}
 use Rattle.command_runs.proofs.Stores.{due-sure as old-sure, repair_cut-new as new-sure}
-use Rattle.damage_run.proofs.Values.{symbols, without_two_give}
+use Rattle.damage_run.proofs.Values.{without_two_give}
 use Rattle.command_runs.proofs.Begins.{repair_begins}
 
 module _ (w : State) (n : ℕ) (count : w.handed ≡ 4) where

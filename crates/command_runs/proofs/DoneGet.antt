@@ -12,7 +12,7 @@ use Rattle.hail_machine.specs.Examples.{empty_provider}
 use Rattle.hail_machine.specs.Machine.{Happens}
 use Rattle.hail_machine.specs.Runs.{Moment}
 use Rattle.hail_machine.specs.States.{State, setup_in, with_provider}
-use Rattle.step_laws.proofs.ByteSteps.{block_sized}
+use Rattle.step_laws.proofs.ByteSteps.{block_sized, symbols, own_work, byte_back}
 use Rattle.hail_commands.specs.Forms.{GetOf}
 use Rattle.hail_commands.specs.Refusals.{refusal_over}
 use Rattle.hail_commands.specs.JobRuns.{AreSteps}
@@ -26,7 +26,6 @@ use Rattle.damage_run.specs.Schedule.{byte}
 use Rattle.command_runs.proofs.Shape.{formed, form-is, one_byte, one_byte-is}
 use Rattle.command_runs.proofs.Counting.{fetch-counts}
 use Rattle.command_runs.proofs.Stores.{mended-sure as old-sure, got-new as new-sure}
-use Rattle.damage_run.proofs.Values.{symbols, all_give, byte_back}
 
 begins-none : refusal_over byte_repaired_records (GetJob named) ≡ None
 begins-none = refl
@@ -118,7 +117,7 @@ module _ (w : State) (n : ℕ) (count : w.handed ≡ 4) where
 
   happens5 : (m : ℕ) → Happens 8 m s4 (Step 1) More s5
   unfolding setup_in actions_of
-  happens5 m = (symbols, all_give, refl)
+  happens5 m = (symbols, own_work, refl)
 
   abbrev s6 : State
   s6 = record v { jobs = []; next_job = 2; providers = ps4 }

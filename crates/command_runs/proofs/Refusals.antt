@@ -1,19 +1,18 @@
 -- Commands that end before a job of theirs begins: refused, or by a fault, or for want of memory.
-use Rattle.std.proofs.Common.{◌≡◌, ◌≢◌, ◌≤◌, ◌<◌, ℕ, ◌+◌, Bool, true, false, cond, List, [], ◌∷◌, ◌++◌, length, Option, Some, None, refl, ap, sym, subst, inl, inr, arith}
+use Rattle.std.proofs.Common.{◌≡◌, ◌≢◌, ◌<◌, ℕ, ◌+◌, true, List, [], ◌∷◌, ◌++◌, length, Some, None, refl, ap, sym, subst, inl, inr, arith}
 use Rattle.std.specs.Prelude.{take}
 use Rattle.std.specs.Fmt.{digits}
 use Rattle.std.proofs.lemmas.List.{get_or-replicate}
 use Rattle.std.proofs.lemmas.Bool.{cases_lt}
 use Rattle.hex.specs.Hex.{decode_pairs, is_hex_digit}
-use Rattle.poly_laws.specs.Poly.{agree as agree_over, is_seen as is_seen_over}
 use Rattle.hail_field.specs.Shape.{IsShape}
-use Rattle.hail_codes.specs.Polynomials.{value, agree, is_seen}
 use Rattle.hail_codes.specs.Points.{upto}
 use Rattle.hail_codes.specs.DispersalCode.{AcceptsNone}
 use Rattle.hail_devices.specs.Cells.{firm}
 use Rattle.hail_records.specs.Journal.{text, magic}
 use Rattle.hail_records.specs.Examples.{four}
 use Rattle.hail_machine.specs.Refusals as refusal
+use Rattle.damage_run.proofs.LostGet.{at_most_two}
 use Rattle.hail_commands.specs.Forms.{RowOf, InitWith, PutUnder, GetOf, ListAll, AuditAll, RepairDue}
 use Rattle.hail_commands.specs.Keys.{IsKeyForm}
 use Rattle.hail_openings.specs.Journals.{journal_read}
@@ -142,17 +141,6 @@ init-bad-journal = AnswersInit.keyed key_text four.master shape_good (omega arit
     (InitsDisk.bad_journal 0 (long, inl (inl (no_magic, refl))) (record { status_is = refl; place = refl; heard = refl; disk = inl refl; providers = refl; sink = refl }))
 
 -- ---- a row
-
-module _ (p : List ℕ) (a b c d : ℕ) (s t : Option ℕ) where
-  at_most_two : agree p (a ∷ b ∷ c ∷ d ∷ []) (None ∷ None ∷ s ∷ t ∷ []) ≤ 2
-  unfolding agree_over is_seen_over
-  at_most_two = by (is_seen (value p c) s) (is_seen (value p d) t)
-    where
-      by : (x y : Bool) → 0 + (0 + (cond x 1 0 + (cond y 1 0 + 0))) ≤ 2
-      by true true = omega arith
-      by true false = omega arith
-      by false true = omega arith
-      by false false = omega arith
 
 none_accepted : AcceptsNone (upto 4) (None ∷ None ∷ Some 7 ∷ Some 9 ∷ []) 1 1
 none_accepted p h = (let few = at_most_two p 0 1 2 3 (Some 7) (Some 9) in let many = h.agrees in omega (arith, few, many))

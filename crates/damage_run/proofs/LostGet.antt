@@ -15,17 +15,18 @@ use Rattle.hail_machine.specs.Machine.{Happens}
 use Rattle.hail_machine.specs.Runs.{Moment, IsRun}
 use Rattle.hail_machine.specs.Examples.{set_up}
 use Rattle.hail_machine.proofs.RunParts.{begun, job_at, stepped}
+use Rattle.column_laws.proofs.Worked.{opens-own}
 use Rattle.step_laws.proofs.ByteSteps.{block_sized, block}
-use Rattle.damage_run.specs.Schedule.{name}
+use Rattle.damage_run.specs.Schedule.{name, byte}
 use Rattle.damage_run.specs.Points.{EndsBy}
-use Rattle.damage_run.proofs.Values.{thing, shown, opens_one}
+use Rattle.damage_run.proofs.Values.{thing, shown}
 use Rattle.damage_run.proofs.Steps.{state_57}
 use Rattle.damage_run.proofs.Run.{moments, is_run}
 use Rattle.damage_run.proofs.InRepair.{robbed}
 
 -- two places of four agree at most
 module _ (p : List ℕ) (a b c d : ℕ) (s t : Option ℕ) where
-  at_most_two : agree p (a ∷ b ∷ c ∷ d ∷ []) (None ∷ None ∷ s ∷ t ∷ []) ≤ 2
+  pub at_most_two : agree p (a ∷ b ∷ c ∷ d ∷ []) (None ∷ None ∷ s ∷ t ∷ []) ≤ 2
   unfolding agree_over is_seen_over
   at_most_two = by (is_seen (value p c) s) (is_seen (value p d) t)
     where
@@ -38,7 +39,7 @@ module _ (p : List ℕ) (a b c d : ℕ) (s t : Option ℕ) where
 pub loses_row : LosesRow thing 0 (None ∷ None ∷ Some (block 2) ∷ Some (block 3) ∷ []) 0
 loses_row = record {
   opened = None ∷ None ∷ shown 2 ∷ shown 3 ∷ [];
-  opens = (refl, (refl, (opens_one 2 (omega arith), (opens_one 3 (omega arith), tt))));
+  opens = (refl, (refl, (opens-own thing byte 2 0 (omega arith), (opens-own thing byte 3 0 (omega arith), tt))));
   place = 0;
   kept = omega arith;
   number = refl;

@@ -15,9 +15,9 @@ use Rattle.hail_machine.specs.Audits.{HasSums}
 use Rattle.hail_machine.specs.Machine.{Happens}
 use Rattle.hail_records.specs.Examples.{four}
 use Rattle.hail_machine.proofs.PutSteps.{state_15}
-use Rattle.step_laws.proofs.ByteSteps.{block_sized, block}
+use Rattle.step_laws.proofs.ByteSteps.{block_sized, block, symbols, byte_back, own_work}
 use Rattle.damage_run.specs.Schedule.{name, byte}
-use Rattle.damage_run.proofs.Values.{symbols, byte_back, all_give, without_two_give, without_zero_give, right, same_first, no_answer, sums, judged}
+use Rattle.damage_run.proofs.Values.{without_two_give, without_zero_give, right, same_first, no_answer, sums, judged}
 
 -- the counts of the audit
 abbrev pub counts : List ℕ
@@ -142,7 +142,7 @@ state_24 = at records_0 (record get_2 { place = 5; given = Worked 1 0 symbols �
 
 pub happens_23 : Happens 8 23 state_23 (Step 2) (More) state_24
 unfolding setup_in actions_of
-happens_23 = (symbols, all_give, refl)
+happens_23 = (symbols, own_work, refl)
 
 abbrev pub state_25 : State
 state_25 = at records_0 (record audit_3 { subject = 1; place = 1; given = [] } ∷ []) 4 (Some (record { job = 3; entry = AuditStart 1; moves = 1 })) (None) providers_5 audits_1

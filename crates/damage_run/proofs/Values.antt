@@ -1,70 +1,51 @@
 -- What the providers hold and answer in the run: the blocks of a file of one byte over four providers, one of which is lost.
 use Rattle.hail_columns.specs.Forgeries.{count_of}
 use Rattle.std.proofs.Common.{◌≡◌, ℕ, ◌/◌, ◌%◌, ◌<◌, true, false, ◌&&◌, List, [], ◌∷◌, Option, Some, None, refl, ap, sym, ◌∙◌, inl, arith, zero, suc, ◌≤◌}
-use Rattle.std.specs.Prelude.{take, is_some, unwrap_or, if◌then◌else◌}
-use Rattle.std.specs.List.{flat_map}
+use Rattle.std.specs.Prelude.{is_some, unwrap_or, if◌then◌else◌}
 use Rattle.hail_field.specs.Nim.{nim_add, nim_mul, nim_pow}
 use Rattle.hail_field.proofs.AllNumbers.{nim_laws}
 use Rattle.poly_laws.specs.Poly.{is_seen as is_seen_over, agree as agree_over}
 use Rattle.hail_codes.specs.Polynomials.{value, agree, is_seen}
 use Rattle.hail_codes.specs.Points.{upto}
-use Rattle.hail_columns.specs.Objects.{Object, symbols_in, bytes_of_symbols, point}
+use Rattle.hail_columns.specs.Objects.{Object, symbols_in, point}
 use Rattle.hail_columns.specs.Columns.{is_wrong_block}
-use Rattle.hail_columns.specs.Opened.{SeenBlock, bare, OpensTo, GivesSymbols, OpensFile, block_at}
+use Rattle.hail_columns.specs.Opened.{SeenBlock, bare, GivesSymbols, OpensFile, block_at}
 use Rattle.hail_columns.specs.Challenges.{Challenge, challenge_of, alpha, picked_row, sum_over, all_held, held_symbol, honest_answer, right_answer, bare_answer}
 use Rattle.hail_columns.specs.Verdicts.{Sums, counts_after, Judges}
-use Rattle.column_laws.proofs.RightBlocks.{opens-right}
-use Rattle.column_laws.proofs.Worked.{column-right}
+use Rattle.column_laws.proofs.Worked.{column-right, opens-own}
 use Rattle.hail_machine.specs.Setups.{object_of}
 use Rattle.hail_records.specs.Examples.{four}
-use Rattle.run_laws.proofs.SymbolBytes.{bytes_back}
-use Rattle.step_laws.proofs.GivesRight.{few_give}
+use Rattle.column_laws.proofs.RightRows.{given-right}
 use Rattle.damage_run.specs.Schedule.{byte}
 use Rattle.damage_run.specs.Points.{without_two}
 use Rattle.calm_laws.specs.FewWrong.{is_wrong_seen}
-use Rattle.step_laws.proofs.ByteSteps.{block}
+use Rattle.step_laws.proofs.ByteSteps.{block, symbols, byte_back}
 use Rattle.aggregate.proofs.RightRow.{right_row, IsRightRow-right_row}
 
 -- the object of the file
 abbrev pub thing : Object
 thing = object_of four 1
 
--- the symbols of the only stripe
-abbrev pub symbols : List ℕ
-symbols = symbols_in thing byte 0
-
--- the bytes of the symbols, cut to the length, are the byte
-pub byte_back : byte ≡ take 1 (flat_map (λ stripe. bytes_of_symbols (symbols_in thing byte stripe)) (upto 1))
-byte_back = sym (bytes_back thing byte (omega arith) (omega arith) refl)
-
 -- ---- what seen blocks open to
 
 abbrev pub shown : ℕ → SeenBlock
 shown j = Some (bare thing j 0 (block j))
 
+-- a provider's own block is not wrong
 is_right : (j : ℕ) → is_wrong_block thing byte j 0 (Some (block j)) ≡ false
 is_right j = column-right thing byte j 0
 
-pub opens_one : (j : ℕ) → j < 256 → OpensTo thing j 0 (Some (block j)) (shown j)
-opens_one j l = opens-right thing byte j 0 (Some (block j)) l (is_right j)
-
-pub all_give : GivesSymbols thing 0 (Some (block 0) ∷ Some (block 1) ∷ Some (block 2) ∷ Some (block 3) ∷ []) symbols
-all_give = few_give thing byte 0 0 (Some (block 0) ∷ Some (block 1) ∷ Some (block 2) ∷ Some (block 3) ∷ []) (shown 0 ∷ shown 1 ∷ shown 2 ∷ shown 3 ∷ []) refl
-    (omega arith, omega arith, omega arith, omega arith, omega arith)
-    (rw (is_right 0, is_right 1, is_right 2, is_right 3) (omega arith))
-    (opens_one 0 (omega arith), (opens_one 1 (omega arith), (opens_one 2 (omega arith), (opens_one 3 (omega arith), tt))))
-
 pub without_two_give : GivesSymbols thing 0 (Some (block 0) ∷ Some (block 1) ∷ None ∷ Some (block 3) ∷ []) symbols
-without_two_give = few_give thing byte 0 0 (Some (block 0) ∷ Some (block 1) ∷ None ∷ Some (block 3) ∷ []) (shown 0 ∷ shown 1 ∷ None ∷ shown 3 ∷ []) refl
+without_two_give = given-right thing byte 0 0 (Some (block 0) ∷ Some (block 1) ∷ None ∷ Some (block 3) ∷ []) (shown 0 ∷ shown 1 ∷ None ∷ shown 3 ∷ []) refl
     (omega arith, omega arith, omega arith, omega arith, omega arith)
     (rw (is_right 0, is_right 1, is_right 3) (omega arith))
-    (opens_one 0 (omega arith), (opens_one 1 (omega arith), (refl, (opens_one 3 (omega arith), tt))))
+    (opens-own thing byte 0 0 (omega arith), (opens-own thing byte 1 0 (omega arith), (refl, (opens-own thing byte 3 0 (omega arith), tt))))
 
 pub without_zero_give : GivesSymbols thing 0 (None ∷ Some (block 1) ∷ Some (block 2) ∷ Some (block 3) ∷ []) symbols
-without_zero_give = few_give thing byte 0 0 (None ∷ Some (block 1) ∷ Some (block 2) ∷ Some (block 3) ∷ []) (None ∷ shown 1 ∷ shown 2 ∷ shown 3 ∷ []) refl
+without_zero_give = given-right thing byte 0 0 (None ∷ Some (block 1) ∷ Some (block 2) ∷ Some (block 3) ∷ []) (None ∷ shown 1 ∷ shown 2 ∷ shown 3 ∷ []) refl
     (omega arith, omega arith, omega arith, omega arith, omega arith)
     (rw (is_right 1, is_right 2, is_right 3) (omega arith))
-    (refl, (opens_one 1 (omega arith), (opens_one 2 (omega arith), (opens_one 3 (omega arith), tt))))
+    (refl, (opens-own thing byte 1 0 (omega arith), (opens-own thing byte 2 0 (omega arith), (opens-own thing byte 3 0 (omega arith), tt))))
 
 -- ---- what the audit asks and hears
 

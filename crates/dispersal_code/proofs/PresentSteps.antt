@@ -1,6 +1,7 @@
 -- The steps of `present_of`.
 use Rattle.std.proofs.Common.{◌≡◌, ◌≤◌, ◌<◌, ◌+◌, ◌++◌, [], ◌∷◌, ℕ, zero, suc, List, length, drop, get_or, add-one, Option, Some, None, refl, sym, ◌∙◌, ap, subst, arith}
 use Rattle.std.proofs.lemmas.List.{append_assoc, drop_all, get_or_default}
+use Rattle.hail_syndrome.proofs.GatherSteps.{append-none}
 use Rattle.dispersal_code.specs.Present.{Chosen, present_points, present_symbols}
 
 -- the point of an absent symbol is passed over
@@ -66,11 +67,6 @@ pub symbols_taken : (start total : List ℕ) (ss : List (Option ℕ)) (k y : ℕ
 symbols_taken start total ss k y d h is sum =
     one_more start (present_symbols (drop k ss)) (present_symbols (drop (k + 1) ss)) total y
     (rw add-one (symbols-some ss k y h (get_or_default ss k None d h ∙ is))) sum
-
--- what follows nothing is nothing
-append-none : (start rest : List ℕ) → rest ≡ [] → start ++ rest ≡ start
-append-none [] rest e = e
-append-none (a ∷ start) rest e = ap (λ t. a ∷ t) (append-none start rest e)
 
 points-past : (xs : List ℕ) (ss : List (Option ℕ)) → xs ≡ [] → present_points xs ss ≡ []
 unfolding present_points

@@ -17,10 +17,10 @@ use Rattle.hail_machine.specs.Audits.{HasSums}
 use Rattle.hail_machine.specs.Machine.{Happens}
 use Rattle.hail_records.specs.Examples.{four}
 use Rattle.hail_machine.proofs.PutSteps.{state_15}
-use Rattle.step_laws.proofs.ByteSteps.{block_sized, block}
+use Rattle.step_laws.proofs.ByteSteps.{block_sized, block, symbols, byte_back, own_work}
 use Rattle.damage_run.specs.Schedule.{name, byte}
 use Rattle.damage_run.specs.Points.{counts}
-use Rattle.damage_run.proofs.Values.{symbols, byte_back, all_give, right, same_first, sums, judged}
+use Rattle.damage_run.proofs.Values.{right, same_first, sums, judged}
 use Rattle.damage_run.proofs.LostGet.{loses_row}
 use Rattle.fault_run.specs.Faults.{other}
 
@@ -339,7 +339,7 @@ state_47 = record (at records_3 (record get_5 { place = 5; given = Worked 1 0 sy
 
 pub happens_46 : Happens 8 46 state_46 (Step 5) (More) state_47
 unfolding setup_in actions_of
-happens_46 = (symbols, all_give, refl)
+happens_46 = (symbols, own_work, refl)
 
 abbrev pub state_48 : State
 state_48 = record (at records_3 ([]) 6 (None) (None) providers_9 state_15.audits bytes_4) { disk_faults = 2 }

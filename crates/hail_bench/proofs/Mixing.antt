@@ -1,33 +1,22 @@
 -- The steps of the checksums of blocks.
-use Rattle.std.proofs.Common.{◌≡◌, ◌≤◌, ◌<◌, ◌+◌, ℕ, zero, suc, List, [], ◌∷◌, length, drop, get_or, add-one, sym, ap, ◌∙◌, refl, arith}
-use Rattle.std.proofs.lemmas.List.{drop_all}
+use Rattle.std.proofs.Common.{◌≡◌, ◌≤◌, ◌<◌, ◌+◌, ℕ, List, length, drop, get_or, add-one, sym, ap, ◌∙◌}
+use Rattle.std.proofs.lemmas.List.{at_drop_more, at_drop_all}
 use Rattle.std.proofs.lemmas.List.FromFn.{length-map-range_with_len}
 use Rattle.hail_bench.specs.Checksum.{number_after}
 use Rattle.hail_codes.specs.Profiles.{Profile}
 use Rattle.hail_codes.specs.ServerCode.{codeword}
 use Rattle.hail_bench.specs.Blocks.{kept_symbols, mixed, mixed_all, encoding_checksum}
 
--- the checksum from a place on
-mixed_all-drop : (sum : ℕ) (block : List ℕ) (k : ℕ) → k < length block →
-    mixed_all sum (drop k block) ≡ mixed (mixed_all sum (drop (suc k) block)) (get_or block k 0)
-unfolding mixed_all
-mixed_all-drop sum [] k h = absurd (omega arith)
-mixed_all-drop sum (s ∷ block) zero h = refl
-mixed_all-drop sum (s ∷ block) (suc k) h = mixed_all-drop sum block k (omega arith)
-
 -- one symbol more
 pub mixed_step : (sum : ℕ) (block : List ℕ) (k : ℕ) → k < length block →
     mixed_all sum (drop k block) ≡ mixed (mixed_all sum (drop (k + 1) block)) (get_or block k 0)
-mixed_step sum block k h = mixed_all-drop sum block k h ∙ ap (λ m. mixed (mixed_all sum (drop m block)) (get_or block k 0)) (sym (add-one k))
-
--- the checksum of nothing
-nothing : (sum : ℕ) → mixed_all sum [] ≡ sum
 unfolding mixed_all
-nothing sum = refl
+mixed_step sum block k h = at_drop_more (mixed_all sum) block k 0 h
 
 -- no symbol is left
 pub mixed_past : (sum : ℕ) (block : List ℕ) (k : ℕ) → length block ≤ k → mixed_all sum (drop k block) ≡ sum
-mixed_past sum block k h = rw (drop_all k block h) (nothing sum)
+unfolding mixed_all
+mixed_past sum block k h = at_drop_all (mixed_all sum) block k h
 
 -- as many kept symbols as are asked for
 pub length-kept_symbols : (n keep : ℕ) → length (kept_symbols n keep) ≡ keep

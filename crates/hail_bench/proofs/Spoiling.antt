@@ -1,14 +1,14 @@
 -- A codeword with some wrong symbols opens to the codeword.
-use Rattle.std.proofs.Common.{◌≡◌, ◌≢◌, ◌≤◌, ◌<◌, ◌+◌, ℕ, zero, suc, Bool, true, false, cond, nat_eq, List, [], ◌∷◌, length, map, set, get_or, Some, sym, ap, ◌∙◌, refl, arith}
+use Rattle.std.proofs.Common.{◌≡◌, ◌≢◌, ◌≤◌, ◌<◌, ℕ, zero, suc, Bool, true, false, cond, nat_eq, List, [], ◌∷◌, length, set, get_or, sym, ap, ◌∙◌, refl, arith}
 use Rattle.std.proofs.lemmas.List.FromFn.{length-range_with_len, length-map-range_with_len}
 use Rattle.hail_field.specs.Nim.{nim_add}
 use Rattle.hail_field.proofs.AllNumbers.{nim_laws, nim_ring}
-use Rattle.poly_laws.specs.Poly.{agree as agree_over, is_seen as is_seen_over}
-use Rattle.hail_codes.specs.Polynomials.{value, agree}
+use Rattle.hail_codes.specs.Polynomials.{value}
 use Rattle.hail_codes.specs.Points.{upto, values_at}
 use Rattle.hail_codes.specs.Profiles.{Profile}
 use Rattle.hail_codes.specs.ServerCode.{differences, IsCodeword, Opens}
 use Rattle.hail_codes.proofs.Points.{nat_eq-differ}
+use Rattle.column_laws.proofs.RightBlocks.{agree-differences}
 
 -- an error that is not zero changes a symbol
 pub error_changes : (x e : ℕ) → e ≢ 0 → nim_add x e ≢ x
@@ -30,20 +30,6 @@ spoil_more (x ∷ xs) (y ∷ ys) (suc k) v hx hy same other = go (nat_eq x y) (s
     go true h = h
     go false h = ap suc h
 
--- a place of a block agrees or differs
-agree_or_differ : (p points block : List ℕ) → length block ≡ length points →
-    agree p points (map Some block) + differences block (values_at points p) ≡ length points
-unfolding agree_over is_seen_over
-agree_or_differ p [] [] even = omega arith
-agree_or_differ p [] (s ∷ block) even = absurd (omega arith)
-agree_or_differ p (x ∷ points) [] even = absurd (omega arith)
-agree_or_differ p (x ∷ points) (s ∷ block) even = go (nat_eq s (value p x)) (agree_or_differ p points block (omega arith))
-  where
-    go : (b : Bool) → agree p points (map Some block) + differences block (values_at points p) ≡ length points →
-        (cond b 1 0 + agree p points (map Some block)) + cond b (differences block (values_at points p)) (suc (differences block (values_at points p))) ≡ suc (length points)
-    go true h = omega (arith, h)
-    go false h = omega (arith, h)
-
 -- a block that differs from a codeword at few places opens to it
 pub spoiled_opens : (profile : Profile) (block word : List ℕ) (errors : ℕ) → IsCodeword profile word → length block ≡ length word →
     differences block word ≡ errors → errors ≤ profile.fix → Opens profile block word
@@ -53,7 +39,7 @@ spoiled_opens profile block word errors is even wrong few = record {
     whole = whole;
     decodes = record {
       short = is.degree;
-      near = omega (arith, few, count, agree_or_differ is.polynomial (upto profile.size) block (whole ∙ sym points), points);
+      near = omega (arith, few, count, agree-differences is.polynomial (upto profile.size) block (whole ∙ sym points), points);
     };
   };
   opened_is = is.values;

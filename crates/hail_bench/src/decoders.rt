@@ -57,7 +57,7 @@ pub struct DecodersWork {
 }
 
 /// The points 0 to count - 1.
-#[tactic(auto, using(server_code::proofs::MakeSteps::upto_more))]
+#[tactic(auto, using(hail_codes::proofs::Points::upto_more))]
 fn points(alloc: Global, count: u32) -> Result<Vec<Symbol>, AllocError>
     ensures { IfOk result (λ points. points.items ≡ upto count) }
 {

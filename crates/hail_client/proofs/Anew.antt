@@ -3,6 +3,7 @@ use Rattle.std.proofs.Common.{◌≡◌, ℕ, ◌<◌, ◌≤◌, true, false, L
 use Rattle.std.specs.Prelude.{IsSome, IfSome, IsTrue, IsErrAnd, is_some}
 use Rattle.std.specs.List.{list_all}
 use Rattle.std.proofs.lemmas.Bool.{false≢true}
+use Rattle.plain_facts.proofs.Options.{is_some-none}
 use Rattle.hail_devices.specs.Cells.{Cells}
 use Rattle.hail_devices.specs.Faults.{Rose}
 use Rattle.hail_devices.specs.Images.{EachImage}
@@ -45,10 +46,6 @@ use Rattle.vault_open.proofs.InitEvents.{err-is}
 pub by-told : {A X : Type 0} (told : Option A) → (IsSome told → X) → (is_some told ≡ false → X) → X
 by-told None f g = g refl
 by-told (Some a) f g = f refl
-
-pub untold : {A : Type 0} (told : Option A) → is_some told ≡ false → told ≡ None
-untold None is = refl
-untold (Some a) is = absurd (false≢true (sym is))
 
 pub untold-goes : {A : Type 0} (step : A → A → Type 0) (old new : Option A) → is_some old ≡ false → Goes step old new → new ≡ None
 untold-goes step None None is goes = refl
@@ -225,21 +222,21 @@ module _ (c left : Client) (left_is : left ≡ without_vault (client_next_job c)
         subst (λ (x : Client). UnlessBadJournal result (IsMadeAnew moment (client_next_job c) Reopen (reopen_outcome result) x (devices old f ps) (devices new g ps))) (sym left_is)
         (subst (λ (r : Result Unit ReopenFault). UnlessBadJournal r (IsMadeAnew moment (client_next_job c) Reopen (reopen_outcome r) (without_vault (client_next_job c)) (devices old f ps) (devices new g ps)))
         (sym (err-is result (reopen_fault.NotOpened why) is))
-        (fault-anew moment (client_next_job c) f g ps old new (untold old none) (untold-goes IsResynced old new none goes) never why rose))
+        (fault-anew moment (client_next_job c) f g ps old new (is_some-none old none) (untold-goes IsResynced old new none goes) never why rose))
 
     pub few-are : (v : Vault) → WasOpened v old new g left.next_job → length ps < provider_count v →
         IsMadeAnew moment (client_next_job c) Reopen (events.Refused refusal.TooFewProviders) left (devices old f ps) (devices new g ps)
     few-are v was few =
         (let all : WasOpened v old new g (client_next_job c) = subst (λ (x : Client). WasOpened v old new g x.next_job) left_is was in
         subst (λ (x : Client). IsMadeAnew moment (client_next_job c) Reopen (events.Refused refusal.TooFewProviders) x (devices old f ps) (devices new g ps)) (sym left_is)
-        (few-anew old all.0 all.1 v new g (client_next_job c) all.2 f ps moment old (untold old none) (untold-goes IsResynced old new none goes) never few))
+        (few-anew old all.0 all.1 v new g (client_next_job c) all.2 f ps moment old (is_some-none old none) (untold-goes IsResynced old new none goes) never few))
 
     pub enough-are : (v : Vault) → WasOpened v old new g left.next_job → provider_count v ≤ length ps →
         IsMadeAnew moment (client_next_job c) Reopen events.Opened (record { vault = Some v; next_job = left.next_job }) (devices old f ps) (devices new g ps)
     enough-are v was enough =
         (let all : WasOpened v old new g (client_next_job c) = subst (λ (x : Client). WasOpened v old new g x.next_job) left_is was in
         subst (λ (x : Client). IsMadeAnew moment (client_next_job c) Reopen events.Opened (record { vault = Some v; next_job = x.next_job }) (devices old f ps) (devices new g ps)) (sym left_is)
-        (opened-anew old all.0 all.1 v new g (client_next_job c) all.2 f ps moment old (untold old none) (untold-goes IsResynced old new none goes) never enough))
+        (opened-anew old all.0 all.1 v new g (client_next_job c) all.2 f ps moment old (is_some-none old none) (untold-goes IsResynced old new none goes) never enough))
 
     pub left-standing : IsStanding left (devices new g ps)
     left-standing =

@@ -8,7 +8,7 @@ use Rattle.field_laws.proofs.Ring.{zero_add, zero_mul, one_mul}
 use Rattle.hail_field.specs.Nim.{nim, nim_add, nim_mul, nim_inv}
 use Rattle.hail_field.proofs.AllNumbers.{nim_laws, nim_ring, nim_mul_inv}
 use Rattle.poly_laws.proofs.Interpolate.{interpolate_takes, vanish_else}
-use Rattle.hail_codes.specs.Polynomials.{value, vanish, interpolate, Takes}
+use Rattle.hail_codes.specs.Polynomials.{value, vanish, interpolate, TakesSymbols}
 use Rattle.hail_codes.specs.Points.{upto, others_product, multiplier}
 use Rattle.hail_codes.specs.Profiles.{Profile}
 use Rattle.hail_codes.specs.ServerCode.{codeword, IsGeneratorRow}
@@ -17,7 +17,7 @@ use Rattle.hail_codes.proofs.Points.{one_not_zero, Apart-range, Each-outside, ra
 use Rattle.hail_codes.proofs.Lagrange.{nim_inv-mul, others_product-not_zero, dot-scaled, part, value-interpolate}
 
 -- a polynomial's value at a place, where it takes all values
-pub Takes-at : (p xs ys : List ℕ) (k : ℕ) → k < length xs → Takes p xs ys → value p (get_or xs k 0) ≡ get_or ys k 0
+pub Takes-at : (p xs ys : List ℕ) (k : ℕ) → k < length xs → TakesSymbols p xs ys → value p (get_or xs k 0) ≡ get_or ys k 0
 Takes-at p [] ys k h t = absurd (omega arith)
 Takes-at p (x ∷ xs) [] k h t = absurd t
 Takes-at p (x ∷ xs) (y ∷ ys) zero h t = t.0

@@ -1,5 +1,5 @@
 -- Points that are apart, and the products of their sums.
-use Rattle.std.proofs.Common.{◌≡◌, ◌≢◌, ◌≤◌, ◌<◌, ◌+◌, ◌++◌, ◌⊎◌, inl, inr, ℕ, zero, suc, sym, ◌∙◌, ap, refl, arith, List, [], ◌∷◌, Bool, true, false, cond, nat_eq, eqb-true, zero-add}
+use Rattle.std.proofs.Common.{◌≡◌, ◌≢◌, ◌≤◌, ◌<◌, ◌+◌, ◌-◌, ◌++◌, ◌⊎◌, inl, inr, ℕ, zero, suc, sym, ◌∙◌, ap, refl, arith, List, [], ◌∷◌, Bool, true, false, cond, nat_eq, eqb-true, zero-add, add-one}
 use Rattle.std.specs.List.{range_with_len}
 use Rattle.plain_facts.specs.Lists.{Each}
 use Rattle.field_laws.specs.Field.{Apart}
@@ -33,6 +33,10 @@ range_with_len-append a (suc m) n =
     let e : suc m + n ≡ suc (m + n) = omega arith in
     let f : a + suc m ≡ a + 1 + m = omega arith in
     rw (e, f) (ap (λ t. a ∷ t) (range_with_len-append (a + 1) m n))
+
+-- the first of the numbers up to an end, and the others
+pub range_with_len-step : (a end : ℕ) → a < end → range_with_len a (end - a) ≡ a ∷ range_with_len (a + 1) (end - (a + 1))
+range_with_len-step a end h = let e : end - a ≡ (end - (a + 1)) + 1 = omega arith in rw (e, add-one) refl
 
 -- the test finds that numbers differ
 pub nat_eq-differ : (p x : ℕ) → x ≢ p → nat_eq p x ≡ false
@@ -69,5 +73,5 @@ others_product-append x (p ∷ ps) qs = go (nat_eq p x) (others_product-append x
     go false h = cc (h, nim_ring.mul_assoc (nim_add x p) (others_product x ps) (others_product x qs))
 
 -- one point more
-pub upto-more : (n : ℕ) → upto (n + 1) ≡ upto n ++ n ∷ []
-upto-more n = range_with_len-append 0 n 1 ∙ ap (λ a. upto n ++ a ∷ []) (zero-add n)
+pub upto_more : (n : ℕ) → upto (n + 1) ≡ upto n ++ n ∷ []
+upto_more n = range_with_len-append 0 n 1 ∙ ap (λ a. upto n ++ a ∷ []) (zero-add n)

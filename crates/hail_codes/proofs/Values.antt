@@ -4,7 +4,7 @@ use Rattle.std.specs.Prelude.{Bool, true, false, None}
 use Rattle.plain_facts.specs.Lists.{Each}
 use Rattle.poly_laws.specs.Poly.{value as value_over, is_seen as is_seen_over}
 use Rattle.hail_codes.specs.Points.{values_at}
-use Rattle.hail_codes.specs.Polynomials.{value, is_seen, Takes}
+use Rattle.hail_codes.specs.Polynomials.{value, is_seen, TakesSymbols}
 use Rattle.hail_codes.proofs.Points.{nat_eq-differ}
 use Rattle.hail_field.specs.Nim.{nim_add}
 use Rattle.hail_field.proofs.AllNumbers.{nim_laws, nim_ring}
@@ -20,7 +20,7 @@ values_at-same [] p q same = refl
 values_at-same (x ∷ points) p q same = cc (same x, values_at-same points p q same)
 
 -- a polynomial that takes another's values has them
-pub takes_same : (p q points : List ℕ) → Takes q points (values_at points p) → Each (λ x. value p x ≡ value q x) points
+pub takes_same : (p q points : List ℕ) → TakesSymbols q points (values_at points p) → Each (λ x. value p x ≡ value q x) points
 takes_same p q [] t = tt
 takes_same p q (x ∷ points) t = (sym t.0, takes_same p q points t.1)
 

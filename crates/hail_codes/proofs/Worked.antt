@@ -13,7 +13,7 @@ use Rattle.hail_codes.specs.ServerCode.{IsNear}
 use Rattle.hail_codes.specs.DispersalCode.{Accepts}
 use Rattle.hail_codes.proofs.Codewords.{near_itself}
 use Rattle.hail_codes.proofs.Symbols.{all_from_each, all_from_seen}
-use Rattle.hail_codes.specs.Polynomials.{value, vanish, interpolate, trim, agree, plus, times, Takes}
+use Rattle.hail_codes.specs.Polynomials.{value, vanish, interpolate, trim, agree, plus, times, TakesSymbols}
 use Rattle.hail_codes.proofs.Values.{value-constant}
 
 -- the points
@@ -75,7 +75,7 @@ four_apart =
     ((omega arith, (omega arith, (omega arith, tt))), second)
 
 -- a line takes two values
-pub line_takes : Takes (1 ∷ 2 ∷ []) (0 ∷ 1 ∷ []) (1 ∷ 3 ∷ [])
+pub line_takes : TakesSymbols (1 ∷ 2 ∷ []) (0 ∷ 1 ∷ []) (1 ∷ 3 ∷ [])
 unfolding value_over nim_mul nim_add product
 line_takes = (refl, (refl, tt))
 

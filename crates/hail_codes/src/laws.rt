@@ -7,13 +7,13 @@ ghost use Rattle.poly_laws.specs.Rows.{IsKeyEquation};
 ghost use Rattle.hail_codes.specs.Profiles.{profile_of};
 ghost use Rattle.hail_codes.specs.ServerCode.{IsNear};
 ghost use Rattle.hail_codes.specs.DispersalCode.{Accepts};
-ghost use Rattle.hail_codes.specs.Polynomials.{value, vanish, interpolate, trim, agree, Takes};
+ghost use Rattle.hail_codes.specs.Polynomials.{value, vanish, interpolate, trim, agree, TakesSymbols};
 
 /// The points 0 and 1 are apart, and 1 + 2 x takes the values 1 and 3 there: it is the interpolating polynomial, spelt with a zero
 /// at its end too, and divided by 1 + x, whose leading coefficient is not 0, it leaves 3.
 pub fn a_line_is_determined()
     ensures field { IsField nim × IsEndless ℕ × Apart {A = ℕ} (0 ∷ 1 ∷ []) }
-    ensures takes { Takes (1 ∷ 2 ∷ []) (0 ∷ 1 ∷ []) (1 ∷ 3 ∷ []) }
+    ensures takes { TakesSymbols (1 ∷ 2 ∷ []) (0 ∷ 1 ∷ []) (1 ∷ 3 ∷ []) }
     ensures interpolates { interpolate (0 ∷ 1 ∷ []) (1 ∷ 3 ∷ []) ≡ 1 ∷ 2 ∷ [] }
     ensures everywhere { (x : ℕ) → value (1 ∷ 2 ∷ 0 ∷ []) x ≡ value (1 ∷ 2 ∷ []) x }
     ensures trimmed { trim (1 ∷ 2 ∷ 0 ∷ []) ≡ trim (1 ∷ 2 ∷ []) }

@@ -1,37 +1,22 @@
 -- The symbols of columns: what stands at a place, and the row's polynomial at the providers' points.
-use Rattle.std.specs.Prelude.{◌≡◌, ℕ, zero, suc, ◌+◌, ◌<◌, ◌≤◌, Bool, true, false, List, length, map, nat_lt, slice_index, slice_get, Some, if◌then◌else◌}
-use Rattle.std.proofs.Common.{arith, ap, sym, refl, ◌∙◌}
-use Rattle.std.specs.List.{range_with_len}
+use Rattle.std.specs.Prelude.{◌≡◌, ℕ, ◌<◌, ◌≤◌, true, false, List, length, map, slice_index, slice_get, Some, if◌then◌else◌}
+use Rattle.std.proofs.Common.{arith, ap, sym, ◌∙◌}
 use Rattle.std.proofs.lemmas.List.FromFn.{length-range_with_len, length-map-range_with_len, get_or-map-range_with_len}
 use Rattle.std.proofs.lemmas.Option.{slice_get-get_or}
 use Rattle.hail_field.specs.Nim.{nim}
 use Rattle.hail_field.proofs.AllNumbers.{nim_laws}
-use Rattle.poly_laws.proofs.Interpolate.{interpolate_takes, length-interpolate}
-use Rattle.hail_codes.specs.Polynomials.{value, interpolate, Takes}
+use Rattle.poly_laws.proofs.Interpolate.{length-interpolate}
+use Rattle.hail_codes.specs.Polynomials.{value, interpolate}
 use Rattle.hail_codes.specs.Points.{upto}
 use Rattle.hail_codes.specs.ServerCode.{codeword}
-use Rattle.hail_codes.proofs.Points.{one_not_zero, Apart-range}
+use Rattle.hail_codes.proofs.Generators.{value-kept}
 use Rattle.hail_columns.specs.Objects.{Object, kept_by, is_primary}
 use Rattle.hail_columns.specs.Columns.{row_polynomial, secondary_symbol, column_of_symbols}
-
--- a polynomial that takes values at a range of points takes each
-Takes-at : (p : List ℕ) (f : ℕ → ℕ) (a n j : ℕ) → Takes p (range_with_len a n) (map f (range_with_len a n)) → a ≤ j → j < a + n → value p j ≡ f j
-Takes-at p f a zero j t above below = absurd (omega (arith, above, below))
-Takes-at p f a (suc n) j t above below = go (nat_lt a j) refl (Takes-at p f (a + 1) n j t.1)
-  where
-    go : (b : Bool) → nat_lt a j ≡ b → (a + 1 ≤ j → j < a + 1 + n → value p j ≡ f j) → value p j ≡ f j
-    go true less later = later (grind (arith, less)) (omega (arith, below))
-    go false more later =
-        let same : a ≡ j = grind (arith, more, above) in
-        ap (λ x. value p x) (sym same) ∙ t.0 ∙ ap f same
 
 -- the polynomial through values at the points 0 to n - 1 takes them
 pub value-interpolate_upto : (f : ℕ → ℕ) (n j : ℕ) → j < n → value (interpolate (upto n) (map f (upto n))) j ≡ f j
 value-interpolate_upto f n j below =
-    Takes-at (interpolate (upto n) (map f (upto n))) f 0 n j
-    (interpolate_takes nim nim_laws (upto n) (map f (upto n)) one_not_zero
-    (length-range_with_len 0 n ∙ sym (length-map-range_with_len f 0 n)) (Apart-range 0 n))
-    (omega arith) (omega (arith, below))
+    value-kept n (map f (upto n)) j (length-map-range_with_len f 0 n) below ∙ get_or-map-range_with_len f 0 n j j 0 below (omega arith)
 
 -- it has as many coefficients as points
 pub length-row_polynomial : (o : Object) (symbols : List ℕ) (place : ℕ) → length (row_polynomial o symbols place) ≤ o.shape.l

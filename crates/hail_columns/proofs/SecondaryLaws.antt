@@ -135,15 +135,21 @@ point-outside o j second below =
     each_range (λ p. point o j ≢ p) 0 o.shape.l
     (λ p less e. absurd (omega (arith, less, second, below, sym (point-low o j below) ∙ ap (λ n. n % 256) e)))
 
+-- masks put on at the places of a range
+pub masked-on : (o : Object) (j row : ℕ) (f : ℕ → ℕ) (a n : ℕ) →
+    masked o j (row + a) (map f (range_with_len a n)) ≡ map (λ place. nim_add (f place) (mask o.master o.id j (row + place))) (range_with_len a n)
+masked-on o j row f a zero = refl
+masked-on o j row f a (suc n) =
+    let next : row + a + 1 ≡ row + (a + 1) = omega arith in
+    (λ i. nim_add (f a) (mask o.master o.id j (row + a)) ∷ (ap (λ r. masked o j r (map f (range_with_len (a + 1) n))) next ∙ masked-on o j row f (a + 1) n) i)
+
 -- masks put on twice are off
 masked-off : (o : Object) (j row : ℕ) (f : ℕ → ℕ) (a n : ℕ) →
     masked o j (row + a) (map (λ place. nim_add (f place) (mask o.master o.id j (row + place))) (range_with_len a n)) ≡ map f (range_with_len a n)
-masked-off o j row f a zero = refl
-masked-off o j row f a (suc n) =
-    let m = mask o.master o.id j (row + a) in
-    let next : row + a + 1 ≡ row + (a + 1) = omega arith in
-    (λ i. off (f a) m i ∷ (ap (λ r. masked o j r (map (λ place. nim_add (f place) (mask o.master o.id j (row + place))) (range_with_len (a + 1) n))) next
-    ∙ masked-off o j row f (a + 1) n) i)
+masked-off o j row f a n =
+    let m = λ (place : ℕ). mask o.master o.id j (row + place) in
+    masked-on o j row (λ place. nim_add (f place) (m place)) a n
+    ∙ map-range_same (λ place. nim_add (nim_add (f place) (m place)) (m place)) f a n (λ place below. off (f place) (m place))
   where
     off : (x m : ℕ) → nim_add (nim_add x m) m ≡ x
     off x m = nim_ring.add_assoc x m m ∙ ap (λ y. nim_add x y) (nim_ring.add_self m) ∙ nim_ring.add_zero x

@@ -1,4 +1,5 @@
 pub mod Keys
+pub mod Generator
 pub mod Objects
 pub mod Columns
 pub mod Opened

@@ -95,7 +95,7 @@ high_ok v fits =
     (Each1-zip2 down (λ j. j < 16) v (replicate 16 4) (Each2-splat (λ a b. down a b < 16) v 16 4 small))
 
 -- what is looked up at a lane
-looked_up : (t v : List ℕ) (g : ℕ → ℕ → ℕ) (s i : ℕ) → length v ≡ 16 → i < 16 → g (get_or v i 0) s < 16 →
+pub looked_up : (t v : List ℕ) (g : ℕ → ℕ → ℕ) (s i : ℕ) → length v ≡ 16 → i < 16 → g (get_or v i 0) s < 16 →
     get_or (swz_l w8 16 t 0 (zip2 g v (replicate 16 s))) i 0 ≡ get_or t (g (get_or v i 0) s) 0
 looked_up t v g s i long h below =
     let js : List ℕ = zip2 g v (replicate 16 s) in

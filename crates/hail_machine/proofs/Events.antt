@@ -4,6 +4,7 @@ use Rattle.std.specs.Prelude.{IsSome, is_some, nat_lt}
 use Rattle.std.specs.Option.{option_map}
 use Rattle.std.specs.Prelude.{◌||◌, length}
 use Rattle.std.proofs.lemmas.Bool.{lt-ltb, eqb-true, eq-eqb, ne_eqb, cases_Bool, and_parts, and_from, false≢true}
+use Rattle.plain_facts.proofs.Options.{is_some-none}
 use Rattle.hail_records.specs.Records.{Record, Setup, SetUp, is_setup}
 use Rattle.hail_records.specs.Table.{next_id, setup_of, version_of}
 use Rattle.hail_devices.specs.Providers.{Held, Provider, with_block, without_object, with_symbol, without_block, LosesPart, HasPlace}
@@ -12,9 +13,7 @@ use Rattle.hail_devices.specs.Told.{Goes}
 use Rattle.hail_machine.specs.Jobs.{Kind, PutJob, GetJob, DropJob, AuditJob, RepairJob, UpgradeJob, Job, Given, Fetched, Answered, Worked, job_of, with_job, without_job, advanced, advanced_with}
 use Rattle.hail_machine.specs.Actions.{Action, WriteBody, SyncBody, WriteGate, SyncGate, Store, Fetch, Ask, Work, Remove, End}
 use Rattle.hail_machine.specs.Refusals as refusal
-use Rattle.hail_machine.specs.Refusals.{Refusal}
 use Rattle.hail_machine.specs.Answers as answer
-use Rattle.hail_machine.specs.Answers.{Answer}
 use Rattle.hail_machine.specs.Events.{Event, Init, Begin, BeginAt, BeginScrub, BeginPack, Step, Alter, Lose, Stop, Reopen, Names, Continue, Outcome, Ready, Refused, Opened, Begun, More, Waiting, Ended, Replaced, NothingHeld, Stopped, Listed, Closed, Continued}
 use Rattle.hail_machine.specs.States.{State, Append, Doubt, Scrub, Pack, Alone, Scrubbing, Packing, brought, with_provider, going_on, ended, given_up, continued, DiskCall, ProviderCall, Settles}
 use Rattle.hail_machine.specs.Begins.{beginning, BeginsAt}
@@ -136,6 +135,11 @@ stored_value old job j object stripe p call i o s b e h =
         some_at (Some x) g = (let f : Some (with_block object stripe (block_to_store old job job.kind j object stripe) x object stripe) ≡ Some b = g in
             let k : with_block object stripe (block_to_store old job job.kind j object stripe) x object stripe ≡ b = cc in
             sym k ∙ cond_true ((object == object) && (stripe == stripe)) (Some (block_to_store old job job.kind j object stripe)) (x object stripe) (and_from (object == object) (stripe == stripe) (eq-eqb object object refl) (eq-eqb stripe stripe refl)))
+
+-- settling leaves nothing in doubt
+pub settled_doubt : (left mid : State) → Settles left mid → mid.doubt ≡ None
+settled_doubt left mid (inl is) = ap (λ (w : State). w.doubt) is
+settled_doubt left mid (inr (d, in_doubt, is)) = ap (λ (w : State). w.doubt) is
 
 module _ (limit moment : ℕ) (old : State) where
   -- of a call that leaves what the provider holds
@@ -505,10 +509,6 @@ module _ (limit moment : ℕ) (old : State) where
   settled_jobs left mid (inl is) = (ap (λ (w : State). w.jobs) is, ap (λ (w : State). w.append) is, ap (λ (w : State). w.providers) is, ap (λ (w : State). w.bytes) is, ap (λ (w : State). w.is_open) is)
   settled_jobs left mid (inr (d, in_doubt, is)) = (ap (λ (w : State). w.jobs) is, ap (λ (w : State). w.append) is, ap (λ (w : State). w.providers) is, ap (λ (w : State). w.bytes) is, ap (λ (w : State). w.is_open) is)
 
-  settled_doubt : (left mid : State) → Settles left mid → mid.doubt ≡ None
-  settled_doubt left mid (inl is) = ap (λ (w : State). w.doubt) is
-  settled_doubt left mid (inr (d, in_doubt, is)) = ap (λ (w : State). w.doubt) is
-
   records_of : (mid new : State) → new.records ≡ mid.records → (mid.records ≡ old.records) ⊎ ((d : Doubt) × (old.doubt ≡ Some d) × (mid.records ≡ d.entry ∷ old.records)) → Records_is old new
   records_of mid new is (inl e) = Records_is.same (is ∙ e)
   records_of mid new is (inr (d, in_doubt, e)) = Records_is.settled d in_doubt (is ∙ e)
@@ -532,10 +532,6 @@ module _ (limit moment : ℕ) (old : State) where
   reopens (Refused refusal.Memory) new (faults, low, is) = subst (λ (w : State). Changes limit moment old Reopen (Refused refusal.Memory) w) (sym is) (gives_up limit moment old Reopen (Refused refusal.Memory) (record (given_up old) { disk_faults = faults }) refl refl (Records_is.same refl) refl refl (λ d h. Doubt_is.kept h refl))
   reopens r new h = absurd h
 
-  none_setup : (o : Option Setup) → is_some o ≡ false → o ≡ None
-  none_setup None h = refl
-  none_setup (Some s) h = absurd (false≢true (sym h))
-
   set_up_of : (s : Setup) (mid new : State) → new.records ≡ SetUp s ∷ mid.records → setup_of mid.records ≡ None →
       (mid.records ≡ old.records) ⊎ ((d : Doubt) × (old.doubt ≡ Some d) × (mid.records ≡ d.entry ∷ old.records)) → Records_is old new
   set_up_of s mid new is none (inl e) = Records_is.set_up s (ap setup_of (sym e) ∙ none) (is ∙ ap (λ rs. SetUp s ∷ rs) e)
@@ -558,7 +554,7 @@ module _ (limit moment : ℕ) (old : State) where
   inits_closed s Ready new idle (mid, settled, none, (faults, low, is)) = (let j = settled_jobs old mid settled in
       subst (λ (w : State). Changes limit moment old (Init s) Ready w) (sym is)
       (gives_up limit moment old (Init s) Ready (record (brought mid (SetUp s)) { disk_faults = faults }) (j.0 ∙ idle.0) (j.1 ∙ idle.1)
-      (set_up_of s mid (record (brought mid (SetUp s)) { disk_faults = faults }) refl (none_setup (setup_of mid.records) none) (settled_records old mid refl refl settled)) j.2 j.3 (λ d h. absurd (let f : None ≡ Some d = sym (settled_doubt old mid settled) ∙ h in cc))))
+      (set_up_of s mid (record (brought mid (SetUp s)) { disk_faults = faults }) refl (is_some-none (setup_of mid.records) none) (settled_records old mid refl refl settled)) j.2 j.3 (λ d h. absurd (let f : None ≡ Some d = sym (settled_doubt old mid settled) ∙ h in cc))))
   inits_closed s r new idle h = absurd h
 
   inits_by : (s : Setup) (good : Bool) (r : Outcome) (new : State) → (old.jobs ≡ []) × (old.append ≡ None) → InitsBy old s good r new → Changes limit moment old (Init s) r new

@@ -22,11 +22,11 @@ use Rattle.hail_machine.specs.Runs.{Moment, now, first_moments, IsRun}
 use Rattle.hail_machine.specs.Heard.{entries_of, heard_by_kind, heard_by, given_to}
 use Rattle.hail_machine.specs.Halves.{GotIsOpened}
 use Rattle.hail_machine.proofs.JobLists.{cond_true, cond_false, same_value, found_none}
-use Rattle.hail_machine.proofs.Changes.{IsQuiet, Gave, Grown, Job_is, Changes}
+use Rattle.hail_machine.proofs.Changes.{IsQuiet, Gave, Job_is, Changes}
 use Rattle.hail_machine.proofs.StepEnds.{event_end}
 use Rattle.hail_machine.proofs.Events.{changes}
 use Rattle.hail_machine.proofs.Numbers.{next_by, next_is_by}
-use Rattle.hail_machine.proofs.PinFacts.{Pins_is, pins_is, setup_same, setup_one, wrote_setup}
+use Rattle.hail_machine.proofs.PinFacts.{Pins_is, pins_is, setup_same, setup_kept}
 use Rattle.hail_machine.proofs.Held.{All, all, actions_are, first_more, first_all}
 use Rattle.hail_machine.proofs.Sights.{stored-file}
 use Rattle.hail_machine.proofs.Stripes.{flat, From, from, order, once, worked_on, to_flat, from_flat, before_end}
@@ -106,18 +106,6 @@ pub record Facts (start : State) (ms : List Moment) : Type 0 where
       slice_get (actions_of (setup_in (now start ms)) j) q ≡ Some (Work o s) → Opened (setup_in (now start ms)) f.profile f.id j.given s
 
 module _ (limit : ℕ) (start : State) (m : Moment) (ms : List Moment) (A : All start ms) (F : Facts start ms) (X : Changes limit (length ms) (now start ms) m.event m.outcome m.state) where
-  -- the setup stays while a job runs on
-  setup_kept : (k : ℕ) (j : Job) → job_of m.state.jobs k ≡ Some j → setup_of m.state.records ≡ setup_of (now start ms).records
-  setup_kept k j h = elim (X.job k j h) [
-    | Job_is.kept r (Grown.as_before rec) ↦ ap setup_of rec
-    | Job_is.kept r (Grown.by_other x a runs next_is flight mine other rec) ↦ setup_one limit start m ms A.numbers A.pins X a x flight runs mine rec
-    | Job_is.begun kd wish is k_is allowed rec ↦ ap setup_of rec
-    | Job_is.plain x action runs next_is is_plain goes rec st ↦ ap setup_of rec
-    | Job_is.drew x runs next_is none_ is rec ↦ ap setup_of rec
-    | Job_is.finished x a runs next_is flight mine is rec none_ ↦
-        ap setup_of rec ∙ wrote_setup x x.kind a.entry (now start ms).records (A.pins.wrote a x flight (subst (λ n. job_of (now start ms).jobs n ≡ Some x) (sym mine) runs))
-  ]
-
   file_step : (k : ℕ) (j : Job) (name : List ℕ) → job_of m.state.jobs k ≡ Some j → j.kind ≡ GetJob name → HasFile (begin_of start (m ∷ ms) j) m.state j name
   file_step k j name h kind = elim (pins_is limit start m ms A.numbers A.pins X k j h) [
     | Pins_is.had x runs pinned kind_x begun g ↦
@@ -127,7 +115,7 @@ module _ (limit : ℕ) (start : State) (m : Moment) (ms : List Moment) (A : All 
           file = f.file;
           in_effect = ap (λ (b : State). file_in b name) (sym same) ∙ f.in_effect;
           pinned = pinned ∙ (f.pinned ∙ ap (λ (b : State). pinned_file b f.file ∷ []) same);
-          setup = setup_kept k j h ∙ (f.setup ∙ ap (λ (b : State). setup_of b.records) same);
+          setup = setup_kept limit start m ms A.numbers A.pins X k j h ∙ (f.setup ∙ ap (λ (b : State). setup_of b.records) same);
         })
     | Pins_is.new_one kd wish is k_is allowed rec ↦
         (let kd_is : kd ≡ GetJob name = sym (ap (λ (x : Job). x.kind) is) ∙ kind in
@@ -155,7 +143,7 @@ module _ (limit : ℕ) (start : State) (m : Moment) (ms : List Moment) (A : All 
   ])
     where
       same_setup : setup_in m.state ≡ setup_in (now start ms)
-      same_setup = setup_same m.state (now start ms) (setup_kept k j h)
+      same_setup = setup_same m.state (now start ms) (setup_kept limit start m ms A.numbers A.pins X k j h)
 
       at_old : slice_get (actions_of (setup_in (now start ms)) j) q ≡ Some (Work o s)
       at_old = subst (λ t. slice_get (actions_of t j) q ≡ Some (Work o s)) same_setup at

@@ -14,7 +14,7 @@ use Rattle.hail_machine.specs.Steps.{next_action}
 use Rattle.hail_machine.specs.Runs.{Moment, now}
 use Rattle.hail_machine.proofs.JobLists.{cond_true, cond_false, same_value, found_none}
 use Rattle.hail_machine.proofs.Changes.{IsPlain, Grown, Job_is, Append_is, Records_is, Doubt_is, Changes}
-use Rattle.hail_machine.proofs.Numbers.{Series, objects, Draws, HasNumber, next_of_records, at_three, first_above, first_below, drawn_later, drawn_first}
+use Rattle.hail_machine.proofs.Numbers.{objects, Draws, next_of_records, at_three, first_above, first_below, drawn_later}
 use Rattle.hail_machine.proofs.RecordFacts.{IsProper, AreSound, sound-more, sound-none, not_started-more, file-more}
 use Rattle.plain_facts.specs.Lists.{In}
 use Rattle.hail_records.proofs.FilesLaws.{same-refl}
@@ -198,6 +198,21 @@ module _ (limit : ℕ) (start : State) (m : Moment) (ms : List Moment) (N : num.
   pub setup_one : (a : Append) (x : Job) → (now start ms).append ≡ Some a → job_of (now start ms).jobs x.number ≡ Some x → a.job ≡ x.number → m.state.records ≡ a.entry ∷ (now start ms).records →
       setup_of m.state.records ≡ setup_of (now start ms).records
   setup_one a x flight runs mine rec = ap setup_of rec ∙ wrote_setup x x.kind a.entry (now start ms).records (F.wrote a x flight (subst (λ n. job_of (now start ms).jobs n ≡ Some x) (sym mine) runs))
+
+  -- and while one runs on
+  pub setup_kept : (k : ℕ) (j : Job) → job_of m.state.jobs k ≡ Some j → setup_of m.state.records ≡ setup_of (now start ms).records
+  setup_kept k j h = elim (X.job k j h) [
+    | Job_is.kept r (Grown.as_before rec) ↦ ap setup_of rec
+    | Job_is.kept r (Grown.by_other x a runs next_is flight mine other rec) ↦ setup_one a x flight runs mine rec
+    | Job_is.begun kind profile is k_is none_ rec ↦ ap setup_of rec
+    | Job_is.plain x action runs next_is is_plain goes rec st ↦ ap setup_of rec
+    | Job_is.drew x runs next_is none_ is rec ↦ ap setup_of rec
+    | Job_is.finished x a runs next_is flight mine is rec none_ ↦
+        ap setup_of rec ∙ wrote_setup x x.kind a.entry (now start ms).records (F.wrote a x flight (subst (λ n. job_of (now start ms).jobs n ≡ Some x) (sym mine) runs))
+  ]
+
+  pub setup_stays : (k : ℕ) (j : Job) → job_of m.state.jobs k ≡ Some j → setup_in m.state ≡ setup_in (now start ms)
+  setup_stays k j h = setup_same m.state (now start ms) (setup_kept k j h)
 
   started_step : (k : ℕ) (j : Job) (name bytes : List ℕ) → job_of m.state.jobs k ≡ Some j → j.kind ≡ PutJob name bytes → 4 ≤ j.place → j.place < 8 + stores_count m.state j bytes →
       started_as m.state.records j.subject ≡ Some name

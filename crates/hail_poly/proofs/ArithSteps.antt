@@ -14,7 +14,7 @@ use Rattle.poly_laws.proofs.Interpolate.{interpolate_takes, length-interpolate}
 use Rattle.poly_laws.proofs.Everywhere.{same_from_values}
 use Rattle.poly_laws.proofs.Shifts.{shifted, value-added}
 use Rattle.poly_laws.proofs.Places.{value-next, Takes-trim}
-use Rattle.hail_codes.specs.Polynomials.{value, plus, scale, times, trim, interpolate, Takes}
+use Rattle.hail_codes.specs.Polynomials.{value, plus, scale, times, trim, interpolate, TakesSymbols}
 use Rattle.hail_poly.specs.Rows.{Reduces}
 use Rattle.hail_poly.specs.Quotient.{IsDivision}
 use Rattle.hail_poly.proofs.RowSteps.{Each-zeros, trim_trim}
@@ -95,6 +95,6 @@ pub interpolated_short : (points values : List ℕ) → length points ≡ length
 interpolated_short points values even = omega (arith, length-trim nim nim_laws (interpolate points values), length-interpolate nim nim_laws points values even)
 
 -- it takes the values at the points
-pub interpolated_takes : (points values : List ℕ) → length points ≡ length values → Apart points → Takes (trim (interpolate points values)) points values
+pub interpolated_takes : (points values : List ℕ) → length points ≡ length values → Apart points → TakesSymbols (trim (interpolate points values)) points values
 interpolated_takes points values even apart =
     Takes-trim nim nim_laws (interpolate points values) points values (interpolate_takes nim nim_laws points values one_not_zero even apart)

@@ -9,10 +9,10 @@ use Rattle.poly_laws.proofs.Headlines.{one_takes}
 use Rattle.poly_laws.proofs.Trim.{value-trim}
 use Rattle.poly_laws.proofs.Interpolate.{interpolate_takes, length-interpolate}
 use Rattle.hail_codes.specs.Points.{values_at}
-use Rattle.hail_codes.specs.Polynomials.{value, interpolate, trim, Takes}
+use Rattle.hail_codes.specs.Polynomials.{value, interpolate, trim, TakesSymbols}
 
 -- a polynomial takes its values
-pub takes_values : (p xs : List ℕ) → Takes p xs (values_at xs p)
+pub takes_values : (p xs : List ℕ) → TakesSymbols p xs (values_at xs p)
 takes_values p [] = tt
 takes_values p (x ∷ xs) = (refl, takes_values p xs)
 

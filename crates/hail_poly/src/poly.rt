@@ -27,7 +27,7 @@ impl Model for Poly {
 impl Poly {
     ghost use Rattle.std.specs.Prelude.{◌≡◌, ◌≢◌, ◌≤◌, [], length, IfOk};
     ghost use Rattle.field_laws.specs.Field.{Apart};
-    ghost use Rattle.hail_codes.specs.Polynomials.{value, plus, times, interpolate, trim, Takes};
+    ghost use Rattle.hail_codes.specs.Polynomials.{value, plus, times, interpolate, trim, TakesSymbols};
     ghost use Rattle.hail_poly.specs.Quotient.{IsDivision};
 
     /// The polynomial of coefficients in memory.
@@ -56,7 +56,7 @@ impl Poly {
         requires even { length points.now ≡ length values.now }
         ensures is { IfOk result (λ p. p ≡ trim (interpolate points.now values.now)) }
         ensures short { IfOk result (λ p. length p ≤ length points.now) }
-        ensures takes { IfOk result (λ p. Takes p points.now values.now) }
+        ensures takes { IfOk result (λ p. TakesSymbols p points.now values.now) }
     {
         let zero = Symbol::ZERO;
         let mut whole = vec![in alloc; zero; points.len() + 1]?;

@@ -10,7 +10,7 @@ use Rattle.poly_laws.proofs.Agree.{agree_same}
 use Rattle.poly_laws.proofs.Trim.{value-trim, length-trim}
 use Rattle.poly_laws.proofs.Interpolate.{interpolate_takes, length-interpolate}
 use Rattle.poly_laws.proofs.Headlines.{one_takes}
-use Rattle.hail_codes.specs.Polynomials.{value, vanish, interpolate, trim, Takes}
+use Rattle.hail_codes.specs.Polynomials.{value, vanish, interpolate, trim, TakesSymbols}
 use Rattle.hail_poly.specs.Decoding.{matches, IsDecoded, NoneDecodes}
 use Rattle.hail_poly.specs.Key.{power, key}
 use Rattle.hail_poly.specs.Quotient.{IsCombination}
@@ -79,7 +79,7 @@ module _ (points values : List ℕ) (even : length points ≡ length values) (ap
   apart_chosen = Apart-front (sound_points nim f points) keep (Apart-sound nim nim_laws f points apart)
 
   -- what decodes the values takes those at the chosen places
-  takes_chosen : (p : List ℕ) → Decodes nim points values keep fix p → Takes p chosen taken
+  takes_chosen : (p : List ℕ) → Decodes nim points values keep fix p → TakesSymbols p chosen taken
   takes_chosen p is =
       Takes-front nim nim_laws f p (sound_points nim f points) (sound_values nim f points values) keep
       (takes_sound nim nim_laws f p points values even

@@ -17,6 +17,11 @@ is_not_zero a ne = go (nat_eq a 0) refl
     go true is = absurd (ne (eqb-true a 0 is))
     go false is = refl
 
+-- nothing behind a list leaves the list
+pub append-none : (start rest : List ℕ) → rest ≡ [] → start ++ rest ≡ start
+append-none [] rest e = e
+append-none (a ∷ start) rest e = ap (λ t. a ∷ t) (append-none start rest e)
+
 module _ (f : List ℕ) where
   -- a suspected point is passed over
   points-zero : (xs : List ℕ) (k : ℕ) → k < length xs → value f (get_or xs k 0) ≡ 0 → sound_points nim f (drop k xs) ≡ sound_points nim f (drop (suc k) xs)
@@ -83,11 +88,6 @@ module _ (f : List ℕ) where
       start ++ sound_values nim f (drop k xs) (drop k ys) ≡ total → start ++ sound_values nim f (drop (k + 1) xs) (drop (k + 1) ys) ≡ total
   value_passed xs ys start total k x h even read none sum =
       ap (λ t. start ++ t) (rw add-one (sym (values-zero xs ys k h (omega arith) (ap (value f) (sym read) ∙ none)))) ∙ sum
-
-  -- what follows nothing is nothing
-  append-none : (start rest : List ℕ) → rest ≡ [] → start ++ rest ≡ start
-  append-none [] rest e = e
-  append-none (a ∷ start) rest e = ap (λ t. a ∷ t) (append-none start rest e)
 
   points-past : (xs : List ℕ) → xs ≡ [] → sound_points nim f xs ≡ []
   unfolding sound_points

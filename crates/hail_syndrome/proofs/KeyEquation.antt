@@ -12,7 +12,7 @@ use Rattle.hail_field.specs.Nim.{nim, nim_add, nim_mul, nim_inv, nim_pow}
 use Rattle.hail_field.proofs.AllNumbers.{nim_laws, nim_ring, nim_mul_inv}
 use Rattle.poly_laws.specs.Poly.{value as value_over}
 use Rattle.poly_laws.proofs.Interpolate.{interpolate_takes, vanish_roots, length-interpolate}
-use Rattle.hail_codes.specs.Polynomials.{value, vanish, interpolate, Takes}
+use Rattle.hail_codes.specs.Polynomials.{value, vanish, interpolate, TakesSymbols}
 use Rattle.hail_codes.specs.Points.{multiplier}
 use Rattle.hail_codes.specs.Sums.{dot}
 use Rattle.hail_codes.proofs.Lagrange.{part, gap_not_zero, value-interpolate}
@@ -57,7 +57,7 @@ module _ (xs ys : List ℕ) (even : length xs ≡ length ys) (apart : Apart xs) 
   pub length-tail : (m : ℕ) → length (tail m) ≡ length xs
   length-tail m = length-interpolate nim nim_laws xs (weighted m xs ys) (sym (length-weighted m xs ys even))
 
-  tail_takes : (m : ℕ) → Takes (tail m) xs (weighted m xs ys)
+  tail_takes : (m : ℕ) → TakesSymbols (tail m) xs (weighted m xs ys)
   tail_takes m = interpolate_takes nim nim_laws xs (weighted m xs ys) nim_laws.one_not_zero (sym (length-weighted m xs ys even)) apart
 
   -- the sums over points other than x
@@ -87,7 +87,7 @@ module _ (xs ys : List ℕ) (even : length xs ≡ length ys) (apart : Apart xs) 
       B = dot (map (part xs x) ps) (weighted (suc m) ps vs)
 
   -- at one of the points
-  inside : (m x s : ℕ) (us vs : List ℕ) → Takes (tail m) us (weighted m us vs) → Takes (tail (suc m)) us (weighted (suc m) us vs) →
+  inside : (m x s : ℕ) (us vs : List ℕ) → TakesSymbols (tail m) us (weighted m us vs) → TakesSymbols (tail (suc m)) us (weighted (suc m) us vs) →
       Each (λ u. value (vanish xs) u ≡ 0) us → length us ≡ length vs →
       Each (λ u. x ≢ u) us ⊎ (nim_add (nim_mul x (value (tail m) x)) (value (tail (suc m)) x) ≡ nim_mul (value (vanish xs) x) s)
   unfolding weighted nim_pow

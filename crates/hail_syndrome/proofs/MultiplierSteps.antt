@@ -1,33 +1,21 @@
 -- The steps of the multipliers.
-use Rattle.std.proofs.Common.{◌≡◌, ◌≤◌, ◌<◌, ◌+◌, ℕ, zero, suc, List, [], ◌∷◌, length, drop, map, get_or, slice_index, add-one, zero-add, cond, nat_eq, ap, ◌∙◌, refl, arith}
-use Rattle.std.proofs.lemmas.List.{drop_all}
+use Rattle.std.proofs.Common.{◌≡◌, ◌≤◌, ◌<◌, ◌+◌, ℕ, List, [], ◌∷◌, length, drop, map, get_or, slice_index, zero-add, cond, nat_eq, ap, ◌∙◌, refl, arith}
+use Rattle.std.proofs.lemmas.List.{at_drop_more, at_drop_all}
 use Rattle.std.proofs.lemmas.List.FromFn.{fill_by_all, length-range_with_len, get_or-range_with_len}
 use Rattle.hail_field.specs.Nim.{nim_add, nim_mul}
 use Rattle.hail_codes.specs.Points.{upto, others_product, multiplier}
-
--- the product from a place on
-others-drop : (x : ℕ) (points : List ℕ) (k : ℕ) → k < length points →
-    others_product x (drop k points) ≡
-    cond (nat_eq (get_or points k 0) x) (others_product x (drop (suc k) points)) (nim_mul (nim_add x (get_or points k 0)) (others_product x (drop (suc k) points)))
-unfolding others_product
-others-drop x [] k h = absurd (omega arith)
-others-drop x (p ∷ points) zero h = refl
-others-drop x (p ∷ points) (suc k) h = others-drop x points k (omega arith)
 
 -- one point more
 pub others_step : (x : ℕ) (points : List ℕ) (k : ℕ) → k < length points →
     others_product x (drop k points) ≡
     cond (nat_eq (get_or points k 0) x) (others_product x (drop (k + 1) points)) (nim_mul (nim_add x (get_or points k 0)) (others_product x (drop (k + 1) points)))
-others_step x points k h = rw add-one (others-drop x points k h)
-
--- the product over no points
-nothing : (x : ℕ) → others_product x [] ≡ 1
 unfolding others_product
-nothing x = refl
+others_step x points k h = at_drop_more (others_product x) points k 0 h
 
 -- no point is left
 pub others_past : (x : ℕ) (points : List ℕ) (k : ℕ) → length points ≤ k → others_product x (drop k points) ≡ 1
-others_past x points k h = rw (drop_all k points h) (nothing x)
+unfolding others_product
+others_past x points k h = at_drop_all (others_product x) points k h
 
 -- each number is itself
 map-same : (ps : List ℕ) → map (λ (k : ℕ). k) ps ≡ ps

@@ -10,7 +10,7 @@ use Rattle.poly_laws.proofs.Roots.{zero_from_roots, plus_zero, same_values, leng
 use Rattle.poly_laws.proofs.Interpolate.{interpolate_takes, vanish_roots, length-interpolate}
 use Rattle.poly_laws.proofs.Euclid.{vanish-monic}
 use Rattle.poly_laws.proofs.Everywhere.{cancel}
-use Rattle.hail_codes.specs.Polynomials.{value, plus, vanish, interpolate, Takes}
+use Rattle.hail_codes.specs.Polynomials.{value, plus, vanish, interpolate, TakesSymbols}
 use Rattle.hail_codes.specs.Points.{values_at}
 use Rattle.hail_poly.specs.Key.{power}
 use Rattle.hail_syndrome.specs.Syndromes.{syndrome, syndromes_of, AreValues}
@@ -37,14 +37,14 @@ Each-append_right [] ys h = h
 Each-append_right (x ∷ xs) ys h = Each-append_right xs ys h.1
 
 -- what takes the values has them
-values_of_takes : (p xs ys : List ℕ) → length xs ≡ length ys → Takes p xs ys → ys ≡ values_at xs p
+values_of_takes : (p xs ys : List ℕ) → length xs ≡ length ys → TakesSymbols p xs ys → ys ≡ values_at xs p
 values_of_takes p [] [] e t = refl
 values_of_takes p [] (y ∷ ys) e t = absurd (omega arith)
 values_of_takes p (x ∷ xs) [] e t = absurd t
 values_of_takes p (x ∷ xs) (y ∷ ys) e t = cc (t.0, values_of_takes p xs ys (omega arith) t.1)
 
 -- two polynomials, of which one takes the values that the other has, meet at the points
-meet_values : (p q xs ys : List ℕ) → Takes p xs ys → ys ≡ values_at xs q → Each (λ x. value p x ≡ value q x) xs
+meet_values : (p q xs ys : List ℕ) → TakesSymbols p xs ys → ys ≡ values_at xs q → Each (λ x. value p x ≡ value q x) xs
 meet_values p q [] ys t e = tt
 meet_values p q (x ∷ xs) [] t e = absurd t
 meet_values p q (x ∷ xs) (y ∷ ys) t e = (cc (t.0, e), meet_values p q xs ys t.1 (cc (e)))
@@ -71,7 +71,7 @@ module _ (xs ys : List ℕ) (even : length xs ≡ length ys) (apart : Apart xs) 
       subst (λ (s : List ℕ). Each IsZero s) (sym (syndromes_more xs ys even apart m))
       (Each-append (syndromes_of xs ys m) (syndrome xs ys m ∷ []) (zero_reversed m both.1) (both.0, tt))
 
-  interpolate_takes_all : Takes (interpolate xs ys) xs ys
+  interpolate_takes_all : TakesSymbols (interpolate xs ys) xs ys
   interpolate_takes_all = interpolate_takes nim nim_laws xs ys nim_laws.one_not_zero even apart
 
   module _ (keep m : ℕ) (size : keep + m ≡ length xs) where
@@ -98,7 +98,7 @@ module _ (xs ys : List ℕ) (even : length xs ≡ length ys) (apart : Apart xs) 
         short = short_factor nim nim_laws nim_endless (interpolate xs ys) (tail xs ys even apart m) m keep multiple
             (omega (arith, length-tail xs ys even apart m))
 
-        front : (us vs : List ℕ) → Takes (interpolate xs ys) us vs → Takes (take keep (interpolate xs ys)) us vs
+        front : (us vs : List ℕ) → TakesSymbols (interpolate xs ys) us vs → TakesSymbols (take keep (interpolate xs ys)) us vs
         front [] vs t = tt
         front (u ∷ us) [] t = t
         front (u ∷ us) (y ∷ vs) t = (short u ∙ t.0, front us vs t.1)

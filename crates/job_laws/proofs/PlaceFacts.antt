@@ -6,7 +6,7 @@ use Rattle.std.proofs.lemmas.Bool.{cases_eq, eq-eqb, ne_eqb}
 use Rattle.std.proofs.lemmas.List.{append_assoc, append-nil}
 use Rattle.std.proofs.lemmas.List.Sums.{sum_by-append}
 use Rattle.plain_facts.specs.Lists.{Each, In}
-use Rattle.plain_facts.proofs.Each.{each_get, each_append, each_map, each_mono}
+use Rattle.plain_facts.proofs.Each.{each_get, each_append, each_map, each_mono, in_left, in_right}
 use Rattle.hail_codes.specs.Points.{upto}
 use Rattle.hail_columns.specs.Opened.{SeenBlock, GivesSymbols}
 use Rattle.hail_devices.specs.Providers.{Held, sized}
@@ -144,15 +144,6 @@ abbrev pub IsStoreOf : Job → ℕ → List Place → Action → Type 0
 IsStoreOf job n ps (Store j o t) = (j < n) × (job.flagged j ≡ true) × In (record { object = o; stripe = t }) ps
 IsStoreOf job n ps action = Unit {0}
 
-pub in-left : {X : Type 0} (x : X) (xs ys : List X) → In x xs → In x (xs ++ ys)
-in-left x [] ys i = absurd i
-in-left x (z ∷ xs) ys (inl e) = inl e
-in-left x (z ∷ xs) ys (inr i) = inr (in-left x xs ys i)
-
-pub in-right : {X : Type 0} (x : X) (xs ys : List X) → In x ys → In x (xs ++ ys)
-in-right x [] ys i = i
-in-right x (z ∷ xs) ys i = inr (in-right x xs ys i)
-
 store-wider : (job : Job) (n : ℕ) (ps qs : List Place) → ((p : Place) → In p ps → In p qs) → (a : Action) → IsStoreOf job n ps a → IsStoreOf job n qs a
 store-wider job n ps qs f (Store j o t) h = (h.0, h.1, f (record { object = o; stripe = t }) h.2)
 store-wider job n ps qs f (Fetch j o t) h = tt
@@ -182,7 +173,7 @@ stores-of s job p = each_append (IsStoreOf job s.n (p ∷ [])) (open_actions s p
 pub stores-all : (s : Setup) (job : Job) (ps : List Place) → Each (IsStoreOf job s.n ps) (flat_map (actions_at s job) ps)
 stores-all s job [] = tt
 stores-all s job (p ∷ ps) = each_append (IsStoreOf job s.n (p ∷ ps)) (actions_at s job p) (flat_map (actions_at s job) ps)
-    (each_mono (IsStoreOf job s.n (p ∷ [])) (IsStoreOf job s.n (p ∷ ps)) (actions_at s job p) (λ a h. store-wider job s.n (p ∷ []) (p ∷ ps) (λ q i. in-left q (p ∷ []) ps i) a h) (stores-of s job p))
+    (each_mono (IsStoreOf job s.n (p ∷ [])) (IsStoreOf job s.n (p ∷ ps)) (actions_at s job p) (λ a h. store-wider job s.n (p ∷ []) (p ∷ ps) (λ q i. in_left (p ∷ []) ps q i) a h) (stores-of s job p))
     (each_mono (IsStoreOf job s.n ps) (IsStoreOf job s.n (p ∷ ps)) (flat_map (actions_at s job) ps) (λ a h. store-wider job s.n ps (p ∷ ps) (λ q i. inr i) a h) (stores-all s job ps))
 
 pub stores-wider : (job : Job) (n : ℕ) (ps qs : List Place) (acts : List Action) → ((p : Place) → In p ps → In p qs) → Each (IsStoreOf job n ps) acts → Each (IsStoreOf job n qs) acts
@@ -191,16 +182,16 @@ stores-wider job n ps qs acts f h = each_mono (IsStoreOf job n ps) (IsStoreOf jo
 -- each flagged provider is stored on at each of the places
 pub stored-at : (s : Setup) (job : Job) (j : ℕ) (ps : List Place) (p : Place) → j < s.n → job.flagged j ≡ true → In p ps → In (Store j p.object p.stripe) (flat_map (actions_at s job) ps)
 stored-at s job j [] p l f i = absurd i
-stored-at s job j (q ∷ ps) p l f (inr i) = in-right (Store j p.object p.stripe) (actions_at s job q) (flat_map (actions_at s job) ps) (stored-at s job j ps p l f i)
-stored-at s job j (q ∷ ps) p l f (inl e) = in-left (Store j p.object p.stripe) (actions_at s job q) (flat_map (actions_at s job) ps)
-    (subst (λ (z : Place). In (Store j z.object z.stripe) (actions_at s job q)) (sym e) (in-right (Store j q.object q.stripe) (open_actions s q.object q.stripe) (rewrite_actions s job q.object q.stripe) (range 0 s.n (omega arith) (omega (arith, l)))))
+stored-at s job j (q ∷ ps) p l f (inr i) = in_right (actions_at s job q) (flat_map (actions_at s job) ps) (Store j p.object p.stripe) (stored-at s job j ps p l f i)
+stored-at s job j (q ∷ ps) p l f (inl e) = in_left (actions_at s job q) (flat_map (actions_at s job) ps) (Store j p.object p.stripe)
+    (subst (λ (z : Place). In (Store j z.object z.stripe) (actions_at s job q)) (sym e) (in_right (open_actions s q.object q.stripe) (rewrite_actions s job q.object q.stripe) (Store j q.object q.stripe) (range 0 s.n (omega arith) (omega (arith, l)))))
   where
     range : (a m : ℕ) → a ≤ j → j < a + m → In (Store j q.object q.stripe) (flat_map (λ k. cond (job.flagged k) (Store k q.object q.stripe ∷ []) []) (range_with_len a m))
     range a zero lo hi = absurd (omega (arith, lo, hi))
     range a (suc m) lo hi = elim (cases_eq a j) [
-      | inl same ↦ in-left (Store j q.object q.stripe) (cond (job.flagged a) (Store a q.object q.stripe ∷ []) []) (flat_map (λ k. cond (job.flagged k) (Store k q.object q.stripe ∷ []) []) (range_with_len (a + 1) m))
+      | inl same ↦ in_left (cond (job.flagged a) (Store a q.object q.stripe ∷ []) []) (flat_map (λ k. cond (job.flagged k) (Store k q.object q.stripe ∷ []) []) (range_with_len (a + 1) m)) (Store j q.object q.stripe)
           (subst (λ xs. In (Store j q.object q.stripe) xs) (sym (cond_true (job.flagged a) (Store a q.object q.stripe ∷ []) [] (ap job.flagged same ∙ f))) (inl (ap (λ k. Store k q.object q.stripe) (sym same))))
-      | inr apart ↦ in-right (Store j q.object q.stripe) (cond (job.flagged a) (Store a q.object q.stripe ∷ []) []) (flat_map (λ k. cond (job.flagged k) (Store k q.object q.stripe ∷ []) []) (range_with_len (a + 1) m)) (range (a + 1) m (omega (arith, lo, apart)) (omega (arith, hi)))
+      | inr apart ↦ in_right (cond (job.flagged a) (Store a q.object q.stripe ∷ []) []) (flat_map (λ k. cond (job.flagged k) (Store k q.object q.stripe ∷ []) []) (range_with_len (a + 1) m)) (Store j q.object q.stripe) (range (a + 1) m (omega (arith, lo, apart)) (omega (arith, hi)))
     ]
 
 -- a provider that is not flagged, and a place that is none of these, is stored on by none

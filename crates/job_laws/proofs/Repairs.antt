@@ -6,7 +6,7 @@ use Rattle.std.specs.List.{flat_map}
 use Rattle.std.proofs.lemmas.Bool.{eq-eqb, false≢true}
 use Rattle.std.proofs.lemmas.List.{append_assoc, append-nil}
 use Rattle.plain_facts.specs.Lists.{Each, In}
-use Rattle.plain_facts.proofs.Each.{each_get, each_append, each_map, each_mono, each_take, in_contains}
+use Rattle.plain_facts.proofs.Each.{each_get, each_append, each_map, each_mono, each_take, in_contains, in_left, in_right}
 use Rattle.plain_facts.proofs.Lists.{drop-get}
 use Rattle.hail_codes.specs.Points.{upto}
 use Rattle.hail_columns.specs.Objects.{Object}
@@ -61,7 +61,7 @@ use Rattle.job_laws.proofs.Questions.{each-in, all-each}
 use Rattle.job_laws.proofs.Heard.{IsNot}
 use Rattle.job_laws.proofs.Rewritten.{IsNoneOf, IsBefore, AreOrdered, IsRepairing, column_at, after, after-either, after-none, after-some, Told, made-told, works-opened}
 use Rattle.job_laws.proofs.Places.{fetches_at, actions_at, IsAt, at-place, repairs-places, AreApart, all-apart, ordered-places, Cut, cut-at}
-use Rattle.job_laws.proofs.PlaceFacts.{FetchesAll, OpensAll, opens-fetches, opens-done, fetches-done, told-places, lacks-places, gives-places, work-cut, store-cut, IsStoreOf, in-left, in-right, stores-of, stores-all, stores-wider, stored-at, no-stores}
+use Rattle.job_laws.proofs.PlaceFacts.{FetchesAll, OpensAll, opens-fetches, opens-done, fetches-done, told-places, lacks-places, gives-places, work-cut, store-cut, IsStoreOf, stores-of, stores-all, stores-wider, stored-at, no-stores}
 
 ordered-take : (xs : List Action) (p : ℕ) → AreOrdered xs → AreOrdered (take p xs)
 ordered-take xs zero o = tt
@@ -271,7 +271,7 @@ module _ (start : State) (O : IsOpenAtRest start 1) (w : State) (job : Job) (W :
         by_flag j held below true f = record {
           stored = all-each (λ (p : Place). after x job.given j acts held p.object p.stripe ≡ Some (column_at x job.given j p.object p.stripe)) all
               (each-in (λ (p : Place). after x job.given j acts held p.object p.stripe ≡ Some (column_at x job.given j p.object p.stripe)) all
-              (λ p i. after-some x job.given j acts held p.object p.stripe (subst (In (Store j p.object p.stripe)) (sym e) (in-left (Store j p.object p.stripe) (flat_map (actions_at s job) all) behind (stored-at s job j all p below f i)))));
+              (λ p i. after-some x job.given j acts held p.object p.stripe (subst (In (Store j p.object p.stripe)) (sym e) (in_left (flat_map (actions_at s job) all) behind (Store j p.object p.stripe) (stored-at s job j all p below f i)))));
           others = λ p n. same-elsewhere all st j held p n;
         }
         by_flag j held below false f = λ o t. same-unflagged all st j held f o t
@@ -354,8 +354,8 @@ module _ (start new : State) (how : Answer) (heard : List Entry) (O : IsOpenAtRe
           some-part start O E.before E.job E.walked new heard held-same count-same due is-due (done ++ place ∷ []) rest (parts ∙ sym (append_assoc done (place ∷ []) rest))
           (subst (OpensAll sx (done ++ place ∷ [])) (sym is) (opens-done sx E.job done (place ∷ []) here (take c.0 (rewrite_actions sx E.job place.object place.stripe), [], sym (append-nil here), tt)))
           (subst (Each (IsStoreOf E.job sx.n (done ++ place ∷ []))) (sym is) (each_append (IsStoreOf E.job sx.n (done ++ place ∷ [])) (flat_map (actions_at sx E.job) done) here
-          (stores-wider E.job sx.n done (done ++ place ∷ []) (flat_map (actions_at sx E.job) done) (λ p i. in-left p done (place ∷ []) i) (stores-all sx E.job done))
-          (stores-wider E.job sx.n (place ∷ []) (done ++ place ∷ []) here (λ p i. in-right p done (place ∷ []) i) (subst (Each (IsStoreOf E.job sx.n (place ∷ []))) c.1 (each_take (IsStoreOf E.job sx.n (place ∷ [])) (actions_at sx E.job place) q (stores-of sx E.job place)))))))
+          (stores-wider E.job sx.n done (done ++ place ∷ []) (flat_map (actions_at sx E.job) done) (λ p i. in_left done (place ∷ []) p i) (stores-all sx E.job done))
+          (stores-wider E.job sx.n (place ∷ []) (done ++ place ∷ []) here (λ p i. in_right done (place ∷ []) p i) (subst (Each (IsStoreOf E.job sx.n (place ∷ []))) c.1 (each_take (IsStoreOf E.job sx.n (place ∷ [])) (actions_at sx E.job place) q (stores-of sx E.job place)))))))
     ]
 
     -- at a work all blocks of the place were fetched

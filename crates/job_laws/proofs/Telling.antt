@@ -1,25 +1,24 @@
 -- From the run of a job, as a command tells it, to what it leaves.
-use Rattle.hail_records.proofs.FilesLaws.{same-refl}
-use Rattle.std.proofs.Common.{◌≡◌, ℕ, zero, suc, ◌<◌, ◌≤◌, ◌==◌, ◌&&◌, ◌⊎◌, true, false, cond, List, [], ◌∷◌, length, replicate, Option, None, Some, refl, ap, sym, subst, ◌∙◌, inl, inr, arith}
+use Rattle.std.proofs.Common.{◌≡◌, ℕ, zero, suc, ◌<◌, ◌≤◌, ◌⊎◌, true, false, List, [], ◌∷◌, length, replicate, Option, None, Some, refl, sym, subst, ◌∙◌, inl, inr, arith}
 use Rattle.std.specs.Prelude.{slice_get, is_some, IsSomeAnd}
 use Rattle.std.specs.Option.{option_map}
-use Rattle.std.proofs.lemmas.Bool.{cases_Bool, cases_lt, eq-eqb, eqb-true, and_parts, and_from, false≢true}
+use Rattle.std.proofs.lemmas.Bool.{cases_Bool, cases_lt, false≢true}
 use Rattle.std.proofs.lemmas.List.{length-replicate}
 use Rattle.hail_devices.specs.Cells.{Cells}
 use Rattle.hail_devices.specs.Images.{EachImage}
 use Rattle.hail_devices.specs.Providers.{Provider}
-use Rattle.hail_records.specs.Records.{Record, SetUp, PutStart, PutDone, Drop, AuditStart, AuditDone, RepairDone, PutDoneIn, Version, Resume, InEffect, RepairDue}
-use Rattle.hail_records.specs.Table.{File, file_as, profile_in, file_of, started_as, is_start_of, is_same_name, setup_of}
+use Rattle.hail_records.specs.Records.{Record}
+use Rattle.hail_records.specs.Table.{files_of, setup_of}
 use Rattle.hail_records.specs.Acceptance.{AreAccepted}
 use Rattle.hail_records.specs.Areas.{A}
 use Rattle.hail_records.specs.Journal.{StandsFor, StandsOrIsEmpty}
+use Rattle.hail_records.proofs.SizeLaws.{size_by_id, size-in_effect}
 use Rattle.hail_machine.specs.Jobs.{Kind, PutJob, GetJob, DropJob, AuditJob, RepairJob, UpgradeJob}
 use Rattle.hail_machine.specs.Answers.{Answer}
 use Rattle.hail_machine.specs.Events.{IsSpelledKind}
 use Rattle.hail_machine.specs.Heard.{Entry}
 use Rattle.hail_machine.specs.States.{State, Doubt}
 use Rattle.hail_machine.specs.Stands.{StandsPlain, StandsWithDoubt, StandsSwitched}
-use Rattle.hail_machine.proofs.JobLists.{cond_true, cond_false, same_value}
 use Rattle.hail_machine.proofs.Given.{zeros-bytes}
 use Rattle.hail_commands.specs.Seen.{Seen, nobody, provider_at}
 use Rattle.hail_commands.specs.Opens as opens
@@ -27,7 +26,7 @@ use Rattle.hail_commands.specs.Ran.{ran_from, ran_alone}
 use Rattle.hail_openings.specs.Opened.{IsOpenedOver, IsOpenAtRest}
 use Rattle.hail_commands.specs.JobRuns.{RunsJob}
 use Rattle.hail_commands.specs.Jobs.{Leaves, LeftAlone, RanAlone, RunsAlone}
-use Rattle.sound_states.proofs.Records.{none-set_up, sound-accepted, start-named}
+use Rattle.sound_states.proofs.Records.{none-set_up}
 use Rattle.sound_states.specs.Sound.{IsWholeJournal}
 use Rattle.job_laws.proofs.Runs.{job-ends, opened-over}
 use Rattle.job_laws.proofs.Whole.{runs-whole}
@@ -52,105 +51,6 @@ over-opened w old records faults R V = opened-over w records faults old.provider
 
 -- ---- there is such a state
 
--- the size of the file that was brought in under a number
-abbrev size_put : List Record → ℕ → ℕ
-size_put [] id = 0
-size_put (PutDone k size ∷ rs) id = cond ((k == id) && is_some (started_as rs k)) size (size_put rs id)
-size_put (PutDoneIn k size profile ∷ rs) id =
-    cond ((k == id) && is_some (started_as rs k)) size (size_put rs id)
-size_put (InEffect k size profile kept ∷ rs) id = cond (k == id) size (size_put rs id)
-size_put (SetUp s ∷ rs) id = size_put rs id
-size_put (PutStart k name ∷ rs) id = size_put rs id
-size_put (Drop name ∷ rs) id = size_put rs id
-size_put (AuditStart number ∷ rs) id = size_put rs id
-size_put (AuditDone number undecided counts ∷ rs) id = size_put rs id
-size_put (RepairDone number ∷ rs) id = size_put rs id
-size_put (Version ∷ rs) id = size_put rs id
-size_put (Resume next audit ∷ rs) id = size_put rs id
-size_put (RepairDue number counts ∷ rs) id = size_put rs id
-
--- the size under the number of a put's end, over what it was before
-abbrev put_over : List Record → ℕ → ℕ → ℕ → ℕ
-put_over rs k size id = cond ((k == id) && is_some (started_as rs k)) size (size_put rs id)
-
--- a file that a put's end brought in, or that was there before
-size-put : (rs : List Record) → AreAccepted rs → (k size profile : ℕ) (name : List ℕ) (f : File) →
-    (file_of rs name ≡ Some f → size_put rs f.id ≡ f.size) →
-    cond (is_start_of name (started_as rs k)) (Some (file_as name k size profile)) (file_of rs name) ≡ Some f →
-    put_over rs k size f.id ≡ f.size
-size-put rs a k size profile name f older h =
-    let new : File = file_as name k size profile in
-    elim (cases_Bool (is_start_of name (started_as rs k))) [
-      | inl t ↦ (let same : new ≡ f = same_value _ new f
-          (cond_true (is_start_of name (started_as rs k)) (Some new) (file_of rs name) t) h in
-          subst (λ (z : File). put_over rs k size z.id ≡ z.size) same
-          (cond_true ((k == k) && is_some (started_as rs k)) size (size_put rs k) (and_from (k == k)
-          (is_some (started_as rs k)) (eq-eqb k k refl) (ap is_some (start-named name (started_as rs k) t)))))
-      | inr n ↦ (let before : file_of rs name ≡ Some f =
-          sym (cond_false (is_start_of name (started_as rs k)) (Some new) (file_of rs name) n) ∙ h in
-          cond_false ((k == f.id) && is_some (started_as rs k)) size (size_put rs f.id) (other before) ∙ older before)
-    ]
-  where
-    other : file_of rs name ≡ Some f → ((k == f.id) && is_some (started_as rs k)) ≡ false
-    other before = elim (cases_Bool ((k == f.id) && is_some (started_as rs k))) [
-      | inl t ↦ absurd (let p = and_parts (k == f.id) (is_some (started_as rs k)) t in
-          let none : started_as rs k ≡ None = ap (started_as rs) (eqb-true k f.id p.0)
-          ∙ ((sound-accepted rs a).file name f before).1 in
-          false≢true (sym (ap is_some none) ∙ p.1))
-      | inr n ↦ n
-    ]
-
--- a file that a packed journal keeps, or that was there before
-size-kept : (rs : List Record) (k size profile : ℕ) (kept name : List ℕ) (f : File) →
-    AreAccepted (InEffect k size profile kept ∷ rs) → (file_of rs name ≡ Some f → size_put rs f.id ≡ f.size) →
-    file_of (InEffect k size profile kept ∷ rs) name ≡ Some f →
-    size_put (InEffect k size profile kept ∷ rs) f.id ≡ f.size
-size-kept rs k size profile kept name f a older h =
-    let new : File = file_as name k size profile in
-    elim (cases_Bool (is_same_name kept name)) [
-      | inl t ↦ (let same : new ≡ f = same_value _ new f
-          (cond_true (is_same_name kept name) (Some new) (file_of rs name) t) h in
-          subst (λ (z : File). cond (k == z.id) size (size_put rs z.id) ≡ z.size) same
-          (cond_true (k == k) size (size_put rs k) (eq-eqb k k refl)))
-      | inr n ↦ cond_false (k == f.id) size (size_put rs f.id) (other n)
-          ∙ older (sym (cond_false (is_same_name kept name) (Some new) (file_of rs name) n) ∙ h)
-    ]
-  where
-    own : file_of (InEffect k size profile kept ∷ rs) kept ≡ Some (file_as kept k size profile)
-    own = cond_true (is_same_name kept kept) (Some (file_as kept k size profile)) (file_of rs kept)
-        (same-refl kept)
-
-    other : is_same_name kept name ≡ false → (k == f.id) ≡ false
-    other n = elim (cases_Bool (k == f.id)) [
-      | inl t ↦ absurd (let sound = sound-accepted (InEffect k size profile kept ∷ rs) a in
-          let same : kept ≡ name =
-          sound.one_name kept name (file_as kept k size profile) f own h (eqb-true k f.id t) in
-          false≢true (sym n ∙ (ap (is_same_name kept) (sym same) ∙ same-refl kept)))
-      | inr o ↦ o
-    ]
-
-size-file : (rs : List Record) → AreAccepted rs → (name : List ℕ) (f : File) → file_of rs name ≡ Some f →
-    size_put rs f.id ≡ f.size
-size-file [] a name f h = absurd (let e : None ≡ Some f = h in cc)
-size-file (PutDone k size ∷ rs) a name f h =
-    size-put rs a.1 k size (profile_in (setup_of rs)) name f (λ e. size-file rs a.1 name f e) h
-size-file (PutDoneIn k size profile ∷ rs) a name f h =
-    size-put rs a.1 k size profile name f (λ e. size-file rs a.1 name f e) h
-size-file (InEffect k size profile kept ∷ rs) a name f h =
-    size-kept rs k size profile kept name f a (λ e. size-file rs a.1 name f e) h
-size-file (Drop dropped ∷ rs) a name f h = elim (cases_Bool (is_same_name dropped name)) [
-  | inl t ↦ absurd (let e : None ≡ Some f = sym (cond_true (is_same_name dropped name) None (file_of rs name) t) ∙ h in cc)
-  | inr n ↦ size-file rs a.1 name f (sym (cond_false (is_same_name dropped name) None (file_of rs name) n) ∙ h)
-]
-size-file (SetUp s ∷ rs) a name f h = size-file rs a.1 name f h
-size-file (PutStart k n ∷ rs) a name f h = size-file rs a.1 name f h
-size-file (AuditStart number ∷ rs) a name f h = size-file rs a.1 name f h
-size-file (AuditDone number undecided counts ∷ rs) a name f h = size-file rs a.1 name f h
-size-file (RepairDone number ∷ rs) a name f h = size-file rs a.1 name f h
-size-file (Version ∷ rs) a name f h = size-file rs a.1 name f h
-size-file (Resume next audit ∷ rs) a name f h = size-file rs a.1 name f h
-size-file (RepairDue number counts ∷ rs) a name f h = size-file rs a.1 name f h
-
 -- the state with zeros for the bytes of its files
 abbrev pub opened_state : List Record → ℕ → List Provider → State
 opened_state records faults providers = record {
@@ -158,7 +58,7 @@ opened_state records faults providers = record {
   journal = records;
   area = A;
   is_switching = false;
-  bytes = λ id. replicate (size_put records id) 0;
+  bytes = λ id. replicate (size_by_id (files_of records) id) 0;
   audits = λ number. 0;
   jobs = [];
   next_job = 1;
@@ -193,7 +93,7 @@ state-over records faults providers accepted = record {
   doubt = refl;
   is_open = refl;
   unbarred = refl;
-  bytes = λ name file h. (zeros-bytes (size_put records file.id), length-replicate (size_put records file.id) 0 ∙ size-file records accepted name file h);
+  bytes = λ name file h. (zeros-bytes (size_by_id (files_of records) file.id), length-replicate (size_by_id (files_of records) file.id) 0 ∙ size-in_effect records accepted name file h);
   faults_are = refl;
   handed = record { count = refl; each = get-provider providers };
 }

@@ -1,5 +1,5 @@
 -- What an upgrade leaves whose job was the only one.
-use Rattle.std.proofs.Common.{◌≡◌, ℕ, ◌+◌, ◌<◌, ◌≤◌, ◌⊎◌, List, [], ◌∷◌, ◌++◌, take, drop, Option, None, Some, refl, ap, sym, subst, ◌∙◌, inl, inr, arith}
+use Rattle.std.proofs.Common.{◌≡◌, ℕ, ◌+◌, ◌<◌, ◌≤◌, ◌⊎◌, List, [], ◌∷◌, take, drop, Option, None, Some, refl, ap, sym, subst, ◌∙◌, inl, inr, arith}
 use Rattle.std.specs.Prelude.{slice_get}
 use Rattle.std.specs.Option.{option_map}
 use Rattle.plain_facts.specs.Lists.{Each}
@@ -8,8 +8,8 @@ use Rattle.plain_facts.proofs.Lists.{drop-get}
 use Rattle.hail_devices.specs.Providers.{Provider}
 use Rattle.hail_devices.proofs.Lasting.{rose-before}
 use Rattle.hail_records.specs.Records.{Setup, Record, Version}
-use Rattle.hail_machine.specs.Jobs.{UpgradeJob, Given, Job}
-use Rattle.hail_machine.specs.Actions.{Action, WriteBody, SyncBody, WriteGate, SyncGate, Store, Fetch, Ask, Work, Remove, End, append_actions, actions_by, actions_of, actions_left, appends_left}
+use Rattle.hail_machine.specs.Jobs.{UpgradeJob, Given}
+use Rattle.hail_machine.specs.Actions.{Action, WriteBody, SyncBody, WriteGate, SyncGate, Store, Fetch, Ask, Work, Remove, End, actions_of, actions_left, appends_left}
 use Rattle.hail_machine.specs.Answers as answer
 use Rattle.hail_machine.specs.Answers.{Answer}
 use Rattle.hail_machine.specs.Events.{Ended}
@@ -29,6 +29,7 @@ use Rattle.lone_laws.specs.Made.{With}
 use Rattle.hail_openings.specs.Opened.{IsOpenAtRest}
 use Rattle.lone_laws.specs.Walked.{RecordsAre, with_job_of}
 use Rattle.lone_laws.proofs.Walk.{Wrote, wrote, runs, left-start}
+use Rattle.lone_laws.proofs.Prefixes.{upgrade-list}
 use Rattle.job_laws.proofs.Runs.{Ends}
 use Rattle.job_laws.proofs.Providers.{Called, made-keeps}
 use Rattle.job_laws.proofs.Lasts.{InDoubt, Faults, move-faults, NoRoom, move-memory, none-moving}
@@ -44,10 +45,6 @@ IsStill (Ask k o r) = ⊥
 IsStill (Work o t) = ⊥
 IsStill (Remove k o) = ⊥
 IsStill action = Unit {0}
-
-upgrade-list : (s : Setup) (job : Job) → job.kind ≡ UpgradeJob → actions_of s job ≡ append_actions ++ End ∷ []
-unfolding actions_of
-upgrade-list s job kind = ap (actions_by s job) kind
 
 module _ (start new : State) (how : Answer) (heard : List Entry) (O : IsOpenAtRest start 1) (E : Ends start UpgradeJob how heard new) where
   abbrev upgrade_with : With

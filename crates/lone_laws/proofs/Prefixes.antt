@@ -63,7 +63,8 @@ module _ (w : State) (job : Job) (older : List ℕ) (next : next_action w job �
 
 -- ---- how many appends a job has left at its begin
 
-upgrade-list : (s : Setup) (job : Job) → job.kind ≡ UpgradeJob → actions_of s job ≡ append_actions ++ End ∷ []
+-- an upgrade is one append
+pub upgrade-list : (s : Setup) (job : Job) → job.kind ≡ UpgradeJob → actions_of s job ≡ append_actions ++ End ∷ []
 unfolding actions_of
 upgrade-list s job kind = ap (actions_by s job) kind
 

@@ -108,7 +108,7 @@ module _ (start : State) (O : IsOpenAtRest start 1) (kind : Kind) {profile : ℕ
   found = subst (λ n. job_of w.jobs n ≡ Some job) W.number runs
 
   -- nothing else runs
-  none-alone : w.alone ≡ None
+  pub none-alone : w.alone ≡ None
   none-alone = by w.alone refl
     where
       by : (o : Option Alone) → w.alone ≡ o → o ≡ None

@@ -23,7 +23,7 @@ use Rattle.hail_machine.specs.Calm.{settled_by, mark_after, since}
 use Rattle.hail_machine.specs.Halves.{begun_of}
 use Rattle.hail_machine.specs.Deeds.{told_block}
 use Rattle.hail_machine.proofs.JobLists.{cond_true, cond_false, same_value, number_of, found_none}
-use Rattle.hail_machine.proofs.Changes.{IsPlain, IsGated, Grown, Job_is, Append_is, Records_is, Block_is, Changes}
+use Rattle.hail_machine.proofs.Changes.{IsPlain, IsGated, Job_is, Append_is, Records_is, Block_is, Changes}
 use Rattle.hail_machine.proofs.Events.{some_told, changes}
 use Rattle.hail_machine.proofs.Numbers.{objects, audits, Draws, HasNumber, next_of_records, at_three, first_above, first_below, drawn_later, drawn_first}
 use Rattle.hail_machine.proofs.Numbers as num
@@ -32,7 +32,7 @@ use Rattle.hail_machine.proofs.Refused.{not_busy, right_false}
 use Rattle.hail_machine.proofs.Fair.{IsFair, HasPin, is_fair, store_place}
 use Rattle.hail_machine.proofs.Pins.{any_aim, Wrote, Stands, pinned_stands}
 use Rattle.hail_machine.proofs.RecordFacts.{AreSound}
-use Rattle.hail_machine.proofs.PinFacts.{Pins_is, pins_is, stands_quiet, setup_same, setup_one, wrote_setup}
+use Rattle.hail_machine.proofs.PinFacts.{Pins_is, pins_is, stands_quiet, setup_same}
 use Rattle.hail_machine.proofs.Held.{All, all, store_kinds, remove_kinds}
 use Rattle.hail_machine.proofs.PutProfiles as prof
 use Rattle.run_laws.proofs.InEffect as eff
@@ -212,21 +212,6 @@ repair_due limit w wish None is h = absurd (let a = not_barred limit w RepairJob
 
 module _ (limit : ℕ) (start : State) (m : Moment) (ms : List Moment) (A : All start ms) (U : num.Facts audits start ms) (I : eff.Facts (now start ms)) (E : Always start ms)
     (X : Changes limit (length ms) (now start ms) m.event m.outcome m.state) (T : Turns (now start ms) m.state) where
-  -- the setup stays while a job runs on
-  setup_kept : (k : ℕ) (j : Job) → job_of m.state.jobs k ≡ Some j → setup_of m.state.records ≡ setup_of (now start ms).records
-  setup_kept k j h = elim (X.job k j h) [
-    | Job_is.kept r (Grown.as_before rec) ↦ ap setup_of rec
-    | Job_is.kept r (Grown.by_other x a runs next_is flight mine other rec) ↦ setup_one limit start m ms A.numbers A.pins X a x flight runs mine rec
-    | Job_is.begun kd wish is k_is allowed rec ↦ ap setup_of rec
-    | Job_is.plain x action runs next_is is_plain goes rec st ↦ ap setup_of rec
-    | Job_is.drew x runs next_is none_ is rec ↦ ap setup_of rec
-    | Job_is.finished x a runs next_is flight mine is rec none_ ↦
-        ap setup_of rec ∙ wrote_setup x x.kind a.entry (now start ms).records (A.pins.wrote a x flight (subst (λ n. job_of (now start ms).jobs n ≡ Some x) (sym mine) runs))
-  ]
-
-  pub setup_job : (k : ℕ) (j : Job) → job_of m.state.jobs k ≡ Some j → setup_in m.state ≡ setup_in (now start ms)
-  setup_job k j h = setup_same m.state (now start ms) (setup_kept k j h)
-
   -- ---- what comes into effect
 
   pub data Effect_is : Type 0 where
@@ -598,20 +583,6 @@ module _ (limit : ℕ) (start : State) (m : Moment) (ms : List Moment) (A : All 
   pub grows : next_audit (now start ms).records ≤ next_audit m.state.records
   grows = next_of_records audits (now start ms) m.state A.numbers.written X.records
 
-  -- a job that drew found no append in flight
-  drew_free : (x j : Job) → job_of (now start ms).jobs x.number ≡ Some x → next_action (now start ms) x ≡ Some WriteBody → job_of m.state.jobs x.number ≡ Some j → j.place ≡ x.place + 1 → (now start ms).append ≡ None
-  drew_free x j runs next_is found place = elim (X.job x.number j found) [
-    | Job_is.kept r grown ↦ absurd (let e = ap (λ (z : Job). z.place) (same_value _ x j runs r) in omega arith)
-    | Job_is.begun kind wish is k_is allowed rec ↦ absurd (let e : j.place ≡ 0 = ap (λ (z : Job). z.place) is in omega arith)
-    | Job_is.plain y action runs_y next_y is_plain goes rec st ↦
-        absurd (subst IsPlain (let same : y ≡ x = same_value _ y x runs_y runs in
-        same_value _ action WriteBody next_y (subst (λ (z : Job). next_action (now start ms) z ≡ Some WriteBody) (sym same) next_is)) is_plain)
-    | Job_is.drew y runs_y next_y free is rec ↦ free
-    | Job_is.finished y a runs_y next_y flight mine is rec free ↦
-        absurd (let same : y ≡ x = same_value _ y x runs_y runs in
-        let e : SyncGate ≡ WriteBody = same_value _ SyncGate WriteBody next_y (subst (λ (z : Job). next_action (now start ms) z ≡ Some WriteBody) (sym same) next_is) in cc)
-  ]
-
   pub audit_fresh_step : (a : Append) (j : Job) → m.state.append ≡ Some a → job_of m.state.jobs a.job ≡ Some j → j.kind ≡ AuditJob → j.place < 4 → m.state.audits j.subject ≡ j.begun
   audit_fresh_step a j h hj kind small = elim (X.append a h) [
     | Append_is.kept b flight job_is entry rec ↦ elim (X.job a.job j hj) [
@@ -629,7 +600,7 @@ module _ (limit : ℕ) (start : State) (m : Moment) (ms : List Moment) (A : All 
         let kx : x.kind ≡ AuditJob = sym (ap (λ (z : Job). z.kind) is) ∙ kind in
         let first = first_below x (omega arith) in
         let subject : j.subject ≡ next_audit (now start ms).records = ap (λ (z : Job). z.subject) is ∙ drawn_first audits (now start ms) x x.kind (subst (Draws audits) (sym kx) tt) first in
-        let free = drew_free x _ runs next_is found refl in
+        let free = eff.drew_free limit start m ms X x _ runs next_is found refl in
         elim T.audits [
           | Audits_are.undrawn e no_new ↦ absurd (no_new a h free)
           | Audits_are.drew y runs_y free_y mine_y e ↦

@@ -35,7 +35,7 @@ use Rattle.hail_machine.proofs.Numbers.{audits}
 use Rattle.hail_machine.proofs.Numbers as num
 use Rattle.hail_machine.proofs.Fair.{HasPin, IsFair, fair, is_fair}
 use Rattle.hail_machine.proofs.Pins.{pinned_stands}
-use Rattle.hail_machine.proofs.PinFacts.{Pins_is, pins_is}
+use Rattle.hail_machine.proofs.PinFacts.{Pins_is, pins_is, setup_stays}
 use Rattle.hail_machine.proofs.Held.{All, first_more, first_all, store_kinds, remove_kinds}
 use Rattle.hail_machine.proofs.Refused.{none_lone}
 use Rattle.hail_machine.proofs.Given.{block_at-given}
@@ -157,7 +157,7 @@ module _ (limit : ℕ) (mark : Mark) (start : State) (m : Moment) (ms : List Mom
   ]
     where
       setup : setup_in m.state ≡ setup_in (now start ms)
-      setup = ev.setup_job limit start m ms A U I E X T k j h
+      setup = setup_stays limit start m ms A.numbers A.pins X k j h
 
   pub counts_step : (k : ℕ) (j : Job) (i : ℕ) → job_of m.state.jobs k ≡ Some j → ((begin_of start (m ∷ ms) j).providers i).other_faults ≤ (m.state.providers i).other_faults
   counts_step k j i h = elim (pins_is limit start m ms A.numbers A.pins X k j h) [
@@ -212,7 +212,7 @@ module _ (limit : ℕ) (mark : Mark) (start : State) (m : Moment) (ms : List Mom
   ]
     where
       setup : setup_in m.state ≡ setup_in (now start ms)
-      setup = ev.setup_job limit start m ms A U I E X T k j h
+      setup = setup_stays limit start m ms A.numbers A.pins X k j h
 
       before : (x : Job) → job_of (now start ms).jobs k ≡ Some x → j.begun ≡ x.begun → j.pinned ≡ x.pinned → In (Fetched i f.id s block) x.given → Excused (m ∷ ms) j i block
       before x runs begun pinned in_given =
@@ -287,7 +287,7 @@ module _ (limit : ℕ) (mark : Mark) (start : State) (m : Moment) (ms : List Mom
   ]
     where
       setup : setup_in m.state ≡ setup_in (now start ms)
-      setup = ev.setup_job limit start m ms A U I E X T k j h
+      setup = setup_stays limit start m ms A.numbers A.pins X k j h
 
       rows_on : (x : Job) → j.pinned ≡ x.pinned → (o < next_id (now start ms).records) × Right (now start ms) x.pinned o s symbols → (o < next_id m.state.records) × Right m.state j.pinned o s symbols
       rows_on x pinned r = (
@@ -370,7 +370,7 @@ module _ (limit : ℕ) (mark : Mark) (start : State) (m : Moment) (ms : List Mom
   ]
     where
       setup : setup_in m.state ≡ setup_in (now start ms)
-      setup = ev.setup_job limit start m ms A U I E X T k j h
+      setup = setup_stays limit start m ms A.numbers A.pins X k j h
 
       at_old : slice_get (actions_of (setup_in (now start ms)) j) made.place ≡ Some (Store i o s)
       at_old = ap (λ t. slice_get (actions_of t j) made.place) (sym setup) ∙ made.action

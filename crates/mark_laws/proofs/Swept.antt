@@ -3,7 +3,7 @@ use Rattle.std.proofs.Common.{◌≡◌, ℕ, zero, suc, ◌≤◌, ◌<◌, ◌
 use Rattle.std.specs.List.{flat_map}
 use Rattle.std.proofs.lemmas.Bool.{cases_Bool, eqb-true, false≢true}
 use Rattle.plain_facts.specs.Lists.{Each, In}
-use Rattle.plain_facts.proofs.Each.{each_append, each_map, each_flat}
+use Rattle.plain_facts.proofs.Each.{each_append, each_map, each_flat, in_left, in_right, in_flat}
 use Rattle.hail_codes.specs.Points.{upto}
 use Rattle.hail_codes.specs.Profiles.{profile_of}
 use Rattle.hail_codes.specs.ServerCode.{differences}
@@ -40,21 +40,7 @@ use Rattle.mark_laws.proofs.Files.{all_pinned}
 use Rattle.mark_laws.proofs.Readers.{block_in}
 use Rattle.mark_laws.proofs.ScrubFacts.{scrub_mark, Scrubbed, same_scrub, object_is, right, bad_was, opened_right}
 
--- ---- lists
-
-in_left : {X : Type 0} (xs ys : List X) (x : X) → In x xs → In x (xs ++ ys)
-in_left [] ys x h = absurd h
-in_left (y ∷ xs) ys x (inl e) = inl e
-in_left (y ∷ xs) ys x (inr h) = inr (in_left xs ys x h)
-
-in_right : {X : Type 0} (xs ys : List X) (x : X) → In x ys → In x (xs ++ ys)
-in_right [] ys x h = h
-in_right (y ∷ xs) ys x h = inr (in_right xs ys x h)
-
-in_flat : {A X : Type 0} (f : A → List X) (as_ : List A) (a : A) (x : X) → In a as_ → In x (f a) → In x (flat_map f as_)
-in_flat f [] a x h g = absurd h
-in_flat f (b ∷ as_) a x (inl e) g = in_left (f b) (flat_map f as_) x (subst (λ z. In x (f z)) e g)
-in_flat f (b ∷ as_) a x (inr h) g = in_right (f b) (flat_map f as_) x (in_flat f as_ a x h g)
+-- ---- lists of actions
 
 -- actions of which the end is the last, and is there once
 abbrev pub IsEnded : List Action → Type 0

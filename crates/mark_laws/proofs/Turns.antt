@@ -1,8 +1,8 @@
 -- What each event does to the record in doubt and its maker, to the begins of audit numbers, and which jobs run on.
 use Rattle.std.proofs.Common.{◌≡◌, ℕ, ◌==◌, Bool, true, false, cond, ◌⊎◌, List, [], ◌∷◌, Option, Some, None, refl, ap, sym, subst, ◌∙◌, inl, inr}
-use Rattle.std.specs.Prelude.{IsSome, is_some, nat_lt}
+use Rattle.std.specs.Prelude.{IsSome, nat_lt}
 use Rattle.std.proofs.lemmas.Bool.{ne_eqb, cases_eq, cases_Bool, eqb-true, false≢true}
-use Rattle.plain_facts.proofs.Options.{some-not-none}
+use Rattle.plain_facts.proofs.Options.{some-not-none, is_some-none}
 use Rattle.hail_records.specs.Records.{Record, Setup, SetUp, is_setup}
 use Rattle.hail_records.specs.Table.{setup_of}
 use Rattle.hail_devices.specs.Providers.{Held, Provider, with_symbol, without_block, HasPlace}
@@ -22,11 +22,6 @@ use Rattle.hail_machine.specs.Replacements.{ReplacesAt, ReplacesIf}
 use Rattle.hail_machine.specs.Machine.{Lists, Happens}
 use Rattle.hail_machine.proofs.JobLists.{cond_true, cond_false, same_value, number_of, found_itself, still_found}
 use Rattle.hail_machine.proofs.Asides.{steps_aside}
-
--- no setup is in effect, as a lookup
-none_up : (o : Option Setup) → is_some o ≡ false → o ≡ None
-none_up None h = refl
-none_up (Some s) h = absurd (false≢true (sym h))
 
 -- the jobs of other numbers stay
 other_with : (js : List Job) (y : Job) (k : ℕ) → (k ≡ y.number → ⊥) → job_of (with_job js y) k ≡ job_of js k
@@ -359,7 +354,7 @@ module _ (old : State) where
     stay = λ k j h. Stay_is.stayed h;
   })
   failed s doubt faults new closed (inr (none, e)) is = subst (λ (w : State). Turns old w) (sym is) (record {
-    doubt = λ d h. (let f : record { entry = SetUp s; maker = None } ≡ d = same_value doubt _ d e h in Doubt_now.set_up s (sym (ap (λ (x : Doubt). x.entry) f)) (sym (ap (λ (x : Doubt). x.maker) f)) (none_up (setup_of old.records) none) closed);
+    doubt = λ d h. (let f : record { entry = SetUp s; maker = None } ≡ d = same_value doubt _ d e h in Doubt_now.set_up s (sym (ap (λ (x : Doubt). x.entry) f)) (sym (ap (λ (x : Doubt). x.maker) f)) (is_some-none (setup_of old.records) none) closed);
     audits = Audits_are.undrawn refl no_new;
     opened = λ d h. same_open;
     stay = λ k j h. Stay_is.stayed h;

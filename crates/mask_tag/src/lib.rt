@@ -3,7 +3,7 @@
 
 ghost use Rattle.std.specs.Prelude.{◌≡◌, ◌≤◌, ◌*◌, ◌+◌, ◌^◌, ◌<◌, length};
 ghost use Rattle.hail_columns.specs.Keys.{mask_of, masks_from};
-ghost use Rattle.mask_tag.specs.Generator.{next_symbol, moved_on};
+ghost use Rattle.hail_columns.specs.Generator.{next_symbol, moved_on};
 
 use hail_field::Symbol;
 use rand_chacha::ChaCha20Rng;

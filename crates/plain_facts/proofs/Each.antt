@@ -66,3 +66,22 @@ pub in_contains : {X : Type 0} (xs : List X) (x : X) → In x xs → Contains xs
 in_contains [] x i = absurd i
 in_contains (y ∷ ys) x (inl e) = (0, omega arith, sym e)
 in_contains (y ∷ ys) x (inr i) = (let r = in_contains ys x i in let l = r.1 in (suc r.0, omega (arith, l), r.2))
+
+-- ---- an element of a list that is put together
+
+-- of the first of two lists
+pub in_left : {X : Type 0} (xs ys : List X) (x : X) → In x xs → In x (xs ++ ys)
+in_left [] ys x h = absurd h
+in_left (y ∷ xs) ys x (inl e) = inl e
+in_left (y ∷ xs) ys x (inr h) = inr (in_left xs ys x h)
+
+-- of the second
+pub in_right : {X : Type 0} (xs ys : List X) (x : X) → In x ys → In x (xs ++ ys)
+in_right [] ys x h = h
+in_right (y ∷ xs) ys x h = inr (in_right xs ys x h)
+
+-- of a list that a function makes of an element
+pub in_flat : {A X : Type 0} (f : A → List X) (as_ : List A) (a : A) (x : X) → In a as_ → In x (f a) → In x (flat_map f as_)
+in_flat f [] a x h g = absurd h
+in_flat f (b ∷ as_) a x (inl e) g = in_left (f b) (flat_map f as_) x (subst (λ z. In x (f z)) e g)
+in_flat f (b ∷ as_) a x (inr h) g = in_right (f b) (flat_map f as_) x (in_flat f as_ a x h g)

@@ -37,6 +37,12 @@ get-set_same [] j x l = absurd (omega (arith, l))
 get-set_same (y ∷ xs) zero x l = refl
 get-set_same (y ∷ xs) (suc j) x l = get-set_same xs j x (omega (arith, l))
 
+-- the same, where something stood before
+pub get-set_there : {X : Type 0} (xs : List X) (j : ℕ) (x y : X) → slice_get xs j ≡ Some x → slice_get (slice_set xs j y) j ≡ Some y
+get-set_there [] j x y h = absurd (let e : None ≡ Some x = h in cc)
+get-set_there (z ∷ xs) zero x y h = refl
+get-set_there (z ∷ xs) (suc j) x y h = get-set_there xs j x y h
+
 -- and the rest stands as before
 pub get-set_other : {X : Type 0} (xs : List X) (j k : ℕ) (x : X) → k ≢ j → slice_get (slice_set xs j x) k ≡ slice_get xs k
 get-set_other [] j k x differ = refl

@@ -7,6 +7,11 @@ use Rattle.std.specs.Option.{option_map}
 pub some-not-none : {X : Type 0} (o : Option X) (x : X) → o ≡ Some x → o ≡ None → ⊥
 some-not-none o x a b = let e : None ≡ Some x = sym b ∙ a in cc
 
+-- what is not some value is none
+pub is_some-none : {X : Type 0} (o : Option X) → is_some o ≡ false → o ≡ None
+is_some-none None h = refl
+is_some-none (Some x) h = absurd (let e : true ≡ false = h in cc)
+
 -- a function of a value makes it neither come nor go
 pub is_some-option_map : {A B : Type 0} (f : A → B) (o : Option A) → is_some (option_map f o) ≡ is_some o
 is_some-option_map f None = refl

@@ -1,11 +1,11 @@
 -- One provider of those handed in is served.
-use Rattle.std.proofs.Common.{◌≡◌, ◌≢◌, inl, inr, ℕ, zero, suc, ◌≤◌, List, [], ◌∷◌, length, Option, Some, None, refl, sym, ap, subst, ◌∙◌, arith}
+use Rattle.std.proofs.Common.{◌≡◌, ◌≢◌, inl, inr, ℕ, ◌≤◌, List, length, Option, Some, refl, sym, ap, subst, ◌∙◌, arith}
 use Rattle.std.specs.Prelude.{map, slice_get, slice_set, unwrap_or}
 use Rattle.std.specs.Option.{option_map}
 use Rattle.std.proofs.lemmas.Bool.{cases_lt}
 use Rattle.std.proofs.lemmas.Option.{slice_get-map, slice_get_within}
-use Rattle.std.proofs.lemmas.List.{length-set}
-use Rattle.plain_facts.proofs.Lists.{get-set_other}
+use Rattle.std.proofs.lemmas.List.{length-set, length-map}
+use Rattle.plain_facts.proofs.Lists.{get-set_there, get-set_other}
 use Rattle.hail_devices.specs.Cells.{Cells}
 use Rattle.hail_devices.specs.Faults.{HasCause}
 use Rattle.hail_devices.specs.Providers.{Provider}
@@ -44,15 +44,6 @@ cause_source before now end cause = record { never_falls = cause.never_falls; ro
 pub cause_sink : (before now : ℕ) (end : ServeEnd) → HasCause before now (end ≡ serve_end.SinkFault) → HasCause before now (end_of end ≡ SinkFailed)
 cause_sink before now end cause = record { never_falls = cause.never_falls; rose = λ e. cause.rose (sink-only end e) }
 
-got_same : {X : Type 0} (xs : List X) (p : ℕ) (x y : X) → slice_get xs p ≡ Some x → slice_get (slice_set xs p y) p ≡ Some y
-got_same [] p x y h = (let e : None ≡ Some x = h in cc)
-got_same (z ∷ zs) zero x y h = refl
-got_same (z ∷ zs) (suc p) x y h = got_same zs p x y h
-
-many-map : {X Y : Type 0} (f : X → Y) (xs : List X) → length (map f xs) ≡ length xs
-many-map f [] = refl
-many-map f (x ∷ xs) = ap suc (many-map f xs)
-
 -- what is seen of the provider at a place
 seen-at : {X : Type 0} (f : X → Provider) (xs : List X) (k : ℕ) (x : X) → slice_get xs k ≡ Some x → provider_at (map f xs) k ≡ f x
 seen-at f xs k x there = ap (λ (o : Option Provider). unwrap_or o nobody) (slice_get-map f xs k ∙ ap (option_map f) there)
@@ -69,16 +60,16 @@ module _ {X : Type 0} (f : X → Provider) (ps : List X) (p : ℕ) (old new : X)
   before = seen-at f ps p old there
 
   after : provider_at (map f (slice_set ps p new)) p ≡ f new
-  after = seen-at f (slice_set ps p new) p new (got_same ps p old new there)
+  after = seen-at f (slice_set ps p new) p new (get-set_there ps p old new there)
 
   handed : length (map f (slice_set ps p new)) ≡ length (map f ps)
-  handed = many-map f (slice_set ps p new) ∙ length-set ps p new ∙ sym (many-map f ps)
+  handed = length-map (slice_set ps p new) f ∙ length-set ps p new ∙ sym (length-map ps f)
 
   pub served-answers : (number : ℕ) → p ≡ number → (end : Served) → end.status ≡ served_status how → end.at ≡ place_of how → (disk : Option Cells) (disk_faults : ℕ)
       → AnswersServe number (seen disk disk_faults (map f ps) left reads written writes) (seen disk disk_faults (map f (slice_set ps p new)) left' reads' written' writes') (served_ending end)
   served-answers number same end status place disk disk_faults =
       subst (λ (k : ℕ). AnswersServe k (seen disk disk_faults (map f ps) left reads written writes) (seen disk disk_faults (map f (slice_set ps p new)) left' reads' written' writes') (served_ending end)) same
-      (answers.served (omega (arith, many-map f ps, slice_get_within ps p old there)) (record {
+      (answers.served (omega (arith, length-map ps f, slice_get_within ps p old there)) (record {
         how = how;
         status_is = status;
         place = place;

@@ -1,14 +1,13 @@
 -- What seen blocks open to is the file, or they hold a forgery against it.
-use Rattle.std.proofs.Common.{◌≡◌, ℕ, zero, suc, ◌+◌, ◌-◌, ◌*◌, ◌<◌, ◌≤◌, ◌⊎◌, List, [], length, take, drop, map, get_or, ap, sym, subst, ◌∙◌, inl, inr, arith, get_or-take, get_or-drop}
+use Rattle.std.proofs.Common.{◌≡◌, ℕ, zero, suc, ◌+◌, ◌-◌, ◌*◌, ◌<◌, ◌≤◌, ◌⊎◌, List, length, take, get_or, ap, sym, subst, ◌∙◌, inl, inr, arith}
 use Rattle.std.specs.Prelude.{slice_index}
 use Rattle.std.proofs.lemmas.Bool.{cases_eq}
-use Rattle.std.proofs.Math.Nat.{mul-le-mul_right}
-use Rattle.std.proofs.lemmas.List.FromFn.{get_or-map-range_with_len, fill_by_all}
+use Rattle.std.proofs.lemmas.List.FromFn.{fill_by_all}
 use Rattle.std.proofs.lemmas.Option.{get_or_from_slice_get}
 use Rattle.plain_facts.proofs.Lists.{flat_map-range_same, map-range_at, same_or_other}
 use Rattle.plain_facts.proofs.Places.{IsPlace, place-of}
 use Rattle.hail_field.specs.Shape.{IsShape}
-use Rattle.hail_codes.specs.Polynomials.{value, interpolate}
+use Rattle.hail_codes.specs.Polynomials.{value}
 use Rattle.hail_codes.specs.Points.{upto, values_at}
 use Rattle.hail_codes.specs.Profiles.{profile_of}
 use Rattle.hail_codes.specs.ServerCode.{codeword}
@@ -17,11 +16,9 @@ use Rattle.hail_columns.specs.Objects.{Object, stripes, stripe_symbols, symbol_o
 use Rattle.hail_columns.specs.Columns.{primary_row}
 use Rattle.hail_columns.specs.Opened.{SeenBlock, AcceptsSymbols, GivesSymbols, OpensFile}
 use Rattle.hail_columns.specs.Forgeries.{IsForgery}
-use Rattle.hail_columns.proofs.ColumnLaws.{value-interpolate_upto}
-use Rattle.hail_columns.proofs.SecondaryLaws.{length-kept_by}
 use Rattle.hail_columns.proofs.ForgeryLaws.{forgery-of_stripe}
 use Rattle.column_laws.proofs.UniqueLaws.{profile-room}
-use Rattle.column_laws.proofs.RightBlocks.{length-symbols_in}
+use Rattle.column_laws.proofs.RightRows.{kept-symbol}
 use Rattle.column_laws.proofs.OtherRows.{forgery-of_other}
 use Rattle.hail_machine.specs.Events.{AreBytes}
 use Rattle.run_laws.proofs.SymbolBytes.{bytes_back}
@@ -42,28 +39,12 @@ module _ (o : Object) (bytes : List ℕ) where
   abbrev own : ℕ → ℕ → ℕ
   own stripe i = symbol_of bytes (stripe * stripe_symbols o + i)
 
-  -- a primary symbol at a kept place is the file's
-  pub primary-symbol : (stripe place j : ℕ) → place < o.profile.keep → place < o.profile.size → j < o.shape.l →
-      slice_index (codeword o.profile (kept_by o (symbols_in o bytes stripe) j)) place ≡ own stripe (j * o.profile.keep + place)
-  primary-symbol stripe place j kept within below =
-      let symbols = symbols_in o bytes stripe in
-      let mine = kept_by o symbols j in
-      let more : suc j * o.profile.keep ≤ o.shape.l * o.profile.keep = mul-le-mul_right o.profile.keep below in
-      let split : suc j * o.profile.keep ≡ j * o.profile.keep + o.profile.keep = grind arith in
-      let same : mine ≡ map (λ k. own stripe (j * o.profile.keep + k)) (upto o.profile.keep) =
-      fill_by_all (λ k. own stripe (j * o.profile.keep + k)) mine o.profile.keep 0 (length-kept_by o symbols j (length-symbols_in o bytes stripe) below)
-      (λ k less. get_or-take o.profile.keep (drop (j * o.profile.keep) symbols) k 0 less
-      ∙ get_or-drop (j * o.profile.keep) symbols k 0
-      ∙ get_or-map-range_with_len (own stripe) 0 (stripe_symbols o) (j * o.profile.keep + k) (j * o.profile.keep + k) 0 (omega (arith, less, more, split)) (omega arith)) in
-      get_or-map-range_with_len (value (interpolate (upto o.profile.keep) mine)) 0 o.profile.size place place 0 within (omega arith)
-      ∙ ap (λ ks. value (interpolate (upto o.profile.keep) ks) place) same
-      ∙ value-interpolate_upto (λ k. own stripe (j * o.profile.keep + k)) o.profile.keep place kept
-
   -- the symbols of a row are the file's
-  abbrev IsRightRow : ℕ → List ℕ → ℕ → Type 0
+  abbrev pub IsRightRow : ℕ → List ℕ → ℕ → Type 0
   IsRightRow stripe symbols place = (j : ℕ) → j < o.shape.l → get_or symbols (j * o.profile.keep + place) 0 ≡ own stripe (j * o.profile.keep + place)
 
-  right-symbols : (stripe : ℕ) (symbols : List ℕ) → length symbols ≡ stripe_symbols o → ((place : ℕ) → place < o.profile.keep → IsRightRow stripe symbols place) → symbols ≡ symbols_in o bytes stripe
+  -- where all rows are, the symbols of the stripe are
+  pub right-symbols : (stripe : ℕ) (symbols : List ℕ) → length symbols ≡ stripe_symbols o → ((place : ℕ) → place < o.profile.keep → IsRightRow stripe symbols place) → symbols ≡ symbols_in o bytes stripe
   right-symbols stripe symbols size rows =
       fill_by_all (own stripe) symbols (stripe_symbols o) 0 size (λ i below. at i (place-of o.shape.l o.profile.keep i below))
     where
@@ -80,7 +61,7 @@ module _ (o : Object) (bytes : List ℕ) where
           | inl same ↦ inl (λ j l.
               get_or_from_slice_get symbols (j * o.profile.keep + place) (value one.row j) 0 (one.values j l)
               ∙ map-range_at (value one.row) (λ k. slice_index (codeword o.profile (kept_by o (symbols_in o bytes stripe) k)) place) 0 o.shape.l same j (omega arith) (omega (arith, l))
-              ∙ primary-symbol stripe place j kept (omega (arith, kept, profile-room o number is)) l)
+              ∙ kept-symbol o bytes stripe place j kept (omega (arith, kept, profile-room o number is)) l)
           | inr other ↦ inr (forgery-of_stripe o bytes seen stripe place
               (forgery-of_other o bytes number seen stripe place gives.opened one.row is shape (record { stripe_in = below; place_in = kept }) gives.opens one.accepted other))
         ]

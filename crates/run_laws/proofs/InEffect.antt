@@ -9,7 +9,7 @@ use Rattle.hail_records.specs.Table.{File, file_as, profile_in, version_of, setu
 use Rattle.hail_machine.specs.Jobs.{Kind, PutJob, GetJob, DropJob, AuditJob, RepairJob, UpgradeJob, Job, job_of}
 use Rattle.hail_machine.specs.Actions.{WriteBody, SyncGate}
 use Rattle.hail_machine.specs.Events.{AreBytes, IsSpelledKind}
-use Rattle.hail_machine.specs.States.{State, Append, Doubt, AreFirst, IsStart, setup_in, file_in}
+use Rattle.hail_machine.specs.States.{State, Append, Doubt, AreFirst, IsStart, file_in}
 use Rattle.hail_machine.specs.Appends.{Writes, done_record, is_first_append, bytes_drawn}
 use Rattle.hail_machine.specs.Steps.{next_action}
 use Rattle.hail_machine.specs.Runs.{Moment, now, IsRun}
@@ -147,6 +147,20 @@ pub record Facts (w : State) : Type 0 where
   pub kept : (k : ℕ) (j : Job) (name bytes : List ℕ) → job_of w.jobs k ≡ Some j → j.kind ≡ PutJob name bytes → 4 ≤ j.place → w.bytes j.subject ≡ bytes
   pub files : AreHeld w w.records
 
+-- a job that drew found no append in flight
+pub drew_free : (limit : ℕ) (start : State) (m : Moment) (ms : List Moment) → Changes limit (length ms) (now start ms) m.event m.outcome m.state → (x j : Job) → job_of (now start ms).jobs x.number ≡ Some x → next_action (now start ms) x ≡ Some WriteBody → job_of m.state.jobs x.number ≡ Some j → j.place ≡ x.place + 1 → (now start ms).append ≡ None
+drew_free limit start m ms X x j runs next_is found place = elim (X.job x.number j found) [
+  | Job_is.kept r grown ↦ absurd (let e = ap (λ (z : Job). z.place) (same_value _ x j runs r) in omega arith)
+  | Job_is.begun kind wish is k_is allowed rec ↦ absurd (let e : j.place ≡ 0 = ap (λ (z : Job). z.place) is in omega arith)
+  | Job_is.plain y action runs_y next_y is_plain goes rec st ↦
+      absurd (subst IsPlain (let same : y ≡ x = same_value _ y x runs_y runs in
+      same_value _ action WriteBody next_y (subst (λ (z : Job). next_action (now start ms) z ≡ Some WriteBody) (sym same) next_is)) is_plain)
+  | Job_is.drew y runs_y next_y free is rec ↦ free
+  | Job_is.finished y a runs_y next_y flight mine is rec free ↦
+      absurd (let same : y ≡ x = same_value _ y x runs_y runs in
+      let e : SyncGate ≡ WriteBody = same_value _ SyncGate WriteBody next_y (subst (λ (z : Job). next_action (now start ms) z ≡ Some WriteBody) (sym same) next_is) in cc)
+]
+
 module _ (limit : ℕ) (start : State) (m : Moment) (ms : List Moment) (N : num.Facts objects start ms) (F : Facts (now start ms)) (X : Changes limit (length ms) (now start ms) m.event m.outcome m.state) (D : Direct (now start ms) m.state) where
   holds_on : (id size : ℕ) → Holds (now start ms) id size → Holds m.state id size
   holds_on id size h =
@@ -251,20 +265,6 @@ module _ (limit : ℕ) (start : State) (m : Moment) (ms : List Moment) (N : num.
     | Bytes_are.drew x runs free mine e ↦ absurd (some-not-none (now start ms).append b flight free)
   ]
 
-  -- a job that drew found no append in flight
-  drew_free : (x j : Job) → job_of (now start ms).jobs x.number ≡ Some x → next_action (now start ms) x ≡ Some WriteBody → job_of m.state.jobs x.number ≡ Some j → j.place ≡ x.place + 1 → (now start ms).append ≡ None
-  drew_free x j runs next_is found place = elim (X.job x.number j found) [
-    | Job_is.kept r grown ↦ absurd (let e = ap (λ (z : Job). z.place) (same_value _ x j runs r) in omega arith)
-    | Job_is.begun kind wish is k_is allowed rec ↦ absurd (let e : j.place ≡ 0 = ap (λ (z : Job). z.place) is in omega arith)
-    | Job_is.plain y action runs_y next_y is_plain goes rec st ↦
-        absurd (subst IsPlain (let same : y ≡ x = same_value _ y x runs_y runs in
-        same_value _ action WriteBody next_y (subst (λ (z : Job). next_action (now start ms) z ≡ Some WriteBody) (sym same) next_is)) is_plain)
-    | Job_is.drew y runs_y next_y free is rec ↦ free
-    | Job_is.finished y a runs_y next_y flight mine is rec free ↦
-        absurd (let same : y ≡ x = same_value _ y x runs_y runs in
-        let e : SyncGate ≡ WriteBody = same_value _ SyncGate WriteBody next_y (subst (λ (z : Job). next_action (now start ms) z ≡ Some WriteBody) (sym same) next_is) in cc)
-  ]
-
   fresh_step : (a : Append) (j : Job) (name bytes : List ℕ) → m.state.append ≡ Some a → job_of m.state.jobs a.job ≡ Some j → j.kind ≡ PutJob name bytes → j.place < 4 → m.state.bytes j.subject ≡ bytes
   fresh_step a j name bytes h hj kind small = elim (X.append a h) [
     | Append_is.kept b flight job_is entry rec ↦ elim (X.job a.job j hj) [
@@ -281,7 +281,7 @@ module _ (limit : ℕ) (start : State) (m : Moment) (ms : List Moment) (N : num.
         let kx : x.kind ≡ PutJob name bytes = sym (ap (λ (z : Job). z.kind) is) ∙ kind in
         let first = first_below x (omega arith) in
         let subject : j.subject ≡ next_id (now start ms).records = ap (λ (z : Job). z.subject) is ∙ drawn_first objects (now start ms) x x.kind (subst (Draws objects) (sym kx) tt) first in
-        let free = drew_free x _ runs next_is found refl in
+        let free = drew_free limit start m ms X x _ runs next_is found refl in
         elim D.bytes [
           | Bytes_are.same e no_new ↦ absurd (no_new a h free)
           | Bytes_are.drew y runs_y free_y mine_y e ↦

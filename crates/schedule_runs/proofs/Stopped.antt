@@ -15,9 +15,9 @@ use Rattle.hail_machine.specs.Runs.{Moment, IsRun}
 use Rattle.hail_machine.specs.Transcripts.{Once, CarriesOut}
 use Rattle.hail_machine.specs.Examples.{set_up}
 use Rattle.hail_machine.proofs.RunParts.{begun, job_at, stepped, not_more, reopened}
-use Rattle.step_laws.proofs.ByteSteps.{block_sized, block}
+use Rattle.step_laws.proofs.ByteSteps.{block_sized, block, symbols, byte_back}
 use Rattle.damage_run.specs.Schedule.{name, byte, schedule, written_lines}
-use Rattle.damage_run.proofs.Values.{symbols, byte_back, without_zero_give}
+use Rattle.damage_run.proofs.Values.{without_zero_give}
 use Rattle.damage_run.proofs.Steps.{state_57}
 use Rattle.damage_run.proofs.Run.{moments, is_run, writes}
 use Rattle.damage_run.proofs.CalmRun.{outright}

@@ -4,7 +4,8 @@ use Rattle.std.specs.Prelude.{codes, ◌==◌, slice_index}
 use Rattle.std.specs.List.{AllByRecursion, flat_map}
 use Rattle.std.specs.Fmt.{decimal}
 use Rattle.hex.specs.Hex.{encode_lower}
-use Rattle.hail_machine.specs.Jobs.{PutJob, GetJob, DropJob, AuditJob, RepairJob, UpgradeJob}
+use Rattle.hail_records.specs.Records.{Setup}
+use Rattle.hail_machine.specs.Jobs.{Kind, PutJob, GetJob, DropJob, AuditJob, RepairJob, UpgradeJob}
 use Rattle.hail_machine.specs.Events.{Init, Begin, BeginAt, BeginScrub, BeginPack, Step, Alter, Lose, Stop, Reopen, Names, Continue}
 use Rattle.hail_machine.specs.Transcripts.{Instruction, Once, RunJob}
 use Rattle.schedule_text.specs.Grammar.{Word, pieces, words, SpellsCommand}
@@ -92,8 +93,9 @@ pub record IsSpelling (command : Instruction) (ws : List Word) : Type 0 where
   pub some : 0 < length ws
   pub spells : SpellsCommand ws command
 
-word_spelling : (command : Instruction) → CanBeSpelled command → IsSpelling command (words_of command)
-word_spelling (Once (Init s)) can =
+-- those of a set-up
+init_spelling : (s : Setup) → CanBeSpelled (Once (Init s)) → IsSpelling (Once (Init s)) (words_of (Once (Init s)))
+init_spelling s can =
     record {
       plain = (plain_by_test (codes "init") (omega arith) refl, (plain-decimal s.n (omega (arith, can.0)), (plain-decimal s.l (omega (arith, can.1)), (plain-decimal s.b (omega (arith, can.2)), (plain-decimal s.profile (omega (arith, can.3)), (plain-decimal s.rounds (omega (arith, can.4)), (plain-decimal s.picks (omega (arith, can.5)), (plain-decimal s.tolerance (omega (arith, can.6)), (plain-encode s.master (size-master s.master can.7), tt)))))))));
       some = omega arith;
@@ -117,44 +119,40 @@ word_spelling (Once (Init s)) can =
         key-encode s.master can.7,
       );
     }
-word_spelling (Once Reopen) can = record { plain = (plain_by_test (codes "reopen") (omega arith) refl, tt); some = omega arith; spells = refl }
-word_spelling (Once Names) can = record { plain = (plain_by_test (codes "list") (omega arith) refl, tt); some = omega arith; spells = refl }
-word_spelling (Once (Begin (PutJob name bytes))) can = record {
+
+-- those of a job's begin
+job_spelling : (kind : Kind) → CanBeSpelled (Once (Begin kind)) → IsSpelling (Once (Begin kind)) (words_of (Once (Begin kind)))
+job_spelling (PutJob name bytes) can = record {
   plain = (plain_by_test (codes "begin") (omega arith) refl, (plain_by_test (codes "put") (omega arith) refl, (plain-name name can.1, (plain-hex_of bytes, tt))));
   some = omega arith;
   spells = (hex_of bytes, refl, hex-hex_of bytes can.0.1);
 }
-word_spelling (Once (Begin (GetJob name))) can = record {
+job_spelling (GetJob name) can = record {
   plain = (plain_by_test (codes "begin") (omega arith) refl, (plain_by_test (codes "get") (omega arith) refl, (plain-name name can.1, tt)));
   some = omega arith;
   spells = refl;
 }
-word_spelling (Once (Begin (DropJob name))) can = record {
+job_spelling (DropJob name) can = record {
   plain = (plain_by_test (codes "begin") (omega arith) refl, (plain_by_test (codes "drop") (omega arith) refl, (plain-name name can.1, tt)));
   some = omega arith;
   spells = refl;
 }
-word_spelling (Once (Begin AuditJob)) can = record {
+job_spelling AuditJob can = record {
   plain = (plain_by_test (codes "begin") (omega arith) refl, (plain_by_test (codes "audit") (omega arith) refl, tt));
   some = omega arith;
   spells = refl;
 }
-word_spelling (Once (Begin RepairJob)) can = record {
+job_spelling RepairJob can = record {
   plain = (plain_by_test (codes "begin") (omega arith) refl, (plain_by_test (codes "repair") (omega arith) refl, tt));
   some = omega arith;
   spells = refl;
 }
-word_spelling (Once (Step job)) can = record {
-  plain = (plain_by_test (codes "step") (omega arith) refl, (plain-decimal job (omega (arith, can)), tt));
-  some = omega arith;
-  spells = (decimal job, refl, number-decimal 32 job can (omega (arith, can)));
-}
-word_spelling (RunJob job) can = record {
-  plain = (plain_by_test (codes "run") (omega arith) refl, (plain-decimal job (omega (arith, can)), tt));
-  some = omega arith;
-  spells = (decimal job, refl, number-decimal 32 job can (omega (arith, can)));
-}
-word_spelling (Once (Alter provider object stripe place symbol)) can = record {
+job_spelling UpgradeJob can = absurd can.1
+
+-- those of a symbol that is altered
+alter_spelling : (provider object stripe place symbol : ℕ) → CanBeSpelled (Once (Alter provider object stripe place symbol)) →
+    IsSpelling (Once (Alter provider object stripe place symbol)) (words_of (Once (Alter provider object stripe place symbol)))
+alter_spelling provider object stripe place symbol can = record {
   plain = (plain_by_test (codes "alter") (omega arith) refl, (plain-decimal provider (omega (arith, can.0)), (plain-decimal object (omega (arith, can.1)), (plain-decimal stripe (omega (arith, can.2)), (plain-decimal place (omega (arith, can.3)), (plain-decimal symbol can.4, tt))))));
   some = omega arith;
   spells = (
@@ -171,7 +169,11 @@ word_spelling (Once (Alter provider object stripe place symbol)) can = record {
     number-decimal 128 symbol can.4 can.4,
   );
 }
-word_spelling (Once (Lose provider object stripe)) can = record {
+
+-- those of a block that is lost
+lose_spelling : (provider object stripe : ℕ) → CanBeSpelled (Once (Lose provider object stripe)) →
+    IsSpelling (Once (Lose provider object stripe)) (words_of (Once (Lose provider object stripe)))
+lose_spelling provider object stripe can = record {
   plain = (plain_by_test (codes "lose") (omega arith) refl, (plain-decimal provider (omega (arith, can.0)), (plain-decimal object (omega (arith, can.1)), (plain-decimal stripe (omega (arith, can.2)), tt))));
   some = omega arith;
   spells = (
@@ -184,13 +186,31 @@ word_spelling (Once (Lose provider object stripe)) can = record {
     number-decimal 32 stripe can.2 (omega (arith, can.2)),
   );
 }
+
+-- those of any command
+word_spelling : (command : Instruction) → CanBeSpelled command → IsSpelling command (words_of command)
+word_spelling (Once (Init s)) can = init_spelling s can
+word_spelling (Once Reopen) can = record { plain = (plain_by_test (codes "reopen") (omega arith) refl, tt); some = omega arith; spells = refl }
+word_spelling (Once Names) can = record { plain = (plain_by_test (codes "list") (omega arith) refl, tt); some = omega arith; spells = refl }
+word_spelling (Once (Begin kind)) can = job_spelling kind can
+word_spelling (Once (Step job)) can = record {
+  plain = (plain_by_test (codes "step") (omega arith) refl, (plain-decimal job (omega (arith, can)), tt));
+  some = omega arith;
+  spells = (decimal job, refl, number-decimal 32 job can (omega (arith, can)));
+}
+word_spelling (RunJob job) can = record {
+  plain = (plain_by_test (codes "run") (omega arith) refl, (plain-decimal job (omega (arith, can)), tt));
+  some = omega arith;
+  spells = (decimal job, refl, number-decimal 32 job can (omega (arith, can)));
+}
+word_spelling (Once (Alter provider object stripe place symbol)) can = alter_spelling provider object stripe place symbol can
+word_spelling (Once (Lose provider object stripe)) can = lose_spelling provider object stripe can
 word_spelling (Once (Stop picks)) can = record {
   plain = (plain_by_test (codes "stop") (omega arith) refl, (plain-hex_of picks, tt));
   some = omega arith;
   spells = (hex_of picks, refl, hex-hex_of picks can);
 }
 word_spelling (Once Continue) can = absurd can
-word_spelling (Once (Begin UpgradeJob)) can = absurd can.1
 word_spelling (Once (BeginAt profile name bytes)) can = absurd can
 word_spelling (Once BeginScrub) can = absurd can
 word_spelling (Once BeginPack) can = absurd can

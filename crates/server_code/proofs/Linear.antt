@@ -9,7 +9,7 @@ use Rattle.poly_laws.proofs.Values.{value-plus, value-scale}
 use Rattle.poly_laws.proofs.Roots.{plus_zero, same_values, length-plus}
 use Rattle.poly_laws.proofs.Agree.{unique}
 use Rattle.poly_laws.proofs.Interpolate.{length-scale, interpolate_takes}
-use Rattle.hail_codes.specs.Polynomials.{value, plus, scale, interpolate, Takes}
+use Rattle.hail_codes.specs.Polynomials.{value, plus, scale, interpolate, TakesSymbols}
 use Rattle.hail_codes.specs.Points.{upto, values_at}
 use Rattle.hail_codes.specs.Profiles.{Profile}
 use Rattle.hail_codes.specs.ServerCode.{codeword, IsCodeword, Opens}
@@ -45,7 +45,7 @@ codeword_of_front profile block le is =
     long : length kept ≡ profile.keep
     long = length-map-range_with_len (value p) 0 profile.keep
 
-    taken : Takes q (upto profile.keep) kept
+    taken : TakesSymbols q (upto profile.keep) kept
     taken = interpolate_takes nim nim_laws (upto profile.keep) kept one_not_zero (length-range_with_len 0 profile.keep ∙ sym long) (Apart-range 0 profile.keep)
 
     same : (x : ℕ) → value p x ≡ value q x

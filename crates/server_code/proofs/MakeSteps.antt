@@ -1,16 +1,10 @@
 -- The steps of making the rows of coefficients.
-use Rattle.std.proofs.Common.{◌≡◌, ◌∷◌, ◌≤◌, ◌<◌, ◌+◌, ◌-◌, ◌*◌, ◌++◌, ◌⊎◌, inl, inr, ℕ, suc, List, [], length, take, drop, sym, ap, ◌∙◌, arith, mul-le-mul_right, suc-mul, zero-mul, length-append, length-drop}
+use Rattle.std.proofs.Common.{◌≡◌, ◌≤◌, ◌<◌, ◌+◌, ◌-◌, ◌*◌, ◌++◌, ◌⊎◌, inl, inr, ℕ, suc, List, [], length, take, drop, sym, ap, ◌∙◌, arith, mul-le-mul_right, suc-mul, zero-mul, length-append, length-drop}
 use Rattle.std.proofs.Math.Seq.{drop-append_seam}
 use Rattle.std.proofs.lemmas.List.{drop-append-le, take-append-le, take_all}
 use Rattle.hail_codes.specs.Profiles.{Profile}
-use Rattle.hail_codes.specs.Points.{upto}
-use Rattle.hail_codes.proofs.Points.{upto-more}
 use Rattle.hail_codes.specs.ServerCode.{IsGeneratorRow}
 use Rattle.server_code.specs.Generator.{row_at, IsGenerator}
-
--- one more place; under a name that an attribute of a function can have
-pub upto_more : (n : ℕ) → upto (n + 1) ≡ upto n ++ n ∷ []
-upto_more = upto-more
 
 -- the rows of the places from keep on to before a place
 pub record HasRows (profile : Profile) (place : ℕ) (rows : List ℕ) : Type 0 where

@@ -1,33 +1,21 @@
 -- The steps of the sums by rows.
-use Rattle.std.proofs.Common.{◌≡◌, ◌≤◌, ◌<◌, ◌+◌, ◌*◌, ℕ, zero, suc, List, [], ◌∷◌, length, drop, get_or, add-one, refl, arith, mul-le-mul_right, suc-mul}
-use Rattle.std.proofs.lemmas.List.{drop_all}
+use Rattle.std.proofs.Common.{◌≡◌, ◌≤◌, ◌<◌, ◌+◌, ◌*◌, ℕ, List, length, drop, get_or, arith, mul-le-mul_right, suc-mul}
+use Rattle.std.proofs.lemmas.List.{drop_more, at_drop_all}
 use Rattle.std.proofs.lemmas.List.FromFn.{fill_by_all, get_or-map-range_with_len}
 use Rattle.hail_field.specs.Nim.{nim_add, nim_mul}
 use Rattle.hail_codes.specs.Sums.{dot}
 use Rattle.server_code.specs.Generator.{row_at, sums}
 
--- the sum from a place on
-dot-drop : (cs ss : List ℕ) (k : ℕ) → k < length cs → k < length ss →
-    dot (drop k cs) (drop k ss) ≡ nim_add (nim_mul (get_or cs k 0) (get_or ss k 0)) (dot (drop (suc k) cs) (drop (suc k) ss))
-unfolding dot
-dot-drop [] ss k h e = absurd (omega arith)
-dot-drop (c ∷ cs) [] k h e = absurd (omega arith)
-dot-drop (c ∷ cs) (s ∷ ss) zero h e = refl
-dot-drop (c ∷ cs) (s ∷ ss) (suc k) h e = dot-drop cs ss k (omega arith) (omega arith)
-
 -- one coefficient more
 pub dot_step : (cs ss : List ℕ) (k : ℕ) → k < length cs → k < length ss →
     dot (drop k cs) (drop k ss) ≡ nim_add (nim_mul (get_or cs k 0) (get_or ss k 0)) (dot (drop (k + 1) cs) (drop (k + 1) ss))
-dot_step cs ss k h e = rw add-one (dot-drop cs ss k h e)
-
--- the sum by no coefficients
-nothing : (ss : List ℕ) → dot [] ss ≡ 0
 unfolding dot
-nothing ss = refl
+dot_step cs ss k h e = λ i. dot (drop_more cs k 0 h i) (drop_more ss k 0 e i)
 
 -- no coefficient is left
 pub dot_past : (cs ss : List ℕ) (k : ℕ) → length cs ≤ k → dot (drop k cs) (drop k ss) ≡ 0
-dot_past cs ss k h = rw (drop_all k cs h) (nothing (drop k ss))
+unfolding dot
+dot_past cs ss k h = at_drop_all (λ l. dot l (drop k ss)) cs k h
 
 -- a row before the last ends within the rows
 pub row_fits : (row count keep len : ℕ) → row < count → len ≡ count * keep → row * keep + keep ≤ len

@@ -8,7 +8,7 @@ use hail_field::Symbol;
 use std::alloc::{AllocError, Global};
 
 /// The points 0 to count - 1.
-#[tactic(auto, using(crate::proofs::MakeSteps::upto_more))]
+#[tactic(auto, using(hail_codes::proofs::Points::upto_more))]
 pub fn points(alloc: Global, count: u32) -> Result<Vec<Symbol>, AllocError>
     ensures { IfOk result (λ points. points.items ≡ upto count) }
 {

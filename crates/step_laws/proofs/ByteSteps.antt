@@ -103,10 +103,11 @@ happens_19 = (
 )
 
 -- the symbols of the byte's only stripe
-abbrev symbols : List ℕ
+abbrev pub symbols : List ℕ
 symbols = symbols_in (object_of four 1) (111 ∷ []) 0
 
-own_work : GivesSymbols (object_of four 1) 0 (own_blocks (object_of four 1) (111 ∷ []) 0) symbols
+-- the own blocks give them
+pub own_work : GivesSymbols (object_of four 1) 0 (own_blocks (object_of four 1) (111 ∷ []) 0) symbols
 own_work = own_give (object_of four 1) (111 ∷ []) 0 0 refl (omega arith, omega arith, omega arith, omega arith, omega arith)
 
 abbrev pub state_21 : State
@@ -120,7 +121,7 @@ abbrev pub state_22 : State
 state_22 = ended state_21 (job_at state_21 2)
 
 -- the bytes of the symbols, cut to the length, are the byte
-byte_back : 111 ∷ [] ≡ take 1 (flat_map (λ stripe. bytes_of_symbols (symbols_in (object_of four 1) (111 ∷ []) stripe)) (upto 1))
+pub byte_back : 111 ∷ [] ≡ take 1 (flat_map (λ stripe. bytes_of_symbols (symbols_in (object_of four 1) (111 ∷ []) stripe)) (upto 1))
 byte_back = sym (bytes_back (object_of four 1) (111 ∷ []) (omega arith) (omega arith) refl)
 
 pub happens_21 : Happens 1 21 state_21 (Step 2) (Ended (Got (111 ∷ []))) state_22

@@ -26,6 +26,7 @@ use Rattle.hail_machine.proofs.JobLists.{cond_true, cond_false, same_value, foun
 use Rattle.hail_machine.proofs.ActionLists.{split_get}
 use Rattle.hail_machine.proofs.Changes.{Changes}
 use Rattle.hail_machine.proofs.Events.{changes}
+use Rattle.hail_machine.proofs.PinFacts.{setup_stays}
 use Rattle.hail_machine.proofs.Numbers.{first_above, first_below}
 use Rattle.hail_machine.proofs.Held.{All, all, actions_are}
 use Rattle.hail_machine.proofs.Fair.{PutAt, put_at, gate_is_last}
@@ -35,7 +36,6 @@ use Rattle.step_laws.proofs.Walk.{IsGift, IsSilent, Passed, Went, Walked, walked
 use Rattle.step_laws.proofs.Places.{by_kind, tail_all}
 use Rattle.step_laws.proofs.Passing.{passed_place, passed_not_end, list_before, list_now, same_given, list_is}
 use Rattle.step_laws.proofs.MadeFacts as made
-use Rattle.step_laws.proofs.MadeFacts.{setup_kept}
 
 -- ---- lists of actions alike in length and in where their fourth moves stand
 
@@ -397,11 +397,8 @@ pub record Facts (start : State) (ms : List Moment) : Type 0 where
   pub older : (k : ℕ) (j : Job) → job_of (now start ms).jobs k ≡ Some j → is_undecided (setup_in (now start ms)) j ≡ true → j.older ≡ []
 
 module _ (limit : ℕ) (start : State) (m : Moment) (ms : List Moment) (A : All start ms) (F : Facts start ms) (X : Changes limit (length ms) (now start ms) m.event m.outcome m.state) (W : Walked (length ms) (now start ms) m.event m.outcome m.state) where
-  kept_setup : (k : ℕ) (j : Job) → job_of m.state.jobs k ≡ Some j → setup_in m.state ≡ setup_in (now start ms)
-  kept_setup k j h = setup_kept limit start m ms A F.made X W k j h
-
   within_step : (k : ℕ) (j : Job) → job_of m.state.jobs k ≡ Some j → j.place < length (actions_of (setup_in m.state) j)
-  within_step k j h = subst (λ t. j.place < length (actions_of t j)) (sym (kept_setup k j h)) (elim (W.job k j h) [
+  within_step k j h = subst (λ t. j.place < length (actions_of t j)) (sym (setup_stays limit start m ms A.numbers A.pins X k j h)) (elim (W.job k j h) [
     | Went.kept r apart ↦ F.within k j r
     | Went.begun kind wish is k_is rec ↦ (let e : j.place ≡ 0 = ap (λ (x : Job). x.place) is in let l = (goes_within (setup_in (now start ms)) j).0 in omega (arith, e, l))
     | Went.went x action g ↦
@@ -421,14 +418,14 @@ module _ (limit : ℕ) (start : State) (m : Moment) (ms : List Moment) (A : All 
   ]
     where
       open_old : is_undecided (setup_in (now start ms)) j ≡ true
-      open_old = subst (λ t. is_undecided t j ≡ true) (kept_setup k j h) undecided
+      open_old = subst (λ t. is_undecided t j ≡ true) (setup_stays limit start m ms A.numbers A.pins X k j h) undecided
 
   step_facts : Facts start (m ∷ ms)
   step_facts = record { made = made.step_facts limit start m ms A F.made X W; within = within_step; older = older_step }
 
   -- a job that ran before and runs after stayed, or went on
   pub stayed : (k : ℕ) (before job : Job) → job_of (now start ms).jobs k ≡ Some before → job_of m.state.jobs k ≡ Some job → (m.event ≡ Step k → m.outcome ≡ More → ⊥) → most_left (setup_in m.state) job ≡ most_left (setup_in (now start ms)) before
-  stayed k before job runs h other = ap (λ t. most_left t job) (kept_setup k job h) ∙ elim (W.job k job h) [
+  stayed k before job runs h other = ap (λ t. most_left t job) (setup_stays limit start m ms A.numbers A.pins X k job h) ∙ elim (W.job k job h) [
     | Went.kept r apart ↦ ap (most_left (setup_in (now start ms))) (same_value _ job before r runs)
     | Went.begun kind wish is k_is rec ↦ absurd (let l = A.numbers.jobs_below k before runs in omega (arith, l, k_is))
     | Went.went x action g ↦ absurd (other g.event g.outcome)
@@ -438,7 +435,7 @@ module _ (limit : ℕ) (start : State) (m : Moment) (ms : List Moment) (A : All 
       (most_left (setup_in (now start ms)) before ≡ suc (most_left (setup_in m.state) job))
       ⊎ (SkipsRemovals (setup_in m.state) before job × (most_left (setup_in (now start ms)) before ≡ suc (most_left (setup_in m.state) job + (setup_in m.state).n)))
   fell k before job runs h event outcome =
-      subst (λ t. (most_left (setup_in (now start ms)) before ≡ suc (most_left t job)) ⊎ (SkipsRemovals t before job × (most_left (setup_in (now start ms)) before ≡ suc (most_left t job + t.n)))) (sym (kept_setup k job h)) (elim (W.job k job h) [
+      subst (λ t. (most_left (setup_in (now start ms)) before ≡ suc (most_left t job)) ⊎ (SkipsRemovals t before job × (most_left (setup_in (now start ms)) before ≡ suc (most_left t job + t.n)))) (sym (setup_stays limit start m ms A.numbers A.pins X k job h)) (elim (W.job k job h) [
         | Went.kept r apart ↦ absurd (apart event outcome)
         | Went.begun kind wish is k_is rec ↦ absurd (let l = A.numbers.jobs_below k before runs in omega (arith, l, k_is))
         | Went.went x action g ↦ subst (λ (y : Job). FallsBy (setup_in (now start ms)) y job) (same_value _ x before g.runs runs) (one_step (now start ms) x action m.state job g.next (F.older k x g.runs) g.passed).0

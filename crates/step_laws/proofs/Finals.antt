@@ -24,11 +24,11 @@ use Rattle.hail_machine.proofs.Held.{All}
 use Rattle.hail_machine.proofs.PutProfiles.{setup_profile}
 use Rattle.hail_machine.proofs.PutProfiles as own
 use Rattle.hail_machine.proofs.NextActions.{next_stands}
+use Rattle.hail_machine.proofs.PinFacts.{setup_stays}
 use Rattle.step_laws.proofs.Walk.{IsGift, Passed, Went, Walked}
 use Rattle.step_laws.proofs.Places.{put_late, move_behind, audit_late, audit_mute, IsMute}
 use Rattle.step_laws.proofs.Passing.{list_now}
 use Rattle.step_laws.proofs.MadeFacts as made
-use Rattle.step_laws.proofs.MadeFacts.{setup_kept}
 
 -- ---- sums hang on the number, the files and what was given
 
@@ -248,7 +248,7 @@ Flights start ms = (a : Append) (j : Job) → (now start ms).append ≡ Some a �
 
 pub flight_step : (limit : ℕ) (start : State) (m : Moment) (ms : List Moment) (A : All start ms) → own.Facts start ms → made.Facts start ms → Flights start ms → (X : Changes limit (length ms) (now start ms) m.event m.outcome m.state) → Walked (length ms) (now start ms) m.event m.outcome m.state →
     Flights start (m ∷ ms)
-flight_step limit start m ms A V M F X W a j h hj = subst (λ t. Final t j a.entry j.kind) (sym (setup_kept limit start m ms A M X W a.job j hj)) (elim (X.append a h) [
+flight_step limit start m ms A V M F X W a j h hj = subst (λ t. Final t j a.entry j.kind) (sym (setup_stays limit start m ms A.numbers A.pins X a.job j hj)) (elim (X.append a h) [
   | Append_is.kept b flight job_is entry rec ↦ subst (λ r. Final (setup_in (now start ms)) j r j.kind) (sym entry) (elim (W.job a.job j hj) [
     | Went.kept r apart ↦ F b j flight (subst (λ n. job_of (now start ms).jobs n ≡ Some j) job_is r)
     | Went.begun kind wish is k_is rec2 ↦ absurd (let l = A.numbers.holder b flight in omega (arith, l, k_is, job_is))

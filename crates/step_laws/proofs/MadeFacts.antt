@@ -10,7 +10,6 @@ use Rattle.hail_columns.specs.Opened.{SeenBlock, GivesSymbols, block_at}
 use Rattle.hail_devices.specs.Providers.{Held}
 use Rattle.hail_devices.specs.ProviderCalls.{AskGives}
 use Rattle.hail_records.specs.Records.{Setup}
-use Rattle.hail_records.specs.Table.{setup_of}
 use Rattle.hail_machine.specs.Jobs.{Kind, PutJob, GetJob, DropJob, AuditJob, RepairJob, UpgradeJob, Pinned, Given, Fetched, Answered, Worked, Job, job_of}
 use Rattle.hail_machine.specs.Setups.{object_of, profiled}
 use Rattle.hail_machine.specs.Actions.{Action, WriteBody, SyncBody, WriteGate, SyncGate, Store, Remove, Fetch, Ask, Work, End, append_actions, store_actions, read_actions, repair_actions, ask_actions, remove_actions, actions_by, actions_of}
@@ -22,9 +21,9 @@ use Rattle.hail_machine.specs.Runs.{Moment, now, IsRun}
 use Rattle.hail_machine.specs.Deeds.{Makes}
 use Rattle.hail_machine.proofs.JobLists.{cond_true, cond_false, same_value, found_none}
 use Rattle.hail_machine.proofs.ActionLists.{split_get}
-use Rattle.hail_machine.proofs.Changes.{Grown, Job_is, Changes}
+use Rattle.hail_machine.proofs.Changes.{Changes}
 use Rattle.hail_machine.proofs.Events.{changes}
-use Rattle.hail_machine.proofs.PinFacts.{setup_same, setup_one, wrote_setup}
+use Rattle.hail_machine.proofs.PinFacts.{setup_stays}
 use Rattle.hail_machine.proofs.Held.{All, all}
 use Rattle.hail_machine.proofs.Given.{block_at-given}
 use Rattle.hail_machine.proofs.NextActions.{next_stands}
@@ -297,18 +296,6 @@ pub fetched_at : (start : State) (ms : List Moment) → Facts start ms → (k : 
 fetched_at start ms F k j p i o s h l at n = F.came k j (Fetched i o s (block_given j.given o s i)) h (given_at start ms F k j p i o s h l at n)
 
 module _ (limit : ℕ) (start : State) (m : Moment) (ms : List Moment) (A : All start ms) (F : Facts start ms) (X : Changes limit (length ms) (now start ms) m.event m.outcome m.state) (W : Walked (length ms) (now start ms) m.event m.outcome m.state) where
-  -- the setup stays while a job runs on
-  pub setup_kept : (k : ℕ) (j : Job) → job_of m.state.jobs k ≡ Some j → setup_in m.state ≡ setup_in (now start ms)
-  setup_kept k j h = setup_same m.state (now start ms) (elim (X.job k j h) [
-    | Job_is.kept r (Grown.as_before rec) ↦ ap setup_of rec
-    | Job_is.kept r (Grown.by_other x a runs next_is flight mine other rec) ↦ setup_one limit start m ms A.numbers A.pins X a x flight runs mine rec
-    | Job_is.begun kd wish is k_is allowed rec ↦ ap setup_of rec
-    | Job_is.plain x action runs next_is is_plain goes rec st ↦ ap setup_of rec
-    | Job_is.drew x runs next_is none_ is rec ↦ ap setup_of rec
-    | Job_is.finished x a runs next_is flight mine is rec none_ ↦
-        ap setup_of rec ∙ wrote_setup x x.kind a.entry (now start ms).records (A.pins.wrote a x flight (subst (λ n. job_of (now start ms).jobs n ≡ Some x) (sym mine) runs))
-  ])
-
   begun_step : (k : ℕ) (j : Job) → job_of m.state.jobs k ≡ Some j → j.begun < suc (length ms)
   begun_step k j h = elim (W.job k j h) [
     | Went.kept r apart ↦ (let l = F.begun k j r in omega (arith, l))
@@ -354,7 +341,7 @@ module _ (limit : ℕ) (start : State) (m : Moment) (ms : List Moment) (A : All 
   ]
     where
       at_old : slice_get (actions_of (setup_in (now start ms)) j) p ≡ Some action
-      at_old = subst (λ t. slice_get (actions_of t j) p ≡ Some action) (setup_kept k j h) at
+      at_old = subst (λ t. slice_get (actions_of t j) p ≡ Some action) (setup_stays limit start m ms A.numbers A.pins X k j h) at
 
       went_on : (x : Job) (act : Action) → Goes (now start ms) m.event m.outcome m.state k x act j → WasMade start (m ∷ ms) j action × HasGift action j.given
       went_on x act g = (let later = passed_later (now start ms) x act m.state j g.passed in
@@ -384,11 +371,11 @@ module _ (limit : ℕ) (start : State) (m : Moment) (ms : List Moment) (A : All 
         maker = x;
         same = c.same;
         makes = c.makes;
-        answered = answered_on (now start ms) m.state x j (now start ms) m.state i o r symbol (setup_kept k j h) (l.subject (ask_late (now start ms) x i o r g.next)) l.pinned held;
+        answered = answered_on (now start ms) m.state x j (now start ms) m.state i o r symbol (setup_stays limit start m ms A.numbers A.pins X k j h) (l.subject (ask_late (now start ms) x i o r g.next)) l.pinned held;
       })
   came_now k x j (Work o s) gift g h (symbols, is, gives) = subst (CameBy start (m ∷ ms) j) (sym is)
       (let l = passed_later (now start ms) x (Work o s) m.state j g.passed in
-      let setup = setup_kept k j h in
+      let setup = setup_stays limit start m ms A.numbers A.pins X k j h in
       let at = next_stands (now start ms) x (Work o s) g.next (λ e. cc) in
       record {
         blocks = blocks_given x.given (setup_in (now start ms)).n o s;
@@ -409,13 +396,13 @@ module _ (limit : ℕ) (start : State) (m : Moment) (ms : List Moment) (A : All 
 
   came_step : (k : ℕ) (j : Job) (gift : Given) → job_of m.state.jobs k ≡ Some j → In gift j.given → CameBy start (m ∷ ms) j gift
   came_step k j gift h i = elim (W.job k j h) [
-    | Went.kept r apart ↦ came_on start m ms j j gift (setup_kept k j h) (later_same j) (F.came k j gift r i)
+    | Went.kept r apart ↦ came_on start m ms j j gift (setup_stays limit start m ms A.numbers A.pins X k j h) (later_same j) (F.came k j gift r i)
     | Went.begun kind wish is k_is rec ↦ absurd (subst (In gift) (ap (λ (x : Job). x.given) is) i)
     | Went.went x action g ↦ by_passed x action g g.passed
   ]
     where
       carried : (x : Job) (action : Action) → Goes (now start ms) m.event m.outcome m.state k x action j → In gift x.given → CameBy start (m ∷ ms) j gift
-      carried x action g i_x = came_on start m ms x j gift (setup_kept k j h) (passed_later (now start ms) x action m.state j g.passed) (F.came k x gift g.runs i_x)
+      carried x action g i_x = came_on start m ms x j gift (setup_stays limit start m ms A.numbers A.pins X k j h) (passed_later (now start ms) x action m.state j g.passed) (F.came k x gift g.runs i_x)
 
       given_now : (x : Job) (action : Action) (new_gift : Given) → Goes (now start ms) m.event m.outcome m.state k x action j → IsGift (now start ms) x m.state action new_gift → In gift (new_gift ∷ x.given) → CameBy start (m ∷ ms) j gift
       given_now x action new_gift g is_gift (inl e) = subst (CameBy start (m ∷ ms) j) (sym e) (came_now k x j action new_gift g h is_gift)

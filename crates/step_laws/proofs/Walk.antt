@@ -1,7 +1,8 @@
 -- What each event does to the jobs that run, and to what is in doubt.
 use Rattle.std.proofs.Common.{◌≡◌, ℕ, ◌==◌, Bool, true, false, List, [], ◌∷◌, Option, Some, None, refl, ap, sym, subst, ◌∙◌, inl, inr}
-use Rattle.std.specs.Prelude.{IsSome, is_some, nat_lt}
-use Rattle.std.proofs.lemmas.Bool.{eq-eqb, false≢true}
+use Rattle.std.specs.Prelude.{IsSome, nat_lt}
+use Rattle.std.proofs.lemmas.Bool.{eq-eqb}
+use Rattle.plain_facts.proofs.Options.{is_some-none}
 use Rattle.hail_columns.specs.Opened.{GivesSymbols}
 use Rattle.hail_records.specs.Records.{Setup, SetUp, is_setup}
 use Rattle.hail_records.specs.Table.{setup_of}
@@ -14,7 +15,7 @@ use Rattle.hail_machine.specs.Refusals as refusal
 use Rattle.hail_machine.specs.Refusals.{Refusal}
 use Rattle.hail_machine.specs.Answers as answer
 use Rattle.hail_machine.specs.Events.{Event, Init, Begin, BeginAt, BeginScrub, BeginPack, Step, Alter, Lose, Stop, Reopen, Names, Continue, Outcome, Ready, Refused, Opened, Begun, More, Waiting, Ended, Replaced, NothingHeld, Stopped, Listed, Closed, Continued}
-use Rattle.hail_machine.specs.States.{State, Append, Doubt, Alone, worked_object, setup_in, with_provider, Settles}
+use Rattle.hail_machine.specs.States.{State, Append, Doubt, Alone, worked_object, setup_in, with_provider}
 use Rattle.hail_machine.specs.Begins.{beginning, BeginsAt}
 use Rattle.hail_machine.specs.Given.{blocks_given}
 use Rattle.hail_machine.specs.Audits.{asked_challenge}
@@ -29,6 +30,8 @@ use Rattle.hail_machine.proofs.Changes.{IsLone}
 use Rattle.hail_machine.proofs.JobLists.{cond_true, number_of, found_with, found_without, found_more, found_none}
 use Rattle.calm_laws.specs.Origins.{IsHeldThen}
 use Rattle.calm_laws.proofs.GetEnds.{none_beside}
+use Rattle.hail_machine.proofs.Events.{settled_doubt}
+use Rattle.calm_laws.proofs.Origin.{settled_jobs}
 use Rattle.step_laws.specs.Gave.{IsAnsweredThen}
 
 -- what an action gave
@@ -279,14 +282,6 @@ module _ (moment : ℕ) (old : State) where
   begin_pack_not : (k : ℕ) (r : Outcome) → BeginPack ≡ Step k → r ≡ More → ⊥
   begin_pack_not k r e m = cc
 
-  settled_doubt : (left mid : State) → Settles left mid → mid.doubt ≡ None
-  settled_doubt left mid (inl is) = ap (λ (w : State). w.doubt) is
-  settled_doubt left mid (inr (d, at, is)) = ap (λ (w : State). w.doubt) is
-
-  settled_jobs : (left mid : State) → Settles left mid → mid.jobs ≡ left.jobs
-  settled_jobs left mid (inl is) = ap (λ (w : State). w.jobs) is
-  settled_jobs left mid (inr (d, at, is)) = ap (λ (w : State). w.jobs) is
-
   stops : (picks : List ℕ) (r : Outcome) (new : State) → Stops old r new → Walked moment old (Stop picks) r new
   stops picks Stopped new (journal, area, holds, h) = no_jobs moment old (Stop picks) Stopped new (settled_jobs (reread old journal area) new h) (no_doubt new.doubt old new (settled_doubt (reread old journal area) new h))
   stops picks r new h = absurd h
@@ -299,14 +294,10 @@ module _ (moment : ℕ) (old : State) where
   reopens (Refused refusal.Memory) new (faults, low, is) = no_jobs moment old Reopen (Refused refusal.Memory) new (ap (λ (w : State). w.jobs) is) (λ d h. Doubted.kept (ap (λ (w : State). w.doubt) (sym is) ∙ h) (ap (λ (w : State). w.records) is))
   reopens r new h = absurd h
 
-  none_setup : (o : Option Setup) → is_some o ≡ false → o ≡ None
-  none_setup None h = refl
-  none_setup (Some s) h = absurd (false≢true (sym h))
-
   left_doubt : (s : Setup) (doubt : Option Doubt) (new : State) → LeavesDoubt old s doubt → new.records ≡ old.records → (d : Doubt) → doubt ≡ Some d → Doubted old new d
   left_doubt s doubt new (inl is) rec d h = Doubted.kept (sym is ∙ h) rec
   left_doubt s doubt new (inr (none, is)) rec d h = (let g : Some (record { entry = SetUp s; maker = None }) ≡ Some d = sym is ∙ h in
-      let f : record { entry = SetUp s; maker = None } ≡ d = cc in Doubted.set_up s (sym f) (ap setup_of rec ∙ none_setup (setup_of old.records) none))
+      let f : record { entry = SetUp s; maker = None } ≡ d = cc in Doubted.set_up s (sym f) (ap setup_of rec ∙ is_some-none (setup_of old.records) none))
 
   init_not : (s : Setup) (r : Outcome) (k : ℕ) → Init s ≡ Step k → r ≡ More → ⊥
   init_not s r k e m = cc

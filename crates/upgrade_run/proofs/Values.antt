@@ -1,22 +1,23 @@
 -- What the providers hold in the run: the blocks of a file of one byte over four providers, of one of which a symbol is altered.
-use Rattle.std.proofs.Common.{◌≡◌, ℕ, suc, ◌+◌, ◌<◌, ◌==◌, false, List, [], ◌∷◌, ◌++◌, length, map, Some, None, refl, ap, sym, subst, ◌∙◌, arith}
+use Rattle.std.proofs.Common.{◌≡◌, ℕ, suc, ◌+◌, ◌==◌, false, List, [], ◌∷◌, ◌++◌, length, map, Some, None, refl, ap, sym, subst, ◌∙◌, arith}
 use Rattle.std.specs.Prelude.{take, slice_set, slice_index, if◌then◌else◌}
 use Rattle.std.specs.List.{flat_map}
 use Rattle.std.proofs.lemmas.Bool.{eq-eqb}
 use Rattle.hail_codes.specs.Points.{upto}
 use Rattle.hail_codes.specs.ServerCode.{differences}
+use Rattle.hail_codes.proofs.Codewords.{differences-same}
 use Rattle.hail_columns.specs.Objects.{symbol_of, symbols_in, bytes_of_symbols}
 use Rattle.hail_columns.specs.Columns.{columns, column_of_symbols, is_wrong_block}
 use Rattle.hail_columns.specs.Opened.{SeenBlock, bare, OpensTo, GivesSymbols}
 use Rattle.hail_columns.proofs.ColumnLaws.{length-column_of_symbols}
 use Rattle.hail_devices.specs.Providers.{sized}
 use Rattle.column_laws.proofs.RightBlocks.{opens-right}
-use Rattle.column_laws.proofs.RightRows.{given-right}
-use Rattle.column_laws.proofs.Worked.{column-right}
+use Rattle.column_laws.proofs.Worked.{column-right, opens-own}
 use Rattle.hail_machine.specs.Actions.{Store, End}
 use Rattle.hail_machine.proofs.JobLists.{cond_true}
-use Rattle.run_laws.proofs.Files.{primary-symbol}
+use Rattle.column_laws.proofs.RightRows.{given-right, kept-symbol}
 use Rattle.run_laws.proofs.SymbolBytes.{bytes_back}
+use Rattle.step_laws.proofs.GivesRight.{own_give}
 use Rattle.damage_run.specs.Schedule.{byte}
 use Rattle.upgrade_run.specs.Schedule.{thing}
 
@@ -43,7 +44,7 @@ block_sized b h = sym (cond_true (length b == 16) (Some b) None (eq-eqb (length 
 
 first_symbol : slice_index (block 0) 0 ≡ 111
 unfolding column_of_symbols symbol_of
-first_symbol = primary-symbol thing byte 0 0 0 (omega arith) (omega arith) (omega arith)
+first_symbol = kept-symbol thing byte 0 0 0 (omega arith) (omega arith) (omega arith)
 
 head_is : (c : List ℕ) (n x : ℕ) → length c ≡ suc n → slice_index c 0 ≡ x → (rest : List ℕ) × (c ≡ x ∷ rest)
 head_is [] n x size first = absurd (omega (arith, size))
@@ -59,10 +60,6 @@ block_is = (head_is (block 0) 15 111 (length-block 0) first_symbol).1
 -- the block with its first symbol altered
 abbrev pub altered : List ℕ
 altered = slice_set (block 0) 0 5
-
-differences-same : (xs : List ℕ) → differences xs xs ≡ 0
-differences-same [] = refl
-differences-same (x ∷ xs) = (let e = eq-eqb x x refl in rw e (differences-same xs))
 
 -- one symbol differs
 one_differs : (b : List ℕ) (rest : List ℕ) → b ≡ 111 ∷ rest → differences (slice_set b 0 5) b ≡ 1
@@ -86,14 +83,8 @@ differs_not j = differences-same (block j)
 abbrev shown : ℕ → SeenBlock
 shown j = Some (bare thing j 0 (block j))
 
-is_right : (j : ℕ) → is_wrong_block thing byte j 0 (Some (block j)) ≡ false
-is_right j = column-right thing byte j 0
-
 altered_right : is_wrong_block thing byte 0 0 (Some altered) ≡ false
 altered_right = (let e = eq-eqb (length altered) 16 length-altered in rw (e, differs_0) refl)
-
-opens_one : (j : ℕ) → j < 256 → OpensTo thing j 0 (Some (block j)) (shown j)
-opens_one j l = opens-right thing byte j 0 (Some (block j)) l (is_right j)
 
 opens_altered : OpensTo thing 0 0 (Some altered) (shown 0)
 opens_altered = opens-right thing byte 0 0 (Some altered) (omega arith) altered_right
@@ -102,15 +93,12 @@ opens_altered = opens-right thing byte 0 0 (Some altered) (omega arith) altered_
 pub damaged_give : GivesSymbols thing 0 (Some altered ∷ Some (block 1) ∷ Some (block 2) ∷ Some (block 3) ∷ []) symbols
 damaged_give = given-right thing byte 1 0 (Some altered ∷ Some (block 1) ∷ Some (block 2) ∷ Some (block 3) ∷ []) (shown 0 ∷ shown 1 ∷ shown 2 ∷ shown 3 ∷ []) refl
     (omega arith, omega arith, omega arith, omega arith, omega arith)
-    (rw (altered_right, is_right 1, is_right 2, is_right 3) (omega arith))
-    (opens_altered, (opens_one 1 (omega arith), (opens_one 2 (omega arith), (opens_one 3 (omega arith), tt))))
+    (rw (altered_right, column-right thing byte 1 0, column-right thing byte 2 0, column-right thing byte 3 0) (omega arith))
+    (opens_altered, (opens-own thing byte 1 0 (omega arith), (opens-own thing byte 2 0 (omega arith), (opens-own thing byte 3 0 (omega arith), tt))))
 
 -- and so it does once all are mended
 pub all_give : GivesSymbols thing 0 (Some (block 0) ∷ Some (block 1) ∷ Some (block 2) ∷ Some (block 3) ∷ []) symbols
-all_give = given-right thing byte 1 0 (Some (block 0) ∷ Some (block 1) ∷ Some (block 2) ∷ Some (block 3) ∷ []) (shown 0 ∷ shown 1 ∷ shown 2 ∷ shown 3 ∷ []) refl
-    (omega arith, omega arith, omega arith, omega arith, omega arith)
-    (rw (is_right 0, is_right 1, is_right 2, is_right 3) (omega arith))
-    (opens_one 0 (omega arith), (opens_one 1 (omega arith), (opens_one 2 (omega arith), (opens_one 3 (omega arith), tt))))
+all_give = own_give thing byte 1 0 refl (omega arith, omega arith, omega arith, omega arith, omega arith)
 
 -- ---- what the scrub then has to store, and what it has found
 

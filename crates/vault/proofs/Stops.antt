@@ -3,6 +3,7 @@ use Rattle.std.proofs.Common.{◌≡◌, ℕ, zero, suc, ◌==◌, cond, List, [
 use Rattle.std.specs.Prelude.{slice_get, slice_set}
 use Rattle.std.specs.List.{remove}
 use Rattle.std.specs.Option.{option_map}
+use Rattle.plain_facts.proofs.Lists.{get-set_there}
 use Rattle.hail_devices.specs.Cells.{Cells}
 use Rattle.hail_devices.specs.Providers.{Provider}
 use Rattle.hail_records.specs.Records.{Setup}
@@ -85,15 +86,10 @@ module _ (v v1 : Vault) (d : Devices) (w : State) (number place : ℕ) (action :
   at_aside : place_in v1.jobs.items number ≡ Some place
   at_aside = ap (λ (l : List Running). place_in l number) aside.jobs ∙ place_is (slice_set v.jobs.items place r') number ∙ at_set v.jobs.items number place r r' there aside.number ∙ at_first
 
-  set_there : {X : Type 0} (xs : List X) (p : ℕ) (x y : X) → slice_get xs p ≡ Some x → slice_get (slice_set xs p y) p ≡ Some y
-  set_there [] p x y h = (let e : None ≡ Some x = h in cc)
-  set_there (z ∷ zs) zero x y h = refl
-  set_there (z ∷ zs) (suc p) x y h = set_there zs p x y h
-
   pub is_left : (v2 : Vault) (reply : Reply) (answer : Answer) (t : Turn) → HasStopped v1 number reply answer t v2 → Leaves v2 w number reply answer t v.core
   is_left v2 reply answer t stopped =
       let same : stopped.place ≡ place = (let e : Some stopped.place ≡ Some place = sym stopped.found ∙ at_aside in cc) in
-      let there' : slice_get v1.jobs.items place ≡ Some r' = ap (λ (l : List Running). slice_get l place) aside.jobs ∙ set_there v.jobs.items place r r' there in
+      let there' : slice_get v1.jobs.items place ≡ Some r' = ap (λ (l : List Running). slice_get l place) aside.jobs ∙ get-set_there v.jobs.items place r r' there in
       let one : stopped.running ≡ r' = (let e : Some stopped.running ≡ Some r' = sym stopped.there ∙ ap (slice_get v1.jobs.items) same ∙ there' in cc) in
       let running = at_place v d w number place action r stands next at there in
       record {

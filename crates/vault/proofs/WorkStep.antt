@@ -6,7 +6,7 @@ use Rattle.std.proofs.lemmas.Grind.{flat_map-append}
 use Rattle.std.proofs.lemmas.List.{append-nil}
 use Rattle.std.proofs.lemmas.List.Sums.{sum_by-cons}
 use Rattle.hail_codes.specs.Points.{upto}
-use Rattle.hail_codes.proofs.Points.{upto-more}
+use Rattle.hail_codes.proofs.Points.{upto_more}
 use Rattle.hail_columns.specs.Objects.{Object, bytes_of_symbols, stripe_symbols}
 use Rattle.hail_columns.specs.Opened.{SeenBlock, GivesSymbols, LosesRow}
 use Rattle.hail_columns.proofs.SymbolBytes.{length-bytes_of_symbols}
@@ -63,7 +63,7 @@ bytes_after id k rows bytes given is =
     (λ i. is i ++ bytes_of_symbols (worked_is id k rows given i))
     ∙ (λ i. (sym (kept id k 0 k rows given (omega arith))) i ++ (sym (append-nil (f k))) i)
     ∙ sym (flat_map-append f (upto k) (k ∷ []))
-    ∙ ap (flat_map f) (sym (upto-more k))
+    ∙ ap (flat_map f) (sym (upto_more k))
 
 -- ---- the job
 

@@ -1,6 +1,6 @@
 -- The table goes on as the fold does.
 use Rattle.std.specs.Prelude.{◌≡◌, ◌≢◌, ℕ, zero, suc, ◌+◌, ◌-◌, ◌==◌, ◌<◌, ◌≤◌, List, [], ◌∷◌, ◌++◌, length, Option, None, Some, nat_le, if◌then◌else◌}
-use Rattle.std.proofs.Common.{refl, sym, ap, ◌∙◌, arith, set, get_or, inl, inr}
+use Rattle.std.proofs.Common.{refl, sym, ap, ◌∙◌, arith, set, inl, inr}
 use Rattle.std.proofs.lemmas.Bool.{cases_lt}
 use Rattle.std.proofs.lemmas.Bool.Decides.{nat_tests}
 use Rattle.std.proofs.lemmas.List.{length-append, length-set}
@@ -10,6 +10,7 @@ use Rattle.hail_records.specs.Acceptance.{AreAccepted, put_done_refused, refused
 use Rattle.hail_records.proofs.FilesLaws.{find-files_of}
 use Rattle.hail_records.specs.Packed.{packed}
 use Rattle.hail_records.proofs.PackLaws.{packed_are, packed_is_idle}
+use Rattle.vault_table.proofs.KeptNames.{name-past}
 use Rattle.vault_table.specs.Values.{Kept, started_from, started_at, id_after, forgotten, IsFoldOf, put_done_refusal, refusal_after, refusal_before, refusal, with_record}
 
 -- ---- refusals
@@ -95,13 +96,8 @@ has-setup t (Resume id audit) other p = grind (arith, p)
 has-setup t (InEffect id size profile name) other p = grind (arith, p)
 has-setup t (RepairDue number counts) other p = grind (arith, p)
 
-from-past : (started : List (Option (List ℕ))) (k : ℕ) → length started ≤ k → started_from started k ≡ None
-from-past [] k le = refl
-from-past (s ∷ started) zero le = absurd (omega (arith, le))
-from-past (s ∷ started) (suc k) le = from-past started k (omega (arith, le))
-
 none-started : (t : Kept) (k : ℕ) → t.passed + length t.started ≡ 0 → started_at t k ≡ None
-none-started t k none = grind (arith, nat_tests, from-past t.started (k - suc t.passed), none)
+none-started t k none = grind (arith, nat_tests, name-past t.started (k - suc t.passed), none)
 
 pub goes-on : (t : Kept) (rs : List Record) (r : Record) → IsFoldOf rs t → refusal t r ≡ None → IsFoldOf (r ∷ rs) (with_record t r)
 goes-on t rs (SetUp s) is p =
@@ -183,7 +179,7 @@ pub at-inside : (t : Kept) (id : ℕ) (name : List ℕ) → started_at t id ≡ 
 at-inside t id name e = elim (cases_lt t.passed id) [
   | inl later ↦ elim (cases_lt (id - suc t.passed) (length t.started)) [
     | inl lt ↦ (later, omega (arith, later, lt))
-    | inr le ↦ absurd (none (sym (from-past t.started (id - suc t.passed) le) ∙ grind (arith, nat_tests, later, e)))
+    | inr le ↦ absurd (none (sym (name-past t.started (id - suc t.passed) le) ∙ grind (arith, nat_tests, later, e)))
   ]
   | inr not_later ↦ absurd (none (grind (arith, nat_tests, not_later, e)))
 ]

@@ -1,11 +1,11 @@
 -- Started puts, as they are kept.
-use Rattle.std.specs.Prelude.{◌≡◌, ℕ, zero, suc, ◌+◌, ◌%◌, ◌<◌, ◌≤◌, Bool, true, false, List, [], ◌∷◌, ◌++◌, length, take, drop, Option, None, Some, nat_le, if◌then◌else◌}
+use Rattle.std.specs.Prelude.{◌≡◌, ℕ, zero, suc, ◌+◌, ◌%◌, ◌<◌, ◌≤◌, true, false, List, [], ◌∷◌, ◌++◌, length, take, drop, Option, None, Some, nat_le, if◌then◌else◌}
 use Rattle.std.specs.List.{list_all}
 use Rattle.std.proofs.Common.{refl, sym, ap, ◌∙◌, arith, set, get_or}
 use Rattle.std.proofs.lemmas.Bool.Decides.{nat_tests}
 use Rattle.std.proofs.lemmas.List.{take_all, take-append-le, drop-append-le, length-drop, drop-drop}
 use Rattle.vault_table.specs.Values.{started_from}
-use Rattle.std.specs.Prelude.{◌*◌, ◌/◌, ◌==◌, slice_index, slice_index_or}
+use Rattle.std.specs.Prelude.{◌*◌, ◌/◌, ◌==◌, slice_index_or}
 use Rattle.std.proofs.Common.{length-append, length-set, inl, inr}
 use Rattle.std.proofs.lemmas.Bool.{cases_Bool, cases_lt, eqb-true, leb-true, le-leb, lt-leb}
 use Rattle.hail_records.specs.Records.{is_name}
@@ -58,6 +58,7 @@ name-at (s ∷ sizes) letters zero l = refl
 name-at (s ∷ sizes) letters (suc k) l = name-at sizes (drop (s % 128) letters) k (omega (arith, l))
     ∙ ap (name_of (get_or sizes k 0)) (drop-drop (begins_at sizes k) (s % 128) letters)
 
+-- past the last there is none
 pub name-past : (names : List (Option (List ℕ))) (k : ℕ) → length names ≤ k → started_from names k ≡ None
 name-past [] k l = refl
 name-past (n ∷ names) zero l = absurd (omega (arith, l))

@@ -5,9 +5,10 @@ use Rattle.std.specs.List.{insert, remove}
 use Rattle.std.proofs.lemmas.Bool.Decides.{nat_tests}
 use Rattle.std.proofs.lemmas.List.{take-append-drop, get_or_at, drop_at, set_at, length-take-le}
 use Rattle.std.specs.declared.cmp.Ordering.TheVariants.{Less, Equal, Greater}
-use Rattle.hail_records.specs.Table.{File, is_name_before, is_same_name, are_ordered, find_file, with_file, without_file}
+use Rattle.hail_records.specs.Table.{File, is_name_before, are_ordered, find_file, with_file, without_file}
 use Rattle.hail_records.proofs.FilesLaws.{same-refl, same-sym}
 use Rattle.hail_records.proofs.OrderLaws.{before-trans, below-trans}
+use Rattle.hail_records.proofs.PackLaws.{before-not_same}
 use Rattle.vault_table.specs.Orders.{order_of, comes_after, comes_before, IsHere, IsBetween}
 
 pub order-less : (a b : List ℕ) → order_of a b ≡ Less → is_name_before a b ≡ true
@@ -132,12 +133,6 @@ before-not_after [] [] p = absurd cc
 before-not_after [] (y ∷ b) p = refl
 before-not_after (x ∷ a) [] p = absurd cc
 before-not_after (x ∷ a) (y ∷ b) p = grind (arith, nat_tests, p, before-not_after a b)
-
-before-not_same : (a b : List ℕ) → is_name_before a b ≡ true → is_same_name a b ≡ false
-before-not_same [] [] p = absurd cc
-before-not_same [] (y ∷ b) p = refl
-before-not_same (x ∷ a) [] p = absurd cc
-before-not_same (x ∷ a) (y ∷ b) p = grind (arith, nat_tests, p, before-not_same a b)
 
 skip-find : (name : List ℕ) (front back : List File) → comes_after name front ≡ true → find_file (front ++ back) name ≡ find_file back name
 skip-find name [] back p = refl

@@ -1,5 +1,6 @@
 use Rattle.std.proofs.Common.{◌≡◌, ◌<◌, ◌*◌, ℕ, get_or, length}
-use Rattle.challenge.specs.Rows.{next_rows, moved_on}
+use Rattle.hail_columns.specs.Generator.{moved_on}
+use Rattle.challenge.specs.Rows.{next_rows}
 use Rattle.challenge.proofs.draw.draw_rows.Given as goal
 
 -- the generator stands at the next row, and the rows before it are drawn

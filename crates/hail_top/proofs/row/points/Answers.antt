@@ -1,5 +1,5 @@
 use Rattle.std.proofs.Common.{List, ◌++◌, ◌∷◌, ℕ, [], ap, ◌∙◌, sym}
-use Rattle.hail_codes.proofs.Points.{upto-more}
+use Rattle.hail_codes.proofs.Points.{upto_more}
 use Rattle.hail_top.proofs.row.points.Goals as goal
 
 pub loop-place-preserved : goal.loop-place-preserved
@@ -8,4 +8,4 @@ loop-place-preserved c =
     c.in_ok-push.ensures.items
     ∙ ap (λ (x : ℕ). c.loop-place.points.items ++ x ∷ []) c.from.ensures
     ∙ ap (λ (xs : List ℕ). xs ++ place ∷ []) c.loop-place.invariant
-    ∙ sym (upto-more place)
+    ∙ sym (upto_more place)

@@ -1,6 +1,7 @@
 use Rattle.std.proofs.Common.{sym, ◌∙◌}
+use Rattle.plain_facts.proofs.Options.{is_some-none}
 use Rattle.hail_client.proofs.Begun.{init-open, init-closed}
-use Rattle.hail_client.proofs.Anew.{by-told, untold, closed-standing, left-same}
+use Rattle.hail_client.proofs.Anew.{by-told, closed-standing, left-same}
 use Rattle.record_codec.specs.Entries.{with_master}
 use Rattle.hail_openings.proofs.Resyncs.{resynced-same}
 use Rattle.hail_client.proofs.client.Client.init.Goals as goal
@@ -25,4 +26,4 @@ returns-clause-standing g c = λ providers S.
     by-told (g.D.Disk.holds c.args.disk.now)
     (λ told. (let M = returns-clause-machine g c S.state providers 0 told S.stands in record { state = M.state; stands = M.stands }))
     (λ none. closed-standing c.args.self.now.vault c.args.self.now.next_job (g.D.Disk.faults c.init.new.disk) providers (g.D.Disk.holds c.init.new.disk) (sym c.is_some.ensures ∙ c.if-is_some.false)
-    (untold (g.D.Disk.holds c.init.new.disk) (c.init.ensures.tells ∙ none)))
+    (is_some-none (g.D.Disk.holds c.init.new.disk) (c.init.ensures.tells ∙ none)))
