@@ -45,12 +45,11 @@ struct CutOff {
     acknowledged: bool,
 }
 
-/// Whether both have a file with some bytes at this path, and the same.
-fn have_same_file(a: &StandIn, b: &StandIn, alloc: Global, path: &str) -> bool {
-    match (a.bytes_at(alloc, path), b.bytes_at(alloc, path)) {
-        (Ok(left), Ok(right)) => !left.is_empty() && left.as_slice() == right.as_slice(),
-        _ => false,
-    }
+/// Whether both have a file with some bytes at this path, and the same, where both have one.
+fn have_same_file(a: &StandIn, b: &StandIn, alloc: Global, path: &str) -> Option<bool> {
+    let left = a.bytes_at(alloc, path).ok()?;
+    let right = b.bytes_at(alloc, path).ok()?;
+    Some(!left.is_empty() && left.as_slice() == right.as_slice())
 }
 
 impl Uncut {
@@ -58,8 +57,8 @@ impl Uncut {
     fn has_block(&self, left: &StandIn, alloc: Global, provider: u8, object: u64) -> Option<bool> {
         let path = format!(in alloc; "home/provider-{provider}/{object}-0").ok()?;
         Some(
-            have_same_file(left, &self.before, alloc, &path)
-                || have_same_file(left, &self.after, alloc, &path),
+            have_same_file(left, &self.before, alloc, &path) == Some(true)
+                || have_same_file(left, &self.after, alloc, &path) == Some(true),
         )
     }
 
@@ -85,33 +84,53 @@ impl Uncut {
         }
         true
     }
+
+    /// Whether what is found behind a cut shows this.
+    fn shows_after(
+        &self,
+        cut: &CutOff,
+        alloc: Global,
+        stays: Stays,
+        shown: Shown<'_>,
+    ) -> Option<bool> {
+        let left = cut.files.after_cut(alloc, stays).ok()?;
+        Some(self.shows(&left, alloc, shown))
+    }
 }
 
 impl<'a> Case<'a> {
+    /// Whether the block that is to be lost was there, and is found to be lost.
+    fn is_lost(&self, files: &StandIn, alloc: Global) -> bool {
+        match &self.lost {
+            Some((path, found)) => fs::remove_file(files, *path).is_ok()
+                && goes(files, alloc, found),
+            None => true,
+        }
+    }
+
     /// The home before the command.
     fn start(&self, alloc: Global) -> Option<StandIn> {
         let files = StandIn::new(alloc).ok()?;
-        if first_wrong(&files, alloc, self.before).is_some() {
+        if first_wrong(&files, alloc, self.before).is_some() || !self.is_lost(&files, alloc) {
             return None;
         }
-        if let Some((path, found)) = &self.lost {
-            fs::remove_file(&files, *path).ok()?;
-            if !goes(&files, alloc, found) {
-                return None;
-            }
-        }
         Some(files)
+    }
+
+    /// How many calls of the command change something, where it ends as its row says.
+    fn calls(&self, files: &StandIn, alloc: Global) -> Option<u64> {
+        let most = files.calls_left().ok()?;
+        if !goes(files, alloc, &self.row) {
+            return None;
+        }
+        Some(most.saturating_sub(files.calls_left().ok()?))
     }
 
     /// The home whose power was not cut.
     fn uncut(&self, alloc: Global) -> Option<Uncut> {
         let before = self.start(alloc)?;
         let after = before.after_cut(alloc, ALL).ok()?;
-        let most = after.calls_left().ok()?;
-        if !goes(&after, alloc, &self.row) {
-            return None;
-        }
-        let calls = most.saturating_sub(after.calls_left().ok()?);
+        let calls = self.calls(&after, alloc)?;
         Some(Uncut {
             before,
             after,
@@ -121,12 +140,10 @@ impl<'a> Case<'a> {
 
     /// Whether what a cut left shows the effect, or nothing of it, which it may where the effect was not acknowledged.
     fn is_right(&self, alloc: Global, uncut: &Uncut, cut: &CutOff, stays: Stays) -> Option<bool> {
-        let left = cut.files.after_cut(alloc, stays).ok()?;
-        if uncut.shows(&left, alloc, self.with) {
-            return Some(true);
-        }
-        let again = cut.files.after_cut(alloc, stays).ok()?;
-        Some(!cut.acknowledged && uncut.shows(&again, alloc, self.without))
+        Some(
+            uncut.shows_after(cut, alloc, stays, self.with)?
+                || (!cut.acknowledged && uncut.shows_after(cut, alloc, stays, self.without)?),
+        )
     }
 
     /// The command, whose power is cut behind so many calls that change something.

@@ -1,6 +1,6 @@
+use crate::home::Devices;
 use crate::stand_in::StandIn;
 use disk_model::Disk;
-use hail_adapters::{Unsynced, folder_providers, journal_disk};
 use hail_top::hail;
 use provider_model::Tamper;
 use std::alloc::Global;
@@ -54,23 +54,31 @@ fn answer<D: Disk, P: Tamper, S: Source, K: Sink>(
     hail(alloc, words, disk, providers, source, sink).status
 }
 
+/// Answers the words over some devices and a source of these bytes. Want of memory for the source and the sink is the one refusal.
+fn answered<D: Disk, P: Tamper>(
+    alloc: Global,
+    words: &[String],
+    input: &[u8],
+    disk: &mut D,
+    providers: &mut Vec<P>,
+) -> Option<Answered> {
+    let mut source = SureSource::new(alloc, input).ok()?;
+    let mut text = SureSink::new(alloc).ok()?;
+    let status = answer(alloc, words, disk, providers, &mut source, &mut text);
+    Some(Answered { status, text })
+}
+
 /// Answers a command over the journal and the providers of the home. Want of memory for the devices is the one refusal.
 fn ended(files: &StandIn, alloc: Global, row: &Row) -> Option<Answered> {
     let words = words(alloc, row.line)?;
-    let unsynced = Unsynced::new(alloc).ok()?;
-    let mut disk = journal_disk(files, alloc, "home", &unsynced).ok()?;
-    let mut providers = folder_providers(files, alloc, "home", &unsynced).ok()?;
-    let mut source = SureSource::new(alloc, row.input).ok()?;
-    let mut text = SureSink::new(alloc).ok()?;
-    let status = answer(
+    let mut home = Devices::new(files, alloc)?;
+    answered(
         alloc,
         &words,
-        &mut disk,
-        &mut providers,
-        &mut source,
-        &mut text,
-    );
-    Some(Answered { status, text })
+        row.input,
+        &mut home.disk,
+        &mut home.providers,
+    )
 }
 
 /// Whether a command ends as its row says.

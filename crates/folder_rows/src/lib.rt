@@ -8,6 +8,8 @@ mod command;
 #[cfg(test)]
 mod cuts;
 #[cfg(test)]
+mod home;
+#[cfg(test)]
 mod medium;
 #[cfg(test)]
 mod stand_in;

@@ -207,6 +207,12 @@ impl Name {
         })
     }
 
+    /// The same name for this node, as the calls and the medium have it.
+    fn naming(&self, alloc: Global, node: usize) -> io::Result<Name> {
+        let path = self.path.as_str();
+        Name::new(alloc, path, self.folder, Some(node), Some(node))
+    }
+
     /// What the name names behind a cut.
     fn after_cut(&self, stays: Stays) -> Option<usize> {
         if stays.names { self.now } else { self.firm }
@@ -273,14 +279,22 @@ impl Medium {
         Some(&node.written)
     }
 
-    /// Lets a path name a node, or nothing.
-    fn point(&mut self, path: &str, node: Option<usize>) -> io::Result<()> {
-        let folder = self.find(folder_of(path)).ok_or(missing())?;
+    /// Lets a path that has named something name a node, or nothing; says whether there is such a path.
+    fn point_again(&mut self, path: &str, node: Option<usize>) -> bool {
         for name in self.names.iter_mut() {
             if name.path.as_str() == path {
                 name.now = node;
-                return Ok(());
+                return true;
             }
+        }
+        false
+    }
+
+    /// Lets a path name a node, or nothing.
+    fn point(&mut self, path: &str, node: Option<usize>) -> io::Result<()> {
+        let folder = self.find(folder_of(path)).ok_or(missing())?;
+        if self.point_again(path, node) {
+            return Ok(());
         }
         let name = Name::new(self.alloc, path, folder, node, None)?;
         kept(self.names.push(name))
@@ -422,26 +436,44 @@ impl Medium {
         false
     }
 
-    /// The medium as it is found behind a cut, with power again.
-    pub fn after_cut(&self, stays: Stays) -> io::Result<Medium> {
-        let mut left = Medium {
-            alloc: self.alloc,
-            nodes: Vec::new(self.alloc),
-            names: Vec::new(self.alloc),
-            calls_left: u64::MAX,
-        };
+    /// The files and folders as they are found behind a cut.
+    fn nodes_left(&self, stays: Stays) -> io::Result<Vec<Node>> {
+        let mut left = Vec::new(self.alloc);
         for node in self.nodes.iter() {
-            kept(left.nodes.push(node.after_cut(self.alloc, stays)?))?;
+            kept(left.push(node.after_cut(self.alloc, stays)?))?;
         }
+        Ok(left)
+    }
+
+    /// The node that a name names behind a cut, where its folder is found.
+    fn node_left(&self, name: &Name, stays: Stays) -> Option<usize> {
+        let node = name.after_cut(stays)?;
+        if !self.is_left(name.folder, stays) {
+            return None;
+        }
+        Some(node)
+    }
+
+    /// The names as they are found behind a cut.
+    fn names_left(&self, stays: Stays) -> io::Result<Vec<Name>> {
+        let mut left = Vec::new(self.alloc);
         for name in self.names.iter() {
-            if let Some(node) = name.after_cut(stays)
-                && self.is_left(name.folder, stays)
-            {
-                let path = name.path.as_str();
-                let name = Name::new(self.alloc, path, name.folder, Some(node), Some(node))?;
-                kept(left.names.push(name))?;
+            if let Some(node) = self.node_left(name, stays) {
+                kept(left.push(name.naming(self.alloc, node)?))?;
             }
         }
         Ok(left)
+    }
+
+    /// The medium as it is found behind a cut, with power again.
+    pub fn after_cut(&self, stays: Stays) -> io::Result<Medium> {
+        let nodes = self.nodes_left(stays)?;
+        let names = self.names_left(stays)?;
+        Ok(Medium {
+            alloc: self.alloc,
+            nodes,
+            names,
+            calls_left: u64::MAX,
+        })
     }
 }

@@ -1,7 +1,8 @@
+use crate::home::Devices;
 use crate::medium::{CUTS, Stays};
 use crate::stand_in::StandIn;
 use disk_model::Disk;
-use hail_adapters::{FileDisk, FolderProvider, Unsynced, folder_providers, journal_disk};
+use hail_adapters::{FileDisk, FolderProvider};
 use hail_field::Symbol;
 use provider_model::Provider;
 use std::alloc::Global;
@@ -21,19 +22,33 @@ fn block<P: Provider>(provider: &mut P) -> Option<[Symbol; 2]> {
     }
 }
 
+/// The block that is stored first, and the one that is stored over it.
+const OLD: [Symbol; 2] = [Symbol(1), Symbol(2)];
+
+const NEW: [Symbol; 2] = [Symbol(3), Symbol(4)];
+
+/// Whether a store was done, and another over it, cut behind so many calls that change something.
+fn stores_over(files: &StandIn, alloc: Global, calls: u64) -> Option<(bool, bool)> {
+    let mut provider = FolderProvider::new(files, alloc, "home/blocks").ok()?;
+    let first = stores(&mut provider, &OLD);
+    files.cut_after(calls).ok()?;
+    Some((first, stores(&mut provider, &NEW)))
+}
+
+/// The block that is found behind a cut.
+fn block_left(files: &StandIn, alloc: Global, stays: Stays) -> Option<[Symbol; 2]> {
+    let left = files.after_cut(alloc, stays).ok()?;
+    let mut provider = FolderProvider::new(&left, alloc, "home/blocks").ok()?;
+    block(&mut provider)
+}
+
 /// Whether a store over a block, cut behind so many calls that change something, leaves one of the two, and the new one where it was
 /// acknowledged.
 fn goes_right(alloc: Global, calls: u64, stays: Stays) -> Option<bool> {
-    let (old, new) = ([Symbol(1), Symbol(2)], [Symbol(3), Symbol(4)]);
     let files = StandIn::new(alloc).ok()?;
-    let mut provider = FolderProvider::new(&files, alloc, "home/blocks").ok()?;
-    let first = stores(&mut provider, &old);
-    files.cut_after(calls).ok()?;
-    let second = stores(&mut provider, &new);
-    let left = files.after_cut(alloc, stays).ok()?;
-    let mut again = FolderProvider::new(&left, alloc, "home/blocks").ok()?;
-    let found = block(&mut again)?;
-    Some(first && (found == new || (found == old && !second)))
+    let (first, second) = stores_over(&files, alloc, calls)?;
+    let found = block_left(&files, alloc, stays)?;
+    Some(first && (found == NEW || (found == OLD && !second)))
 }
 
 /// The first of `CUTS`, if any, in which things go otherwise where the power is cut behind so many calls.
@@ -72,50 +87,66 @@ fn len<D: Disk>(disk: &mut D) -> Option<u64> {
 
 /// What a disk does before, in and behind a sync that fails: the system may call the next one done, with bytes that never reached the
 /// medium.
-fn before_in_and_behind(alloc: Global) -> Option<([(bool, bool); 3], bool)> {
+fn before_in_and_behind<D: Disk>(files: &StandIn, disk: &mut D) -> Option<[(bool, bool); 3]> {
+    let before = writes_and_syncs(disk);
+    files.cut_after(1).ok()?;
+    let within = writes_and_syncs(disk);
+    files.cut_after(u64::MAX).ok()?;
+    Some([before, within, writes_and_syncs(disk)])
+}
+
+/// The same of the disk of a home, and whether its length is told behind that.
+fn done_and_told(alloc: Global) -> Option<([(bool, bool); 3], bool)> {
     let files = StandIn::new(alloc).ok()?;
     let mut disk = FileDisk::new(&files, alloc, "home/journal").ok()?;
-    let before = writes_and_syncs(&mut disk);
-    files.cut_after(1).ok()?;
-    let within = writes_and_syncs(&mut disk);
-    files.cut_after(u64::MAX).ok()?;
-    let behind = writes_and_syncs(&mut disk);
-    Some(([before, within, behind], len(&mut disk).is_some()))
+    let done = before_in_and_behind(&files, &mut disk)?;
+    Some((done, len(&mut disk).is_some()))
 }
 
 #[test]
 fn a_disk_whose_sync_failed_does_nothing_more(rt: HostRuntime) -> Result<(), Fail> {
     let wanted = ([(true, true), (true, false), (false, false)], false);
-    assert_eq!(rt; before_in_and_behind(rt.alloc()), Some(wanted));
+    assert_eq!(rt; done_and_told(rt.alloc()), Some(wanted));
     Ok(())
 }
 
 const STORED: [Symbol; 2] = [Symbol(5), Symbol(6)];
 
-/// Stores a block at the provider at 3, and then writes and syncs the journal; says whether all was done.
-fn stores_and_writes(files: &StandIn, alloc: Global) -> Option<bool> {
-    let unsynced = Unsynced::new(alloc).ok()?;
-    let mut providers = folder_providers(files, alloc, "home", &unsynced).ok()?;
-    let mut disk = journal_disk(files, alloc, "home", &unsynced).ok()?;
-    let stored = stores(providers.get_mut(3)?, &STORED);
-    Some(stored && writes_and_syncs(&mut disk) == (true, true))
+impl Devices {
+    /// Stores a block at the provider at 3, and then writes and syncs the journal; says whether all was done.
+    fn store_and_write(&mut self) -> bool {
+        match self.providers.get_mut(3) {
+            Some(provider) => {
+                stores(provider, &STORED) && writes_and_syncs(&mut self.disk) == (true, true)
+            }
+            None => false,
+        }
+    }
+
+    /// How long the journal is, and whether the block is there.
+    fn found(&mut self) -> Option<(u64, bool)> {
+        let found = block(self.providers.get_mut(3)?) == Some(STORED);
+        Some((len(&mut self.disk)?, found))
+    }
 }
 
-/// How long the journal is, and whether the block is there.
-fn finds(files: &StandIn, alloc: Global) -> Option<(u64, bool)> {
-    let unsynced = Unsynced::new(alloc).ok()?;
-    let mut providers = folder_providers(files, alloc, "home", &unsynced).ok()?;
-    let mut disk = journal_disk(files, alloc, "home", &unsynced).ok()?;
-    let found = block(providers.get_mut(3)?) == Some(STORED);
-    Some((len(&mut disk)?, found))
+/// Whether all was stored and written where the power is cut behind so many calls that change something.
+fn is_all_done(files: &StandIn, alloc: Global, calls: u64) -> Option<bool> {
+    files.cut_after(calls).ok()?;
+    Some(Devices::new(files, alloc)?.store_and_write())
+}
+
+/// How long the journal is behind a cut, and whether the block is there.
+fn found_left(files: &StandIn, alloc: Global, stays: Stays) -> Option<(u64, bool)> {
+    let left = files.after_cut(alloc, stays).ok()?;
+    Devices::new(&left, alloc)?.found()
 }
 
 /// Whether a journal that has something behind a cut has the block too, and both are there where all was done.
 fn block_is_first(alloc: Global, calls: u64, stays: Stays) -> Option<bool> {
     let files = StandIn::new(alloc).ok()?;
-    files.cut_after(calls).ok()?;
-    let all = stores_and_writes(&files, alloc)?;
-    let (length, found) = finds(&files.after_cut(alloc, stays).ok()?, alloc)?;
+    let all = is_all_done(&files, alloc, calls)?;
+    let (length, found) = found_left(&files, alloc, stays)?;
     Some((length == 0 || found) && (length == 3 || !all))
 }
 

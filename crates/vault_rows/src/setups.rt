@@ -41,11 +41,16 @@ fn providers(alloc: Global, count: u8) -> Option<Vec<Counted<SureProvider>>> {
     Some(providers)
 }
 
+/// A store over devices in memory that hold nothing.
+fn new_store(alloc: Global, count: u8) -> Option<InMemory> {
+    let disk = SureDisk::new(alloc, &[]).ok()?;
+    let providers = providers(alloc, count)?;
+    Some(Store::new(alloc, disk, providers))
+}
+
 /// A store that is set up and open, over devices in memory.
 pub fn open_store(alloc: Global, setup: &Setup) -> Option<InMemory> {
-    let disk = SureDisk::new(alloc, &[]).ok()?;
-    let providers = providers(alloc, setup.n)?;
-    let mut store = Store::new(alloc, disk, providers);
+    let mut store = new_store(alloc, setup.n)?;
     if !store.set_up(setup) || !store.open() {
         return None;
     }

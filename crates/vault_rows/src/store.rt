@@ -78,10 +78,10 @@ fn seen_end(answer: &Answer) -> Seen {
 }
 
 /// What came of a step.
-fn seen_turn(turn: Turn) -> Seen {
+fn seen_turn(turn: &Turn) -> Seen {
     match turn {
         Turn::More => Seen::More,
-        Turn::Waiting { holder } => Seen::Waiting(holder),
+        Turn::Waiting { holder } => Seen::Waiting(*holder),
         Turn::Done(ended) => seen_end(&ended.answer),
         Turn::NoSuchJob => Seen::NoSuchJob,
         Turn::MustReopen => Seen::MustReopen,
@@ -141,7 +141,7 @@ fn step_of<D: Disk, P: Provider>(
     if providers.len() < usize::from(vault.setup().n) {
         return Seen::Closed;
     }
-    seen_turn(vault.step(job, disk, providers))
+    seen_turn(&vault.step(job, disk, providers))
 }
 
 impl<D: Disk + Drop, P: Provider + Drop> Store<D, P> {
