@@ -18,7 +18,7 @@ use Rattle.std.specs.Prelude.{ℕ, ◌==◌, Bool, true, false, List, [], ◌∷
 use Rattle.std.specs.List.{flat_map}
 use Rattle.hail_codes.specs.Points.{upto}
 use Rattle.hail_records.specs.Records.{Setup}
-use Rattle.hail_machine.specs.Jobs.{Kind, PutJob, GetJob, DropJob, AuditJob, RepairJob, UpgradeJob, Pinned, Job}
+use Rattle.hail_machine.specs.Jobs.{Kind, Aim, ToPut, ToGet, ToDrop, ToAudit, ToRepair, ToUpgrade, aim_of, Pinned, Job}
 use Rattle.hail_machine.specs.Setups.{profiled, stripes_of}
 
 -- one action of a job, which makes at most one device call
@@ -120,15 +120,6 @@ remove_plan s older = flat_map (λ object. on_each_provider s (λ j. Remove j ob
 abbrev pub remove_actions : Setup → Job → List Action
 remove_actions s job = remove_plan s job.older
 
--- what a job is for, with the length of a put's file in place of its bytes
-pub data Aim : Type 0 where
-  ToPut : (size : ℕ) → Aim
-  ToGet : Aim
-  ToDrop : Aim
-  ToAudit : Aim
-  ToRepair : Aim
-  ToUpgrade : Aim
-
 -- All that the actions of a job hang on. A program keeps one for each job, with its own kind of pinned files.
 pub record Plan (P : Type 0) : Type 0 where
   pub aim : Aim
@@ -140,23 +131,14 @@ pub record Plan (P : Type 0) : Type 0 where
 
 -- the actions of a plan
 abbrev pub plan_actions : {P : Type 0} → PinsOf P → Setup → Plan P → Aim → List Action
-plan_actions p s plan (ToPut size) =
+plan_actions p s plan (ToPut name size) =
     append_actions ++ (store_plan s plan.profile plan.subject size
     ++ (append_actions ++ (remove_plan s plan.older ++ End ∷ [])))
-plan_actions p s plan ToGet = read_plan p s plan.pins ++ End ∷ []
-plan_actions p s plan ToDrop = append_actions ++ (remove_plan s plan.older ++ End ∷ [])
+plan_actions p s plan (ToGet name) = read_plan p s plan.pins ++ End ∷ []
+plan_actions p s plan (ToDrop name) = append_actions ++ (remove_plan s plan.older ++ End ∷ [])
 plan_actions p s plan ToAudit = append_actions ++ (ask_plan p s plan.pins ++ (append_actions ++ End ∷ []))
 plan_actions p s plan ToRepair = repair_plan p s plan.flagged plan.pins ++ (append_actions ++ End ∷ [])
 plan_actions p s plan ToUpgrade = append_actions ++ End ∷ []
-
--- the aim of a kind
-abbrev pub aim_of : Kind → Aim
-aim_of (PutJob name bytes) = ToPut (length bytes)
-aim_of (GetJob name) = ToGet
-aim_of (DropJob name) = ToDrop
-aim_of AuditJob = ToAudit
-aim_of RepairJob = ToRepair
-aim_of UpgradeJob = ToUpgrade
 
 -- the plan of a job of the machine
 abbrev pub plan_of : Job → Plan Pinned

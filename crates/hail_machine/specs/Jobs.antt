@@ -2,6 +2,7 @@
 --
 --   Kind                     == what a job is for: a put of bytes under a name, a get or a drop of a name,
 --                               an audit, a repair, an upgrade of the journal to its second version
+--   Aim, aim_of kind         == the same with the length of a put's file in place of its bytes
 --   Pinned                   == a file that a job works on: its object number, its profile and its bytes
 --   Given                    == what a step gave: a block or none, an answer or none, the symbols of a stripe
 --   Job                      == a running job
@@ -10,7 +11,7 @@
 --   without_job jobs number  == the jobs but for that of the number
 --   advanced job             == the job with its next action made
 --   advanced_with job gift   == the same, and the action gave this
-use Rattle.std.specs.Prelude.{ℕ, ◌+◌, ◌==◌, Bool, List, [], ◌∷◌, Option, None, Some, if◌then◌else◌}
+use Rattle.std.specs.Prelude.{ℕ, ◌+◌, ◌==◌, Bool, List, [], ◌∷◌, length, Option, None, Some, if◌then◌else◌}
 
 -- what a job is for
 pub data Kind : Type 0 where
@@ -20,6 +21,24 @@ pub data Kind : Type 0 where
   AuditJob : Kind
   RepairJob : Kind
   UpgradeJob : Kind
+
+-- what a job is for, with the length of a put's file in place of its bytes
+pub data Aim : Type 0 where
+  ToPut : (name : List ℕ) (size : ℕ) → Aim
+  ToGet : (name : List ℕ) → Aim
+  ToDrop : (name : List ℕ) → Aim
+  ToAudit : Aim
+  ToRepair : Aim
+  ToUpgrade : Aim
+
+-- the aim of a kind
+abbrev pub aim_of : Kind → Aim
+aim_of (PutJob name bytes) = ToPut name (length bytes)
+aim_of (GetJob name) = ToGet name
+aim_of (DropJob name) = ToDrop name
+aim_of AuditJob = ToAudit
+aim_of RepairJob = ToRepair
+aim_of UpgradeJob = ToUpgrade
 
 -- a file that a job works on: its object number, its profile and its bytes
 pub record Pinned : Type 0 where

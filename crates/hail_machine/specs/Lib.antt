@@ -6,6 +6,7 @@ pub mod Answers
 pub mod Events
 pub mod States
 pub mod Space
+pub mod Sights
 pub mod Begins
 pub mod Given
 pub mod Audits
