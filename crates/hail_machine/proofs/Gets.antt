@@ -1,6 +1,6 @@
 -- A get gives what its fetches open to.
 use Rattle.std.proofs.Common.{◌≡◌, ℕ, ◌+◌, ◌<◌, ◌==◌, Bool, true, false, cond, ◌&&◌, List, [], ◌∷◌, ◌++◌, length, Option, Some, None, refl, ap, sym, subst, ◌∙◌, inl, inr, arith, map}
-use Rattle.std.specs.Prelude.{slice_get}
+use Rattle.std.specs.Prelude.{is_some, slice_get}
 use Rattle.std.proofs.lemmas.Bool.{cases_Bool, cases_lt, and_parts, eqb-true, eq-eqb}
 use Rattle.plain_facts.proofs.Each.{each_get}
 use Rattle.plain_facts.proofs.Lists.{map-same}
@@ -8,13 +8,14 @@ use Rattle.hail_codes.specs.Points.{upto}
 use Rattle.hail_columns.specs.Opened.{GivesSymbols}
 use Rattle.hail_records.specs.Records.{Setup, is_name}
 use Rattle.hail_records.specs.Table.{File, setup_of}
-use Rattle.hail_machine.specs.Jobs.{GetJob, Pinned, Given, Fetched, Answered, Worked, Job, job_of}
+use Rattle.hail_machine.specs.Jobs.{GetJob, aim_of, Pinned, Given, Fetched, Answered, Worked, Job, job_of}
 use Rattle.hail_machine.specs.Setups.{object_of, profiled, pinned_stripes}
 use Rattle.hail_machine.specs.Actions.{Action, WriteBody, SyncGate, Fetch, Ask, Work, End, read_actions, actions_of}
 use Rattle.hail_machine.specs.Refusals as refusal
 use Rattle.hail_machine.specs.Answers as answer
 use Rattle.hail_machine.specs.States.{State, IsStart, setup_in, object_in, file_object, file_in}
-use Rattle.hail_machine.specs.Begins.{is_busy, refusal_of_begin, pinned_file, pin_one, pinned_for}
+use Rattle.hail_machine.specs.Begins.{refusal_of_begin, pinned_file, pin_found, pinned_for}
+use Rattle.hail_machine.specs.Sights.{sight_of, is_busy}
 use Rattle.hail_machine.specs.Given.{block_given, blocks_given, symbols_given, file_given, pinned_profile}
 use Rattle.hail_machine.specs.Steps.{next_action, GotBytes, Ends}
 use Rattle.hail_machine.specs.Runs.{Moment, now, first_moments, IsRun}
@@ -27,6 +28,7 @@ use Rattle.hail_machine.proofs.Events.{changes}
 use Rattle.hail_machine.proofs.Numbers.{next_by, next_is_by}
 use Rattle.hail_machine.proofs.PinFacts.{Pins_is, pins_is, setup_same, setup_one, wrote_setup}
 use Rattle.hail_machine.proofs.Held.{All, all, actions_are, first_more, first_all}
+use Rattle.hail_machine.proofs.Sights.{stored-file}
 use Rattle.hail_machine.proofs.Stripes.{flat, From, from, order, once, worked_on, to_flat, from_flat, before_end}
 use Rattle.hail_machine.proofs.Given.{given_to-more, symbols_given-newest}
 
@@ -34,12 +36,12 @@ use Rattle.hail_machine.proofs.Given.{given_to-more, symbols_given-newest}
 
 pub get_file : (limit : ℕ) (w : State) (name : List ℕ) (profile : Option ℕ) (o : Option File) → file_in w name ≡ o → refusal_of_begin limit w (GetJob name) profile ≡ None → (f : File) × (file_in w name ≡ Some f)
 get_file limit w name profile (Some f) is h = (f, is)
-get_file limit w name profile None is h = absurd (elim (cases_Bool w.is_barred) [
+get_file limit w name profile None is h = absurd (let none = stored-file w name ∙ ap is_some is in elim (cases_Bool w.is_barred) [
   | inl a ↦ (let e = rw a at h in let f : Some refusal.MustReopen ≡ None = e in cc)
-  | inr a ↦ elim (cases_Bool (is_busy limit w (GetJob name))) [
+  | inr a ↦ elim (cases_Bool (is_busy limit (sight_of w) (aim_of (GetJob name)))) [
     | inl b ↦ (let e = rw (a, b) at h in let f : Some refusal.Busy ≡ None = e in cc)
     | inr b ↦ elim (cases_Bool (is_name name)) [
-      | inl c ↦ (let e = rw (a, b, c, is) at h in let f : Some refusal.NoSuchName ≡ None = e in cc)
+      | inl c ↦ (let e = rw (a, b, c, none) at h in let f : Some refusal.NoSuchName ≡ None = e in cc)
       | inr c ↦ (let e = rw (a, b, c) at h in let f : Some refusal.BadName ≡ None = e in cc)
     ]
   ]
@@ -135,7 +137,7 @@ module _ (limit : ℕ) (start : State) (m : Moment) (ms : List Moment) (A : All 
         record {
           file = g.0;
           in_effect = ap (λ (b : State). file_in b name) (sym same) ∙ g.1;
-          pinned = ap (λ (x : Job). x.pinned) is ∙ (ap (λ kk. pinned_for (now start ms) kk) kd_is ∙ (ap (pin_one (now start ms)) g.1 ∙ ap (λ (b : State). pinned_file b g.0 ∷ []) same));
+          pinned = ap (λ (x : Job). x.pinned) is ∙ (ap (λ kk. pinned_for (now start ms) kk) kd_is ∙ (ap (pin_found (pinned_file (now start ms))) g.1 ∙ ap (λ (b : State). pinned_file b g.0 ∷ []) same));
           setup = ap setup_of rec ∙ ap (λ (b : State). setup_of b.records) same;
         })
   ]

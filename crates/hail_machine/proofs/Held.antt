@@ -6,11 +6,11 @@ use Rattle.std.proofs.lemmas.Bool.{eq-eqb, cases_lt, or_parts, and_from, le-leb,
 use Rattle.hail_columns.specs.Columns.{columns}
 use Rattle.hail_records.specs.Records.{Record, Setup}
 use Rattle.hail_records.specs.Table.{started_as, setup_of, next_id}
-use Rattle.hail_machine.specs.Jobs.{Kind, PutJob, GetJob, DropJob, AuditJob, RepairJob, UpgradeJob, Pinned, Job, job_of}
+use Rattle.hail_machine.specs.Jobs.{Kind, PutJob, GetJob, DropJob, AuditJob, RepairJob, UpgradeJob, aim_of, Pinned, Job, job_of}
 use Rattle.hail_machine.specs.Actions.{Action, WriteBody, SyncBody, WriteGate, SyncGate, Store, Remove, End, append_actions, on_each_provider, on_each_stripe, actions_by, actions_of}
 use Rattle.hail_machine.specs.Setups.{object_of, profiled}
 use Rattle.hail_machine.specs.States.{State, Append, IsStart, setup_in, object_in, Scrub, Scrubbing}
-use Rattle.hail_machine.specs.Begins.{is_check}
+use Rattle.hail_machine.specs.Sights.{is_check}
 use Rattle.hail_machine.specs.Steps.{next_action, block_to_store}
 use Rattle.hail_machine.specs.Runs.{Moment, now, first_moments, is_replacement, is_replaced_since, IsRun}
 use Rattle.hail_machine.specs.Deeds.{told_block, HasMadeStore}
@@ -140,7 +140,7 @@ module _ (limit : ℕ) (start : State) (m : Moment) (ms : List Moment) (N : num.
     | Block_is.removed x runs next_is ↦ absurd (no_older x runs (remove_kinds x x.kind i o refl (is_fair (now start ms) x (Remove i o) next_is)))
   ]
 
-  is_check-repair : is_check RepairJob ≡ true
+  is_check-repair : is_check (aim_of RepairJob) ≡ true
   is_check-repair = refl
 
   audited_step : (k : ℕ) (j : Job) (f : Pinned) (i s : ℕ) → job_of m.state.jobs k ≡ Some j → j.kind ≡ AuditJob → In f j.pinned → is_replaced_since j.begun i (m ∷ ms) ≡ false →
@@ -154,7 +154,7 @@ module _ (limit : ℕ) (start : State) (m : Moment) (ms : List Moment) (N : num.
         F.audited k x f i s runs kx in_x (replaced_before x.begun i m ms none_x)
         ∙ ap (λ hs. told_block (now start hs) i f.id s) (sym (ap (λ n. first_moments n (m ∷ ms)) begun ∙ first_more x.begun m ms (F.begun k x runs))) in
         elim (safe_block i f.id s (λ scrub alone. found_none (now start ms).jobs k x (N.idle.lone (Scrubbing scrub) alone) runs) (P.pins k x f runs in_x).1
-        (λ y runs_y ky pin_y. (let same : y.number ≡ k = P.checks y.number k y x runs_y runs (ap is_check ky) (ap is_check kx) in
+        (λ y runs_y ky pin_y. (let same : y.number ≡ k = P.checks y.number k y x runs_y runs (ap (λ kd. is_check (aim_of kd)) ky) (ap (λ kd. is_check (aim_of kd)) kx) in
         let e : y ≡ x = same_value _ y x (subst (λ n. job_of (now start ms).jobs n ≡ Some y) same runs_y) runs in
         let z : RepairJob ≡ AuditJob = sym ky ∙ (ap (λ (q : Job). q.kind) e ∙ kx) in cc))
         (λ y runs_y in_y. P.older_free y.number k y x f.id f runs_y in_y runs in_x refl)) [
@@ -166,7 +166,7 @@ module _ (limit : ℕ) (start : State) (m : Moment) (ms : List Moment) (N : num.
         let begun : j.begun ≡ length ms = ap (λ (x : Job). x.begun) is in
         let kind_is : kd ≡ AuditJob = sym (ap (λ (x : Job). x.kind) is) ∙ kind in
         elim (safe_block i f.id s (λ scrub alone. (let z : None ≡ Some (Scrubbing scrub) = sym (none_lone limit (now start ms) kd wish allowed) ∙ alone in cc)) (stands_quiet limit start m ms N P X f st).1
-        (λ y runs_y ky pin_y. false≢true (sym (check_alone limit (now start ms) kd wish allowed (ap is_check kind_is) y.number y runs_y) ∙ ap is_check ky))
+        (λ y runs_y ky pin_y. false≢true (sym (check_alone limit (now start ms) kd wish allowed (ap (λ kd. is_check (aim_of kd)) kind_is) y.number y runs_y) ∙ ap (λ kd. is_check (aim_of kd)) ky))
         (λ y runs_y in_y. P.older_out y.number y f.id st.name st.file runs_y in_y st.in_effect (sym (ap (λ (x : Pinned). x.id) st.is)))) [
           | inl e ↦ e ∙ ap (λ hs. told_block (now start hs) i f.id s) (sym (ap (λ n. first_moments n (m ∷ ms)) begun ∙ (first_more (length ms) m ms (omega arith) ∙ first_all ms)))
           | inr r ↦ absurd (replaced_now j.begun i m ms (omega arith) r none)

@@ -11,6 +11,7 @@ pub mod Plans
 pub mod Changes
 pub mod Asides
 pub mod Refused
+pub mod Sights
 pub mod StepEnds
 pub mod Events
 pub mod Done

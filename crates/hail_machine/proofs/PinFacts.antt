@@ -3,11 +3,12 @@ use Rattle.std.proofs.Common.{◌≡◌, ℕ, suc, ◌+◌, ◌<◌, ◌≤◌, 
 use Rattle.std.proofs.lemmas.Bool.{eq-eqb, ne_eqb, cases_Bool, cases_eq, cases_lt, false≢true}
 use Rattle.hail_records.specs.Records.{Record, Setup, SetUp, PutStart, PutDone, Drop, AuditStart, AuditDone, RepairDone, PutDoneIn, Version, Resume, InEffect, RepairDue}
 use Rattle.hail_records.specs.Table.{File, file_as, setup_of, version_of, next_id, next_audit, started_as, is_start_of, is_same_name, file_of}
-use Rattle.hail_machine.specs.Jobs.{Kind, PutJob, GetJob, DropJob, AuditJob, RepairJob, UpgradeJob, Pinned, Job, job_of}
+use Rattle.hail_machine.specs.Jobs.{Kind, PutJob, GetJob, DropJob, AuditJob, RepairJob, UpgradeJob, aim_of, Pinned, Job, job_of}
 use Rattle.hail_machine.specs.Actions.{Action, WriteBody, SyncGate, Store, on_each_provider, on_each_stripe}
 use Rattle.hail_machine.specs.Setups.{setup_or_none, profiled}
 use Rattle.hail_machine.specs.States.{State, Append, Doubt, AreFirst, IsStart, setup_in, file_in}
-use Rattle.hail_machine.specs.Begins.{refusal_of_begin, is_check, beginning}
+use Rattle.hail_machine.specs.Begins.{refusal_of_begin, beginning}
+use Rattle.hail_machine.specs.Sights.{is_check}
 use Rattle.hail_machine.specs.Appends.{Writes, done_record, is_first_append, subject_drawn}
 use Rattle.hail_machine.specs.Steps.{next_action}
 use Rattle.hail_machine.specs.Runs.{Moment, now}
@@ -123,7 +124,7 @@ pub record Facts (start : State) (ms : List Moment) : Type 0 where
   pub older : (k : ℕ) (j : Job) (o : ℕ) → job_of (now start ms).jobs k ≡ Some j → In o j.older → (o < next_id (now start ms).records) × (started_as (now start ms).records o ≡ None)
   pub older_out : (k : ℕ) (j : Job) (o : ℕ) (q : List ℕ) (f : File) → job_of (now start ms).jobs k ≡ Some j → In o j.older → file_in (now start ms) q ≡ Some f → f.id ≡ o → ⊥
   pub older_free : (k l : ℕ) (j i : Job) (o : ℕ) (f : Pinned) → job_of (now start ms).jobs k ≡ Some j → In o j.older → job_of (now start ms).jobs l ≡ Some i → In f i.pinned → f.id ≡ o → ⊥
-  pub checks : (k l : ℕ) (j i : Job) → job_of (now start ms).jobs k ≡ Some j → job_of (now start ms).jobs l ≡ Some i → is_check j.kind ≡ true → is_check i.kind ≡ true → k ≡ l
+  pub checks : (k l : ℕ) (j i : Job) → job_of (now start ms).jobs k ≡ Some j → job_of (now start ms).jobs l ≡ Some i → is_check (aim_of j.kind) ≡ true → is_check (aim_of i.kind) ≡ true → k ≡ l
 
 module _ (limit : ℕ) (start : State) (m : Moment) (ms : List Moment) (N : num.Facts objects start ms) (F : Facts start ms) (X : Changes limit (length ms) (now start ms) m.event m.outcome m.state) where
   -- how the records went while a job ran on
@@ -350,14 +351,14 @@ module _ (limit : ℕ) (start : State) (m : Moment) (ms : List Moment) (N : num.
     ]
   ]
 
-  checks_step : (k l : ℕ) (j i : Job) → job_of m.state.jobs k ≡ Some j → job_of m.state.jobs l ≡ Some i → is_check j.kind ≡ true → is_check i.kind ≡ true → k ≡ l
+  checks_step : (k l : ℕ) (j i : Job) → job_of m.state.jobs k ≡ Some j → job_of m.state.jobs l ≡ Some i → is_check (aim_of j.kind) ≡ true → is_check (aim_of i.kind) ≡ true → k ≡ l
   checks_step k l j i hj hi cj ci = elim (pins_is k j hj) [
     | Pins_is.had x runs pinned kind begun g ↦ elim (pins_is l i hi) [
-      | Pins_is.had y runs_y pinned_y kind_y begun_y g2 ↦ F.checks k l x y runs runs_y (ap is_check (sym kind) ∙ cj) (ap is_check (sym kind_y) ∙ ci)
-      | Pins_is.new_one kd wish is l_is allowed rec ↦ absurd (false≢true (sym (check_alone limit (now start ms) kd wish allowed (ap is_check (sym (ap (λ (z : Job). z.kind) is)) ∙ ci) k x runs) ∙ (ap is_check (sym kind) ∙ cj)))
+      | Pins_is.had y runs_y pinned_y kind_y begun_y g2 ↦ F.checks k l x y runs runs_y (ap (λ kd. is_check (aim_of kd)) (sym kind) ∙ cj) (ap (λ kd. is_check (aim_of kd)) (sym kind_y) ∙ ci)
+      | Pins_is.new_one kd wish is l_is allowed rec ↦ absurd (false≢true (sym (check_alone limit (now start ms) kd wish allowed (ap (λ kd. is_check (aim_of kd)) (sym (ap (λ (z : Job). z.kind) is)) ∙ ci) k x runs) ∙ (ap (λ kd. is_check (aim_of kd)) (sym kind) ∙ cj)))
     ]
     | Pins_is.new_one kd wish is k_is allowed rec ↦ elim (pins_is l i hi) [
-      | Pins_is.had y runs_y pinned_y kind_y begun_y g2 ↦ absurd (false≢true (sym (check_alone limit (now start ms) kd wish allowed (ap is_check (sym (ap (λ (z : Job). z.kind) is)) ∙ cj) l y runs_y) ∙ (ap is_check (sym kind_y) ∙ ci)))
+      | Pins_is.had y runs_y pinned_y kind_y begun_y g2 ↦ absurd (false≢true (sym (check_alone limit (now start ms) kd wish allowed (ap (λ kd. is_check (aim_of kd)) (sym (ap (λ (z : Job). z.kind) is)) ∙ cj) l y runs_y) ∙ (ap (λ kd. is_check (aim_of kd)) (sym kind_y) ∙ ci)))
       | Pins_is.new_one kd2 wish2 is2 l_is allowed2 rec2 ↦ k_is ∙ sym l_is
     ]
   ]

@@ -5,14 +5,17 @@ use Rattle.std.specs.List.{list_any}
 use Rattle.std.proofs.lemmas.Bool.{eq-eqb, cases_Bool, cases_lt, false≢true}
 use Rattle.hail_records.specs.Records.{Record, PutStart, PutDone, Drop, AuditStart, AuditDone, RepairDone, Version}
 use Rattle.hail_records.specs.Table.{File, next_id, files_of, version_of}
-use Rattle.hail_machine.specs.Jobs.{Kind, PutJob, GetJob, DropJob, AuditJob, RepairJob, UpgradeJob, Pinned, Job, job_of}
+use Rattle.hail_machine.specs.Jobs.{Kind, PutJob, GetJob, DropJob, AuditJob, RepairJob, UpgradeJob, Aim, ToPut, ToGet, ToDrop, ToAudit, ToRepair, ToUpgrade, aim_of, Pinned, Job, job_of}
+use Rattle.hail_machine.specs.Actions.{machine_pins}
 use Rattle.hail_machine.specs.Refusals.{Cause, first_refusal}
 use Rattle.hail_machine.specs.States.{State, file_in}
-use Rattle.hail_machine.specs.Begins.{is_check, is_put_or_check, is_shut, are_jobs_in_the_way, refusal_of_begin, pinned_file, pin, pin_all, pin_one, pinned_for}
+use Rattle.hail_machine.specs.Begins.{refusal_of_begin, pinned_file, pin_by, pin_all, pin_found, pinned_for}
+use Rattle.hail_machine.specs.Sights.{aims_of, sight_of, is_check, is_put_or_check, is_shut, are_jobs_in_the_way}
 use Rattle.hail_machine.specs.Appends.{Writes, is_first_append, is_pinned, removable, taken_out, done_record}
 use Rattle.hail_machine.proofs.Done.{by_version}
 use Rattle.hail_machine.proofs.Refused.{not_busy, right_false, left_false}
 use Rattle.hail_machine.proofs.JobLists.{cond_true, cond_false, same_value}
+use Rattle.hail_machine.proofs.Sights.{any-aims}
 use Rattle.hail_machine.proofs.Numbers.{first_above, first_below}
 use Rattle.hail_machine.proofs.RecordFacts.{IsProper, listed_file}
 use Rattle.plain_facts.specs.Lists.{In}
@@ -20,19 +23,19 @@ use Rattle.hail_machine.specs.Refusals as refusal
 
 -- ---- what begins pin
 
-pub in_pin : (p : Pinned) (ps : List Pinned) (f : Pinned) → In f (pin p ps) → (f ≡ p) ⊎ In f ps
+pub in_pin : (p : Pinned) (ps : List Pinned) (f : Pinned) → In f (pin_by machine_pins p ps) → (f ≡ p) ⊎ In f ps
 in_pin p [] f (inl e) = inl e
 in_pin p [] f (inr i) = absurd i
 in_pin p (q ∷ qs) f h = elim (cases_Bool (nat_lt p.id q.id)) [
-  | inl t ↦ here (subst (λ l. In f l) (cond_true (nat_lt p.id q.id) (p ∷ q ∷ qs) (q ∷ pin p qs) t) h)
-  | inr o ↦ later (in_pin p qs f) (subst (λ l. In f l) (cond_false (nat_lt p.id q.id) (p ∷ q ∷ qs) (q ∷ pin p qs) o) h)
+  | inl t ↦ here (subst (λ l. In f l) (cond_true (nat_lt p.id q.id) (p ∷ q ∷ qs) (q ∷ pin_by machine_pins p qs) t) h)
+  | inr o ↦ later (in_pin p qs f) (subst (λ l. In f l) (cond_false (nat_lt p.id q.id) (p ∷ q ∷ qs) (q ∷ pin_by machine_pins p qs) o) h)
 ]
   where
     here : In f (p ∷ q ∷ qs) → (f ≡ p) ⊎ In f (q ∷ qs)
     here (inl e) = inl e
     here (inr i) = inr i
 
-    later : (In f (pin p qs) → (f ≡ p) ⊎ In f qs) → In f (q ∷ pin p qs) → (f ≡ p) ⊎ In f (q ∷ qs)
+    later : (In f (pin_by machine_pins p qs) → (f ≡ p) ⊎ In f qs) → In f (q ∷ pin_by machine_pins p qs) → (f ≡ p) ⊎ In f (q ∷ qs)
     later rest (inl e) = inr (inl e)
     later rest (inr i) = elim (rest i) [ inl e ↦ inl e | inr k ↦ inr (inr k) ]
 
@@ -53,7 +56,7 @@ in_all w (g ∷ gs) f h = elim (in_pin (pinned_file w g) (pin_all w gs) f h) [
 pub in_effect_all : (w : State) (f : Pinned) → In f (pin_all w (files_of w.records)) → Stands w f
 in_effect_all w f h = (let r = in_all w (files_of w.records) f h in record { name = r.0.name; file = r.0; in_effect = listed_file w.records r.0 r.1; is = r.2 })
 
-in_effect_one : (w : State) (name : List ℕ) (o : Option File) (f : Pinned) → file_in w name ≡ o → In f (pin_one w o) → Stands w f
+in_effect_one : (w : State) (name : List ℕ) (o : Option File) (f : Pinned) → file_in w name ≡ o → In f (pin_found (pinned_file w) o) → Stands w f
 in_effect_one w name None f is h = absurd h
 in_effect_one w name (Some g) f is (inl e) = record { name = name; file = g; in_effect = is; is = e }
 in_effect_one w name (Some g) f is (inr i) = absurd i
@@ -85,6 +88,10 @@ any_job test (x ∷ js) k j h none = elim (cases_Bool (test x)) [
     | inr n ↦ any_job test js k j (sym (cond_false _ (Some x) (job_of js k) n) ∙ h) (let e = rw o at none in e)
   ]
 ]
+
+-- the aim of a running job, where no aim passes a test
+pub any_aim : (test : Aim → Bool) (js : List Job) (k : ℕ) (j : Job) → job_of js k ≡ Some j → list_any test (aims_of js) ≡ false → test (aim_of j.kind) ≡ false
+any_aim test js k j h none = any_job (λ (x : Job). test (aim_of x.kind)) js k j h (sym (any-aims test js) ∙ none)
 
 pub not_pinned : (w : State) (k : ℕ) (j : Job) (f : Pinned) (id : ℕ) → is_pinned w id ≡ false → job_of w.jobs k ≡ Some j → In f j.pinned → f.id ≡ id → ⊥
 not_pinned w k j f id none runs i e = false≢true (sym (any_job (λ (x : Job). list_any (λ (p : Pinned). p.id == id) x.pinned) w.jobs k j runs none) ∙ any_pinned j.pinned id f i e)
@@ -126,25 +133,26 @@ taken w job UpgradeJob o h = absurd h
 
 -- ---- begins of audits and repairs
 
-pub check_alone : (limit : ℕ) (w : State) (kind : Kind) (profile : Option ℕ) → refusal_of_begin limit w kind profile ≡ None → is_check kind ≡ true → (k : ℕ) (j : Job) → job_of w.jobs k ≡ Some j → is_check j.kind ≡ false
-check_alone limit w AuditJob profile none check k j runs =
-    not_put (any_job (λ (x : Job). is_put_or_check x.kind) w.jobs k j runs (right_false _ _ (right_false (is_shut w) (are_jobs_in_the_way limit w AuditJob) (not_busy limit w AuditJob profile none))))
+pub check_alone : (limit : ℕ) (w : State) (kind : Kind) (profile : Option ℕ) → refusal_of_begin limit w kind profile ≡ None → is_check (aim_of kind) ≡ true →
+    (k : ℕ) (j : Job) → job_of w.jobs k ≡ Some j → is_check (aim_of j.kind) ≡ false
+check_alone limit w kind profile none check k j runs =
+    by kind check (right_false (is_shut (sight_of w)) (are_jobs_in_the_way limit (aims_of w.jobs) (aim_of kind)) (not_busy limit w kind profile none))
   where
-    not_put : is_put_or_check j.kind ≡ false → is_check j.kind ≡ false
-    not_put h = by_kind j.kind h
-      where
-        by_kind : (kind : Kind) → is_put_or_check kind ≡ false → is_check kind ≡ false
-        by_kind (PutJob name bytes) h = refl
-        by_kind (GetJob name) h = h
-        by_kind (DropJob name) h = h
-        by_kind AuditJob h = h
-        by_kind RepairJob h = h
-        by_kind UpgradeJob h = h
-check_alone limit w RepairJob profile none check k j runs = any_job (λ (x : Job). is_check x.kind) w.jobs k j runs (right_false _ _ (right_false (is_shut w) (are_jobs_in_the_way limit w RepairJob) (not_busy limit w RepairJob profile none)))
-check_alone limit w UpgradeJob profile none check k j runs = absurd (false≢true check)
-check_alone limit w (PutJob name bytes) profile none check k j runs = absurd (false≢true check)
-check_alone limit w (GetJob name) profile none check k j runs = absurd (false≢true check)
-check_alone limit w (DropJob name) profile none check k j runs = absurd (false≢true check)
+    not_put : (aim : Aim) → is_put_or_check aim ≡ false → is_check aim ≡ false
+    not_put (ToPut name size) h = refl
+    not_put (ToGet name) h = h
+    not_put (ToDrop name) h = h
+    not_put ToAudit h = h
+    not_put ToRepair h = h
+    not_put ToUpgrade h = h
+
+    by : (kd : Kind) → is_check (aim_of kd) ≡ true → are_jobs_in_the_way limit (aims_of w.jobs) (aim_of kd) ≡ false → is_check (aim_of j.kind) ≡ false
+    by AuditJob c h = not_put (aim_of j.kind) (any_aim is_put_or_check w.jobs k j runs (right_false _ _ h))
+    by RepairJob c h = any_aim is_check w.jobs k j runs (right_false _ _ h)
+    by UpgradeJob c h = absurd (false≢true c)
+    by (PutJob name bytes) c h = absurd (false≢true c)
+    by (GetJob name) c h = absurd (false≢true c)
+    by (DropJob name) c h = absurd (false≢true c)
 
 -- ---- what appends write
 

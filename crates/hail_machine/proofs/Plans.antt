@@ -3,7 +3,8 @@ use Rattle.std.proofs.Common.{◌≡◌, ℕ, List, [], ◌∷◌, ◌++◌, map
 use Rattle.std.specs.Prelude.{Bool}
 use Rattle.std.specs.List.{flat_map}
 use Rattle.hail_records.specs.Records.{Setup}
-use Rattle.hail_machine.specs.Actions.{Action, End, append_actions, PinsOf, Aim, ToPut, ToGet, ToDrop, ToAudit, ToRepair, ToUpgrade, Plan, plan_actions, read_plan, ask_plan, repair_plan, store_plan, remove_plan}
+use Rattle.hail_machine.specs.Jobs.{Aim, ToPut, ToGet, ToDrop, ToAudit, ToRepair, ToUpgrade}
+use Rattle.hail_machine.specs.Actions.{Action, End, append_actions, PinsOf, Plan, plan_actions, read_plan, ask_plan, repair_plan, store_plan, remove_plan}
 
 flat_map-map : {A B X : Type 0} (f : B → List X) (g : A → B) (xs : List A) → flat_map f (map g xs) ≡ flat_map (λ x. f (g x)) xs
 flat_map-map f g [] = refl
@@ -18,9 +19,9 @@ abbrev pub mapped : {P Q : Type 0} → (P → Q) → Plan P → Plan Q
 mapped g plan = record { aim = plan.aim; profile = plan.profile; subject = plan.subject; older = plan.older; flagged = plan.flagged; pins = map g plan.pins }
 
 pub plan-mapped : {P Q : Type 0} (g : P → Q) (q : PinsOf Q) (s : Setup) (plan : Plan P) (aim : Aim) → plan_actions q s (mapped g plan) aim ≡ plan_actions (through g q) s plan aim
-plan-mapped g q s plan (ToPut size) = refl
-plan-mapped g q s plan ToGet = ap (λ l. l ++ End ∷ []) (flat_map-map _ g plan.pins)
-plan-mapped g q s plan ToDrop = refl
+plan-mapped g q s plan (ToPut name size) = refl
+plan-mapped g q s plan (ToGet name) = ap (λ l. l ++ End ∷ []) (flat_map-map _ g plan.pins)
+plan-mapped g q s plan (ToDrop name) = refl
 plan-mapped g q s plan ToAudit = ap (λ l. append_actions ++ (l ++ (append_actions ++ End ∷ []))) (flat_map-map _ g plan.pins)
 plan-mapped g q s plan ToRepair = ap (λ l. l ++ (append_actions ++ End ∷ [])) (flat_map-map _ g plan.pins)
 plan-mapped g q s plan ToUpgrade = refl

@@ -4,11 +4,12 @@ use Rattle.std.specs.Prelude.{is_some, nat_lt, nat_le, not}
 use Rattle.std.proofs.lemmas.Bool.{cases_Bool, cases_lt, cases_eq, eq-eqb, false≢true}
 use Rattle.hail_records.specs.Records.{Record, Setup, SetUp, PutStart, PutDone, Drop, AuditStart, AuditDone, RepairDone, PutDoneIn, Version, Resume, InEffect, RepairDue, is_name, largest_file, all_profiles}
 use Rattle.hail_records.specs.Table.{setup_of, version_of, profile_in, next_id}
-use Rattle.hail_machine.specs.Jobs.{Kind, PutJob, Job, job_of}
+use Rattle.hail_machine.specs.Jobs.{Kind, PutJob, aim_of, Job, job_of}
 use Rattle.hail_machine.specs.Refusals as refusal
 use Rattle.hail_machine.specs.Setups.{setup_or_none}
 use Rattle.hail_machine.specs.States.{State, Append, IsStart, setup_in}
-use Rattle.hail_machine.specs.Begins.{refusal_of_begin, is_busy, chosen, beginning}
+use Rattle.hail_machine.specs.Begins.{refusal_of_begin, chosen, beginning}
+use Rattle.hail_machine.specs.Sights.{sight_of, is_busy}
 use Rattle.hail_machine.specs.Appends.{Writes, done_record, is_first_append}
 use Rattle.hail_machine.specs.Actions.{Action, WriteBody, SyncGate}
 use Rattle.hail_machine.specs.Steps.{next_action}
@@ -56,7 +57,7 @@ version_less (RepairDue number counts) rs h = h
 -- a put that begins in the first version names no profile
 none_named : (limit : ℕ) (w : State) (name bytes : List ℕ) (profile : Option ℕ) → refusal_of_begin limit w (PutJob name bytes) profile ≡ None → (version_of w.records == 2) ≡ false → profile ≡ None
 none_named limit w name bytes None h first = refl
-none_named limit w name bytes (Some p) h first = absurd (by w.is_barred (is_busy limit w (PutJob name bytes)) (not (is_name name)) (nat_le all_profiles p) (nat_lt largest_file (length bytes)) h)
+none_named limit w name bytes (Some p) h first = absurd (by w.is_barred (is_busy limit (sight_of w) (aim_of (PutJob name bytes))) (not (is_name name)) (nat_le all_profiles p) (nat_lt largest_file (length bytes)) h)
   where
     one : (version_of w.records == 1) ≡ true
     one = eq-eqb (version_of w.records) 1 (first_version w.records first)
@@ -64,7 +65,7 @@ none_named limit w name bytes (Some p) h first = absurd (by w.is_barred (is_busy
     by : (a b c d e : Bool) → refusal_of_begin limit w (PutJob name bytes) (Some p) ≡ None → ⊥
     by a b c d e h = elim (cases_Bool w.is_barred) [
       | inl t ↦ (let g = rw t at h in let f : Some refusal.MustReopen ≡ None = g in cc)
-      | inr o1 ↦ elim (cases_Bool (is_busy limit w (PutJob name bytes))) [
+      | inr o1 ↦ elim (cases_Bool (is_busy limit (sight_of w) (aim_of (PutJob name bytes)))) [
         | inl t ↦ (let g = rw (o1, t) at h in let f : Some refusal.Busy ≡ None = g in cc)
         | inr o2 ↦ elim (cases_Bool (is_name name)) [
           | inr t ↦ (let g = rw (o1, o2, t) at h in let f : Some refusal.BadName ≡ None = g in cc)

@@ -3,15 +3,16 @@ use Rattle.std.proofs.Common.{◌≡◌, ℕ, true, false, Bool, ◌||◌, Optio
 use Rattle.std.specs.Prelude.{is_some}
 use Rattle.std.specs.List.{list_any}
 use Rattle.std.proofs.lemmas.Bool.{cases_Bool, false≢true}
-use Rattle.hail_machine.specs.Jobs.{Kind, Job}
+use Rattle.hail_machine.specs.Jobs.{Kind, aim_of}
 use Rattle.hail_machine.specs.Refusals as refusal
 use Rattle.hail_machine.specs.States.{State, Alone}
-use Rattle.hail_machine.specs.Begins.{refusal_of_begin, is_busy, are_jobs_in_the_way, is_shut, is_upgrade}
+use Rattle.hail_machine.specs.Begins.{refusal_of_begin}
+use Rattle.hail_machine.specs.Sights.{sight_of, aims_of, is_busy, are_jobs_in_the_way, is_shut, is_upgrade}
 
-pub not_busy : (limit : ℕ) (w : State) (kind : Kind) (profile : Option ℕ) → refusal_of_begin limit w kind profile ≡ None → is_busy limit w kind ≡ false
+pub not_busy : (limit : ℕ) (w : State) (kind : Kind) (profile : Option ℕ) → refusal_of_begin limit w kind profile ≡ None → is_busy limit (sight_of w) (aim_of kind) ≡ false
 not_busy limit w kind profile h = elim (cases_Bool w.is_barred) [
   | inl t ↦ absurd (let e = rw t at h in let f : Some refusal.MustReopen ≡ None = e in cc)
-  | inr o ↦ elim (cases_Bool (is_busy limit w kind)) [
+  | inr o ↦ elim (cases_Bool (is_busy limit (sight_of w) (aim_of kind))) [
     | inl b ↦ absurd (let e = rw (o, b) at h in let f : Some refusal.Busy ≡ None = e in cc)
     | inr f ↦ f
   ]
@@ -25,12 +26,12 @@ pub left_false : (a b : Bool) → (a || b) ≡ false → a ≡ false
 left_false true b h = absurd (false≢true (sym h))
 left_false false b h = refl
 
-is_none : (o : Option Alone) → is_some o ≡ false → o ≡ None
-is_none None h = refl
-is_none (Some x) h = absurd (false≢true (sym h))
+pub none-is : (o : Option Alone) → is_some o ≡ false → o ≡ None
+none-is None h = refl
+none-is (Some x) h = absurd (false≢true (sym h))
 
 -- where a job begins nothing runs alone
 pub none_lone : (limit : ℕ) (w : State) (kind : Kind) (profile : Option ℕ) → refusal_of_begin limit w kind profile ≡ None → w.alone ≡ None
 none_lone limit w kind profile h =
-    is_none w.alone (left_false (is_some w.alone) (list_any (λ (j : Job). is_upgrade j.kind) w.jobs)
-    (left_false (is_shut w) (are_jobs_in_the_way limit w kind) (not_busy limit w kind profile h)))
+    none-is w.alone (left_false (is_some w.alone) (list_any is_upgrade (aims_of w.jobs))
+    (left_false (is_shut (sight_of w)) (are_jobs_in_the_way limit (aims_of w.jobs) (aim_of kind)) (not_busy limit w kind profile h)))

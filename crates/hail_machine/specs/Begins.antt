@@ -10,7 +10,7 @@
 --   BeginsAt limit moment old kind profile outcome new  == a begin may have this outcome and leave this
 --                                state; of a put also with a profile of its own
 --   Begins limit moment old kind outcome new  == the same without a profile
-use Rattle.std.specs.Prelude.{◌≡◌, ◌⊎◌, ℕ, ◌+◌, Bool, false, List, [], ◌∷◌, ◌++◌, Option, None, Some, nat_lt, if◌then◌else◌}
+use Rattle.std.specs.Prelude.{◌≡◌, ◌⊎◌, ℕ, ◌+◌, Bool, true, false, List, [], ◌∷◌, ◌++◌, Option, None, Some, nat_lt, if◌then◌else◌}
 use Rattle.hail_columns.specs.Verdicts.{is_flagged}
 use Rattle.hail_records.specs.Records.{Setup}
 use Rattle.hail_records.specs.Table.{File, Due, files_of, due_of}

@@ -6,7 +6,8 @@ ghost use Rattle.hail_machine.specs.Actions.{WriteBody, SyncBody, WriteGate, Syn
 ghost use Rattle.hail_machine.specs.Left.{left_alone, most_left};
 ghost use Rattle.hail_machine.specs.Steps.{next_action};
 ghost use Rattle.hail_machine.specs.Space.{reserved};
-ghost use Rattle.hail_machine.specs.Begins.{begin_refusal, names_taken};
+ghost use Rattle.hail_machine.specs.Begins.{begin_refusal};
+ghost use Rattle.hail_machine.specs.Sights.{sight_of, names_taken};
 ghost use Rattle.hail_machine.specs.Refusals.{MustReopen, Busy, BadName, NoSuchName, RepairDue, NothingDue, BadJournal};
 ghost use Rattle.hail_machine.specs.Answers.{Got, Audited};
 ghost use Rattle.hail_machine.specs.Events.{Refused, Waiting, Ended, Listed, Continued};
@@ -84,9 +85,9 @@ pub fn refusals()
     ensures audit_runs { begin_refusal 8
         (record (opened one_file hundred) { jobs = beginning_job (opened one_file hundred) AuditJob ∷ [] })
         (PutJob (codes "a") hundred) ≡ None }
-    ensures names { names_taken
+    ensures names { names_taken (sight_of
         (record (opened one_file
-        hundred) { jobs = beginning_job (opened one_file hundred) (PutJob (codes "a") []) ∷ [] })
+        hundred) { jobs = beginning_job (opened one_file hundred) (PutJob (codes "a") []) ∷ [] }))
         ≡ codes "a" ∷ codes "notes.txt" ∷ [] }
 {}
 
