@@ -23,7 +23,7 @@ use Rattle.hail_machine.specs.Answers as answer
 use Rattle.hail_machine.specs.Answers.{Answer}
 use Rattle.hail_machine.specs.Events.{Event, Step, Outcome, Ended}
 use Rattle.hail_machine.specs.States.{State, Alone, IsStart, setup_in, object_in, file_object, pinned_object, file_in}
-use Rattle.hail_machine.specs.Begins.{refusal_of_begin, pinned_file, pin_one, pinned_for}
+use Rattle.hail_machine.specs.Begins.{refusal_of_begin, pinned_file, pin_found, pinned_for}
 use Rattle.hail_machine.specs.Given.{block_given, blocks_given}
 use Rattle.hail_machine.specs.Steps.{next_action, holder_of, Ends, Acts, ActsOrWaits, StepsOn, StepsJob, StepsOne, StepsOpen, Steps}
 use Rattle.hail_machine.specs.Machine.{Happens}
@@ -83,7 +83,7 @@ module _ (limit : ℕ) (start : State) (m : Moment) (ms : List Moment) (A : All 
         record {
           file = g.0;
           in_effect = ap (λ (b : State). file_in b name) (sym same) ∙ g.1;
-          pinned = ap (λ (x : Job). x.pinned) is ∙ (ap (λ kk. pinned_for (now start ms) kk) kd_is ∙ (ap (pin_one (now start ms)) g.1 ∙ ap (λ (b : State). pinned_file b g.0 ∷ []) same));
+          pinned = ap (λ (x : Job). x.pinned) is ∙ (ap (λ kk. pinned_for (now start ms) kk) kd_is ∙ (ap (pin_found (pinned_file (now start ms))) g.1 ∙ ap (λ (b : State). pinned_file b g.0 ∷ []) same));
           setup = ap setup_of rec ∙ ap (λ (b : State). setup_of b.records) same;
         })
   ]

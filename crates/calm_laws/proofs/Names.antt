@@ -5,16 +5,18 @@ use Rattle.std.proofs.lemmas.Bool.{cases_Bool, false≢true}
 use Rattle.hail_records.specs.Records.{Record, SetUp, PutStart, PutDone, Drop, AuditStart, AuditDone, RepairDone, PutDoneIn, Version, Resume, InEffect, RepairDue, is_name}
 use Rattle.hail_records.specs.Table.{File, version_of, started_as, is_start_of, is_same_name, file_of, next_id}
 use Rattle.hail_records.proofs.FilesLaws.{same-eq}
-use Rattle.hail_machine.specs.Jobs.{Kind, PutJob, GetJob, DropJob, AuditJob, RepairJob, UpgradeJob, Job, job_of}
+use Rattle.hail_machine.specs.Jobs.{Kind, PutJob, GetJob, DropJob, AuditJob, RepairJob, UpgradeJob, aim_of, Job, job_of}
 use Rattle.hail_machine.specs.Refusals as refusal
 use Rattle.hail_machine.specs.Refusals.{Refusal}
 use Rattle.hail_machine.specs.Events.{Event, Begin, Outcome, Refused}
 use Rattle.hail_machine.specs.States.{State, Append, Doubt, AreFirst, IsStart, file_in}
-use Rattle.hail_machine.specs.Begins.{is_busy, refusal_of_begin, begin_refusal, Begins}
+use Rattle.hail_machine.specs.Sights.{sight_of, is_busy, is_stored}
+use Rattle.hail_machine.specs.Begins.{refusal_of_begin, begin_refusal, Begins}
 use Rattle.hail_machine.specs.Appends.{Writes, done_record, is_first_append}
 use Rattle.hail_machine.specs.Machine.{Happens}
 use Rattle.hail_machine.specs.Runs.{Moment, now, IsRun}
 use Rattle.hail_machine.specs.Halves.{IsGetRefusal}
+use Rattle.hail_machine.proofs.Sights.{stored-file}
 use Rattle.hail_machine.proofs.JobLists.{cond_true, cond_false, same_value, found_none}
 use Rattle.hail_machine.proofs.Done.{by_version}
 use Rattle.hail_machine.proofs.Changes.{Job_is, Append_is, Records_is, Doubt_is, Changes}
@@ -117,7 +119,7 @@ some_none o x a b = (let e : None ≡ Some x = sym a ∙ b in cc)
 
 -- a begun put has a name
 begun_named : (limit : ℕ) (w : State) (kind : Kind) (wish : Option ℕ) → refusal_of_begin limit w kind wish ≡ None → IsNamedJob kind
-begun_named limit w (PutJob name bytes) wish h = go w.is_barred (is_busy limit w (PutJob name bytes)) (is_name name) _ h
+begun_named limit w (PutJob name bytes) wish h = go w.is_barred (is_busy limit (sight_of w) (aim_of (PutJob name bytes))) (is_name name) _ h
   where
     go : (barred busy ok : Bool) (rest : Option Refusal) → cond barred (Some refusal.MustReopen) (cond busy (Some refusal.Busy) (cond (not ok) (Some refusal.BadName) rest)) ≡ None → ok ≡ true
     go true busy ok rest e = absurd (some_none _ refusal.MustReopen e refl)
@@ -183,7 +185,7 @@ stored_named limit start ms name file clean run h = file_named (now start ms).re
 
 -- why a get of a name that is a name and in effect is refused
 get_refusal : (limit : ℕ) (w : State) (name : List ℕ) (file : File) (why : Refusal) → is_name name ≡ true → file_in w name ≡ Some file → begin_refusal limit w (GetJob name) ≡ Some why → IsGetRefusal why
-get_refusal limit w name file why named h e = go w.is_barred (is_busy limit w (GetJob name)) (is_name name) (is_some (file_in w name)) named (ap is_some h) e
+get_refusal limit w name file why named h e = go w.is_barred (is_busy limit (sight_of w) (aim_of (GetJob name))) (is_name name) (is_stored (sight_of w) name) named (stored-file w name ∙ ap is_some h) e
   where
     go : (barred busy ok there : Bool) → ok ≡ true → there ≡ true →
         cond barred (Some refusal.MustReopen) (cond busy (Some refusal.Busy) (cond (not ok) (Some refusal.BadName) (cond (not there) (Some refusal.NoSuchName) None))) ≡ Some why → IsGetRefusal why

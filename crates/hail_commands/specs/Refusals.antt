@@ -9,8 +9,8 @@ use Rattle.std.specs.Prelude.{ℕ, ◌+◌, ◌-◌, ◌^◌, ◌==◌, ◌&&◌
 use Rattle.hail_records.specs.Records.{Record, is_name, largest_file, largest_journal, most_files}
 use Rattle.hail_records.specs.Journal.{text_size}
 use Rattle.hail_records.specs.Table.{version_of, next_id, next_audit, file_of, files_of, due_of}
-use Rattle.hail_machine.specs.Begins.{names_in, is_name_among}
-use Rattle.hail_machine.specs.Jobs.{Kind, PutJob, GetJob, DropJob, AuditJob, RepairJob, UpgradeJob}
+use Rattle.hail_machine.specs.Sights.{names_in, is_name_among}
+use Rattle.hail_machine.specs.Jobs.{Kind, PutJob, GetJob, DropJob, AuditJob, RepairJob, UpgradeJob, aim_of}
 use Rattle.hail_machine.specs.Space.{append_sizes}
 use Rattle.hail_machine.specs.Refusals as refusal
 use Rattle.hail_machine.specs.Refusals.{Refusal, Cause, first_refusal}
@@ -20,7 +20,7 @@ use Rattle.hail_commands.specs.Opens.{setup_in_effect}
 abbrev pub takes_too_much : List Record → Kind → Bool
 takes_too_much records kind =
     nat_lt largest_journal
-    (text_size records + sum (append_sizes (version_of records) (setup_in_effect records) kind))
+    (text_size records + sum (append_sizes (version_of records) (setup_in_effect records) (aim_of kind)))
 
 -- the numbers that a job draws come to their end
 abbrev pub has_no_number : List Record → Kind → Bool

@@ -11,8 +11,8 @@ use Rattle.hail_records.specs.Records.{Setup}
 use Rattle.hail_records.specs.Table.{File}
 use Rattle.hail_machine.specs.Jobs.{Pinned, Given, Answered, Job}
 use Rattle.hail_machine.specs.Setups.{profiled, stripes_of}
-use Rattle.hail_machine.specs.Actions.{Action, Ask, rounds_of, ask_actions}
-use Rattle.hail_machine.specs.Begins.{pinned_file, pin, pin_all}
+use Rattle.hail_machine.specs.Actions.{Action, Ask, machine_pins, rounds_of, ask_actions}
+use Rattle.hail_machine.specs.Begins.{pinned_file, pin_by, pin_all}
 use Rattle.hail_machine.specs.Given.{answer_given}
 use Rattle.hail_machine.specs.States.{State}
 use Rattle.hail_machine.proofs.JobLists.{cond_true, cond_false}
@@ -22,18 +22,18 @@ use Rattle.job_laws.proofs.Heard.{AreDistinct, distinct-append, distinct-range, 
 
 -- ---- files by number, as they are pinned
 
-pin-map : (w : State) (f : File) (fs : List File) → pin (pinned_file w f) (map (pinned_file w) fs) ≡ map (pinned_file w) (with_number f fs)
+pin-map : (w : State) (f : File) (fs : List File) → pin_by machine_pins (pinned_file w f) (map (pinned_file w) fs) ≡ map (pinned_file w) (with_number f fs)
 pin-map w f [] = refl
 pin-map w f (g ∷ gs) = elim (cases_Bool (nat_lt f.id g.id)) [
-  | inl t ↦ cond_true (nat_lt f.id g.id) (pinned_file w f ∷ pinned_file w g ∷ map (pinned_file w) gs) (pinned_file w g ∷ pin (pinned_file w f) (map (pinned_file w) gs)) t
+  | inl t ↦ cond_true (nat_lt f.id g.id) (pinned_file w f ∷ pinned_file w g ∷ map (pinned_file w) gs) (pinned_file w g ∷ pin_by machine_pins (pinned_file w f) (map (pinned_file w) gs)) t
       ∙ sym (ap (map (pinned_file w)) (cond_true (nat_lt f.id g.id) (f ∷ g ∷ gs) (g ∷ with_number f gs) t))
-  | inr o ↦ cond_false (nat_lt f.id g.id) (pinned_file w f ∷ pinned_file w g ∷ map (pinned_file w) gs) (pinned_file w g ∷ pin (pinned_file w f) (map (pinned_file w) gs)) o
+  | inr o ↦ cond_false (nat_lt f.id g.id) (pinned_file w f ∷ pinned_file w g ∷ map (pinned_file w) gs) (pinned_file w g ∷ pin_by machine_pins (pinned_file w f) (map (pinned_file w) gs)) o
       ∙ (ap (λ ps. pinned_file w g ∷ ps) (pin-map w f gs) ∙ sym (ap (map (pinned_file w)) (cond_false (nat_lt f.id g.id) (f ∷ g ∷ gs) (g ∷ with_number f gs) o)))
 ]
 
 pub pinned-by_number : (w : State) (fs : List File) → pin_all w fs ≡ map (pinned_file w) (files_by_number fs)
 pinned-by_number w [] = refl
-pinned-by_number w (f ∷ fs) = ap (pin (pinned_file w f)) (pinned-by_number w fs) ∙ pin-map w f (files_by_number fs)
+pinned-by_number w (f ∷ fs) = ap (pin_by machine_pins (pinned_file w f)) (pinned-by_number w fs) ∙ pin-map w f (files_by_number fs)
 
 -- a fact of each file is one of each by number
 each-with_number : (P : File → Type 0) (f : File) (fs : List File) → P f → Each P fs → Each P (with_number f fs)

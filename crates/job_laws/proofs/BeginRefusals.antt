@@ -6,11 +6,13 @@ use Rattle.hail_records.specs.Journal.{text_size}
 use Rattle.hail_records.specs.Table.{version_of, file_of, due_of}
 use Rattle.hail_records.specs.Areas.{Area, A, end_in}
 use Rattle.hail_records.proofs.AreaLaws.{text_size-end}
-use Rattle.hail_machine.specs.Jobs.{Kind, PutJob, GetJob, DropJob, AuditJob, RepairJob, UpgradeJob, Job}
+use Rattle.hail_machine.proofs.Sights.{stored-file}
+use Rattle.hail_machine.specs.Jobs.{Kind, PutJob, GetJob, DropJob, AuditJob, RepairJob, UpgradeJob, ToDrop, aim_of, Job}
 use Rattle.hail_machine.specs.Refusals as refusal
 use Rattle.hail_machine.specs.Refusals.{first_refusal}
 use Rattle.hail_machine.specs.States.{State, Alone, setup_in}
 use Rattle.hail_machine.specs.Space.{append_sizes}
+use Rattle.hail_machine.specs.Sights.{sight_of, is_full}
 use Rattle.hail_machine.specs.Begins.{begin_refusal}
 use Rattle.sound_states.specs.Sound.{IsWholeJournal}
 use Rattle.hail_commands.specs.Opens.{setup_in_effect}
@@ -22,9 +24,9 @@ module _ (w : State) where
   abbrev alone : State
   alone = record w { journal = w.records; area = A; jobs = []; alone = None; is_barred = false }
 
-  room-alone : (kind : Kind) → nat_lt largest_journal (end_in A w.records + 0 + sum (append_sizes (version_of w.records) (setup_in_effect w.records) kind))
-      ≡ nat_lt largest_journal (text_size w.records + sum (append_sizes (version_of w.records) (setup_in_effect w.records) kind))
-  room-alone kind = ap (λ n. nat_lt largest_journal (n + sum (append_sizes (version_of w.records) (setup_in_effect w.records) kind))) (add-zero (end_in A w.records) ∙ text_size-end w.records)
+  room-alone : (kind : Kind) → nat_lt largest_journal (end_in A w.records + 0 + sum (append_sizes (version_of w.records) (setup_in_effect w.records) (aim_of kind)))
+      ≡ nat_lt largest_journal (text_size w.records + sum (append_sizes (version_of w.records) (setup_in_effect w.records) (aim_of kind)))
+  room-alone kind = ap (λ n. nat_lt largest_journal (n + sum (append_sizes (version_of w.records) (setup_in_effect w.records) (aim_of kind)))) (add-zero (end_in A w.records) ∙ text_size-end w.records)
 
   refusal-alone : (kind : Kind) → begin_refusal 8 alone kind ≡ commands.refusal_over w.records kind
   unfolding setup_in
@@ -33,11 +35,18 @@ module _ (w : State) where
       ∷ record { applies = nat_lt largest_file (length bytes); refusal = refusal.TooLong }
       ∷ record { applies = is_crowded_by w.records name; refusal = refusal.TooManyFiles }
       ∷ record { applies = b || has_no_number w.records (PutJob name bytes); refusal = refusal.JournalFull } ∷ [])) (room-alone (PutJob name bytes))
-  refusal-alone (GetJob name) = refl
-  refusal-alone (DropJob name) = ap (λ (b : Bool). first_refusal (
+  refusal-alone (GetJob name) = ap (λ (b : Bool). first_refusal (
       record { applies = not (is_name name); refusal = refusal.BadName }
-      ∷ record { applies = not (is_some (file_of w.records name)); refusal = refusal.NoSuchName }
-      ∷ record { applies = b || has_no_number w.records (DropJob name); refusal = refusal.JournalFull } ∷ [])) (room-alone (DropJob name))
+      ∷ record { applies = not b; refusal = refusal.NoSuchName } ∷ [])) (stored-file w name)
+  refusal-alone (DropJob name) =
+      ap (λ (b : Bool). first_refusal (
+          record { applies = not (is_name name); refusal = refusal.BadName }
+          ∷ record { applies = not b; refusal = refusal.NoSuchName }
+          ∷ record { applies = is_full (sight_of alone) (ToDrop name); refusal = refusal.JournalFull } ∷ [])) (stored-file w name)
+      ∙ ap (λ (b : Bool). first_refusal (
+          record { applies = not (is_name name); refusal = refusal.BadName }
+          ∷ record { applies = not (is_some (file_of w.records name)); refusal = refusal.NoSuchName }
+          ∷ record { applies = b || has_no_number w.records (DropJob name); refusal = refusal.JournalFull } ∷ [])) (room-alone (DropJob name))
   refusal-alone AuditJob = ap (λ (b : Bool). first_refusal (
       record { applies = is_some (due_of w.records); refusal = refusal.RepairDue }
       ∷ record { applies = b || has_no_number w.records AuditJob; refusal = refusal.JournalFull } ∷ [])) (room-alone AuditJob)

@@ -21,7 +21,7 @@ use Rattle.hail_machine.specs.Setups.{profiled, object_of, stripes_of}
 use Rattle.hail_machine.specs.Actions.{Action, WriteBody, SyncBody, WriteGate, SyncGate, Store, Fetch, Ask, Work, Remove, End, on_each_provider, open_actions, read_actions, actions_by, actions_of, actions_left}
 use Rattle.hail_machine.specs.Answers as answer
 use Rattle.hail_machine.specs.Answers.{Answer}
-use Rattle.hail_machine.specs.Begins.{pinned_file, pin_one}
+use Rattle.hail_machine.specs.Begins.{pinned_file, pin_found}
 use Rattle.hail_machine.specs.Events.{Ended}
 use Rattle.hail_machine.specs.Given.{block_given, blocks_given, symbols_given, file_given}
 use Rattle.hail_machine.specs.Heard.{Entry, entries_of, given_to, heard_by_kind}
@@ -458,7 +458,7 @@ module _ (start new : State) (name : List ℕ) (how : Answer) (heard : List Entr
     size-is = (O.rest.files name file in_effect).1
 
     pinned-is : E.job.pinned ≡ pinned_file start file ∷ []
-    pinned-is = E.walked.pinned ∙ ap (pin_one start) in_effect
+    pinned-is = E.walked.pinned ∙ ap (pin_found (pinned_file start)) in_effect
 
     list-is : read_actions (setup_in start) E.job.pinned ++ End ∷ [] ≡ reads (setup_in start) file.id 0 count ++ End ∷ []
     list-is = ap (λ ps. read_actions (setup_in start) ps ++ End ∷ []) pinned-is ∙ ap (λ ys. ys ++ End ∷ []) (append-nil (reads (setup_in start) file.id 0 count))
@@ -661,7 +661,7 @@ module _ (start new : State) (name : List ℕ) (how : Answer) (heard : List Entr
   no-file none = absurd (by_answer how (subst (λ kd. step.Ends E.before E.job kd how) E.walked.kind_is acts.0))
     where
       empty : E.job.pinned ≡ []
-      empty = E.walked.pinned ∙ ap (pin_one start) none
+      empty = E.walked.pinned ∙ ap (pin_found (pinned_file start)) none
 
       at : E.action ≡ End
       at = (single-get End E.action E.job.place (ap (λ ps. slice_get (read_actions (setup_in start) ps ++ End ∷ []) E.job.place) (sym empty) ∙ next-at)).1

@@ -8,7 +8,7 @@ use Rattle.hail_records.specs.Acceptance.{AreAccepted}
 use Rattle.hail_machine.specs.Jobs.{Kind, PutJob, GetJob, DropJob, AuditJob, RepairJob, UpgradeJob, Pinned, Job}
 use Rattle.hail_machine.specs.Setups.{setup_or_none, profiled, object_of}
 use Rattle.hail_machine.specs.Appends.{done_record}
-use Rattle.hail_machine.specs.Begins.{pinned_file, pin_one, pin_all, pinned_for}
+use Rattle.hail_machine.specs.Begins.{pinned_file, pin_found, pin_all, pinned_for}
 use Rattle.hail_machine.specs.Given.{pinned_profile}
 use Rattle.hail_machine.specs.States.{State, setup_in, file_in, worked_object}
 use Rattle.hail_machine.proofs.JobLists.{cond_true, cond_false, same_value}
@@ -88,7 +88,7 @@ module _ (start : State) (O : IsOpenAtRest start 1) where
   all-pins = subst (Each (λ (f : Pinned). f.profile ≡ (setup_in start).profile)) (sym (pinned-by_number start (files_of start.records)))
       (pins-of _ (each-by_number (λ (f : File). f.profile ≡ (setup_in start).profile) (files_of start.records) plain-files))
 
-  one-pin : (name : List ℕ) (o : Option File) → file_in start name ≡ o → Each (λ (f : Pinned). f.profile ≡ (setup_in start).profile) (pin_one start o)
+  one-pin : (name : List ℕ) (o : Option File) → file_in start name ≡ o → Each (λ (f : Pinned). f.profile ≡ (setup_in start).profile) (pin_found (pinned_file start) o)
   one-pin name None e = tt
   one-pin name (Some f) e = (plain-file name f e, tt)
 

@@ -3,14 +3,16 @@ use Rattle.std.proofs.Common.{◌≡◌, ℕ, true, false, List, Option, None, S
 use Rattle.std.specs.Prelude.{is_some}
 use Rattle.std.proofs.lemmas.Bool.{false≢true}
 use Rattle.hail_records.specs.Table.{File}
-use Rattle.hail_machine.specs.Jobs.{DropJob}
+use Rattle.hail_machine.specs.Jobs.{DropJob, aim_of}
 use Rattle.hail_machine.specs.States.{State, file_in}
-use Rattle.hail_machine.specs.Begins.{causes, begin_refusal}
+use Rattle.hail_machine.specs.Begins.{begin_refusal}
+use Rattle.hail_machine.specs.Sights.{sight_of, is_stored, causes}
+use Rattle.hail_machine.proofs.Sights.{stored-file}
 use Rattle.sound_states.proofs.Begun.{none-applies}
 
 -- a drop that begins has a file
 pub drop-has : (limit : ℕ) (w : State) (name : List ℕ) → begin_refusal limit w (DropJob name) ≡ None → (f : File) × (file_in w name ≡ Some f)
-drop-has limit w name h = by_file (file_in w name) refl (none-applies (causes limit w (DropJob name) None) h).1.1.1.0
+drop-has limit w name h = by_file (file_in w name) refl (ap not (sym (stored-file w name)) ∙ (none-applies (causes limit (sight_of w) (aim_of (DropJob name)) None) h).1.1.1.0)
   where
     by_file : (o : Option File) → file_in w name ≡ o → not (is_some (file_in w name)) ≡ false → (f : File) × (file_in w name ≡ Some f)
     by_file None e n = absurd (let g : not (is_some (file_in w name)) ≡ true = ap (λ (o : Option File). not (is_some o)) e in let z : false ≡ true = sym n ∙ g in false≢true z)

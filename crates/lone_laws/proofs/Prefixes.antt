@@ -5,7 +5,7 @@ use Rattle.std.proofs.Math.Seq.{drop-append-add}
 use Rattle.std.proofs.lemmas.Bool.{cases_lt}
 use Rattle.hail_records.specs.Records.{Setup}
 use Rattle.hail_records.specs.Table.{version_of}
-use Rattle.hail_machine.specs.Jobs.{Kind, PutJob, GetJob, DropJob, AuditJob, RepairJob, UpgradeJob, Job}
+use Rattle.hail_machine.specs.Jobs.{Kind, PutJob, GetJob, DropJob, AuditJob, RepairJob, UpgradeJob, aim_of, Job}
 use Rattle.hail_machine.specs.Actions.{Action, SyncBody, WriteGate, SyncGate, End, append_actions, store_actions, ask_actions, repair_actions, actions_by, actions_of, appends_left}
 use Rattle.hail_machine.specs.States.{State, setup_in}
 use Rattle.hail_machine.specs.Space.{append_sizes}
@@ -72,7 +72,7 @@ unfolding actions_of
 repair-list s job kind = ap (actions_by s job) kind
 
 -- as many as its kind appends
-pub appends-whole : (w : State) (job : Job) (kind : Kind) → job.kind ≡ kind → job.place ≡ 0 → appends_left (setup_in w) job ≡ length (append_sizes (version_of w.records) (setup_in w) kind)
+pub appends-whole : (w : State) (job : Job) (kind : Kind) → job.kind ≡ kind → job.place ≡ 0 → appends_left (setup_in w) job ≡ length (append_sizes (version_of w.records) (setup_in w) (aim_of kind))
 appends-whole w job (PutJob name bytes) kind first = put-first (setup_in w) job name bytes kind (omega (arith, first))
 appends-whole w job (GetJob name) kind first = get-none (setup_in w) job name kind
 appends-whole w job (DropJob name) kind first =

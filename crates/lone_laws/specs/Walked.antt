@@ -18,7 +18,7 @@ use Rattle.std.specs.Prelude.{◌≡◌, ℕ, ◌+◌, ◌≤◌, true, false, L
 use Rattle.hail_columns.specs.Verdicts.{Sums}
 use Rattle.hail_records.specs.Records.{Record, PutStart, Drop, AuditStart, AuditDone, RepairDone, Version}
 use Rattle.hail_records.specs.Table.{version_of, next_id, next_audit, due_of}
-use Rattle.hail_machine.specs.Jobs.{Kind, PutJob, DropJob, AuditJob, RepairJob, UpgradeJob, Job}
+use Rattle.hail_machine.specs.Jobs.{Kind, PutJob, DropJob, AuditJob, RepairJob, UpgradeJob, aim_of, Job}
 use Rattle.hail_machine.specs.Actions.{actions_of, appends_left}
 use Rattle.hail_machine.specs.States.{State, setup_in, file_in}
 use Rattle.hail_machine.specs.Space.{append_sizes}
@@ -30,7 +30,7 @@ use Rattle.lone_laws.specs.Made.{With, Made}
 
 -- how many records a job of this kind appends
 abbrev pub appends_of : State → Kind → ℕ
-appends_of w kind = length (append_sizes (version_of w.records) (setup_in w) kind)
+appends_of w kind = length (append_sizes (version_of w.records) (setup_in w) (aim_of kind))
 
 -- the first record of a job of this kind
 abbrev pub first_record : State → Kind → Record

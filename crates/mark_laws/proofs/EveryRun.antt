@@ -8,12 +8,13 @@ use Rattle.hail_columns.specs.Columns.{columns}
 use Rattle.hail_columns.specs.Verdicts.{flags_some}
 use Rattle.hail_records.specs.Records.{Record, Setup, SetUp, PutStart, PutDone, Drop, AuditStart, AuditDone, RepairDone, PutDoneIn, Version, Resume, InEffect, RepairDue}
 use Rattle.hail_records.specs.Table.{File, Due, setup_of, next_id, next_audit, started_as, file_of, due_of}
-use Rattle.hail_machine.specs.Jobs.{Kind, PutJob, GetJob, DropJob, AuditJob, RepairJob, UpgradeJob, Pinned, Job, job_of, advanced}
+use Rattle.hail_machine.specs.Jobs.{Kind, PutJob, GetJob, DropJob, AuditJob, RepairJob, UpgradeJob, aim_of, Pinned, Job, job_of, advanced}
 use Rattle.hail_machine.specs.Actions.{WriteBody, WriteGate, SyncGate, Store, Remove}
 use Rattle.hail_machine.specs.Refusals as refusal
 use Rattle.hail_machine.specs.Setups.{object_of, profiled, stripes_of}
 use Rattle.hail_machine.specs.States.{State, Append, Doubt, Scrub, Scrubbing, IsStart, setup_in, object_in, worked_object, file_in}
-use Rattle.hail_machine.specs.Begins.{is_put_or_check, is_shut, are_jobs_in_the_way, refusal_of_begin, pinned_file, due_number, beginning}
+use Rattle.hail_machine.specs.Sights.{aims_of, sight_of, is_put_or_check, is_shut, are_jobs_in_the_way}
+use Rattle.hail_machine.specs.Begins.{refusal_of_begin, pinned_file, due_number, beginning}
 use Rattle.hail_machine.specs.Given.{pinned_profile}
 use Rattle.hail_machine.specs.Appends.{Writes, done_record, is_first_append, subject_drawn, audits_drawn}
 use Rattle.hail_machine.specs.Steps.{next_action, block_to_store}
@@ -29,7 +30,7 @@ use Rattle.hail_machine.proofs.Numbers as num
 use Rattle.hail_machine.proofs.Done.{put_ended, done-ended}
 use Rattle.hail_machine.proofs.Refused.{not_busy, right_false}
 use Rattle.hail_machine.proofs.Fair.{IsFair, HasPin, is_fair, store_place}
-use Rattle.hail_machine.proofs.Pins.{any_job, Wrote, Stands, pinned_stands}
+use Rattle.hail_machine.proofs.Pins.{any_aim, Wrote, Stands, pinned_stands}
 use Rattle.hail_machine.proofs.RecordFacts.{AreSound}
 use Rattle.hail_machine.proofs.PinFacts.{Pins_is, pins_is, stands_quiet, setup_same, setup_one, wrote_setup}
 use Rattle.hail_machine.proofs.Held.{All, all, store_kinds, remove_kinds}
@@ -200,8 +201,8 @@ not_barred limit w kind wish h = elim (cases_Bool w.is_barred) [
 -- no put runs where an audit begins
 pub no_put : (limit : ℕ) (w : State) (wish : Option ℕ) → refusal_of_begin limit w AuditJob wish ≡ None → (k : ℕ) (j : Job) (name bytes : List ℕ) → job_of w.jobs k ≡ Some j → j.kind ≡ PutJob name bytes → ⊥
 no_put limit w wish none k j name bytes runs kind =
-    (let f = any_job (λ (x : Job). is_put_or_check x.kind) w.jobs k j runs (right_false _ _ (right_false (is_shut w) (are_jobs_in_the_way limit w AuditJob) (not_busy limit w AuditJob wish none))) in
-    false≢true (sym f ∙ ap is_put_or_check kind))
+    (let f = any_aim is_put_or_check w.jobs k j runs (right_false _ _ (right_false (is_shut (sight_of w)) (are_jobs_in_the_way limit (aims_of w.jobs) (aim_of AuditJob)) (not_busy limit w AuditJob wish none))) in
+    false≢true (sym f ∙ ap (λ kd. is_put_or_check (aim_of kd)) kind))
 
 -- a repair is due where one begins
 pub repair_due : (limit : ℕ) (w : State) (wish : Option ℕ) (o : Option Due) → due_of w.records ≡ o → refusal_of_begin limit w RepairJob wish ≡ None → (u : Due) × (due_of w.records ≡ Some u)

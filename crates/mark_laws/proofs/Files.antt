@@ -9,7 +9,8 @@ use Rattle.hail_records.specs.Table.{File, started_as, is_same_name, is_name_bef
 use Rattle.hail_records.proofs.FilesLaws.{same-eq, same-refl}
 use Rattle.hail_machine.specs.Jobs.{Pinned}
 use Rattle.hail_machine.specs.States.{State, file_in}
-use Rattle.hail_machine.specs.Begins.{pinned_file, pin, pin_all}
+use Rattle.hail_machine.specs.Actions.{machine_pins}
+use Rattle.hail_machine.specs.Begins.{pinned_file, pin_by, pin_all}
 use Rattle.hail_machine.proofs.JobLists.{cond_true, cond_false}
 
 -- a file that a record brings in has the name, or the one before has
@@ -115,23 +116,23 @@ in_files (InEffect k size profile kept ∷ rs) name f h =
     (file_named rs name f) (in_files rs name f)
 in_files (RepairDue number counts ∷ rs) name f h = in_files rs name f h
 
-pin_new : (p : Pinned) (ps : List Pinned) → In p (pin p ps)
+pin_new : (p : Pinned) (ps : List Pinned) → In p (pin_by machine_pins p ps)
 pin_new p [] = inl refl
 pin_new p (q ∷ qs) = elim (cases_Bool (nat_lt p.id q.id)) [
-  | inl t ↦ subst (λ l. In p l) (sym (cond_true (nat_lt p.id q.id) (p ∷ q ∷ qs) (q ∷ pin p qs) t)) (inl refl)
-  | inr o ↦ subst (λ l. In p l) (sym (cond_false (nat_lt p.id q.id) (p ∷ q ∷ qs) (q ∷ pin p qs) o)) (inr (pin_new p qs))
+  | inl t ↦ subst (λ l. In p l) (sym (cond_true (nat_lt p.id q.id) (p ∷ q ∷ qs) (q ∷ pin_by machine_pins p qs) t)) (inl refl)
+  | inr o ↦ subst (λ l. In p l) (sym (cond_false (nat_lt p.id q.id) (p ∷ q ∷ qs) (q ∷ pin_by machine_pins p qs) o)) (inr (pin_new p qs))
 ]
 
-pin_old : (p : Pinned) (ps : List Pinned) (g : Pinned) → In g ps → In g (pin p ps)
+pin_old : (p : Pinned) (ps : List Pinned) (g : Pinned) → In g ps → In g (pin_by machine_pins p ps)
 pin_old p [] g h = absurd h
 pin_old p (q ∷ qs) g h = elim (cases_Bool (nat_lt p.id q.id)) [
-  | inl t ↦ subst (λ l. In g l) (sym (cond_true (nat_lt p.id q.id) (p ∷ q ∷ qs) (q ∷ pin p qs) t)) (inr h)
-  | inr o ↦ subst (λ l. In g l) (sym (cond_false (nat_lt p.id q.id) (p ∷ q ∷ qs) (q ∷ pin p qs) o)) (elim h [ inl e ↦ inl e | inr i ↦ inr (pin_old p qs g i) ])
+  | inl t ↦ subst (λ l. In g l) (sym (cond_true (nat_lt p.id q.id) (p ∷ q ∷ qs) (q ∷ pin_by machine_pins p qs) t)) (inr h)
+  | inr o ↦ subst (λ l. In g l) (sym (cond_false (nat_lt p.id q.id) (p ∷ q ∷ qs) (q ∷ pin_by machine_pins p qs) o)) (elim h [ inl e ↦ inl e | inr i ↦ inr (pin_old p qs g i) ])
 ]
 
 in_all : (w : State) (fs : List File) (f : File) → In f fs → In (pinned_file w f) (pin_all w fs)
 in_all w [] f h = absurd h
-in_all w (g ∷ gs) f (inl e) = subst (λ (x : File). In (pinned_file w f) (pin (pinned_file w x) (pin_all w gs))) e (pin_new (pinned_file w f) (pin_all w gs))
+in_all w (g ∷ gs) f (inl e) = subst (λ (x : File). In (pinned_file w f) (pin_by machine_pins (pinned_file w x) (pin_all w gs))) e (pin_new (pinned_file w f) (pin_all w gs))
 in_all w (g ∷ gs) f (inr h) = pin_old (pinned_file w g) (pin_all w gs) (pinned_file w f) (in_all w gs f h)
 
 pub all_pinned : (w : State) (name : List ℕ) (f : File) → file_in w name ≡ Some f → In (pinned_file w f) (pin_all w (files_of w.records))

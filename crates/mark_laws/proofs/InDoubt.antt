@@ -7,12 +7,12 @@ use Rattle.plain_facts.proofs.Options.{some-not-none}
 use Rattle.hail_columns.specs.Columns.{columns}
 use Rattle.hail_records.specs.Records.{Setup}
 use Rattle.hail_records.specs.Table.{setup_of, next_id, started_as}
-use Rattle.hail_machine.specs.Jobs.{AuditJob, RepairJob, Pinned, Job, job_of, advanced}
+use Rattle.hail_machine.specs.Jobs.{AuditJob, RepairJob, aim_of, Pinned, Job, job_of, advanced}
 use Rattle.hail_machine.specs.Actions.{WriteGate, Store, Remove, actions_of}
 use Rattle.hail_machine.specs.Setups.{object_of, profiled}
 use Rattle.hail_machine.specs.Given.{pinned_profile}
 use Rattle.hail_machine.specs.States.{State, Doubt, Scrubbing, IsStart, setup_in, object_among, worked_object}
-use Rattle.hail_machine.specs.Begins.{is_check}
+use Rattle.hail_machine.specs.Sights.{is_check}
 use Rattle.hail_machine.specs.Steps.{next_action}
 use Rattle.hail_machine.specs.Runs.{Moment, now, first_moments, is_replacement, is_replaced_since, IsRun}
 use Rattle.hail_machine.specs.Calm.{Mark, IsCalm, relies}
@@ -66,7 +66,7 @@ module _ (limit : ℕ) (start : State) (m : Moment) (ms : List Moment) (A : All 
           (let place = store_place (now start ms) y name bytes i f.id s kind_y next_y in
           some-not-none (started_as (now start ms).records f.id) name (ap (started_as (now start ms).records) o_is ∙ A.pins.started y.number y name bytes runs_y kind_y place.0 (let l = place.1 in omega arith)) (A.pins.pins x.number x f runs in_f).1)
       | inr (repairs, pin) ↦
-          (let n : y.number ≡ x.number = A.pins.checks y.number x.number y x runs_y runs (ap is_check repairs) (ap is_check kind) in
+          (let n : y.number ≡ x.number = A.pins.checks y.number x.number y x runs_y runs (ap (λ kd. is_check (aim_of kd)) repairs) (ap (λ kd. is_check (aim_of kd)) kind) in
           let e : y ≡ x = same_value _ y x (subst (λ z. job_of (now start ms).jobs z ≡ Some y) n runs_y) runs in
           let z : RepairJob ≡ AuditJob = sym repairs ∙ (ap (λ (q : Job). q.kind) e ∙ kind) in cc)
     ])

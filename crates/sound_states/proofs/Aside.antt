@@ -20,7 +20,7 @@ use Rattle.hail_machine.specs.Refusals.{Refusal, Cause}
 use Rattle.hail_machine.proofs.Asides.{IsAside, steps_aside}
 use Rattle.hail_machine.proofs.JobLists.{same_value, found_none}
 use Rattle.hail_machine.proofs.PinFacts.{setup_same}
-use Rattle.hail_machine.proofs.Refused.{left_false, right_false}
+use Rattle.hail_machine.proofs.Refused.{none-is, left_false, right_false}
 use Rattle.sound_states.specs.Orders.{AreNumbered}
 use Rattle.sound_states.specs.Follows.{AreHeld}
 use Rattle.sound_states.specs.Sound.{IsDoubtOf, starts_left, IsSoundJournal, IsSwitchable, IsSound}
@@ -197,10 +197,6 @@ not-more (j ∷ js) h = absurd (let l = at-most 0 (length (j ∷ js)) h in omega
   where
     at-most : (a b : ℕ) → nat_lt a b ≡ false → b ≤ a
     at-most a b h = grind (arith, h)
-
-none-is : (o : Option Alone) → is_some o ≡ false → o ≡ None
-none-is None h = refl
-none-is (Some x) h = absurd (false≢true (sym h))
 
 -- the causes for which a begin of what runs alone is refused
 abbrev causes_alone : State → List Cause → List Cause

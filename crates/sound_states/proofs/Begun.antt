@@ -12,15 +12,17 @@ use Rattle.hail_records.specs.Records.{Setup, SetUp, is_name, is_in_grammar, lar
 use Rattle.hail_records.specs.Table.{Due, version_of, next_id, next_audit, profile_in, file_of, due_of, is_same_name}
 use Rattle.hail_records.specs.Acceptance.{is_due}
 use Rattle.hail_records.proofs.FilesLaws.{same-eq}
-use Rattle.hail_machine.specs.Jobs.{Kind, PutJob, GetJob, DropJob, AuditJob, RepairJob, UpgradeJob, Job, job_of}
+use Rattle.hail_machine.specs.Jobs.{Kind, PutJob, GetJob, DropJob, AuditJob, RepairJob, UpgradeJob, aim_of, Job, job_of}
 use Rattle.hail_machine.specs.Actions.{actions_left, appends_left}
 use Rattle.hail_machine.specs.Refusals.{Cause, first_refusal}
 use Rattle.hail_machine.specs.Events.{IsSpelledKind}
 use Rattle.hail_machine.specs.States.{State, Packing, setup_in, file_in, journal_end}
-use Rattle.hail_machine.specs.Space.{append_sizes, reserved, is_full, is_too_full, are_numbers_used_up}
-use Rattle.hail_machine.specs.Begins.{is_check, is_upgrade, is_shut, are_jobs_in_the_way, is_name_among, names_taken, is_crowded_state, causes, refusal_of_begin, due_number, subject_at_begin, chosen, beginning}
+use Rattle.hail_machine.specs.Space.{append_sizes, reserved}
+use Rattle.hail_machine.specs.Sights.{sight_of, aims_of, room_used, is_check, is_upgrade, is_shut, are_jobs_in_the_way, is_name_among, names_taken, is_crowded, is_stored, is_full, is_too_full, are_numbers_used_up, causes}
+use Rattle.hail_machine.specs.Begins.{refusal_of_begin, due_number, subject_at_begin, chosen, beginning}
 use Rattle.hail_machine.proofs.JobLists.{cond_true, cond_false, same_value, found_more, still_found}
-use Rattle.hail_machine.proofs.Pins.{any_job, check_alone}
+use Rattle.hail_machine.proofs.Pins.{any_aim, check_alone}
+use Rattle.hail_machine.proofs.Sights.{length-aims, stored-file}
 use Rattle.hail_machine.proofs.Refused.{not_busy, none_lone, left_false, right_false}
 use Rattle.sound_states.specs.Orders.{moves_made, IsInOrder}
 use Rattle.sound_states.specs.SoundJobs.{IsWish, IsReady, IsSoundJob}
@@ -53,18 +55,18 @@ record IsPutBegun (limit : ℕ) (old : State) (name bytes : List ℕ) (wish : Op
   named : is_name name ≡ true
   short : length bytes ≤ largest_file
   known : (p : ℕ) → wish ≡ Some p → (p < all_profiles) × ((version_of old.records == 1) ≡ false)
-  place : is_crowded_state old name ≡ false
-  full : is_full old (PutJob name bytes) ≡ false
+  place : is_crowded (sight_of old) name ≡ false
+  full : is_full (sight_of old) (aim_of (PutJob name bytes)) ≡ false
 
 put-begun : (limit : ℕ) (old : State) (name bytes : List ℕ) (wish : Option ℕ) → refusal_of_begin limit old (PutJob name bytes) wish ≡ None → IsPutBegun limit old name bytes wish
-put-begun limit old name bytes None allowed = (let a = none-applies (causes limit old (PutJob name bytes) None) allowed in record {
+put-begun limit old name bytes None allowed = (let a = none-applies (causes limit (sight_of old) (aim_of (PutJob name bytes)) None) allowed in record {
   named = not-false (is_name name) a.1.1.0;
   short = at-most largest_file (length bytes) a.1.1.1.0;
   known = λ p e. absurd (let k : None ≡ Some p = e in cc);
   place = a.1.1.1.1.0;
   full = a.1.1.1.1.1.0;
 })
-put-begun limit old name bytes (Some q) allowed = (let a = none-applies (causes limit old (PutJob name bytes) (Some q)) allowed in record {
+put-begun limit old name bytes (Some q) allowed = (let a = none-applies (causes limit (sight_of old) (aim_of (PutJob name bytes)) (Some q)) allowed in record {
   named = not-false (is_name name) a.1.1.0;
   short = at-most largest_file (length bytes) a.1.1.1.1.0;
   known = λ p e. (let same : q ≡ p = same_value (Some q) q p refl e in ((let l = below all_profiles q a.1.1.1.0 in omega (arith, l, same)), a.1.1.1.1.1.0));
@@ -73,8 +75,8 @@ put-begun limit old name bytes (Some q) allowed = (let a = none-applies (causes 
 })
 
 module _ (limit : ℕ) (old : State) (kind : Kind) (wish : Option ℕ) (allowed : refusal_of_begin limit old kind wish ≡ None) where
-  none-of : (kd : Kind) → kind ≡ kd → Each (λ (c : Cause). c.applies ≡ false) (causes limit old kd wish)
-  none-of kd e = none-applies (causes limit old kd wish) (ap (λ k. refusal_of_begin limit old k wish) (sym e) ∙ allowed)
+  none-of : (kd : Kind) → kind ≡ kd → Each (λ (c : Cause). c.applies ≡ false) (causes limit (sight_of old) (aim_of kd) wish)
+  none-of kd e = none-applies (causes limit (sight_of old) (aim_of kd) wish) (ap (λ k. refusal_of_begin limit old k wish) (sym e) ∙ allowed)
 
   begun-put : (name bytes : List ℕ) → kind ≡ PutJob name bytes → IsPutBegun limit old name bytes wish
   begun-put name bytes e = put-begun limit old name bytes wish (ap (λ k. refusal_of_begin limit old k wish) (sym e) ∙ allowed)
@@ -91,54 +93,54 @@ module _ (limit : ℕ) (old : State) (kind : Kind) (wish : Option ℕ) (allowed 
   begun-wish UpgradeJob e = tt
 
   begun-found : (name : List ℕ) → kind ≡ GetJob name → is_some (file_in old name) ≡ true
-  begun-found name e = not-false (is_some (file_in old name)) (none-of (GetJob name) e).1.1.1.0
+  begun-found name e = sym (stored-file old name) ∙ not-false (is_stored (sight_of old) name) (none-of (GetJob name) e).1.1.1.0
 
-  begun-clear : are_jobs_in_the_way limit old kind ≡ false
-  begun-clear = right_false (is_shut old) (are_jobs_in_the_way limit old kind) (not_busy limit old kind wish allowed)
+  begun-clear : are_jobs_in_the_way limit (aims_of old.jobs) (aim_of kind) ≡ false
+  begun-clear = right_false (is_shut (sight_of old)) (are_jobs_in_the_way limit (aims_of old.jobs) (aim_of kind)) (not_busy limit old kind wish allowed)
 
   -- an upgrade begins where no job runs
   begun-lone : kind ≡ UpgradeJob → old.jobs ≡ []
-  begun-lone e = none old.jobs (ap (are_jobs_in_the_way limit old) (sym e) ∙ begun-clear)
+  begun-lone e = none old.jobs (ap (λ kd. are_jobs_in_the_way limit (aims_of old.jobs) (aim_of kd)) (sym e) ∙ begun-clear)
     where
-      none : (js : List Job) → nat_lt 0 (length js) ≡ false → js ≡ []
+      none : (js : List Job) → nat_lt 0 (length (aims_of js)) ≡ false → js ≡ []
       none [] h = refl
-      none (j ∷ js) h = absurd (let l = at-most 0 (length (j ∷ js)) h in omega (arith, l))
+      none (j ∷ js) h = absurd (let l = at-most 0 (length (aims_of (j ∷ js))) h in omega (arith, l))
 
   -- and nothing begins beside it
-  begun-unshut : (k : ℕ) (j : Job) → job_of old.jobs k ≡ Some j → IsTrue (is_upgrade j.kind) → ⊥
-  begun-unshut k j runs u = false≢true (sym (any_job (λ (x : Job). is_upgrade x.kind) old.jobs k j runs
-      (right_false (is_some old.alone) (list_any (λ (x : Job). is_upgrade x.kind) old.jobs) (left_false (is_shut old) (are_jobs_in_the_way limit old kind) (not_busy limit old kind wish allowed)))) ∙ u)
+  begun-unshut : (k : ℕ) (j : Job) → job_of old.jobs k ≡ Some j → IsTrue (is_upgrade (aim_of j.kind)) → ⊥
+  begun-unshut k j runs u = false≢true (sym (any_aim is_upgrade old.jobs k j runs
+      (right_false (is_some old.alone) (list_any is_upgrade (aims_of old.jobs)) (left_false (is_shut (sight_of old)) (are_jobs_in_the_way limit (aims_of old.jobs) (aim_of kind)) (not_busy limit old kind wish allowed)))) ∙ u)
 
   begun-few : 1 ≤ limit → length old.jobs < limit
-  begun-few least = by_kind kind refl begun-clear
+  begun-few least = (let a = by_kind kind refl begun-clear in let b = length-aims old.jobs in omega (arith, a, b))
     where
-      by_kind : (kd : Kind) → kind ≡ kd → are_jobs_in_the_way limit old kd ≡ false → length old.jobs < limit
-      by_kind (PutJob name bytes) e h = below limit (length old.jobs) h
-      by_kind (GetJob name) e h = below limit (length old.jobs) h
-      by_kind (DropJob name) e h = below limit (length old.jobs) h
-      by_kind AuditJob e h = below limit (length old.jobs) (left_false (nat_le limit (length old.jobs)) _ h)
-      by_kind RepairJob e h = below limit (length old.jobs) (left_false (nat_le limit (length old.jobs)) _ h)
-      by_kind UpgradeJob e h = (let z = ap length (begun-lone e) in omega (arith, z, least))
+      by_kind : (kd : Kind) → kind ≡ kd → are_jobs_in_the_way limit (aims_of old.jobs) (aim_of kd) ≡ false → length (aims_of old.jobs) < limit
+      by_kind (PutJob name bytes) e h = below limit (length (aims_of old.jobs)) h
+      by_kind (GetJob name) e h = below limit (length (aims_of old.jobs)) h
+      by_kind (DropJob name) e h = below limit (length (aims_of old.jobs)) h
+      by_kind AuditJob e h = below limit (length (aims_of old.jobs)) (left_false (nat_le limit (length (aims_of old.jobs))) _ h)
+      by_kind RepairJob e h = below limit (length (aims_of old.jobs)) (left_false (nat_le limit (length (aims_of old.jobs))) _ h)
+      by_kind UpgradeJob e h = (let z = ap length (begun-lone e) in let b = length-aims old.jobs in omega (arith, z, b, least))
 
-  begun-full : is_full old kind ≡ false
+  begun-full : is_full (sight_of old) (aim_of kind) ≡ false
   begun-full = by_kind kind refl
     where
-      by_kind : (kd : Kind) → kind ≡ kd → is_full old kind ≡ false
-      by_kind (PutJob name bytes) e = ap (is_full old) e ∙ (begun-put name bytes e).full
-      by_kind (GetJob name) e = ap (is_full old) e ∙ refl
-      by_kind (DropJob name) e = ap (is_full old) e ∙ (none-of (DropJob name) e).1.1.1.1.0
-      by_kind AuditJob e = ap (is_full old) e ∙ (none-of AuditJob e).1.1.1.0
-      by_kind RepairJob e = ap (is_full old) e ∙ (none-of RepairJob e).1.1.1.0
-      by_kind UpgradeJob e = ap (is_full old) e ∙ (none-of UpgradeJob e).1.1.1.0
+      by_kind : (kd : Kind) → kind ≡ kd → is_full (sight_of old) (aim_of kind) ≡ false
+      by_kind (PutJob name bytes) e = ap (λ k. is_full (sight_of old) (aim_of k)) e ∙ (begun-put name bytes e).full
+      by_kind (GetJob name) e = ap (λ k. is_full (sight_of old) (aim_of k)) e ∙ refl
+      by_kind (DropJob name) e = ap (λ k. is_full (sight_of old) (aim_of k)) e ∙ (none-of (DropJob name) e).1.1.1.1.0
+      by_kind AuditJob e = ap (λ k. is_full (sight_of old) (aim_of k)) e ∙ (none-of AuditJob e).1.1.1.0
+      by_kind RepairJob e = ap (λ k. is_full (sight_of old) (aim_of k)) e ∙ (none-of RepairJob e).1.1.1.0
+      by_kind UpgradeJob e = ap (λ k. is_full (sight_of old) (aim_of k)) e ∙ (none-of UpgradeJob e).1.1.1.0
 
   -- numbers are left for a put and for an audit
   begun-id : (name bytes : List ℕ) → kind ≡ PutJob name bytes → next_id old.records ≤ 2 ^ 64 - 32
   begun-id name bytes e = at-most (2 ^ 64 - 32) (next_id old.records)
-      (right_false (is_too_full old (PutJob name bytes)) (are_numbers_used_up old (PutJob name bytes)) (ap (is_full old) (sym e) ∙ begun-full))
+      (right_false (is_too_full (sight_of old) (aim_of (PutJob name bytes))) (are_numbers_used_up (sight_of old) (aim_of (PutJob name bytes))) (ap (λ k. is_full (sight_of old) (aim_of k)) (sym e) ∙ begun-full))
 
   begun-audit : kind ≡ AuditJob → next_audit old.records ≤ 2 ^ 64 - 32
   begun-audit e = at-most (2 ^ 64 - 32) (next_audit old.records)
-      (right_false (is_too_full old AuditJob) (are_numbers_used_up old AuditJob) (ap (is_full old) (sym e) ∙ begun-full))
+      (right_false (is_too_full (sight_of old) (aim_of AuditJob)) (are_numbers_used_up (sight_of old) (aim_of AuditJob)) (ap (λ k. is_full (sight_of old) (aim_of k)) (sym e) ∙ begun-full))
 
   begun-due : kind ≡ AuditJob → due_of old.records ≡ None
   begun-due e = none (due_of old.records) (none-of AuditJob e).1.1.0
@@ -158,18 +160,18 @@ module _ (limit : ℕ) (old : State) (kind : Kind) (wish : Option ℕ) (allowed 
 
   -- the journal has room for all its records
   abbrev sizes_all : Kind → ℕ
-  sizes_all kd = sum (append_sizes (version_of old.records) (setup_in old) kd)
+  sizes_all kd = sum (append_sizes (version_of old.records) (setup_in old) (aim_of kd))
 
   abbrev room_now : ℕ
-  room_now = journal_end old + sum_by (reserved (version_of old.records) (setup_in old)) old.jobs
+  room_now = room_used old
 
   begun-room : room_now + sizes_all kind ≤ largest_journal ⊎ (sizes_all kind ≡ 0)
   begun-room = by_kind kind begun-full
     where
-      enough : (kd : Kind) → (is_too_full old kd || are_numbers_used_up old kd) ≡ false → room_now + sizes_all kd ≤ largest_journal
-      enough kd h = at-most largest_journal (room_now + sizes_all kd) (left_false (is_too_full old kd) (are_numbers_used_up old kd) h)
+      enough : (kd : Kind) → (is_too_full (sight_of old) (aim_of kd) || are_numbers_used_up (sight_of old) (aim_of kd)) ≡ false → room_now + sizes_all kd ≤ largest_journal
+      enough kd h = at-most largest_journal (room_now + sizes_all kd) (left_false (is_too_full (sight_of old) (aim_of kd)) (are_numbers_used_up (sight_of old) (aim_of kd)) h)
 
-      by_kind : (kd : Kind) → is_full old kd ≡ false → room_now + sizes_all kd ≤ largest_journal ⊎ (sizes_all kd ≡ 0)
+      by_kind : (kd : Kind) → is_full (sight_of old) (aim_of kd) ≡ false → room_now + sizes_all kd ≤ largest_journal ⊎ (sizes_all kd ≡ 0)
       by_kind (PutJob name bytes) h = inl (enough (PutJob name bytes) h)
       by_kind (GetJob name) h = inr refl
       by_kind (DropJob name) h = inl (enough (DropJob name) h)
@@ -178,8 +180,8 @@ module _ (limit : ℕ) (old : State) (kind : Kind) (wish : Option ℕ) (allowed 
       by_kind UpgradeJob h = inl (enough UpgradeJob h)
 
   -- its name finds a place
-  begun-name : (name bytes : List ℕ) → kind ≡ PutJob name bytes → (is_name_among (names_taken old) name ≡ true) ⊎ (length (names_taken old) + 1 ≤ most_files)
-  begun-name name bytes e = crowd (is_name_among (names_taken old) name) (length (names_taken old)) (begun-put name bytes e).place
+  begun-name : (name bytes : List ℕ) → kind ≡ PutJob name bytes → (is_name_among (names_taken (sight_of old)) name ≡ true) ⊎ (length (names_taken (sight_of old)) + 1 ≤ most_files)
+  begun-name name bytes e = crowd (is_name_among (names_taken (sight_of old)) name) (length (names_taken (sight_of old))) (begun-put name bytes e).place
     where
       crowd : (there : Bool) (n : ℕ) → (nat_le most_files n && not there) ≡ false → (there ≡ true) ⊎ (n + 1 ≤ most_files)
       crowd true n h = inl refl
@@ -289,8 +291,8 @@ module _ (limit moment : ℕ) (old : State) (S : IsSound limit old) (kind : Kind
   }
 
   -- a job needs no more room than all its records
-  added-reserved : reserved (version_of old.records) (setup_in old) added ≤ sum (append_sizes (version_of old.records) (setup_in old) kind)
-  added-reserved = (let a = sum_by-take-drop (λ (x : ℕ). x) (append_sizes (version_of old.records) (setup_in old) kind) (length (append_sizes (version_of old.records) (setup_in old) kind) - appends_left (setup_in old) added) in omega (arith, a))
+  added-reserved : reserved (version_of old.records) (setup_in old) added ≤ sum (append_sizes (version_of old.records) (setup_in old) (aim_of kind))
+  added-reserved = (let a = sum_by-take-drop (λ (x : ℕ). x) (append_sizes (version_of old.records) (setup_in old) (aim_of kind)) (length (append_sizes (version_of old.records) (setup_in old) (aim_of kind)) - appends_left (setup_in old) added) in omega (arith, a))
 
   added-room : journal_end old + sum_by (reserved (version_of old.records) (setup_in old)) (old.jobs ++ added ∷ []) ≤ largest_journal
   added-room = (let a = sum-more (reserved (version_of old.records) (setup_in old)) old.jobs added in let b = added-reserved in elim (begun-room limit old kind wish allowed) [
@@ -298,13 +300,13 @@ module _ (limit moment : ℕ) (old : State) (S : IsSound limit old) (kind : Kind
     | inr z ↦ (let c = S.room in omega (arith, a, b, z, c))
   ])
 
-  put-more : (n : List ℕ) → are_put n (old.jobs ++ added ∷ []) ≡ (are_put n old.jobs || (puts_name n kind || false))
-  put-more n = list_any-append (λ (j : Job). puts_name n j.kind) old.jobs (added ∷ [])
+  put-more : (n : List ℕ) → are_put n (old.jobs ++ added ∷ []) ≡ (are_put n old.jobs || (puts_name n (aim_of kind) || false))
+  put-more n = list_any-append (λ (j : Job). puts_name n (aim_of j.kind)) old.jobs (added ∷ [])
 
   added-names : length (taken_by old.records (old.jobs ++ added ∷ [])) ≤ most_files
   added-names = by_kind kind refl
     where
-      plain : ((n : List ℕ) → puts_name n kind ≡ false) → length (taken_by old.records (old.jobs ++ added ∷ [])) ≤ most_files
+      plain : ((n : List ℕ) → puts_name n (aim_of kind) ≡ false) → length (taken_by old.records (old.jobs ++ added ∷ [])) ≤ most_files
       plain h = (let f = taken-fewer old.records old.records old.jobs (old.jobs ++ added ∷ []) (λ n g. ap (λ b. b || is_some (file_of old.records n)) (sym (put-more n ∙ (ap (λ b. are_put n old.jobs || (b || false)) (h n) ∙ or-none (are_put n old.jobs)))) ∙ g) in
           let b = S.names in omega (arith, f, b))
         where
@@ -314,9 +316,9 @@ module _ (limit moment : ℕ) (old : State) (S : IsSound limit old) (kind : Kind
 
       by_kind : (kd : Kind) → kind ≡ kd → length (taken_by old.records (old.jobs ++ added ∷ [])) ≤ most_files
       by_kind (PutJob name bytes) e = elim (begun-name limit old kind wish allowed name bytes e) [
-        | inl there ↦ (let f = fewer (taken_by old.records (old.jobs ++ added ∷ [])) (names_taken old) (once-taken old.records (old.jobs ++ added ∷ [])) (λ n g. among n there (more n g)) in
+        | inl there ↦ (let f = fewer (taken_by old.records (old.jobs ++ added ∷ [])) (names_taken (sight_of old)) (once-taken old.records (old.jobs ++ added ∷ [])) (λ n g. among n there (more n g)) in
             let b = S.names in omega (arith, f, b))
-        | inr room ↦ (let f = fewer (taken_by old.records (old.jobs ++ added ∷ [])) (name ∷ names_taken old) (once-taken old.records (old.jobs ++ added ∷ [])) (λ n g. with-name n (more n g)) in
+        | inr room ↦ (let f = fewer (taken_by old.records (old.jobs ++ added ∷ [])) (name ∷ names_taken (sight_of old)) (once-taken old.records (old.jobs ++ added ∷ [])) (λ n g. with-name n (more n g)) in
             omega (arith, f, room))
       ]
         where
@@ -325,29 +327,29 @@ module _ (limit moment : ℕ) (old : State) (S : IsSound limit old) (kind : Kind
           split true false c h = inr refl
           split false false c h = inr h
 
-          more : (n : List ℕ) → is_name_among (taken_by old.records (old.jobs ++ added ∷ [])) n ≡ true → (is_same_name n name ≡ true) ⊎ (is_name_among (names_taken old) n ≡ true)
-          more n g = (let h = sym (listed-taken old.records (old.jobs ++ added ∷ []) n ∙ ap (λ b. b || is_some (file_of old.records n)) (put-more n ∙ ap (λ kd. are_put n old.jobs || (puts_name n kd || false)) e)) ∙ g in
+          more : (n : List ℕ) → is_name_among (taken_by old.records (old.jobs ++ added ∷ [])) n ≡ true → (is_same_name n name ≡ true) ⊎ (is_name_among (names_taken (sight_of old)) n ≡ true)
+          more n g = (let h = sym (listed-taken old.records (old.jobs ++ added ∷ []) n ∙ ap (λ b. b || is_some (file_of old.records n)) (put-more n ∙ ap (λ kd. are_put n old.jobs || (puts_name n (aim_of kd) || false)) e)) ∙ g in
               elim (split (are_put n old.jobs) (is_same_name n name) (is_some (file_of old.records n)) h) [
                 | inl same ↦ inl same
                 | inr was ↦ inr (listed-taken old.records old.jobs n ∙ was)
               ])
 
-          among : (n : List ℕ) → is_name_among (names_taken old) name ≡ true → (is_same_name n name ≡ true) ⊎ (is_name_among (names_taken old) n ≡ true) → is_name_among (names_taken old) n ≡ true
-          among n there (inl same) = subst (λ m. is_name_among (names_taken old) m ≡ true) (sym (same-eq n name same)) there
+          among : (n : List ℕ) → is_name_among (names_taken (sight_of old)) name ≡ true → (is_same_name n name ≡ true) ⊎ (is_name_among (names_taken (sight_of old)) n ≡ true) → is_name_among (names_taken (sight_of old)) n ≡ true
+          among n there (inl same) = subst (λ m. is_name_among (names_taken (sight_of old)) m ≡ true) (sym (same-eq n name same)) there
           among n there (inr was) = was
 
-          with-name : (n : List ℕ) → (is_same_name n name ≡ true) ⊎ (is_name_among (names_taken old) n ≡ true) → (is_same_name n name || is_name_among (names_taken old) n) ≡ true
-          with-name n (inl same) = ap (λ b. b || is_name_among (names_taken old) n) same
+          with-name : (n : List ℕ) → (is_same_name n name ≡ true) ⊎ (is_name_among (names_taken (sight_of old)) n ≡ true) → (is_same_name n name || is_name_among (names_taken (sight_of old)) n) ≡ true
+          with-name n (inl same) = ap (λ b. b || is_name_among (names_taken (sight_of old)) n) same
           with-name n (inr was) = ap (λ b. is_same_name n name || b) was ∙ or-true (is_same_name n name)
             where
               or-true : (a : Bool) → (a || true) ≡ true
               or-true true = refl
               or-true false = refl
-      by_kind (GetJob name) e = plain (λ n. ap (puts_name n) e)
-      by_kind (DropJob name) e = plain (λ n. ap (puts_name n) e)
-      by_kind AuditJob e = plain (λ n. ap (puts_name n) e)
-      by_kind RepairJob e = plain (λ n. ap (puts_name n) e)
-      by_kind UpgradeJob e = plain (λ n. ap (puts_name n) e)
+      by_kind (GetJob name) e = plain (λ n. ap (λ kd. puts_name n (aim_of kd)) e)
+      by_kind (DropJob name) e = plain (λ n. ap (λ kd. puts_name n (aim_of kd)) e)
+      by_kind AuditJob e = plain (λ n. ap (λ kd. puts_name n (aim_of kd)) e)
+      by_kind RepairJob e = plain (λ n. ap (λ kd. puts_name n (aim_of kd)) e)
+      by_kind UpgradeJob e = plain (λ n. ap (λ kd. puts_name n (aim_of kd)) e)
 
   -- numbers are left
   added-ids : IsLimit limit → 0 < sum_by starts_left (old.jobs ++ added ∷ []) → next_id old.records + sum_by starts_left (old.jobs ++ added ∷ []) ≤ 2 ^ 64 - 1
@@ -373,7 +375,7 @@ module _ (limit moment : ℕ) (old : State) (S : IsSound limit old) (kind : Kind
   abbrev pub begun_state : State
   begun_state = record old { jobs = old.jobs ++ added ∷ []; next_job = old.next_job + 1 }
 
-  upgrade-is : (k : Kind) → IsTrue (is_upgrade k) → k ≡ UpgradeJob
+  upgrade-is : (k : Kind) → IsTrue (is_upgrade (aim_of k)) → k ≡ UpgradeJob
   upgrade-is (PutJob name bytes) u = absurd (false≢true u)
   upgrade-is (GetJob name) u = absurd (false≢true u)
   upgrade-is (DropJob name) u = absurd (false≢true u)
@@ -421,16 +423,16 @@ module _ (limit moment : ℕ) (old : State) (S : IsSound limit old) (kind : Kind
     packing = S.packing;
     switching = λ e. absurd (let p = (S.switching e).packing opened (begun-unbarred limit old kind wish allowed) in some-not-none old.alone (Packing p.0) p.1 (none_lone limit old kind wish allowed));
     upgrade = λ k j h u. elim (found_more old.jobs added k j h) [
-      | inl p ↦ ap (λ js. js ++ added ∷ []) (begun-lone limit old kind wish allowed (upgrade-is kind (subst (λ (z : Job). IsTrue (is_upgrade z.kind)) p.1 u))) ∙ ap (λ (x : Job). x ∷ []) (sym p.1)
+      | inl p ↦ ap (λ js. js ++ added ∷ []) (begun-lone limit old kind wish allowed (upgrade-is kind (subst (λ (z : Job). IsTrue (is_upgrade (aim_of z.kind))) p.1 u))) ∙ ap (λ (x : Job). x ∷ []) (sym p.1)
       | inr q ↦ absurd (begun-unshut limit old kind wish allowed k j q u)
     ];
     one_check = λ k l i j hi hj ci cj. elim (found_more old.jobs added k i hi) [
       | inl p ↦ elim (found_more old.jobs added l j hj) [
         | inl q ↦ p.0 ∙ sym q.0
-        | inr q ↦ absurd (false≢true (sym (check_alone limit old kind wish allowed (subst (λ (z : Job). IsTrue (is_check z.kind)) p.1 ci) l j q) ∙ cj))
+        | inr q ↦ absurd (false≢true (sym (check_alone limit old kind wish allowed (subst (λ (z : Job). IsTrue (is_check (aim_of z.kind))) p.1 ci) l j q) ∙ cj))
       ]
       | inr p ↦ elim (found_more old.jobs added l j hj) [
-        | inl q ↦ absurd (false≢true (sym (check_alone limit old kind wish allowed (subst (λ (z : Job). IsTrue (is_check z.kind)) q.1 cj) k i p) ∙ ci))
+        | inl q ↦ absurd (false≢true (sym (check_alone limit old kind wish allowed (subst (λ (z : Job). IsTrue (is_check (aim_of z.kind))) q.1 cj) k i p) ∙ ci))
         | inr q ↦ S.one_check k l i j p q ci cj
       ]
     ];

@@ -9,11 +9,11 @@ use Rattle.std.proofs.lemmas.Bool.Decides.{nat_tests}
 use Rattle.hail_records.specs.Table.{File, version_of, next_id, next_audit, started_as, file_of, running_audit, due_of, is_same_name}
 use Rattle.hail_records.specs.Acceptance.{refused, is_due, AreAccepted}
 use Rattle.hail_records.proofs.FilesLaws.{same-refl}
-use Rattle.hail_machine.specs.Jobs.{Kind, PutJob, GetJob, DropJob, AuditJob, RepairJob, UpgradeJob, Pinned, Job, job_of, with_job}
+use Rattle.hail_machine.specs.Jobs.{Kind, PutJob, GetJob, DropJob, AuditJob, RepairJob, UpgradeJob, aim_of, Pinned, Job, job_of, with_job}
 use Rattle.hail_machine.specs.Actions.{Action, WriteBody, SyncBody, WriteGate, SyncGate, append_actions, actions_left, appends_left}
 use Rattle.hail_machine.specs.States.{State, Append, Packing, setup_in, file_in, journal_end}
 use Rattle.hail_machine.specs.Space.{reserved}
-use Rattle.hail_machine.specs.Begins.{is_check, is_upgrade}
+use Rattle.hail_machine.specs.Sights.{is_check, is_upgrade}
 use Rattle.hail_machine.specs.Appends.{Writes, is_first_append, subject_drawn, bytes_drawn, is_pinned, removable, taken_out, done_append}
 use Rattle.hail_machine.specs.Steps.{next_action}
 use Rattle.hail_machine.proofs.JobLists.{cond_true, cond_false, same_value, found_with, found_itself}
@@ -73,7 +73,7 @@ due-same (InEffect id size profile kept) rs h = refl
 due-same (RepairDue number counts) rs h = absurd h
 
 -- a job that is no check writes no such record
-no-check : (w : State) (job : Job) (kind : Kind) (entry : Record) → (is_check kind ≡ true → ⊥) → Writes w job kind entry → IsNoCheck entry
+no-check : (w : State) (job : Job) (kind : Kind) (entry : Record) → (is_check (aim_of kind) ≡ true → ⊥) → Writes w job kind entry → IsNoCheck entry
 no-check w job (PutJob name bytes) entry n h = elim (cases_lt job.place 4) [
   | inl l ↦ subst IsNoCheck (sym (put-writes_first w job name bytes entry l h)) tt
   | inr l ↦ subst IsNoCheck (sym (put-writes_later w job name bytes entry l h)) (by_version (version_of w.records) job.subject (length bytes) job.profile IsNoCheck tt tt)
@@ -85,7 +85,7 @@ no-check w job RepairJob entry n h = absurd (n refl)
 no-check w job UpgradeJob entry n h = subst IsNoCheck (sym h) tt
 
 -- nor one that draws an audit number
-no-audit : (w : State) (job : Job) (kind : Kind) (entry : Record) (rs : List Record) → (is_check kind ≡ true → ⊥) → Writes w job kind entry → next_audit (entry ∷ rs) ≡ next_audit rs
+no-audit : (w : State) (job : Job) (kind : Kind) (entry : Record) (rs : List Record) → (is_check (aim_of kind) ≡ true → ⊥) → Writes w job kind entry → next_audit (entry ∷ rs) ≡ next_audit rs
 no-audit w job (PutJob name bytes) entry rs n h = elim (cases_lt job.place 4) [
   | inl l ↦ ap (λ r. next_audit (r ∷ rs)) (put-writes_first w job name bytes entry l h)
   | inr l ↦ ap (λ r. next_audit (r ∷ rs)) (put-writes_later w job name bytes entry l h)
@@ -183,7 +183,7 @@ module _ (s : Setup) (rs : List Record) (bytes : ℕ → List ℕ) (entry : Reco
 
   -- what stands ready for another job, whose record this is not
   kept-ready_more : (job : Job) (kind : Kind) → (IsPutUnderWay job kind → put_ended entry ≡ Some job.subject → ⊥) →
-      (IsTrue (is_check kind) → IsNoCheck entry) → (IsTrue (is_upgrade kind) → ⊥) → IsReady s rs bytes job kind → IsReady s (entry ∷ rs) bytes job kind
+      (IsTrue (is_check (aim_of kind)) → IsNoCheck entry) → (IsTrue (is_upgrade (aim_of kind)) → ⊥) → IsReady s rs bytes job kind → IsReady s (entry ∷ rs) bytes job kind
   kept-ready_more job (PutJob name content) apart quiet lone r = λ l. (let d = r l in record {
     drawn = (let a = d.drawn in let b = grows in omega (arith, a, b));
     bytes_are = d.bytes_are;
@@ -390,7 +390,7 @@ module _ (limit : ℕ) (old : State) (S : IsSound limit old) (job : Job) (runs :
           let left : 0 < appends_left s job = (let c = one-less in omega (arith, c)) in
           let st : started_as old.records job.subject ≡ Some name = (r d.0).started left in
           let is : n ≡ name = same_value (started_as old.records id) n name started (ap (started_as old.records) (sym d.1) ∙ st) in
-          put-in n old.jobs job.number job runs (ap (puts_name n) kind ∙ (ap (is_same_name n) (sym is) ∙ same-refl n)))
+          put-in n old.jobs job.number job runs (ap (λ kd. puts_name n (aim_of kd)) kind ∙ (ap (is_same_name n) (sym is) ∙ same-refl n)))
       by_kind (GetJob name) kind h r = absurd h
       by_kind (DropJob name) kind h r = absurd (done-by old job (DropJob name) a.entry id h e).0
       by_kind AuditJob kind h r = absurd (done-by old job AuditJob a.entry id h e).0
@@ -458,7 +458,7 @@ module _ (limit : ℕ) (old : State) (S : IsSound limit old) (job : Job) (runs :
   done-reserved : sum_by (reserved (version_of rs_now) s) (with_job old.jobs after) ≤ sum_by (reserved (version_of old.records) s) (with_job old.jobs after)
   done-reserved = elim (version-kept old job job.kind a.entry old.records done-writes) [
     | inl same ↦ (let e = ap (λ v. sum_by (reserved v s) (with_job old.jobs after)) same in omega (arith, e))
-    | inr kind ↦ (let one = only-with old.jobs after job job runs (S.upgrade job.number job runs (subst (λ kd. IsTrue (is_upgrade kd)) (sym kind) refl)) after.number after (found_itself old.jobs after job runs) in
+    | inr kind ↦ (let one = only-with old.jobs after job job runs (S.upgrade job.number job runs (subst (λ kd. IsTrue (is_upgrade (aim_of kd))) (sym kind) refl)) after.number after (found_itself old.jobs after job runs) in
         let none : appends_left s after ≡ 0 = (let b = upgrade-first s job kind in let c = one-less in omega (arith, b, c)) in
         let free : reserved (version_of rs_now) s after ≡ 0 = ap (λ kd. room_of (version_of rs_now) s kd (appends_left s after)) kind ∙ ap (room_of (version_of rs_now) s UpgradeJob) none in
         let all = ap (sum_by (reserved (version_of rs_now) s)) one ∙ sum_by-cons (reserved (version_of rs_now) s) after [] in
@@ -505,7 +505,7 @@ module _ (limit : ℕ) (old : State) (S : IsSound limit old) (job : Job) (runs :
     | inl p ↦ absurd (let e : j.place ≡ job.place + 1 = ap (λ (z : Job). z.place) p.1 in
         let three = audit-gate_place (sym (ap (λ (z : Job). z.kind) p.1) ∙ kind) (omega (arith, e, l)) in omega (arith, e, l, three))
     | inr q ↦ (let b = S.audits k j q.1 kind l in
-        let e = no-audit old job job.kind a.entry old.records (λ d. q.0 (S.one_check k job.number j job q.1 runs (ap is_check kind) d)) done-writes in
+        let e = no-audit old job job.kind a.entry old.records (λ d. q.0 (S.one_check k job.number j job q.1 runs (ap (λ kd. is_check (aim_of kd)) kind) d)) done-writes in
         omega (arith, b, e))
   ]
 
@@ -561,9 +561,9 @@ module _ (limit : ℕ) (old : State) (S : IsSound limit old) (job : Job) (runs :
     lone = λ x e. absurd (found_some (S.lone x e));
     packing = λ p e. absurd (found_some (S.lone (Packing p) e));
     switching = λ e. absurd (found_some (S.switching e).jobs);
-    upgrade = λ k j h u. (let b = back k j h in only-with old.jobs after job b.0 runs (S.upgrade k b.0 b.1 (subst (λ kd. IsTrue (is_upgrade kd)) b.2 u)) k j h);
+    upgrade = λ k j h u. (let b = back k j h in only-with old.jobs after job b.0 runs (S.upgrade k b.0 b.1 (subst (λ kd. IsTrue (is_upgrade (aim_of kd))) b.2 u)) k j h);
     one_check = λ k l i j hi hj ci cj. (let x = back k i hi in let y = back l j hj in
-        S.one_check k l x.0 y.0 x.1 y.1 (subst (λ kd. IsTrue (is_check kd)) x.2 ci) (subst (λ kd. IsTrue (is_check kd)) y.2 cj));
+        S.one_check k l x.0 y.0 x.1 y.1 (subst (λ kd. IsTrue (is_check (aim_of kd))) x.2 ci) (subst (λ kd. IsTrue (is_check (aim_of kd))) y.2 cj));
     apart = done-apart;
     append = λ b h. absurd (let e : None ≡ Some b = h in cc);
     barred = λ b. refl;

@@ -4,7 +4,7 @@ use Rattle.std.specs.Prelude.{is_some}
 use Rattle.std.proofs.lemmas.Bool.{cases_Bool}
 use Rattle.plain_facts.proofs.Options.{some-not-none}
 use Rattle.hail_records.specs.Table.{version_of, file_of}
-use Rattle.hail_machine.specs.Jobs.{Job, job_of, without_job}
+use Rattle.hail_machine.specs.Jobs.{aim_of, Job, job_of, without_job}
 use Rattle.hail_machine.specs.States.{State, Append, Doubt, setup_in, ended}
 use Rattle.hail_machine.specs.Space.{reserved}
 use Rattle.hail_machine.proofs.JobLists.{cond_true, cond_false, found_without}
@@ -28,8 +28,8 @@ or-left false b false f h = h
 pub put-without : (n : List ℕ) (js : List Job) (m : ℕ) → are_put n (without_job js m) ≡ true → are_put n js ≡ true
 put-without n [] m h = h
 put-without n (x ∷ js) m h = elim (cases_Bool (x.number == m)) [
-  | inl t ↦ later (puts_name n x.kind) (put-without n js m (ap (are_put n) (sym (cond_true (x.number == m) (without_job js m) (x ∷ without_job js m) t)) ∙ h))
-  | inr f ↦ or-right (puts_name n x.kind) (are_put n (without_job js m)) (are_put n js) (put-without n js m) (ap (are_put n) (sym (cond_false (x.number == m) (without_job js m) (x ∷ without_job js m) f)) ∙ h)
+  | inl t ↦ later (puts_name n (aim_of x.kind)) (put-without n js m (ap (are_put n) (sym (cond_true (x.number == m) (without_job js m) (x ∷ without_job js m) t)) ∙ h))
+  | inr f ↦ or-right (puts_name n (aim_of x.kind)) (are_put n (without_job js m)) (are_put n js) (put-without n js m) (ap (are_put n) (sym (cond_false (x.number == m) (without_job js m) (x ∷ without_job js m) f)) ∙ h)
 ]
   where
     later : (a : Bool) → are_put n js ≡ true → (a || are_put n js) ≡ true

@@ -5,11 +5,11 @@ use Rattle.std.proofs.lemmas.Bool.{cases_Bool, and_parts, ltb-true}
 use Rattle.hail_field.specs.Shape.{IsShape}
 use Rattle.hail_records.specs.Records.{Setup, SetUp, is_setup, is_master, is_in_grammar}
 use Rattle.hail_records.specs.Table.{version_of, next_id, next_audit}
-use Rattle.hail_machine.specs.Jobs.{Kind, PutJob, GetJob, DropJob, AuditJob, RepairJob, UpgradeJob, Job, job_of}
+use Rattle.hail_machine.specs.Jobs.{Kind, PutJob, GetJob, DropJob, AuditJob, RepairJob, UpgradeJob, aim_of, Job, job_of}
 use Rattle.hail_machine.specs.Actions.{Action, End, actions_of, actions_left}
 use Rattle.hail_machine.specs.Appends.{IsAt}
 use Rattle.hail_machine.specs.States.{State, Append, setup_in}
-use Rattle.hail_machine.specs.Space.{are_numbers_used_up}
+use Rattle.hail_machine.specs.Sights.{sight_of, are_numbers_used_up}
 use Rattle.hail_machine.specs.Steps.{is_idle_drop, next_action}
 use Rattle.hail_machine.proofs.JobLists.{cond_true, cond_false, number_of}
 use Rattle.sound_states.specs.Orders.{moves_made, moves_before}
@@ -23,7 +23,7 @@ pub valid-shape : (s : Setup) → IsTrue (is_in_grammar (SetUp s)) → IsShape s
 valid-shape s h = let good : is_setup s ≡ true = (and_parts (is_setup s) (is_master s.master) h).0 in grind (arith, good)
 
 module _ (limit : ℕ) (w : State) (S : IsSound limit w) where
-  pub numbers-left : (kind : Kind) → version_of w.records ≡ 1 → are_numbers_used_up w kind ≡ false
+  pub numbers-left : (kind : Kind) → version_of w.records ≡ 1 → are_numbers_used_up (sight_of w) (aim_of kind) ≡ false
   numbers-left (PutJob name bytes) first = not-above (next_id w.records) (let a = ids-small limit w S first in omega (arith, a))
     where
       not-above : (n : ℕ) → n ≤ 2 ^ 64 - 32 → nat_lt (2 ^ 64 - 32) n ≡ false

@@ -7,20 +7,21 @@ use Rattle.hail_records.specs.Records.{Record}
 use Rattle.hail_records.specs.Table.{File, is_same_name, files_of, file_of, find_file, are_ordered}
 use Rattle.hail_records.proofs.FilesLaws.{same-eq, same-refl, find-files_of, same-sym, before-irrefl}
 use Rattle.hail_records.proofs.OrderLaws.{is_below, ordered-files_of}
-use Rattle.hail_machine.specs.Jobs.{Kind, PutJob, GetJob, DropJob, AuditJob, RepairJob, UpgradeJob, Job, job_of}
-use Rattle.hail_machine.specs.Begins.{is_name_among, with_name, names_in, with_puts}
+use Rattle.hail_machine.specs.Jobs.{Aim, ToPut, ToGet, ToDrop, ToAudit, ToRepair, ToUpgrade, aim_of, Job, job_of}
+use Rattle.hail_machine.specs.Sights.{aims_of, is_name_among, with_name, names_in, with_puts}
 use Rattle.hail_machine.proofs.JobLists.{cond_true, cond_false}
 use Rattle.hail_machine.proofs.Pins.{any_job}
+use Rattle.hail_machine.proofs.Sights.{any-aims}
 
 -- names that stand once each
 abbrev pub AreOnce : List (List ℕ) → Type 0
 AreOnce [] = Unit {0}
 AreOnce (x ∷ xs) = (is_name_among xs x ≡ false) × AreOnce xs
 
--- a job puts under a name
-abbrev pub puts_name : List ℕ → Kind → Bool
-puts_name n (PutJob name bytes) = is_same_name n name
-puts_name n kind = false
+-- a job of this aim puts under a name
+abbrev pub puts_name : List ℕ → Aim → Bool
+puts_name n (ToPut name size) = is_same_name n name
+puts_name n aim = false
 
 -- ---- what is listed
 
@@ -61,41 +62,32 @@ once-with_name names name o = elim (cases_Bool (is_name_among names name)) [
   | inr f ↦ subst AreOnce (sym (cond_false (is_name_among names name) names (name ∷ names) f)) (f, o)
 ]
 
--- one more job
-with_puts-cons : (names : List (List ℕ)) (j : Job) (js : List Job) (kind : Kind) → j.kind ≡ kind → with_puts names (j ∷ js) ≡ with_puts names (record j { kind = kind } ∷ js)
-with_puts-cons names j js kind e = ap (λ kd. with_puts names (record j { kind = kd } ∷ js)) e
-
-pub once-with_puts : (names : List (List ℕ)) (js : List Job) → AreOnce names → AreOnce (with_puts names js)
+pub once-with_puts : (names : List (List ℕ)) (aims : List Aim) → AreOnce names → AreOnce (with_puts names aims)
 once-with_puts names [] o = o
-once-with_puts names (j ∷ js) o = by_kind j.kind refl (once-with_puts names js o)
-  where
-    by_kind : (kind : Kind) → j.kind ≡ kind → AreOnce (with_puts names js) → AreOnce (with_puts names (j ∷ js))
-    by_kind (PutJob name bytes) e r = subst AreOnce (sym (with_puts-cons names j js (PutJob name bytes) e)) (once-with_name (with_puts names js) name r)
-    by_kind (GetJob name) e r = subst AreOnce (sym (with_puts-cons names j js (GetJob name) e)) r
-    by_kind (DropJob name) e r = subst AreOnce (sym (with_puts-cons names j js (DropJob name) e)) r
-    by_kind AuditJob e r = subst AreOnce (sym (with_puts-cons names j js AuditJob e)) r
-    by_kind RepairJob e r = subst AreOnce (sym (with_puts-cons names j js RepairJob e)) r
-    by_kind UpgradeJob e r = subst AreOnce (sym (with_puts-cons names j js UpgradeJob e)) r
+once-with_puts names (ToPut name size ∷ aims) o = once-with_name (with_puts names aims) name (once-with_puts names aims o)
+once-with_puts names (ToGet name ∷ aims) o = once-with_puts names aims o
+once-with_puts names (ToDrop name ∷ aims) o = once-with_puts names aims o
+once-with_puts names (ToAudit ∷ aims) o = once-with_puts names aims o
+once-with_puts names (ToRepair ∷ aims) o = once-with_puts names aims o
+once-with_puts names (ToUpgrade ∷ aims) o = once-with_puts names aims o
 
-abbrev pub are_put : List ℕ → List Job → Bool
-are_put n js = list_any (λ (j : Job). puts_name n j.kind) js
-
-pub listed-with_puts : (names : List (List ℕ)) (js : List Job) (n : List ℕ) → is_name_among (with_puts names js) n ≡ (are_put n js || is_name_among names n)
+pub listed-with_puts : (names : List (List ℕ)) (aims : List Aim) (n : List ℕ) → is_name_among (with_puts names aims) n ≡ (list_any (puts_name n) aims || is_name_among names n)
 listed-with_puts names [] n = refl
-listed-with_puts names (j ∷ js) n = by_kind j.kind refl (listed-with_puts names js n)
+listed-with_puts names (ToPut name size ∷ aims) n = listed-with_name (with_puts names aims) name n
+    ∙ (ap (λ b. is_same_name n name || b) (listed-with_puts names aims n) ∙ join (is_same_name n name) (list_any (puts_name n) aims) (is_name_among names n))
   where
-    by_kind : (kind : Kind) → j.kind ≡ kind → is_name_among (with_puts names js) n ≡ (are_put n js || is_name_among names n) → is_name_among (with_puts names (j ∷ js)) n ≡ ((puts_name n j.kind || are_put n js) || is_name_among names n)
-    by_kind (PutJob name bytes) e r = ap (λ l. is_name_among l n) (with_puts-cons names j js (PutJob name bytes) e)
-        ∙ (listed-with_name (with_puts names js) name n ∙ (ap (λ b. is_same_name n name || b) r ∙ (rw e (join (is_same_name n name) (are_put n js) (is_name_among names n)))))
-      where
-        join : (a b c : Bool) → (a || (b || c)) ≡ ((a || b) || c)
-        join true b c = refl
-        join false b c = refl
-    by_kind (GetJob name) e r = ap (λ l. is_name_among l n) (with_puts-cons names j js (GetJob name) e) ∙ (r ∙ rw e refl)
-    by_kind (DropJob name) e r = ap (λ l. is_name_among l n) (with_puts-cons names j js (DropJob name) e) ∙ (r ∙ rw e refl)
-    by_kind AuditJob e r = ap (λ l. is_name_among l n) (with_puts-cons names j js AuditJob e) ∙ (r ∙ rw e refl)
-    by_kind RepairJob e r = ap (λ l. is_name_among l n) (with_puts-cons names j js RepairJob e) ∙ (r ∙ rw e refl)
-    by_kind UpgradeJob e r = ap (λ l. is_name_among l n) (with_puts-cons names j js UpgradeJob e) ∙ (r ∙ rw e refl)
+    join : (a b c : Bool) → (a || (b || c)) ≡ ((a || b) || c)
+    join true b c = refl
+    join false b c = refl
+listed-with_puts names (ToGet name ∷ aims) n = listed-with_puts names aims n
+listed-with_puts names (ToDrop name ∷ aims) n = listed-with_puts names aims n
+listed-with_puts names (ToAudit ∷ aims) n = listed-with_puts names aims n
+listed-with_puts names (ToRepair ∷ aims) n = listed-with_puts names aims n
+listed-with_puts names (ToUpgrade ∷ aims) n = listed-with_puts names aims n
+
+-- a job of these puts under a name
+abbrev pub are_put : List ℕ → List Job → Bool
+are_put n js = list_any (λ (j : Job). puts_name n (aim_of j.kind)) js
 
 -- ---- the names of files
 
@@ -124,13 +116,14 @@ length-names_in (f ∷ fs) = ap suc (length-names_in fs)
 -- ---- the names that are taken
 
 abbrev pub taken_by : List Record → List Job → List (List ℕ)
-taken_by rs js = with_puts (names_in (files_of rs)) js
+taken_by rs js = with_puts (names_in (files_of rs)) (aims_of js)
 
 pub once-taken : (rs : List Record) (js : List Job) → AreOnce (taken_by rs js)
-once-taken rs js = once-with_puts (names_in (files_of rs)) js (once-files rs)
+once-taken rs js = once-with_puts (names_in (files_of rs)) (aims_of js) (once-files rs)
 
 pub listed-taken : (rs : List Record) (js : List Job) (n : List ℕ) → is_name_among (taken_by rs js) n ≡ (are_put n js || is_some (file_of rs n))
-listed-taken rs js n = listed-with_puts (names_in (files_of rs)) js n ∙ ap (λ b. are_put n js || b) (listed-files_of rs n)
+listed-taken rs js n = listed-with_puts (names_in (files_of rs)) (aims_of js) n
+    ∙ (ap (λ b. b || is_name_among (names_in (files_of rs)) n) (any-aims (puts_name n) js) ∙ ap (λ b. are_put n js || b) (listed-files_of rs n))
 
 -- names that are taken now and were taken before are no more than before
 pub taken-fewer : (rs more : List Record) (js now : List Job) → ((n : List ℕ) → (are_put n now || is_some (file_of more n)) ≡ true → (are_put n js || is_some (file_of rs n)) ≡ true) →
@@ -138,8 +131,8 @@ pub taken-fewer : (rs more : List Record) (js now : List Job) → ((n : List ℕ
 taken-fewer rs more js now h = fewer (taken_by more now) (taken_by rs js) (once-taken more now) (λ n i. listed-taken rs js n ∙ h n (sym (listed-taken more now n) ∙ i))
 
 -- a job that runs puts under its name
-pub put-in : (n : List ℕ) (js : List Job) (k : ℕ) (j : Job) → job_of js k ≡ Some j → puts_name n j.kind ≡ true → are_put n js ≡ true
+pub put-in : (n : List ℕ) (js : List Job) (k : ℕ) (j : Job) → job_of js k ≡ Some j → puts_name n (aim_of j.kind) ≡ true → are_put n js ≡ true
 put-in n js k j runs h = elim (cases_Bool (are_put n js)) [
   | inl t ↦ t
-  | inr f ↦ absurd (false≢true (sym (any_job (λ (x : Job). puts_name n x.kind) js k j runs f) ∙ h))
+  | inr f ↦ absurd (false≢true (sym (any_job (λ (x : Job). puts_name n (aim_of x.kind)) js k j runs f) ∙ h))
 ]

@@ -10,8 +10,10 @@ use Rattle.hail_records.specs.Acceptance.{AreAccepted}
 use Rattle.hail_records.proofs.FilesLaws.{same-refl}
 use Rattle.hail_records.proofs.OrderLaws.{few-files_of}
 use Rattle.hail_machine.specs.Jobs.{Kind, PutJob, GetJob, DropJob, AuditJob, RepairJob, UpgradeJob, Pinned}
+use Rattle.hail_machine.specs.Actions.{machine_pins}
 use Rattle.hail_machine.specs.States.{State, file_in}
-use Rattle.hail_machine.specs.Begins.{is_name_among, names_in, pinned_file, pin, pin_all, pin_one, pinned_for}
+use Rattle.hail_machine.specs.Begins.{pinned_file, pin_by, pin_all, pin_found, pinned_for}
+use Rattle.hail_machine.specs.Sights.{is_name_among, names_in}
 use Rattle.hail_machine.proofs.Held.{contains_in}
 use Rattle.hail_machine.proofs.JobLists.{cond_true, cond_false}
 use Rattle.hail_machine.proofs.Pins.{Stands, in_all, pinned_stands}
@@ -22,22 +24,22 @@ use Rattle.sound_states.specs.SoundJobs.{HasPins, IsPin}
 use Rattle.sound_states.proofs.NamesTaken.{AreOnce, once-files}
 use Rattle.sound_states.proofs.Records.{is_some-at, AreSpelled, sound-accepted, file-spelled, file-plain}
 
-pub length-pin : (p : Pinned) (qs : List Pinned) → length (pin p qs) ≡ suc (length qs)
+pub length-pin : (p : Pinned) (qs : List Pinned) → length (pin_by machine_pins p qs) ≡ suc (length qs)
 length-pin p [] = refl
 length-pin p (q ∷ qs) = elim (cases_Bool (nat_lt p.id q.id)) [
-  | inl t ↦ ap length (cond_true (nat_lt p.id q.id) (p ∷ q ∷ qs) (q ∷ pin p qs) t)
-  | inr f ↦ ap length (cond_false (nat_lt p.id q.id) (p ∷ q ∷ qs) (q ∷ pin p qs) f) ∙ ap suc (length-pin p qs)
+  | inl t ↦ ap length (cond_true (nat_lt p.id q.id) (p ∷ q ∷ qs) (q ∷ pin_by machine_pins p qs) t)
+  | inr f ↦ ap length (cond_false (nat_lt p.id q.id) (p ∷ q ∷ qs) (q ∷ pin_by machine_pins p qs) f) ∙ ap suc (length-pin p qs)
 ]
 
 pub length-pin_all : (w : State) (fs : List File) → length (pin_all w fs) ≡ length fs
 length-pin_all w [] = refl
 length-pin_all w (f ∷ fs) = length-pin (pinned_file w f) (pin_all w fs) ∙ ap suc (length-pin_all w fs)
 
-ascending-pin : (low : ℕ) (p : Pinned) (qs : List Pinned) → AreAscending low qs → low ≤ p.id → ((q : Pinned) → In q qs → p.id ≡ q.id → ⊥) → AreAscending low (pin p qs)
+ascending-pin : (low : ℕ) (p : Pinned) (qs : List Pinned) → AreAscending low qs → low ≤ p.id → ((q : Pinned) → In q qs → p.id ≡ q.id → ⊥) → AreAscending low (pin_by machine_pins p qs)
 ascending-pin low p [] h l n = (l, tt)
 ascending-pin low p (q ∷ qs) h l n = elim (cases_Bool (nat_lt p.id q.id)) [
-  | inl t ↦ subst (AreAscending low) (sym (cond_true (nat_lt p.id q.id) (p ∷ q ∷ qs) (q ∷ pin p qs) t)) (l, ((let a = ltb-true p.id q.id t in omega (arith, a)), h.1))
-  | inr f ↦ subst (AreAscending low) (sym (cond_false (nat_lt p.id q.id) (p ∷ q ∷ qs) (q ∷ pin p qs) f))
+  | inl t ↦ subst (AreAscending low) (sym (cond_true (nat_lt p.id q.id) (p ∷ q ∷ qs) (q ∷ pin_by machine_pins p qs) t)) (l, ((let a = ltb-true p.id q.id t in omega (arith, a)), h.1))
+  | inr f ↦ subst (AreAscending low) (sym (cond_false (nat_lt p.id q.id) (p ∷ q ∷ qs) (q ∷ pin_by machine_pins p qs) f))
       (h.0, ascending-pin (q.id + 1) p qs h.1 (above f (n q (inl refl))) (λ r i. n r (inr i)))
 ]
   where
@@ -75,7 +77,7 @@ module _ (w : State) (accepted : AreAccepted w.records) (spelled : AreSpelled w.
   pins-ascend (PutJob name bytes) = tt
   pins-ascend (GetJob name) = one (file_in w name)
     where
-      one : (o : Option File) → AreAscending 0 (pin_one w o)
+      one : (o : Option File) → AreAscending 0 (pin_found (pinned_file w) o)
       one None = tt
       one (Some f) = (omega arith, tt)
   pins-ascend (DropJob name) = tt
@@ -87,7 +89,7 @@ module _ (w : State) (accepted : AreAccepted w.records) (spelled : AreSpelled w.
   pins-few (PutJob name bytes) = omega arith
   pins-few (GetJob name) = one (file_in w name)
     where
-      one : (o : Option File) → length (pin_one w o) ≤ most_files
+      one : (o : Option File) → length (pin_found (pinned_file w) o) ≤ most_files
       one None = omega arith
       one (Some f) = omega arith
   pins-few (DropJob name) = omega arith
@@ -113,7 +115,7 @@ module _ (w : State) (accepted : AreAccepted w.records) (spelled : AreSpelled w.
 
 pub has-pins : (w : State) (kind : Kind) → ((name : List ℕ) → kind ≡ GetJob name → is_some (file_in w name) ≡ true) → HasPins kind (pinned_for w kind)
 has-pins w (PutJob name bytes) h = refl
-has-pins w (GetJob name) h = (let f = is_some-at (file_in w name) (h name refl) in (pinned_file w f.0, ap (pin_one w) f.1))
+has-pins w (GetJob name) h = (let f = is_some-at (file_in w name) (h name refl) in (pinned_file w f.0, ap (pin_found (pinned_file w)) f.1))
 has-pins w (DropJob name) h = refl
 has-pins w AuditJob h = tt
 has-pins w RepairJob h = tt

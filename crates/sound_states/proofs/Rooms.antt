@@ -4,11 +4,11 @@ use Rattle.std.proofs.lemmas.Bool.{cases_Bool, cases_lt}
 use Rattle.hail_columns.specs.Verdicts.{Sums}
 use Rattle.hail_records.specs.Records.{Setup, Record, PutStart, AuditStart, AuditDone, record_size}
 use Rattle.hail_records.specs.Table.{version_of, next_id, next_audit}
-use Rattle.hail_machine.specs.Jobs.{Kind, PutJob, GetJob, DropJob, AuditJob, RepairJob, UpgradeJob, Job}
+use Rattle.hail_machine.specs.Jobs.{Kind, PutJob, GetJob, DropJob, AuditJob, RepairJob, UpgradeJob, aim_of, Job}
 use Rattle.hail_machine.specs.Actions.{appends_left}
 use Rattle.hail_machine.specs.Audits.{HasSums}
 use Rattle.hail_machine.specs.States.{State, setup_in}
-use Rattle.hail_machine.specs.Space.{append_sizes, reserved}
+use Rattle.hail_machine.specs.Space.{room_left, reserved}
 use Rattle.hail_machine.specs.Appends.{Writes, done_record, is_first_append}
 use Rattle.hail_machine.proofs.JobLists.{cond_true, cond_false}
 use Rattle.hail_machine.proofs.Numbers.{first_above, first_below}
@@ -16,7 +16,7 @@ use Rattle.sound_states.proofs.Orders.{put-first, put-later, audit-first, audit-
 
 -- the room of a job's last so many records
 abbrev pub room_of : ℕ → Setup → Kind → ℕ → ℕ
-room_of version s kind k = sum (drop (length (append_sizes version s kind) - k) (append_sizes version s kind))
+room_of version s kind k = room_left version s (aim_of kind) k
 
 pub room-same : (version : ℕ) (s : Setup) (i j : Job) → j.kind ≡ i.kind → appends_left s j ≡ appends_left s i → reserved version s j ≡ reserved version s i
 room-same version s i j kind left = ap (λ kd. room_of version s kd (appends_left s j)) kind ∙ ap (room_of version s i.kind) left

@@ -8,12 +8,12 @@ use Rattle.hail_columns.specs.Verdicts.{Sums}
 use Rattle.hail_records.specs.Records.{Record, SetUp, PutStart, PutDone, Drop, AuditStart, AuditDone, RepairDone, PutDoneIn, Version, Resume, InEffect, RepairDue}
 use Rattle.hail_records.specs.Table.{version_of, next_id, next_audit, file_of, started_as}
 use Rattle.hail_records.specs.Acceptance.{refused, put_done_refused, AreAccepted}
-use Rattle.hail_machine.specs.Jobs.{Kind, PutJob, GetJob, DropJob, AuditJob, RepairJob, UpgradeJob, Given, Job, job_of, with_job}
+use Rattle.hail_machine.specs.Jobs.{Kind, PutJob, GetJob, DropJob, AuditJob, RepairJob, UpgradeJob, aim_of, Given, Job, job_of, with_job}
 use Rattle.hail_machine.specs.Actions.{Action, End, ends_append, appends_left, actions_left}
 use Rattle.hail_machine.specs.Audits.{HasSums}
 use Rattle.hail_machine.specs.States.{State, Append, Doubt, setup_in, journal_end, going_on}
 use Rattle.hail_machine.specs.Space.{reserved}
-use Rattle.hail_machine.specs.Begins.{is_check, is_upgrade}
+use Rattle.hail_machine.specs.Sights.{is_check, is_upgrade}
 use Rattle.hail_machine.specs.Appends.{Writes, done_record, is_first_append, subject_drawn, bytes_drawn}
 use Rattle.hail_machine.specs.Steps.{next_action}
 use Rattle.hail_machine.proofs.JobLists.{cond_true, cond_false, same_value, found_with}
@@ -67,9 +67,9 @@ put-with n [] job before h kind = refl
 put-with n (x ∷ js) job before h kind = elim (cases_Bool (x.number == job.number)) [
   | inl t ↦ (let same : x ≡ before = same_value _ x before (cond_true (x.number == job.number) (Some x) (job_of js job.number) t) h in
       ap (are_put n) (cond_true (x.number == job.number) (job ∷ js) (x ∷ with_job js job) t)
-      ∙ ap (λ k. puts_name n k || are_put n js) (kind ∙ ap (λ (z : Job). z.kind) (sym same)))
+      ∙ ap (λ k. puts_name n (aim_of k) || are_put n js) (kind ∙ ap (λ (z : Job). z.kind) (sym same)))
   | inr f ↦ ap (are_put n) (cond_false (x.number == job.number) (job ∷ js) (x ∷ with_job js job) f)
-      ∙ ap (λ b. puts_name n x.kind || b) (put-with n js job before (sym (cond_false (x.number == job.number) (Some x) (job_of js job.number) f) ∙ h) kind)
+      ∙ ap (λ b. puts_name n (aim_of x.kind) || b) (put-with n js job before (sym (cond_false (x.number == job.number) (Some x) (job_of js job.number) f) ∙ h) kind)
 ]
 
 -- ---- the record that a job writes, after one more move
@@ -192,9 +192,9 @@ module _ (limit : ℕ) (old : State) (S : IsSound limit old) (job : Job) (runs :
     lone = λ x e. absurd (found_some (S.lone x e));
     packing = S.packing;
     switching = λ e. absurd (found_some (S.switching e).jobs);
-    upgrade = λ k j h u. (let a = back k j h in only-with old.jobs next job a.0 found (S.upgrade k a.0 a.1 (subst (λ kd. IsTrue (is_upgrade kd)) a.2 u)) k j h);
+    upgrade = λ k j h u. (let a = back k j h in only-with old.jobs next job a.0 found (S.upgrade k a.0 a.1 (subst (λ kd. IsTrue (is_upgrade (aim_of kd))) a.2 u)) k j h);
     one_check = λ k l i j hi hj ci cj. (let a = back k i hi in let b = back l j hj in
-        S.one_check k l a.0 b.0 a.1 b.1 (subst (λ kd. IsTrue (is_check kd)) a.2 ci) (subst (λ kd. IsTrue (is_check kd)) b.2 cj));
+        S.one_check k l a.0 b.0 a.1 b.1 (subst (λ kd. IsTrue (is_check (aim_of kd))) a.2 ci) (subst (λ kd. IsTrue (is_check (aim_of kd))) b.2 cj));
     apart = λ k l i j hi hj ui uj same. (let a = under-back k i hi ui in let b = under-back l j hj uj in
         S.apart k l a.0 b.0 a.1 b.1 a.2 b.2 (sym a.3 ∙ (same ∙ b.3)));
     append = append;

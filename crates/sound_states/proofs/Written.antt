@@ -16,13 +16,13 @@ use Rattle.hail_records.specs.Areas.{A, end_in}
 use Rattle.hail_records.proofs.FilesLaws.{same-eq, same-refl}
 use Rattle.hail_records.proofs.OrderLaws.{next_id-fits, next_audit-fits}
 use Rattle.hail_records.proofs.AreaLaws.{text_size-end}
-use Rattle.hail_machine.specs.Jobs.{Kind, PutJob, GetJob, DropJob, AuditJob, RepairJob, UpgradeJob, Job, job_of}
+use Rattle.hail_machine.specs.Jobs.{Kind, PutJob, GetJob, DropJob, AuditJob, RepairJob, UpgradeJob, aim_of, Job, job_of}
 use Rattle.hail_machine.specs.Setups.{setup_or_none}
 use Rattle.hail_machine.specs.Actions.{WriteBody, End, append_actions, actions_of, appends_left, actions_left}
 use Rattle.hail_machine.specs.Audits.{HasSums}
 use Rattle.hail_machine.specs.States.{State, setup_in, file_in, journal_end}
 use Rattle.hail_machine.specs.Space.{reserved}
-use Rattle.hail_machine.specs.Begins.{is_name_among, names_in, names_taken}
+use Rattle.hail_machine.specs.Sights.{sight_of, is_name_among, names_in, names_taken}
 use Rattle.hail_machine.specs.Events.{AreBytes, IsSpelledKind}
 use Rattle.hail_machine.proofs.Pins.{any_job}
 use Rattle.hail_machine.proofs.Numbers.{next_by, next_is_by, first_below, first_above}
@@ -232,8 +232,8 @@ module _ (limit : ℕ) (w : State) (S : IsSound limit w) where
         put : are_put name w.jobs ≡ true
         put = elim (cases_Bool (are_put name w.jobs)) [
           | inl t ↦ t
-          | inr f ↦ absurd (let g = any_job (λ (j : Job). puts_name name j.kind) w.jobs number job runs f in
-              false≢true (sym g ∙ (ap (puts_name name) kind ∙ same-refl name)))
+          | inr f ↦ absurd (let g = any_job (λ (j : Job). puts_name name (aim_of j.kind)) w.jobs number job runs f in
+              false≢true (sym g ∙ (ap (λ kd. puts_name name (aim_of kd)) kind ∙ same-refl name)))
         ]
 
         all-taken : (n : List ℕ) → is_name_among (name ∷ names_in (files_of w.records)) n ≡ true → is_name_among (taken_by w.records w.jobs) n ≡ true
@@ -242,7 +242,7 @@ module _ (limit : ℕ) (w : State) (S : IsSound limit w) where
           | inr f ↦ (let l = listed-files_of w.records n in grind (arith, i, f, l))
         ]
 
-        places : is_some (file_of w.records name) ≡ false → length (files_of w.records) + 1 ≤ length (names_taken w)
+        places : is_some (file_of w.records name) ≡ false → length (files_of w.records) + 1 ≤ length (names_taken (sight_of w))
         places f = (let l = fewer (name ∷ names_in (files_of w.records)) (taken_by w.records w.jobs) (listed-files_of w.records name ∙ f, once-files w.records) all-taken in
             let e = length-names_in (files_of w.records) in omega (arith, l, e))
 

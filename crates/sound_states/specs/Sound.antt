@@ -27,10 +27,10 @@ use Rattle.hail_records.specs.Table.{version_of, next_id, next_audit, started_as
 use Rattle.hail_records.specs.Acceptance.{AreAccepted}
 use Rattle.hail_records.specs.Packed.{AreAlike}
 use Rattle.hail_records.specs.Areas.{A}
-use Rattle.hail_machine.specs.Jobs.{Kind, PutJob, AuditJob, Job, job_of}
+use Rattle.hail_machine.specs.Jobs.{Kind, PutJob, AuditJob, aim_of, Job, job_of}
 use Rattle.hail_machine.specs.States.{State, Append, Doubt, Alone, Pack, Packing, setup_in, journal_end}
 use Rattle.hail_machine.specs.Space.{reserved}
-use Rattle.hail_machine.specs.Begins.{is_check, is_upgrade, names_taken}
+use Rattle.hail_machine.specs.Sights.{sight_of, is_check, is_upgrade, names_taken}
 use Rattle.hail_machine.specs.Appends.{Writes, is_first_append, subject_drawn, bytes_drawn}
 use Rattle.hail_machine.specs.Openings.{IsSetUp}
 use Rattle.sound_states.specs.Orders.{moves_made, AreNumbered}
@@ -111,7 +111,7 @@ pub record IsSound (limit : ℕ) (w : State) : Type 0 where
   pub journal : IsSoundJournal w
   pub room : journal_end w + sum_by (reserved (version_of w.records) (setup_in w)) w.jobs ≤ largest_journal
   pub files : AreHeld w.bytes w.records
-  pub names : length (names_taken w) ≤ most_files
+  pub names : length (names_taken (sight_of w)) ≤ most_files
   pub ids : 0 < sum_by starts_left w.jobs
       → next_id w.records + sum_by starts_left w.jobs ≤ 2 ^ 64 - 1
   pub audits : (number : ℕ) (job : Job) → job_of w.jobs number ≡ Some job → job.kind ≡ AuditJob
@@ -129,9 +129,9 @@ pub record IsSound (limit : ℕ) (w : State) : Type 0 where
   pub packing : (p : Pack) → w.alone ≡ Some (Packing p) → version_of w.records ≡ 2
   pub switching : w.is_switching ≡ true → IsSwitchable w
   pub upgrade : (number : ℕ) (job : Job) → job_of w.jobs number ≡ Some job →
-      IsTrue (is_upgrade job.kind) → w.jobs ≡ job ∷ []
+      IsTrue (is_upgrade (aim_of job.kind)) → w.jobs ≡ job ∷ []
   pub one_check : (k l : ℕ) (i j : Job) → job_of w.jobs k ≡ Some i → job_of w.jobs l ≡ Some j →
-      IsTrue (is_check i.kind) → IsTrue (is_check j.kind) → k ≡ l
+      IsTrue (is_check (aim_of i.kind)) → IsTrue (is_check (aim_of j.kind)) → k ≡ l
   pub apart : (k l : ℕ) (i j : Job) → job_of w.jobs k ≡ Some i → job_of w.jobs l ≡ Some j →
       IsPutUnderWay i i.kind → IsPutUnderWay j j.kind → i.subject ≡ j.subject → k ≡ l
   pub append : (a : Append) → w.append ≡ Some a → IsSoundAppend w a

@@ -10,11 +10,12 @@ ghost use Rattle.hail_records.specs.Acceptance.{AreAccepted};
 ghost use Rattle.hail_records.specs.Packed.{AreAlike};
 ghost use Rattle.hail_records.specs.Areas.{B};
 ghost use Rattle.hail_records.specs.Examples.{four};
-ghost use Rattle.hail_machine.specs.Jobs.{Kind, Job, job_of};
+ghost use Rattle.hail_machine.specs.Jobs.{Kind, aim_of, Job, job_of};
 ghost use Rattle.hail_machine.specs.Actions.{Action, WriteBody};
 ghost use Rattle.hail_machine.specs.Events.{Event, Outcome, IsSpelled, AreBytes};
 ghost use Rattle.hail_machine.specs.States.{State, Append, IsStart, setup_in, file_in, journal_end};
-ghost use Rattle.hail_machine.specs.Space.{reserved, are_numbers_used_up};
+ghost use Rattle.hail_machine.specs.Space.{reserved};
+ghost use Rattle.hail_machine.specs.Sights.{sight_of, are_numbers_used_up};
 ghost use Rattle.hail_machine.specs.Audits.{HasSums};
 ghost use Rattle.hail_machine.specs.Appends.{Writes, IsAt};
 ghost use Rattle.hail_machine.specs.Steps.{next_action};
@@ -83,7 +84,7 @@ pub fn numbers_are_small()
     ensures first_audits { (limit : ℕ) (w : State) → IsSound limit w → version_of w.records ≡ 1
         → next_audit w.records ≤ largest_journal }
     ensures unused { (limit : ℕ) (w : State) (kind : Kind) → IsSound limit w → version_of w.records ≡ 1
-        → are_numbers_used_up w kind ≡ false }
+        → are_numbers_used_up (sight_of w) (aim_of kind) ≡ false }
 {}
 
 /// A job that runs has a next action, and runs while a vault is open; a move of an append but the first is next where the append in

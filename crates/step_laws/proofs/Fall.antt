@@ -13,7 +13,7 @@ use Rattle.plain_facts.proofs.Lists.{get_behind}
 use Rattle.hail_codes.specs.Points.{upto}
 use Rattle.hail_records.specs.Records.{Setup}
 use Rattle.hail_records.specs.Table.{File}
-use Rattle.hail_machine.specs.Jobs.{Kind, PutJob, GetJob, DropJob, AuditJob, RepairJob, UpgradeJob, Given, Job, job_of, advanced, advanced_with}
+use Rattle.hail_machine.specs.Jobs.{Kind, PutJob, GetJob, DropJob, AuditJob, RepairJob, UpgradeJob, aim_of, Given, Job, job_of, advanced, advanced_with}
 use Rattle.hail_machine.specs.Setups.{profiled, stripes_of}
 use Rattle.hail_machine.specs.Actions.{Action, WriteBody, SyncBody, WriteGate, SyncGate, Store, Fetch, Ask, Work, Remove, End, append_actions, on_each_provider, on_each_stripe, store_actions, read_actions, repair_actions, ask_actions, remove_actions, actions_by, actions_of, ends_append}
 use Rattle.hail_machine.specs.Left.{removes_older, is_undecided, most_left}
@@ -85,7 +85,7 @@ abbrev left_of : Setup → Job → List Action
 left_of t j = drop j.place (actions_of t j)
 
 abbrev most_by : Setup → Kind → ℕ → ℕ → ℕ
-most_by t kind len count = len + cond (removes_older kind && nat_lt 0 count) t.n 0
+most_by t kind len count = len + cond (removes_older (aim_of kind) && nat_lt 0 count) t.n 0
 
 most_is : (t : Setup) (j : Job) → most_left t j ≡ most_by t j.kind (length (left_of t j)) (count_by ends_append (left_of t j))
 most_is t j = refl
@@ -106,23 +106,23 @@ plain_falls t x j action at place kind same no_gate =
     (let l = left_next t x j action at place same in
     let count : count_by ends_append (left_of t x) ≡ count_by ends_append (left_of t j) = (let e = l.1 in let f = one_if-false (ends_append action) no_gate in omega (arith, e, f)) in
     let one : (n : ℕ) → suc (length (left_of t j)) + n ≡ suc (length (left_of t j) + n) = (λ n. omega arith) in (
-      ap (λ n. most_by t x.kind n (count_by ends_append (left_of t x))) l.0 ∙ (ap (λ n. most_by t x.kind (suc (length (left_of t j))) n) count ∙ (ap (λ k. most_by t k (suc (length (left_of t j))) (count_by ends_append (left_of t j))) kind ∙ one (cond (removes_older j.kind && nat_lt 0 (count_by ends_append (left_of t j))) t.n 0))),
-      ap (λ n. removes_older x.kind && nat_lt 0 n) count ∙ ap (λ k. removes_older k && nat_lt 0 (count_by ends_append (left_of t j))) kind,
+      ap (λ n. most_by t x.kind n (count_by ends_append (left_of t x))) l.0 ∙ (ap (λ n. most_by t x.kind (suc (length (left_of t j))) n) count ∙ (ap (λ k. most_by t k (suc (length (left_of t j))) (count_by ends_append (left_of t j))) kind ∙ one (cond (removes_older (aim_of j.kind) && nat_lt 0 (count_by ends_append (left_of t j))) t.n 0))),
+      ap (λ n. removes_older (aim_of x.kind) && nat_lt 0 n) count ∙ ap (λ k. removes_older (aim_of k) && nat_lt 0 (count_by ends_append (left_of t j))) kind,
     ))
 
 -- an append of a job that takes nothing away, or a first append
-pub gate_falls : (t : Setup) (x j : Job) → slice_get (actions_of t x) x.place ≡ Some SyncGate → j.place ≡ x.place + 1 → x.kind ≡ j.kind → shape (actions_of t j) ≡ shape (actions_of t x) → (removes_older j.kind ≡ false) ⊎ (0 < count_by ends_append (left_of t j)) →
+pub gate_falls : (t : Setup) (x j : Job) → slice_get (actions_of t x) x.place ≡ Some SyncGate → j.place ≡ x.place + 1 → x.kind ≡ j.kind → shape (actions_of t j) ≡ shape (actions_of t x) → (removes_older (aim_of j.kind) ≡ false) ⊎ (0 < count_by ends_append (left_of t j)) →
     most_left t x ≡ suc (most_left t j)
 gate_falls t x j at place kind same which =
     (let l = left_next t x j SyncGate at place same in
-    let some : removes_older j.kind && nat_lt 0 (count_by ends_append (left_of t x)) ≡ removes_older j.kind && nat_lt 0 (count_by ends_append (left_of t j)) = elim which [
+    let some : removes_older (aim_of j.kind) && nat_lt 0 (count_by ends_append (left_of t x)) ≡ removes_older (aim_of j.kind) && nat_lt 0 (count_by ends_append (left_of t j)) = elim which [
       | inl none ↦ ap (λ b. b && nat_lt 0 (count_by ends_append (left_of t x))) none ∙ sym (ap (λ b. b && nat_lt 0 (count_by ends_append (left_of t j))) none)
       | inr more ↦ (let lots : 0 < count_by ends_append (left_of t x) = (let e = l.1 in omega (arith, e, more)) in
-          ap (λ b. removes_older j.kind && b) (lt-ltb 0 (count_by ends_append (left_of t x)) lots ∙ sym (lt-ltb 0 (count_by ends_append (left_of t j)) more)))
+          ap (λ b. removes_older (aim_of j.kind) && b) (lt-ltb 0 (count_by ends_append (left_of t x)) lots ∙ sym (lt-ltb 0 (count_by ends_append (left_of t j)) more)))
     ] in
     let one : (n : ℕ) → suc (length (left_of t j)) + n ≡ suc (length (left_of t j) + n) = (λ n. omega arith) in
     ap (λ n. most_by t x.kind n (count_by ends_append (left_of t x))) l.0
-    ∙ (ap (λ k. most_by t k (suc (length (left_of t j))) (count_by ends_append (left_of t x))) kind ∙ (ap (λ b. suc (length (left_of t j)) + cond b t.n 0) some ∙ one (cond (removes_older j.kind && nat_lt 0 (count_by ends_append (left_of t j))) t.n 0))))
+    ∙ (ap (λ k. most_by t k (suc (length (left_of t j))) (count_by ends_append (left_of t x))) kind ∙ (ap (λ b. suc (length (left_of t j)) + cond b t.n 0) some ∙ one (cond (removes_older (aim_of j.kind) && nat_lt 0 (count_by ends_append (left_of t j))) t.n 0))))
 
 -- ---- a job that decides which object it takes away
 
@@ -147,7 +147,7 @@ few_length t l (inr (o, e)) = inr (ap (λ k. length (removes_by t k)) e ∙ (len
 abbrev pub FallsBy : Setup → Job → Job → Type 0
 FallsBy t x j = (most_left t x ≡ suc (most_left t j)) ⊎ (SkipsRemovals t x j × (most_left t x ≡ suc (most_left t j + t.n)))
 
-decides : (t : Setup) (x j : Job) → removes_older x.kind ≡ true → left_of t x ≡ SyncGate ∷ (removes_by t x.older ++ End ∷ []) → x.older ≡ [] → left_of t j ≡ remove_actions t j ++ End ∷ [] → FewOlder j.older →
+decides : (t : Setup) (x j : Job) → removes_older (aim_of x.kind) ≡ true → left_of t x ≡ SyncGate ∷ (removes_by t x.older ++ End ∷ []) → x.older ≡ [] → left_of t j ≡ remove_actions t j ++ End ∷ [] → FewOlder j.older →
     is_undecided t x ≡ true → is_undecided t j ≡ false → FallsBy t x j
 decides t x j removes left none left_j few undecided decided =
     (let lx : left_of t x ≡ SyncGate ∷ End ∷ [] = left ∙ ap (λ l. SyncGate ∷ (removes_by t l ++ End ∷ [])) none in
@@ -155,7 +155,7 @@ decides t x j removes left none left_j few undecided decided =
     let gj : count_by ends_append (left_of t j) ≡ 0 = ap (count_by ends_append) left_j ∙ no_gate_tail t j in
     let lj : length (left_of t j) ≡ length (removes_by t j.older) + 1 = ap length left_j ∙ tail_length t j.older in
     let mj : most_left t j ≡ length (removes_by t j.older) + 1 = ap (λ n. most_by t j.kind n (count_by ends_append (left_of t j))) lj
-    ∙ (ap (λ n. most_by t j.kind (length (removes_by t j.older) + 1) n) gj ∙ none_decided (removes_older j.kind) (length (removes_by t j.older) + 1)) in
+    ∙ (ap (λ n. most_by t j.kind (length (removes_by t j.older) + 1) n) gj ∙ none_decided (removes_older (aim_of j.kind)) (length (removes_by t j.older) + 1)) in
     elim (few_length t j.older few) [ inl e ↦ inr (record { undecided = undecided; decided = decided; none = e.0 }, (let z = e.1 in omega (arith, mx, mj, z))) | inr e ↦ inl (omega (arith, mx, mj, e)) ])
   where
     none_decided : (b : Bool) (n : ℕ) → n + cond (b && false) t.n 0 ≡ n
@@ -194,13 +194,13 @@ with_older x l = record (advanced x) { older = l }
 abbrev pub Falls : Setup → Job → Job → Type 0
 Falls t x j = FallsBy t x j × (is_undecided t j ≡ true → j.older ≡ [])
 
-undecided_now : (t : Setup) (x : Job) → removes_older x.kind ≡ true → slice_get (actions_of t x) x.place ≡ Some SyncGate → is_undecided t x ≡ true
-undecided_now t x removes at = and_from (removes_older x.kind) (nat_lt 0 (count_by ends_append (left_of t x))) removes
+undecided_now : (t : Setup) (x : Job) → removes_older (aim_of x.kind) ≡ true → slice_get (actions_of t x) x.place ≡ Some SyncGate → is_undecided t x ≡ true
+undecided_now t x removes at = and_from (removes_older (aim_of x.kind)) (nat_lt 0 (count_by ends_append (left_of t x))) removes
     (lt-ltb 0 (count_by ends_append (left_of t x)) (count_some (actions_of t x) x.place x.place at (omega arith)))
 
 decided_then : (t : Setup) (j : Job) → left_of t j ≡ remove_actions t j ++ End ∷ [] → is_undecided t j ≡ true → ⊥
 decided_then t j left h = (let none : count_by ends_append (left_of t j) ≡ 0 = ap (count_by ends_append) left ∙ no_gate_tail t j in
-    let some : nat_lt 0 (count_by ends_append (left_of t j)) ≡ true = (and_parts (removes_older j.kind) (nat_lt 0 (count_by ends_append (left_of t j))) h).1 in
+    let some : nat_lt 0 (count_by ends_append (left_of t j)) ≡ true = (and_parts (removes_older (aim_of j.kind)) (nat_lt 0 (count_by ends_append (left_of t j))) h).1 in
     let l = ltb-true 0 (count_by ends_append (left_of t j)) some in omega (arith, none, l))
 
 decided_now : (t : Setup) (j : Job) → left_of t j ≡ remove_actions t j ++ End ∷ [] → is_undecided t j ≡ false
@@ -216,8 +216,8 @@ module _ (w : State) (x : Job) (next_at : slice_get (actions_of (setup_in w) x) 
     | inr second ↦ at_second second
   ]
     where
-      removes : removes_older x.kind ≡ true
-      removes = ap removes_older kind
+      removes : removes_older (aim_of x.kind) ≡ true
+      removes = ap (λ k. removes_older (aim_of k)) kind
 
       none : x.older ≡ []
       none = settled (undecided_now t x removes next_at)
@@ -254,7 +254,7 @@ module _ (w : State) (x : Job) (next_at : slice_get (actions_of (setup_in w) x) 
 
   finish_drop : (name l : List ℕ) → x.kind ≡ DropJob name → l ≡ taken_out w x (DropJob name) → Falls t x (with_older x l)
   finish_drop name l kind is =
-      (let removes : removes_older x.kind ≡ true = ap removes_older kind in
+      (let removes : removes_older (aim_of x.kind) ≡ true = ap (λ k. removes_older (aim_of k)) kind in
       let none : x.older ≡ [] = settled (undecided_now t x removes next_at) in
       let lists : actions_of t x ≡ actions_by t x (DropJob name) = actions_are t x (DropJob name) kind in
       let lists_j : actions_of t (with_older x l) ≡ actions_by t (with_older x l) (DropJob name) = actions_are t (with_older x l) (DropJob name) kind in
@@ -265,11 +265,11 @@ module _ (w : State) (x : Job) (next_at : slice_get (actions_of (setup_in w) x) 
       ∙ ap (λ k. SyncGate ∷ k) (ap (λ k. drop (x.place + 1) k) lists ∙ ap (λ n. drop n (actions_by t x (DropJob name))) four) in
       (decides t x (with_older x l) removes tail_x none tail_j (subst FewOlder (sym is) (removable_few w (file_in w name))) (undecided_now t x removes next_at) (decided_now t (with_older x l) tail_j), λ h. absurd (decided_then t (with_older x l) tail_j h)))
 
-  finish_rest : (kind : Kind) (l : List ℕ) → x.kind ≡ kind → removes_older kind ≡ false → actions_by t (with_older x l) kind ≡ actions_by t x kind → Falls t x (with_older x l)
+  finish_rest : (kind : Kind) (l : List ℕ) → x.kind ≡ kind → removes_older (aim_of kind) ≡ false → actions_by t (with_older x l) kind ≡ actions_by t x kind → Falls t x (with_older x l)
   finish_rest kind l is none same =
       (let lists : actions_of t (with_older x l) ≡ actions_of t x = actions_are t (with_older x l) kind is ∙ (same ∙ sym (actions_are t x kind is)) in
-      let no_older : removes_older x.kind ≡ false = ap removes_older is ∙ none in
-      (inl (gate_falls t x (with_older x l) next_at refl refl (ap shape lists) (inl no_older)), λ h. absurd (false≢true (sym no_older ∙ (and_parts (removes_older x.kind) (nat_lt 0 (count_by ends_append (left_of t (with_older x l)))) h).0))))
+      let no_older : removes_older (aim_of x.kind) ≡ false = ap (λ k. removes_older (aim_of k)) is ∙ none in
+      (inl (gate_falls t x (with_older x l) next_at refl refl (ap shape lists) (inl no_older)), λ h. absurd (false≢true (sym no_older ∙ (and_parts (removes_older (aim_of x.kind)) (nat_lt 0 (count_by ends_append (left_of t (with_older x l)))) h).0))))
 
   finish : (kind : Kind) (l : List ℕ) → x.kind ≡ kind → l ≡ taken_out w x kind → Falls t x (with_older x l)
   finish (PutJob name bytes) l kind is = finish_put name bytes l kind is

@@ -1,14 +1,15 @@
 -- Begins, accepted and refused, and the states that a vault stands for after them.
-use Rattle.std.proofs.Common.{◌≡◌, inl, ℕ, List, [], ◌∷◌, ◌++◌, Some, None, Ok, Err, refl, sym, ◌∙◌, subst}
-use Rattle.std.specs.Prelude.{not, is_some}
+use Rattle.std.proofs.Common.{◌≡◌, inl, ℕ, List, [], ◌∷◌, ◌++◌, Some, None, Ok, Err, refl, ap, sym, ◌∙◌, subst}
+use Rattle.std.specs.Prelude.{◌||◌, length, nat_le, not}
 use Rattle.hail_records.specs.Records.{Setup}
 use Rattle.hail_machine.specs.Actions.{actions_left}
 use Rattle.hail_machine.specs.Begins.{begin_refusal, new_job}
-use Rattle.hail_machine.specs.Jobs.{Kind, Job}
+use Rattle.hail_machine.specs.Jobs.{Kind, aim_of, Job}
 use Rattle.hail_machine.specs.Refusals as refusal
-use Rattle.hail_machine.specs.Refusals.{Cause}
-use Rattle.hail_machine.specs.Space.{is_full}
-use Rattle.hail_machine.specs.States.{State, setup_in, file_in}
+use Rattle.hail_machine.specs.Refusals.{Cause, first_refusal}
+use Rattle.hail_machine.specs.Sights.{sight_of, aims_of, is_shut, is_stored, is_full}
+use Rattle.hail_machine.specs.States.{State, setup_in}
+use Rattle.hail_machine.proofs.Sights.{length-aims}
 use Rattle.vault_core.specs.declared.wish.BeginFault.{BeginFault}
 use Rattle.vault_core.specs.Carried.{CoreIs, refusal_of, begun}
 use Rattle.vault.specs.declared.vault.Vault.{Vault}
@@ -22,7 +23,18 @@ use Rattle.vault.proofs.Ways.{stands_on, handed_same}
 
 -- the causes of a get or a drop behind that of its name
 abbrev pub causes_of_name : State → Kind → List ℕ → List Cause
-causes_of_name w kind name = record { applies = not (is_some (file_in w name)); refusal = refusal.NoSuchName } ∷ record { applies = is_full w kind; refusal = refusal.JournalFull } ∷ []
+causes_of_name w kind name =
+    record { applies = not (is_stored (sight_of w) name); refusal = refusal.NoSuchName }
+    ∷ record { applies = is_full (sight_of w) (aim_of kind); refusal = refusal.JournalFull } ∷ []
+
+-- a begin counts the aims of the running jobs, which are as many as the jobs
+pub aims-counted : (w : State) (more : List Cause)
+    → first_refusal (record { applies = w.is_barred; refusal = refusal.MustReopen }
+    ∷ record { applies = is_shut (sight_of w) || nat_le 8 (length (aims_of w.jobs)); refusal = refusal.Busy } ∷ more)
+    ≡ first_refusal (record { applies = w.is_barred; refusal = refusal.MustReopen }
+    ∷ record { applies = is_shut (sight_of w) || nat_le 8 (length w.jobs); refusal = refusal.Busy } ∷ more)
+aims-counted w more = ap (λ (n : ℕ). first_refusal (record { applies = w.is_barred; refusal = refusal.MustReopen }
+    ∷ record { applies = is_shut (sight_of w) || nat_le 8 n; refusal = refusal.Busy } ∷ more)) (length-aims w.jobs)
 
 -- one job more
 running-push : (s : Setup) (rs : List Running) (js : List Job) (r : Running) (j : Job) → AreRunning s rs js → IsRunning s r j → AreRunning s (rs ++ r ∷ []) (js ++ j ∷ [])

@@ -1,6 +1,6 @@
 -- What a get begins with.
 use Rattle.std.proofs.Common.{◌≡◌, ℕ, ◌+◌, ◌*◌, ◌≤◌, List, [], ◌∷◌, ◌++◌, length, min, Some, None, refl, sym, ap, ◌∙◌, subst, arith, append_assoc}
-use Rattle.std.specs.Prelude.{IsTrue, vec_len, vec_capacity}
+use Rattle.std.specs.Prelude.{IsTrue, is_some, vec_len, vec_capacity}
 use Rattle.std.specs.List.{flat_map}
 use Rattle.hail_codes.specs.Points.{upto}
 use Rattle.hail_columns.specs.Objects.{Object, stripes, stripe_symbols}
@@ -8,12 +8,13 @@ use Rattle.hail_records.specs.Records.{Setup, is_name, largest_file}
 use Rattle.hail_records.specs.Table.{File, find_file}
 use Rattle.hail_records.proofs.FilesLaws.{find-files_of}
 use Rattle.hail_machine.specs.Actions.{End, open_actions, actions_left, actions_of}
-use Rattle.hail_machine.specs.Begins.{new_job, pin_one, pinned_file}
+use Rattle.hail_machine.specs.Begins.{new_job, pin_found, pinned_file}
 use Rattle.hail_machine.specs.Jobs.{GetJob}
 use Rattle.hail_machine.specs.Refusals as refusal
 use Rattle.hail_machine.specs.Refusals.{first_refusal}
 use Rattle.hail_machine.specs.Setups.{profiled, stripes_of, pinned_stripes}
 use Rattle.hail_machine.specs.States.{State, setup_in, file_in}
+use Rattle.hail_machine.proofs.Sights.{stored-file}
 use Rattle.sound_states.proofs.Records.{file-spelled}
 use Rattle.sound_states.proofs.Written.{setup-providers, file-first}
 use Rattle.vault.specs.declared.bench.Bench.{Bench}
@@ -37,7 +38,7 @@ pub found-in : (v : Vault) (d : Devices) (w : State) (name : List ℕ) → Stand
 found-in v d w name stands = ap (λ files. find_file files name) stands.core.table.files ∙ find-files_of w.records name
 
 pub no-such-name : (w : State) (name : List ℕ) → IsTrue (is_name name) → file_in w name ≡ None → first_refusal (name_cause name ∷ causes_of_name w (GetJob name) name) ≡ Some refusal.NoSuchName
-no-such-name w name named none = rw (named, none) refl
+no-such-name w name named none = (let not_there = stored-file w name ∙ ap is_some none in rw (named, not_there) refl)
 
 module _ (v : Vault) (d : Devices) (w : State) (moment : ℕ) (stands : Stands v d w) (name : List ℕ) (file : File) (found : file_in w name ≡ Some file) where
   abbrev s : Setup
@@ -76,7 +77,7 @@ module _ (v : Vault) (d : Devices) (w : State) (moment : ℕ) (stands : Stands v
         name = name;
         kind = refl;
         file = pinned_file w file;
-        pinned = ap (pin_one w) found;
+        pinned = ap (pin_found (pinned_file w)) found;
         length_is = new.length_is ∙ same_length;
         bench = subst (IsBench s) (sym new.bench_is) is_bench;
         size = new.size_is ∙ ap (λ (b : Bench). b.keys.file.profile.size) (sym new.bench_is);

@@ -1,7 +1,8 @@
 ghost use Rattle.std.specs.Prelude.{◌≡◌, ◌∷◌, ◌<◌, ◌-◌, ◌^◌, ◌||◌, None, Some, not, nat_le, length, List, ℕ, IfOk, IfErr, OnOk, OnErr, IsTrue};
 ghost use Rattle.hail_records.specs.Records.{is_name};
 ghost use Rattle.hail_machine.specs.Actions.{actions_left};
-ghost use Rattle.hail_machine.specs.Begins.{begin_refusal, is_shut, new_job};
+ghost use Rattle.hail_machine.specs.Begins.{begin_refusal, new_job};
+ghost use Rattle.hail_machine.specs.Sights.{sight_of, is_shut};
 ghost use Rattle.hail_machine.specs.Events.{AreBytes, IsSpelledKind};
 ghost use Rattle.hail_machine.specs.Jobs.{Kind};
 ghost use Rattle.hail_machine.specs.Refusals as refusal;
@@ -27,12 +28,12 @@ impl Vault {
         ensures bytes { AreBytes name.now }
         ensures free { (w : State) (more : List Cause) → CoreIs self.now.core w → OnOk result (first_refusal (
             record { applies = w.is_barred; refusal = refusal.MustReopen }
-            ∷ record { applies = is_shut w || nat_le 8 (length w.jobs); refusal = refusal.Busy } ∷ more)
+            ∷ record { applies = is_shut (sight_of w) || nat_le 8 (length w.jobs); refusal = refusal.Busy } ∷ more)
             ≡ first_refusal more) }
         ensures refused { (w : State) (more : List Cause) → CoreIs self.now.core w
             → IfErr result (λ why. first_refusal (
             record { applies = w.is_barred; refusal = refusal.MustReopen }
-            ∷ record { applies = is_shut w || nat_le 8 (length w.jobs); refusal = refusal.Busy }
+            ∷ record { applies = is_shut (sight_of w) || nat_le 8 (length w.jobs); refusal = refusal.Busy }
             ∷ record { applies = not (is_name name.now); refusal = refusal.BadName } ∷ more)
             ≡ Some (refusal_of why)) }
     {

@@ -1,8 +1,9 @@
-use Rattle.std.proofs.Common.{Result, ℕ, sym, subst}
+use Rattle.std.proofs.Common.{Result, ℕ, ◌∷◌, ◌∙◌, sym, subst}
 use Rattle.hail_machine.specs.Jobs.{DropJob}
 use Rattle.vault_core.specs.declared.wish.BeginFault.{BeginFault}
 use Rattle.vault.specs.Stands.{MakesBegin}
-use Rattle.vault.proofs.Begun.{causes_of_name, turned_down}
+use Rattle.vault.proofs.Begun.{causes_of_name, aims-counted, turned_down}
+use Rattle.vault.proofs.Puts.{name_cause}
 use Rattle.vault_open.proofs.InitEvents.{err-is}
 use Rattle.vault.proofs.vault.Vault.begin_drop.Goals as goal
 
@@ -12,4 +13,4 @@ returns-in_err-name-clause-machine c = λ w d moment stands.
     let kind = DropJob c.args.name.now in
     let why = c.in_err-name.field-0.0 in
     subst (λ (r : Result ℕ BeginFault). MakesBegin w moment kind r v d) (sym (err-is c.from_residual.result why c.from_residual.ensures.1))
-    (turned_down v v d w moment kind stands why (c.in_err-name.ensures.refused w (causes_of_name w kind c.args.name.now) stands.core))
+    (turned_down v v d w moment kind stands why (aims-counted w (name_cause c.args.name.now ∷ causes_of_name w kind c.args.name.now) ∙ c.in_err-name.ensures.refused w (causes_of_name w kind c.args.name.now) stands.core))

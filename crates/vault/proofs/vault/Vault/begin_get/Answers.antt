@@ -7,7 +7,7 @@ use Rattle.vault_table.specs.Values.{file_of_entry}
 use Rattle.vault.specs.Benches.{IsBenchFor, IsNewGet}
 use Rattle.vault.specs.Seen.{table_of}
 use Rattle.vault.specs.Stands.{MakesBegin}
-use Rattle.vault.proofs.Begun.{causes_of_name, turned_down}
+use Rattle.vault.proofs.Begun.{causes_of_name, aims-counted, turned_down}
 use Rattle.vault_open.proofs.InitEvents.{err-is}
 use Rattle.vault.proofs.Puts.{name_cause}
 use Rattle.vault.proofs.GetBegins.{found-in, no-such-name, size-fits, get-task, least}
@@ -19,7 +19,7 @@ returns-in_err-name-clause-machine c = λ w d moment stands.
     let kind = GetJob c.args.name.now in
     let why = c.in_err-name.field-0.0 in
     subst (λ (r : Result ℕ BeginFault). MakesBegin w moment kind r v d) (sym (err-is c.from_residual.result why c.from_residual.ensures.1))
-    (turned_down v v d w moment kind stands why (c.in_err-name.ensures.refused w (causes_of_name w kind c.args.name.now) stands.core))
+    (turned_down v v d w moment kind stands why (aims-counted w (name_cause c.args.name.now ∷ causes_of_name w kind c.args.name.now) ∙ c.in_err-name.ensures.refused w (causes_of_name w kind c.args.name.now) stands.core))
 
 pub returns-in_default-clause-machine : goal.returns-in_default-clause-machine
 returns-in_default-clause-machine c = λ w d moment stands.
@@ -28,8 +28,8 @@ returns-in_default-clause-machine c = λ w d moment stands.
     let kind = GetJob name in
     let none : find_file (table_of v).files name ≡ None = sym (c.in_default.ensures ∙ (λ i. find_file (c.table.ensures i).files (c.in_ok-name.ensures.named i))) in
     turned_down v v d w moment kind stands fault.NoSuchName
-    (c.in_ok-name.ensures.free w (name_cause name ∷ causes_of_name w kind name) stands.core
-    ∙ no-such-name w name c.in_ok-name.ensures.is_name (sym (found-in v d w name stands) ∙ none))
+    (aims-counted w (name_cause name ∷ causes_of_name w kind name) ∙ (c.in_ok-name.ensures.free w (name_cause name ∷ causes_of_name w kind name) stands.core
+    ∙ no-such-name w name c.in_ok-name.ensures.is_name (sym (found-in v d w name stands) ∙ none)))
 
 pub returns-in-Ok-clause-machine : goal.returns-in-Ok-clause-machine
 returns-in-Ok-clause-machine c = λ w d moment stands.
