@@ -4,7 +4,7 @@ use Rattle.std.specs.Prelude.{nat_lt, nat_le, nat_eq, is_some, sum, sum_by, coun
 use Rattle.std.specs.List.{list_any, AllZip}
 use Rattle.std.specs.Cmp.Lexicographic.{pointwise}
 use Rattle.std.specs.Option.{option_map}
-use Rattle.std.proofs.lemmas.Bool.{cases_Bool, lt-ltb, ltb-true}
+use Rattle.std.proofs.lemmas.Bool.{cases_Bool, lt-ltb, ltb-true, lt-leb}
 use Rattle.std.proofs.Math.Bool.{or-false}
 use Rattle.std.proofs.lemmas.Bool.Decides.{nat_tests}
 use Rattle.std.proofs.lemmas.List.{length-map}
@@ -72,6 +72,10 @@ pub taken-by : (files : List File) (aims : List Aim) (name : List ℕ) → is_na
 taken-by files aims name = listed-with_puts _ aims name
     ∙ (ap (λ (b : Bool). b || is_name_among (taken_names files []) name) (any-puts name aims) ∙ ap (λ (b : Bool). list_any (puts_name name) aims || b) (listed-files files name))
 
+pub found-some : {X : Type 0} (f : X → File) {found : Option File} (o : Option X) → option_map f o ≡ found → is_some o ≡ is_some found
+found-some f None e = ap is_some e
+found-some f (Some x) e = ap is_some e
+
 -- a put adds its name, unless it is taken
 pub more-put : (files : List File) (aims : List Aim) (w : Wish) (name : List ℕ) (size : ℕ) (b : Bool) → w ≡ wish.Put name size → b ≡ is_name_among (taken_names files aims) name →
     length (taken_names files (aim_of_wish w ∷ aims)) ≡ (if not b then 1 else 0) + length (taken_names files aims)
@@ -113,7 +117,7 @@ are_in_the_way aims ToAudit = list_any is_put_or_check aims
 are_in_the_way aims ToRepair = list_any is_check aims
 are_in_the_way aims aim = false
 
-way : (aims : List Aim) (w : Wish) → are_jobs_in_the_way 8 aims (aim_of_wish w) ≡ (nat_le 8 (length aims) || are_in_the_way aims (aim_of_wish w))
+pub way : (aims : List Aim) (w : Wish) → are_jobs_in_the_way 8 aims (aim_of_wish w) ≡ (nat_le 8 (length aims) || are_in_the_way aims (aim_of_wish w))
 way aims (wish.Put name size) = sym (or-false (nat_le 8 (length aims)))
 way aims (wish.Get name) = sym (or-false (nat_le 8 (length aims)))
 way aims (wish.Drop name) = sym (or-false (nat_le 8 (length aims)))
@@ -127,6 +131,17 @@ busy a v w b e h = subst (λ (c : CoreView). b ≡ is_busy 8 (sight_in c) (aim_o
     ∙ (sym (way (aims_kept a.jobs.items) w)
     ∙ (ap (λ (aims : List Aim). are_jobs_in_the_way 8 aims (aim_of_wish w)) (sym (aims-seen a.setup.n a.jobs.items))
     ∙ ap (λ (t : Bool). t || are_jobs_in_the_way 8 (aims_in (view_of a).jobs) (aim_of_wish w)) (sym (unshut (view_of a).jobs))))))
+
+-- the same where fewer than eight run
+pub beside : (a : Inside) (v : CoreView) (w : Wish) (b : Bool) → view_of a ≡ v → length a.jobs.items < 8 → b ≡ are_in_the_way (aims_kept a.jobs.items) (aim_of_wish w) → b ≡ is_busy 8 (sight_in v) (aim_of_wish w)
+beside a v w b e l h = busy a v w b e (h ∙ sym (ap (λ (t : Bool). t || are_in_the_way (aims_kept a.jobs.items) (aim_of_wish w)) (lt-leb 8 (length a.jobs.items) l)))
+
+pub none-beside : (aims : List Aim) (w : Wish) → (w ≡ wish.Audit → ⊥) → (w ≡ wish.Repair → ⊥) → false ≡ are_in_the_way aims (aim_of_wish w)
+none-beside aims (wish.Put name size) a r = refl
+none-beside aims (wish.Get name) a r = refl
+none-beside aims (wish.Drop name) a r = refl
+none-beside aims wish.Audit a r = absurd (a refl)
+none-beside aims wish.Repair a r = absurd (r refl)
 
 pub crowded : (a : Inside) (v : CoreView) (name : List ℕ) (taken : Bool) (count : ℕ) → view_of a ≡ v → taken ≡ is_name_among (taken_names a.table.files (aims_kept a.jobs.items)) name →
     nat_le 1024 count ≡ nat_le 1024 (length (taken_names a.table.files (aims_kept a.jobs.items))) → (nat_le 1024 count && not taken) ≡ is_crowded (sight_in v) name
