@@ -1,6 +1,6 @@
 -- A step of a scrub or of a pack leaves all of the state but what runs alone, the journal and the devices: one lemma for every walk.
 use Rattle.std.proofs.Common.{◌≡◌, ℕ, zero, suc, List, [], ◌∷◌, refl, sym, subst}
-use Rattle.hail_machine.specs.Actions.{Action, WriteBody, SyncBody, WriteGate, SyncGate, Store, Fetch, Ask, Work, Remove, End}
+use Rattle.hail_machine.specs.Actions.{Action, Store, Fetch, Work, End}
 use Rattle.hail_machine.specs.Answers as answer
 use Rattle.hail_machine.specs.Events.{Outcome, More, Ended}
 use Rattle.hail_machine.specs.States.{State, Scrub, Pack, Alone, Scrubbing, Packing}

@@ -1,8 +1,8 @@
 -- The record that ends a put, whatever the version.
-use Rattle.std.proofs.Common.{◌≡◌, ℕ, true, false, cond, ◌==◌, List, ◌∷◌, Option, Some, None, refl, ap, sym, subst, ◌∙◌, inl, inr}
-use Rattle.std.proofs.lemmas.Bool.{cases_Bool, eqb-true}
-use Rattle.hail_records.specs.Records.{Record, SetUp, PutStart, PutDone, Drop, AuditStart, AuditDone, RepairDone, PutDoneIn, Version, Resume, InEffect, RepairDue}
-use Rattle.hail_records.specs.Table.{File, file_as, profile_in, setup_of, version_of, started_as, is_start_of, file_of}
+use Rattle.std.proofs.Common.{◌≡◌, ℕ, cond, ◌==◌, List, ◌∷◌, Option, Some, None, refl, sym, subst, inl, inr}
+use Rattle.std.proofs.lemmas.Bool.{cases_Bool}
+use Rattle.hail_records.specs.Records.{Record, PutDone, PutDoneIn}
+use Rattle.hail_records.specs.Table.{file_as, profile_in, setup_of, started_as, is_start_of, file_of}
 use Rattle.hail_machine.specs.Appends.{done_record}
 use Rattle.hail_machine.proofs.JobLists.{cond_true, cond_false}
 

@@ -2,7 +2,6 @@
 use Rattle.std.proofs.Common.{◌≡◌, ℕ, zero, suc, ◌+◌, ◌<◌, ◌≤◌, ◌==◌, Bool, true, false, ◌⊎◌, ◌&&◌, List, [], ◌∷◌, Option, Some, None, refl, ap, sym, subst, ◌∙◌, inl, inr, arith}
 use Rattle.std.specs.Prelude.{IsSome, is_some, nat_lt}
 use Rattle.std.specs.Option.{option_map}
-use Rattle.std.specs.List.{list_any}
 use Rattle.std.specs.Prelude.{◌||◌, length}
 use Rattle.std.proofs.lemmas.Bool.{lt-ltb, eqb-true, eq-eqb, ne_eqb, cases_Bool, and_parts, and_from, false≢true}
 use Rattle.hail_records.specs.Records.{Record, Setup, SetUp, is_setup}
@@ -21,7 +20,7 @@ use Rattle.hail_machine.specs.States.{State, Append, Doubt, Scrub, Pack, Alone, 
 use Rattle.hail_machine.specs.Begins.{beginning, BeginsAt}
 use Rattle.hail_machine.specs.Appends.{Writes, begun_append, moved, doubted, done_append, barred, unappended, subject_drawn, bytes_drawn, is_first_append, taken_out, Moves}
 use Rattle.hail_machine.specs.Steps.{next_action, holder_of, block_to_store, FetchStep, AskStep, WorkStep, Acts, ActsOrWaits, StepsOn, StepsJob, StepsMine, StepsOne, StepsOpen, Steps}
-use Rattle.hail_machine.specs.Alone.{number_alone, alone_refusal, unalone, scrubbing, block_to_scrub, opened_scrub, Scrubs, StepsScrub, packing, switching, switched, barred_pack, Packs, StepsAlone, new_scrub, new_pack, BeginsAlone, is_too_long}
+use Rattle.hail_machine.specs.Alone.{number_alone, alone_refusal, unalone, scrubbing, block_to_scrub, Scrubs, StepsScrub, packing, switching, switched, barred_pack, Packs, StepsAlone, new_scrub, new_pack, BeginsAlone, is_too_long}
 use Rattle.hail_machine.specs.Refusals.{Cause, first_refusal}
 use Rattle.hail_machine.specs.Openings.{LeavesDoubt, reread, Rereads, Stops, Reopens, InitsClosed, InitsBy, Inits, Continues}
 use Rattle.hail_machine.specs.Replacements.{ReplacesAt, ReplacesIf}

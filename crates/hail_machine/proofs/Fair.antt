@@ -12,13 +12,9 @@ use Rattle.hail_machine.specs.States.{State, setup_in}
 use Rattle.hail_machine.specs.Steps.{next_action, is_idle_drop}
 use Rattle.hail_machine.proofs.JobLists.{cond_true, cond_false}
 use Rattle.plain_facts.specs.Lists.{Each, In}
-use Rattle.plain_facts.proofs.Each.{each_get, each_append, each_map, each_flat}
+use Rattle.plain_facts.proofs.Each.{each_flat_in, each_get, each_append, each_map, each_flat}
 use Rattle.hail_machine.proofs.ActionLists.{split_get}
 use Rattle.hail_machine.proofs.Numbers.{next_by, next_is_by}
-
-each_flat_in : {A X : Type 0} (P : X → Type 0) (f : A → List X) (as_ : List A) → ((a : A) → In a as_ → Each P (f a)) → Each P (flat_map f as_)
-each_flat_in P f [] h = tt
-each_flat_in P f (a ∷ as_) h = each_append P (f a) (flat_map f as_) (h a (inl refl)) (each_flat_in P f as_ (λ x i. h x (inr i)))
 
 -- a job works on a file of this object number
 pub record HasPin (job : Job) (o : ℕ) : Type 0 where

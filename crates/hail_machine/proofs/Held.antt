@@ -5,7 +5,7 @@ use Rattle.std.specs.List.{Contains, flat_map}
 use Rattle.std.proofs.lemmas.Bool.{eq-eqb, cases_lt, or_parts, and_from, le-leb, lt-leb, false≢true}
 use Rattle.hail_columns.specs.Columns.{columns}
 use Rattle.hail_records.specs.Records.{Record, Setup}
-use Rattle.hail_records.specs.Table.{started_as, setup_of, next_id}
+use Rattle.hail_records.specs.Table.{started_as, setup_of}
 use Rattle.hail_machine.specs.Jobs.{Kind, PutJob, GetJob, DropJob, AuditJob, RepairJob, UpgradeJob, aim_of, Pinned, Job, job_of}
 use Rattle.hail_machine.specs.Actions.{Action, WriteBody, SyncBody, WriteGate, SyncGate, Store, Remove, End, append_actions, on_each_provider, on_each_stripe, actions_by, actions_of}
 use Rattle.hail_machine.specs.Setups.{object_of, profiled}

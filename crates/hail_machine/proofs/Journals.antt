@@ -1,10 +1,8 @@
 -- The journal that a disk holds and the history have alike tables, and a put that runs is started in both.
-use Rattle.std.proofs.Common.{◌≡◌, ℕ, suc, ◌+◌, ◌<◌, ◌≤◌, ◌==◌, true, false, cond, Bool, ◌⊎◌, List, [], ◌∷◌, length, Option, Some, None, refl, ap, sym, subst, ◌∙◌, inl, inr, arith}
-use Rattle.std.specs.Prelude.{is_some, if◌then◌else◌}
-use Rattle.std.proofs.lemmas.Bool.{cases_Bool, eq-eqb, ne_eqb, false≢true}
+use Rattle.std.proofs.Common.{◌≡◌, ℕ, suc, cond, List, ◌∷◌, Some, refl, ap, ◌∙◌}
 use Rattle.hail_records.specs.Records.{Record, Setup, SetUp, PutStart, PutDone, Drop, AuditStart, AuditDone, RepairDone, PutDoneIn, Version, Resume, InEffect, RepairDue}
-use Rattle.hail_records.specs.Table.{File, Due, setup_of, version_of, next_id, next_audit, started_as, profile_in, with_put, without_file, files_of, due_of, exceeds}
-use Rattle.hail_records.specs.Acceptance.{refused, AreAccepted}
+use Rattle.hail_records.specs.Table.{setup_of, version_of, started_as, profile_in, with_put, without_file, files_of, due_of, exceeds}
+use Rattle.hail_records.specs.Acceptance.{AreAccepted}
 use Rattle.hail_records.specs.Packed.{AreAlike, packed}
 use Rattle.hail_records.proofs.PackLaws.{packed_are}
 use Rattle.hail_machine.proofs.Done.{put_ended}

@@ -11,7 +11,7 @@ use Rattle.hail_machine.specs.Appends.{Writes, is_first_append, subject_drawn}
 use Rattle.hail_machine.specs.Steps.{next_action, is_idle_drop}
 use Rattle.hail_machine.specs.Runs.{Moment, now, IsRun}
 use Rattle.hail_machine.proofs.JobLists.{cond_true, cond_false, same_value, found_none}
-use Rattle.hail_machine.proofs.Changes.{IsPlain, Job_is, Append_is, Records_is, IsIdle, IsLone, IsQuietState, Changes}
+use Rattle.hail_machine.proofs.Changes.{IsPlain, Job_is, Append_is, Records_is, IsQuietState, Changes}
 use Rattle.hail_machine.proofs.Written.{IsAppended, IsWritten, written_on}
 use Rattle.hail_machine.proofs.Events.{changes}
 

@@ -1,25 +1,23 @@
 -- Files in effect, files that jobs work on, and objects that they take away.
-use Rattle.std.proofs.Common.{◌≡◌, ℕ, ◌<◌, ◌≤◌, ◌==◌, Bool, true, false, ◌⊎◌, ◌||◌, List, [], ◌∷◌, length, Option, Some, None, refl, ap, sym, subst, ◌∙◌, inl, inr}
+use Rattle.std.proofs.Common.{◌≡◌, ℕ, ◌<◌, ◌≤◌, ◌==◌, Bool, true, false, ◌⊎◌, List, [], ◌∷◌, length, Option, Some, None, refl, ap, sym, subst, ◌∙◌, inl, inr}
 use Rattle.std.specs.Prelude.{nat_lt}
 use Rattle.std.specs.List.{list_any}
 use Rattle.std.proofs.lemmas.Bool.{eq-eqb, cases_Bool, cases_lt, false≢true}
-use Rattle.hail_records.specs.Records.{Record, PutStart, PutDone, Drop, AuditStart, AuditDone, RepairDone, Version}
+use Rattle.hail_records.specs.Records.{Record, PutStart, Drop, AuditStart, AuditDone, RepairDone, Version}
 use Rattle.hail_records.specs.Table.{File, next_id, files_of, version_of}
 use Rattle.hail_machine.specs.Jobs.{Kind, PutJob, GetJob, DropJob, AuditJob, RepairJob, UpgradeJob, Aim, ToPut, ToGet, ToDrop, ToAudit, ToRepair, ToUpgrade, aim_of, Pinned, Job, job_of}
 use Rattle.hail_machine.specs.Actions.{machine_pins}
-use Rattle.hail_machine.specs.Refusals.{Cause, first_refusal}
 use Rattle.hail_machine.specs.States.{State, file_in}
 use Rattle.hail_machine.specs.Begins.{refusal_of_begin, pinned_file, pin_by, pin_all, pin_found, pinned_for}
 use Rattle.hail_machine.specs.Sights.{aims_of, sight_of, is_check, is_put_or_check, is_shut, are_jobs_in_the_way}
 use Rattle.hail_machine.specs.Appends.{Writes, is_first_append, is_pinned, removable, taken_out, done_record}
 use Rattle.hail_machine.proofs.Done.{by_version}
-use Rattle.hail_machine.proofs.Refused.{not_busy, right_false, left_false}
+use Rattle.hail_machine.proofs.Refused.{not_busy, right_false}
 use Rattle.hail_machine.proofs.JobLists.{cond_true, cond_false, same_value}
 use Rattle.hail_machine.proofs.Sights.{any-aims}
 use Rattle.hail_machine.proofs.Numbers.{first_above, first_below}
 use Rattle.hail_machine.proofs.RecordFacts.{IsProper, listed_file}
 use Rattle.plain_facts.specs.Lists.{In}
-use Rattle.hail_machine.specs.Refusals as refusal
 
 -- ---- what begins pin
 
@@ -90,8 +88,10 @@ any_job test (x ∷ js) k j h none = elim (cases_Bool (test x)) [
 ]
 
 -- the aim of a running job, where no aim passes a test
-pub any_aim : (test : Aim → Bool) (js : List Job) (k : ℕ) (j : Job) → job_of js k ≡ Some j → list_any test (aims_of js) ≡ false → test (aim_of j.kind) ≡ false
-any_aim test js k j h none = any_job (λ (x : Job). test (aim_of x.kind)) js k j h (sym (any-aims test js) ∙ none)
+pub any_aim : (test : Aim → Bool) (js : List Job) (k : ℕ) (j : Job) → job_of js k ≡ Some j
+    → list_any test (aims_of js) ≡ false → test (aim_of j.kind) ≡ false
+any_aim test js k j h none =
+    any_job (λ (x : Job). test (aim_of x.kind)) js k j h (sym (any-aims test js) ∙ none)
 
 pub not_pinned : (w : State) (k : ℕ) (j : Job) (f : Pinned) (id : ℕ) → is_pinned w id ≡ false → job_of w.jobs k ≡ Some j → In f j.pinned → f.id ≡ id → ⊥
 not_pinned w k j f id none runs i e = false≢true (sym (any_job (λ (x : Job). list_any (λ (p : Pinned). p.id == id) x.pinned) w.jobs k j runs none) ∙ any_pinned j.pinned id f i e)
@@ -133,10 +133,12 @@ taken w job UpgradeJob o h = absurd h
 
 -- ---- begins of audits and repairs
 
-pub check_alone : (limit : ℕ) (w : State) (kind : Kind) (profile : Option ℕ) → refusal_of_begin limit w kind profile ≡ None → is_check (aim_of kind) ≡ true →
-    (k : ℕ) (j : Job) → job_of w.jobs k ≡ Some j → is_check (aim_of j.kind) ≡ false
+pub check_alone : (limit : ℕ) (w : State) (kind : Kind) (profile : Option ℕ)
+    → refusal_of_begin limit w kind profile ≡ None → is_check (aim_of kind) ≡ true
+    → (k : ℕ) (j : Job) → job_of w.jobs k ≡ Some j → is_check (aim_of j.kind) ≡ false
 check_alone limit w kind profile none check k j runs =
-    by kind check (right_false (is_shut (sight_of w)) (are_jobs_in_the_way limit (aims_of w.jobs) (aim_of kind)) (not_busy limit w kind profile none))
+    by kind check (right_false (is_shut (sight_of w)) (are_jobs_in_the_way limit (aims_of w.jobs) (aim_of kind))
+    (not_busy limit w kind profile none))
   where
     not_put : (aim : Aim) → is_put_or_check aim ≡ false → is_check aim ≡ false
     not_put (ToPut name size) h = refl
@@ -146,7 +148,8 @@ check_alone limit w kind profile none check k j runs =
     not_put ToRepair h = h
     not_put ToUpgrade h = h
 
-    by : (kd : Kind) → is_check (aim_of kd) ≡ true → are_jobs_in_the_way limit (aims_of w.jobs) (aim_of kd) ≡ false → is_check (aim_of j.kind) ≡ false
+    by : (kd : Kind) → is_check (aim_of kd) ≡ true
+        → are_jobs_in_the_way limit (aims_of w.jobs) (aim_of kd) ≡ false → is_check (aim_of j.kind) ≡ false
     by AuditJob c h = not_put (aim_of j.kind) (any_aim is_put_or_check w.jobs k j runs (right_false _ _ h))
     by RepairJob c h = any_aim is_check w.jobs k j runs (right_false _ _ h)
     by UpgradeJob c h = absurd (false≢true c)

@@ -1,10 +1,9 @@
 -- A program's plan with other pinned files has the same actions, where these say the same of number, profile and length.
-use Rattle.std.proofs.Common.{◌≡◌, ℕ, List, [], ◌∷◌, ◌++◌, map, refl, ap, sym, ◌∙◌}
-use Rattle.std.specs.Prelude.{Bool}
+use Rattle.std.proofs.Common.{◌≡◌, List, [], ◌∷◌, ◌++◌, map, refl, ap}
 use Rattle.std.specs.List.{flat_map}
 use Rattle.hail_records.specs.Records.{Setup}
 use Rattle.hail_machine.specs.Jobs.{Aim, ToPut, ToGet, ToDrop, ToAudit, ToRepair, ToUpgrade}
-use Rattle.hail_machine.specs.Actions.{Action, End, append_actions, PinsOf, Plan, plan_actions, read_plan, ask_plan, repair_plan, store_plan, remove_plan}
+use Rattle.hail_machine.specs.Actions.{End, append_actions, PinsOf, Plan, plan_actions}
 
 flat_map-map : {A B X : Type 0} (f : B → List X) (g : A → B) (xs : List A) → flat_map f (map g xs) ≡ flat_map (λ x. f (g x)) xs
 flat_map-map f g [] = refl

@@ -1,20 +1,20 @@
 -- While the journal has its first version, each put that runs has the profile of the setup.
-use Rattle.std.proofs.Common.{◌≡◌, ℕ, ◌+◌, ◌<◌, ◌≤◌, ◌==◌, ◌&&◌, true, false, Bool, List, [], ◌∷◌, length, Option, Some, None, refl, ap, sym, subst, ◌∙◌, inl, inr, arith}
-use Rattle.std.specs.Prelude.{is_some, nat_lt, nat_le, not}
-use Rattle.std.proofs.lemmas.Bool.{cases_Bool, cases_lt, cases_eq, eq-eqb, false≢true}
+use Rattle.std.proofs.Common.{◌≡◌, ℕ, ◌+◌, ◌≤◌, ◌==◌, true, false, Bool, List, [], ◌∷◌, length, Option, Some, None, refl, ap, sym, subst, ◌∙◌, inl, inr, arith}
+use Rattle.std.specs.Prelude.{nat_lt, nat_le, not}
+use Rattle.std.proofs.lemmas.Bool.{cases_Bool, cases_eq, eq-eqb, false≢true}
 use Rattle.hail_records.specs.Records.{Record, Setup, SetUp, PutStart, PutDone, Drop, AuditStart, AuditDone, RepairDone, PutDoneIn, Version, Resume, InEffect, RepairDue, is_name, largest_file, all_profiles}
 use Rattle.hail_records.specs.Table.{setup_of, version_of, profile_in, next_id}
-use Rattle.hail_machine.specs.Jobs.{Kind, PutJob, aim_of, Job, job_of}
+use Rattle.hail_machine.specs.Jobs.{PutJob, aim_of, Job, job_of}
 use Rattle.hail_machine.specs.Refusals as refusal
 use Rattle.hail_machine.specs.Setups.{setup_or_none}
 use Rattle.hail_machine.specs.States.{State, Append, IsStart, setup_in}
-use Rattle.hail_machine.specs.Begins.{refusal_of_begin, chosen, beginning}
+use Rattle.hail_machine.specs.Begins.{refusal_of_begin, chosen}
 use Rattle.hail_machine.specs.Sights.{sight_of, is_busy}
 use Rattle.hail_machine.specs.Appends.{Writes, done_record, is_first_append}
 use Rattle.hail_machine.specs.Actions.{Action, WriteBody, SyncGate}
 use Rattle.hail_machine.specs.Steps.{next_action}
 use Rattle.hail_machine.specs.Runs.{Moment, now, IsRun}
-use Rattle.hail_machine.proofs.JobLists.{number_of, cond_true, cond_false, same_value, found_none}
+use Rattle.hail_machine.proofs.JobLists.{number_of, cond_false, same_value, found_none}
 use Rattle.hail_machine.proofs.Changes.{IsPlain, Grown, Job_is, Append_is, Changes}
 use Rattle.hail_machine.proofs.Events.{changes}
 use Rattle.hail_machine.proofs.Numbers.{objects, Draws, at_three, drawn_later, first_above}

@@ -1,10 +1,11 @@
 -- What holds of records in effect of which each put's start has the number that was next.
-use Rattle.std.proofs.Common.{◌≡◌, ℕ, ◌<◌, ◌≤◌, ◌==◌, true, false, cond, ◌⊎◌, List, [], ◌∷◌, Option, Some, None, refl, ap, sym, subst, ◌∙◌, inl, inr, arith}
+use Rattle.std.proofs.Common.{◌≡◌, ℕ, ◌<◌, ◌≤◌, ◌==◌, false, cond, ◌⊎◌, List, [], ◌∷◌, Option, Some, None, refl, ap, sym, subst, ◌∙◌, inl, inr, arith}
 use Rattle.std.proofs.lemmas.Bool.{eqb-true, eq-eqb, ne_eqb, cases_Bool, false≢true}
 use Rattle.plain_facts.specs.Lists.{In}
 use Rattle.hail_records.specs.Records.{Record, SetUp, PutStart, PutDone, Drop, AuditStart, AuditDone, RepairDone, PutDoneIn, Version, Resume, InEffect, RepairDue}
 use Rattle.hail_records.specs.Table.{File, next_id, started_as, is_same_name, is_start_of, file_of, files_of, with_put, with_file, without_file, is_name_before, setup_of, profile_in}
 use Rattle.hail_records.proofs.FilesLaws.{same-eq, same-refl}
+use Rattle.hail_records.proofs.SoundLaws.{start_name}
 use Rattle.hail_machine.proofs.JobLists.{cond_true, cond_false, same_value}
 
 -- a put's start has the number that is next, and the kinds that only a packed journal has do not come
@@ -23,11 +24,6 @@ pub record AreSound (rs : List Record) : Type 0 where
   pub file : (q : List ℕ) (f : File) → file_of rs q ≡ Some f → (f.id < next_id rs) × (started_as rs f.id ≡ None)
   pub one_name : (q p : List ℕ) (f g : File) → file_of rs q ≡ Some f → file_of rs p ≡ Some g → f.id ≡ g.id → q ≡ p
   pub started : (id : ℕ) (name : List ℕ) → started_as rs id ≡ Some name → id < next_id rs
-
--- the start that a put's end is of
-start_name : (q : List ℕ) (o : Option (List ℕ)) → is_start_of q o ≡ true → (name : List ℕ) × (o ≡ Some name) × (q ≡ name)
-start_name q None h = absurd (false≢true h)
-start_name q (Some name) h = (name, refl, sym (same-eq name q h))
 
 -- a number below the next one that is not started stays so
 pub not_started-more : (rs : List Record) (r : Record) (id : ℕ) → IsProper rs r → id < next_id rs → started_as rs id ≡ None → started_as (r ∷ rs) id ≡ None

@@ -1,5 +1,5 @@
 -- The aims of running jobs, and the names in effect that a sight finds.
-use Rattle.std.proofs.Common.{◌≡◌, Bool, ◌||◌, ℕ, suc, List, [], ◌∷◌, length, Option, Some, refl, ap, sym, ◌∙◌}
+use Rattle.std.proofs.Common.{◌≡◌, Bool, ◌||◌, ℕ, suc, List, [], ◌∷◌, length, refl, ap}
 use Rattle.std.specs.Prelude.{is_some}
 use Rattle.std.specs.List.{list_any}
 use Rattle.hail_records.proofs.FilesLaws.{find-files_of}
@@ -7,7 +7,8 @@ use Rattle.hail_machine.specs.Jobs.{Aim, aim_of, Job}
 use Rattle.hail_machine.specs.States.{State, file_in}
 use Rattle.hail_machine.specs.Sights.{aims_of, sight_of, is_stored}
 
-pub any-aims : (test : Aim → Bool) (js : List Job) → list_any test (aims_of js) ≡ list_any (λ (j : Job). test (aim_of j.kind)) js
+pub any-aims : (test : Aim → Bool) (js : List Job)
+    → list_any test (aims_of js) ≡ list_any (λ (j : Job). test (aim_of j.kind)) js
 any-aims test [] = refl
 any-aims test (j ∷ js) = ap (λ b. test (aim_of j.kind) || b) (any-aims test js)
 

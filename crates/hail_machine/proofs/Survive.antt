@@ -1,8 +1,8 @@
 -- A file that came into effect stays until a record that takes it out is in doubt.
-use Rattle.std.proofs.Common.{◌≡◌, ℕ, suc, ◌==◌, Bool, true, false, Option, List, [], ◌∷◌, ◌++◌, length, Some, None, refl, ap, sym, ◌∙◌, inl, inr, arith}
-use Rattle.std.proofs.lemmas.Bool.{cases_Bool, ne_eqb, false≢true}
+use Rattle.std.proofs.Common.{◌≡◌, ℕ, suc, ◌==◌, Bool, false, List, [], ◌∷◌, ◌++◌, length, Some, None, refl, ap, sym, ◌∙◌, inl, inr, arith}
+use Rattle.std.proofs.lemmas.Bool.{cases_Bool, ne_eqb}
 use Rattle.hail_records.specs.Records.{Record, Setup, SetUp, PutStart, PutDone, Drop, AuditStart, AuditDone, RepairDone, PutDoneIn, Version, Resume, InEffect, RepairDue}
-use Rattle.hail_records.specs.Table.{File, file_as, setup_of, version_of, profile_in, started_as, is_start_of, is_same_name, file_of}
+use Rattle.hail_records.specs.Table.{File, file_as, setup_of, profile_in, started_as, is_start_of, is_same_name, file_of}
 use Rattle.hail_machine.specs.Appends.{done_record}
 use Rattle.hail_machine.specs.States.{State, Doubt, IsStart}
 use Rattle.hail_machine.specs.Runs.{Moment, now, newest, came, IsRun}

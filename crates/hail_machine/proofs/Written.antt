@@ -1,14 +1,13 @@
 -- The kinds of record that appends bring: those of a packed journal alone never come so.
-use Rattle.std.proofs.Common.{◌≡◌, ℕ, true, false, Bool, List, Option, Some, None, refl, ap, sym, subst, ◌∙◌, inl, inr}
+use Rattle.std.proofs.Common.{◌≡◌, ℕ, true, false, Bool, Some, sym, subst, inl, inr}
 use Rattle.std.proofs.lemmas.Bool.{cases_Bool}
 use Rattle.std.specs.Prelude.{◌==◌, length, if◌then◌else◌}
-use Rattle.hail_records.specs.Records.{Record, SetUp, PutStart, PutDone, Drop, AuditStart, AuditDone, RepairDone, PutDoneIn, Version, Resume, InEffect, RepairDue}
-use Rattle.hail_records.specs.Table.{version_of, next_id, next_audit}
+use Rattle.hail_records.specs.Records.{Record, PutStart, PutDone, PutDoneIn, Resume, InEffect, RepairDue}
+use Rattle.hail_records.specs.Table.{version_of, next_id}
 use Rattle.hail_machine.specs.Jobs.{Kind, PutJob, GetJob, DropJob, AuditJob, RepairJob, UpgradeJob, Job}
 use Rattle.hail_machine.specs.Events.{Event, Outcome}
 use Rattle.hail_machine.specs.States.{State, Append, Doubt}
 use Rattle.hail_machine.specs.Appends.{Writes, done_record, is_first_append}
-use Rattle.hail_machine.proofs.JobLists.{cond_true, cond_false}
 use Rattle.hail_machine.proofs.Changes.{Append_is, Doubt_is, Changes}
 
 -- a record that an append may bring

@@ -2,9 +2,9 @@
 --
 --   removes_older aim      == the job takes an older object away, where there is one: a put, a drop
 --   is_undecided s job     == it does, and its append has not yet decided on it
---   most_after s aim rest  == the largest number of steps that a job may make of which these actions are left,
---                             if nothing fails, whatever other jobs do: a removal from each provider counts
---                             until it is decided
+--   most_after s aim rest  == the largest number of steps that a job may make of which these actions are
+--                             left, if nothing fails, whatever other jobs do: a removal from each provider
+--                             counts until it is decided
 --   left_alone w job       == how many steps the job makes until its end if nothing fails and no other job
 --                             steps
 --   most_left s job        == the largest number of steps that a running job may make

@@ -61,7 +61,7 @@ next_audit-more rs (InEffect k size profile name) S a = omega arith
 next_audit-more rs (RepairDue number counts) S a = omega arith
 
 -- the name of the start that a put's end is of
-start_name : (q : List ℕ) (o : Option (List ℕ)) → is_start_of q o ≡ true → (name : List ℕ) × (o ≡ Some name) × (q ≡ name)
+pub start_name : (q : List ℕ) (o : Option (List ℕ)) → is_start_of q o ≡ true → (name : List ℕ) × (o ≡ Some name) × (q ≡ name)
 start_name q None h = absurd cc
 start_name q (Some name) h = (name, refl, sym (same-eq name q h))
 

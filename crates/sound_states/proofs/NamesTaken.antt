@@ -62,19 +62,23 @@ once-with_name names name o = elim (cases_Bool (is_name_among names name)) [
   | inr f ↦ subst AreOnce (sym (cond_false (is_name_among names name) names (name ∷ names) f)) (f, o)
 ]
 
-pub once-with_puts : (names : List (List ℕ)) (aims : List Aim) → AreOnce names → AreOnce (with_puts names aims)
+pub once-with_puts : (names : List (List ℕ)) (aims : List Aim) → AreOnce names
+    → AreOnce (with_puts names aims)
 once-with_puts names [] o = o
-once-with_puts names (ToPut name size ∷ aims) o = once-with_name (with_puts names aims) name (once-with_puts names aims o)
+once-with_puts names (ToPut name size ∷ aims) o =
+    once-with_name (with_puts names aims) name (once-with_puts names aims o)
 once-with_puts names (ToGet name ∷ aims) o = once-with_puts names aims o
 once-with_puts names (ToDrop name ∷ aims) o = once-with_puts names aims o
 once-with_puts names (ToAudit ∷ aims) o = once-with_puts names aims o
 once-with_puts names (ToRepair ∷ aims) o = once-with_puts names aims o
 once-with_puts names (ToUpgrade ∷ aims) o = once-with_puts names aims o
 
-pub listed-with_puts : (names : List (List ℕ)) (aims : List Aim) (n : List ℕ) → is_name_among (with_puts names aims) n ≡ (list_any (puts_name n) aims || is_name_among names n)
+pub listed-with_puts : (names : List (List ℕ)) (aims : List Aim) (n : List ℕ)
+    → is_name_among (with_puts names aims) n ≡ (list_any (puts_name n) aims || is_name_among names n)
 listed-with_puts names [] n = refl
 listed-with_puts names (ToPut name size ∷ aims) n = listed-with_name (with_puts names aims) name n
-    ∙ (ap (λ b. is_same_name n name || b) (listed-with_puts names aims n) ∙ join (is_same_name n name) (list_any (puts_name n) aims) (is_name_among names n))
+    ∙ (ap (λ b. is_same_name n name || b) (listed-with_puts names aims n)
+    ∙ join (is_same_name n name) (list_any (puts_name n) aims) (is_name_among names n))
   where
     join : (a b c : Bool) → (a || (b || c)) ≡ ((a || b) || c)
     join true b c = refl
@@ -123,7 +127,8 @@ once-taken rs js = once-with_puts (names_in (files_of rs)) (aims_of js) (once-fi
 
 pub listed-taken : (rs : List Record) (js : List Job) (n : List ℕ) → is_name_among (taken_by rs js) n ≡ (are_put n js || is_some (file_of rs n))
 listed-taken rs js n = listed-with_puts (names_in (files_of rs)) (aims_of js) n
-    ∙ (ap (λ b. b || is_name_among (names_in (files_of rs)) n) (any-aims (puts_name n) js) ∙ ap (λ b. are_put n js || b) (listed-files_of rs n))
+    ∙ (ap (λ b. b || is_name_among (names_in (files_of rs)) n) (any-aims (puts_name n) js)
+    ∙ ap (λ b. are_put n js || b) (listed-files_of rs n))
 
 -- names that are taken now and were taken before are no more than before
 pub taken-fewer : (rs more : List Record) (js now : List Job) → ((n : List ℕ) → (are_put n now || is_some (file_of more n)) ≡ true → (are_put n js || is_some (file_of rs n)) ≡ true) →

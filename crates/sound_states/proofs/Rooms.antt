@@ -1,5 +1,5 @@
 -- The room that a job's records need, by its kind and the number of its appends that are left.
-use Rattle.std.proofs.Common.{◌≡◌, ℕ, ◌+◌, ◌-◌, ◌<◌, ◌≤◌, ◌==◌, cond, List, length, drop, refl, ap, sym, subst, ◌∙◌, inl, inr, arith, sum}
+use Rattle.std.proofs.Common.{◌≡◌, ℕ, ◌+◌, ◌<◌, ◌≤◌, ◌==◌, cond, List, length, refl, ap, sym, subst, ◌∙◌, inl, inr, arith}
 use Rattle.std.proofs.lemmas.Bool.{cases_Bool, cases_lt}
 use Rattle.hail_columns.specs.Verdicts.{Sums}
 use Rattle.hail_records.specs.Records.{Setup, Record, PutStart, AuditStart, AuditDone, record_size}
