@@ -106,7 +106,7 @@ once-ordered (f ∷ fs) h = (below-listed fs f.name (grind (arith, h)), once-ord
 pub once-files : (rs : List Record) → AreOnce (names_in (files_of rs))
 once-files rs = once-ordered (files_of rs) (ordered-files_of rs)
 
-listed-files : (fs : List File) (n : List ℕ) → is_name_among (names_in fs) n ≡ is_some (find_file fs n)
+pub listed-files : (fs : List File) (n : List ℕ) → is_name_among (names_in fs) n ≡ is_some (find_file fs n)
 listed-files [] n = refl
 listed-files (f ∷ fs) n = grind (arith, listed-files fs n, same-sym n f.name)
 

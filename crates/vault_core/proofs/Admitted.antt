@@ -1,14 +1,15 @@
 -- A core with one more job: it is kept, and stands for the state after the begin.
 use Rattle.std.proofs.Common.{◌≡◌, ℕ, zero, suc, ◌+◌, ◌-◌, ◌<◌, ◌≤◌, Bool, true, false, List, [], ◌∷◌, ◌++◌, Option, Some, None, Vec, Global, length, map, drop, inl, inr, refl, ap, sym, subst, ◌∙◌, length-append, arith}
-use Rattle.std.specs.Prelude.{nat_lt, ◌==◌, ◌||◌, sum, sum_by, if◌then◌else◌}
+use Rattle.std.specs.Prelude.{nat_lt, ◌==◌, ◌||◌, sum, sum_by, if◌then◌else◌, nat_le}
 use Rattle.std.specs.List.{All, AllZip}
 use Rattle.std.specs.Prelude.{Result, Ok, Err, OnOk}
-use Rattle.std.proofs.lemmas.Bool.{cases_Bool}
+use Rattle.std.proofs.lemmas.Bool.{cases_Bool, leb-false}
 use Rattle.std.proofs.lemmas.Bool.Decides.{nat_tests}
 use Rattle.std.proofs.lemmas.List.Elements.{All-push}
 use Rattle.std.proofs.lemmas.List.Sums.{sum_by_push}
+use Rattle.std.proofs.lemmas.List.{length-map}
 use Rattle.hail_records.specs.Records.{Setup, Record, largest_journal}
-use Rattle.hail_machine.specs.Jobs.{Kind}
+use Rattle.hail_machine.specs.Jobs.{Kind, ToPut, ToAudit}
 use Rattle.hail_machine.specs.Events.{Begin, Begun, IsSpelledKind}
 use Rattle.hail_machine.specs.States.{State, Append, setup_in}
 use Rattle.hail_machine.specs.Begins.{begin_refusal, new_job}
@@ -26,13 +27,16 @@ use Rattle.vault_core.specs.Reserves.{sizes_of, reserved_of, starts_of, Reserves
 use Rattle.vault_core.specs.Coming.{entry_of_found}
 use Rattle.vault_core.specs.Carried.{IsKindOf, IsJobOf, IsCoreFlight, CoreIs, begun}
 use Rattle.vault_core.specs.Parts.{core_job, view_of, IsJobKept, IsCore}
-use Rattle.vault_core.specs.Refusing.{is_busy_in, word_refusal_in, is_used_up, is_full_in, or_full, refusal_in}
+use Rattle.hail_machine.specs.Sights.{is_busy, is_shut, is_full, are_numbers_used_up, are_jobs_in_the_way}
+use Rattle.hail_machine.proofs.Refused.{left_false, right_false}
+use Rattle.vault_core.specs.Wished.{aim_of_wish}
+use Rattle.vault_core.specs.Refusing.{aims_in, sight_in, word_refusal_in, or_full, refusal_in}
 use Rattle.vault_core.specs.Making.{cursor_first, starts_for, admitted, IsMade}
 use Rattle.vault_core.proofs.Counts.{gates_at, reserved_is, reserved_at}
 use Rattle.sound_states.proofs.Written.{file-first}
 use Rattle.vault_core.proofs.Plain.{pins-plain}
 use Rattle.vault_core.proofs.Joins.{made-is}
-use Rattle.vault_core.proofs.Refusals.{length-seen}
+use Rattle.vault_core.proofs.Refusals.{way}
 use Rattle.vault_core.proofs.Kept.{rising_push}
 
 -- ---- lists
@@ -51,7 +55,7 @@ seen-push n (i ∷ js) j = ap (λ (xs : List CoreJob). core_job n i ∷ xs) (see
 
 cursor-room : (n : ℕ) (v : Wish) (ts : List Task) → reserved_at n v (cursor_first v ts) ≡ sum (sizes_of n v)
 cursor-room n (wish.Put name size) ts = refl
-cursor-room n (wish.Get name) ts = none (length (sizes_of n (wish.Get name)) - gates_at (wish.Get name) (cursor_first (wish.Get name) ts))
+cursor-room n (wish.Get name) ts = none (0 - gates_at (wish.Get name) (cursor_first (wish.Get name) ts))
   where
     none : (k : ℕ) → sum (drop {A = ℕ} k []) ≡ 0
     none zero = refl
@@ -71,18 +75,27 @@ none-by false false true None h = cc
 none-by false false false None h = (refl, refl)
 none-by false false f (Some x) h = cc
 
+-- a begin that is not refused finds a place and room
 pub room-left : (c : CoreView) (v : Wish) → Reserves c → None ≡ refusal_in c v → c.end + sum_by (reserved_of c.setup.n) c.jobs + sum (sizes_of c.setup.n v) ≤ largest_journal
-room-left c v res h = by v (none-by c.barred (is_busy_in c v) (is_full_in c v) (word_refusal_in c v) h).1
+room-left c v res h = by v (none-by c.barred (is_busy 8 (sight_in c) (aim_of_wish v)) (is_full (sight_in c) (aim_of_wish v)) (word_refusal_in (sight_in c) v) h).1
   where
     within : (k : ℕ) (u : Bool) → (nat_lt largest_journal k || u) ≡ false → k ≤ largest_journal
     within k u e = grind (arith, nat_tests, e)
 
-    by : (x : Wish) → is_full_in c x ≡ false → c.end + sum_by (reserved_of c.setup.n) c.jobs + sum (sizes_of c.setup.n x) ≤ largest_journal
-    by (wish.Put name size) e = within _ (is_used_up c.table (wish.Put name size)) e
+    by : (x : Wish) → is_full (sight_in c) (aim_of_wish x) ≡ false → c.end + sum_by (reserved_of c.setup.n) c.jobs + sum (sizes_of c.setup.n x) ≤ largest_journal
+    by (wish.Put name size) e = within _ (are_numbers_used_up (sight_in c) (ToPut name size)) e
     by (wish.Get name) e = let r = res.room in let z : sum (sizes_of c.setup.n (wish.Get name)) ≡ 0 = refl in omega (arith, r, z)
     by (wish.Drop name) e = within _ false e
-    by wish.Audit e = within _ (is_used_up c.table wish.Audit) e
+    by wish.Audit e = within _ (are_numbers_used_up (sight_in c) ToAudit) e
     by wish.Repair e = within _ false e
+
+pub few-left : (c : CoreView) (v : Wish) → None ≡ refusal_in c v → length c.jobs < 8
+few-left c v h =
+    let b = (none-by c.barred (is_busy 8 (sight_in c) (aim_of_wish v)) (is_full (sight_in c) (aim_of_wish v)) (word_refusal_in (sight_in c) v) h).0 in
+    let w = left_false (nat_le 8 (length (aims_in c.jobs))) _ (sym (way (aims_in c.jobs) v) ∙ right_false (is_shut (sight_in c)) (are_jobs_in_the_way 8 (aims_in c.jobs) (aim_of_wish v)) b) in
+    let l = leb-false 8 (length (aims_in c.jobs)) w in
+    let m = length-map c.jobs (λ (j : CoreJob). aim_of_wish j.wish) in
+    omega (arith, l, m)
 
 -- ---- the core is kept
 
@@ -171,4 +184,4 @@ on_ok_then (Ok x) P Q f h = f h
 on_ok_then (Err x) P Q f h = h
 
 pub fewer-than : (n : ℕ) (js : List Job) → length (map (core_job n) js) < 8 → length js < 8
-fewer-than n js h = let e = length-seen n js in omega (arith, e, h)
+fewer-than n js h = let e = length-map js (core_job n) in omega (arith, e, h)

@@ -8,6 +8,7 @@ use Rattle.std.proofs.lemmas.List.Sums.{sum_by-cons}
 use Rattle.std.proofs.lemmas.List.FromFn.{length-range_with_len}
 use Rattle.hail_records.specs.Records.{Setup}
 use Rattle.hail_machine.specs.Actions.{Action, append_actions}
+use Rattle.hail_machine.specs.Left.{removes_older}
 use Rattle.record_codec.specs.declared.counts.Counts.{Counts}
 use Rattle.record_codec.specs.Entries.{IsPadded}
 use Rattle.vault_table.specs.Values.{Kept}
@@ -21,10 +22,9 @@ use Rattle.vault_core.specs.declared.job.Task.{Task}
 use Rattle.vault_core.specs.declared.job.Job.{Job}
 use Rattle.vault_core.specs.View.{flag_at}
 use Rattle.vault_core.specs.Rest.{numbers, calls_from, rewrite_of, rewrites_from, work_of, turn_of, turns_from, tasks_of, closing_of, tasks_on, rest_of}
-use Rattle.vault_core.specs.Coming.{takes_older, most_of}
-use Rattle.vault_core.specs.Parts.{core_job, is_caller, is_opener, comes_to, IsWithin, IsWishable, MayBeAt, IsJobKept}
-use Rattle.vault_core.specs.Refusing.{HasName}
-use Rattle.vault_core.specs.Wished.{IsShort}
+use Rattle.vault_core.specs.Coming.{most_of}
+use Rattle.vault_core.specs.Parts.{core_job, is_caller, comes_to, IsWithin, MayBeAt, IsJobKept}
+use Rattle.vault_core.specs.Wished.{IsShort, HasName, is_opener, aim_of_wish}
 use Rattle.vault_core.specs.Making.{pins_for, targets_of, turns_for, tasks_made, size_of_turn, other_actions, cursor_on, cursor_first, IsMade}
 use Rattle.vault_core.proofs.Rests.{rest_is, task_here}
 use Rattle.vault_core.proofs.Counts.{gates, gates_is, gates_at}
@@ -132,7 +132,7 @@ first-at n job wish.Repair l e all = by job.tasks.items refl all
 
 -- a removal from each provider, where a gate is left
 abbrev one_more : ℕ → Wish → ℕ → ℕ
-one_more n v m = if takes_older v && nat_lt 0 m then n else 0
+one_more n v m = if removes_older (aim_of_wish v) && nat_lt 0 m then n else 0
 
 few-more : (n : ℕ) (v : Wish) (ts : List Task) → one_more n v (gates_at v (cursor_first v ts)) + (length (front_of v) + length (closing_of v)) ≡ other_actions n v
 few-more n (wish.Put name size) ts = let e : n + 9 ≡ 9 + n = omega arith in e
@@ -147,13 +147,6 @@ no-tasks t s (wish.Put name size) pins e h = absurd (false≢true (sym h))
 no-tasks t s (wish.Get name) pins e h = absurd (false≢true (sym h))
 no-tasks t s wish.Audit pins e h = absurd (false≢true (sym h))
 no-tasks t s wish.Repair pins e h = absurd (false≢true (sym h))
-
-wishable : (v : Wish) → HasName v → IsShort v → IsWishable v
-wishable (wish.Put name size) named short = (named, short)
-wishable (wish.Get name) named short = tt
-wishable (wish.Drop name) named short = named
-wishable wish.Audit named short = tt
-wishable wish.Repair named short = tt
 
 pub take-zeros : (n k : ℕ) → n ≤ k → take n (replicate {A = ℕ} k 0) ≡ replicate n 0
 take-zeros zero k l = refl
@@ -195,7 +188,7 @@ module _ (t : Kept) (s : Setup) (k : ℕ) (w : Wish) (job : Job) (made : IsMade 
     stays = record {
       tasks = made-all;
       idle = λ h. made.tasks ∙ no-tasks t s w job.pinned.items made.pinned (ap is_caller (sym made.wish) ∙ h);
-      wishable = subst IsWishable (sym made.wish) (wishable w named short);
+      wishable = subst (λ (v : Wish). HasName v × IsShort v) (sym made.wish) (named, short);
       flags = long;
       counts = ap (λ (x : Counts). x.n) made.counts;
       padded = subst IsPadded (sym made.counts) (record { room = refl; at_most = most; zeros = drop-zeros s.n 16 });

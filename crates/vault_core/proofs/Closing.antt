@@ -19,19 +19,21 @@ use Rattle.sound_states.proofs.Gates.{decided, drop-list, drop-gate, put-behind}
 use Rattle.sound_states.proofs.Going.{onward}
 use Rattle.vault_table.specs.Values.{Kept, IsFoldOf}
 use Rattle.hail_machine.proofs.NextActions.{next_stands}
+use Rattle.vault_core.proofs.Alike.{IsAlike, alike}
 use Rattle.vault_core.specs.declared.pinned.Pinned.{Pinned}
 use Rattle.vault_core.specs.declared.wish.Wish.{Wish}
 use Rattle.vault_core.specs.declared.wish.Wish.TheVariants as wish
 use Rattle.vault_core.specs.View.{CoreJob}
 use Rattle.vault_core.specs.Coming.{asks_next}
 use Rattle.vault_core.specs.Going.{removals_of}
-use Rattle.vault_core.specs.Carried.{IsKindOf, has_asked, opens, pin_of, IsJobOf}
+use Rattle.vault_core.specs.Carried.{has_asked, pin_of, IsJobOf}
 use Rattle.vault_core.specs.Fed.{is_gate, stepped, is_pinned_in, removable_in, older_of, is_taker, decides_now, gated}
 use Rattle.vault_core.proofs.Places.{any-map}
 use Rattle.vault_core.proofs.Standing.{get-drop, file_here}
 use Rattle.vault_core.proofs.Onward.{sums-same, no-sums, asks-none, head-here, left-here, opening-on, on-moved}
 use Rattle.vault_core.proofs.Judging.{Asked, asked_parts, asked_whole, audit_kind}
 use Rattle.vault_core.proofs.Taking.{gate_left}
+use Rattle.vault_core.specs.Wished.{is_opener}
 
 -- ---- what is pinned, and what is taken away
 
@@ -84,18 +86,18 @@ module _ (w : State) (t : Kept) (cs : List CoreJob) (c : CoreJob) (m : Job) (f :
   and_false true = refl
   and_false false = refl
 
-  closed : false ≡ (opens c.wish && nat_lt (m.place + 1) 4)
+  closed : false ≡ (is_opener c.wish && nat_lt (m.place + 1) 4)
   closed = sym (ap (λ (o : Option Action). c.opening && not (is_gate o)) head ∙ and_false c.opening) ∙ opening-on w c m SyncGate is next not_end
 
   -- a job that takes an object away has only its removals and its end left
   taken_rest : is_taker c.wish c.opening ≡ true → removals_of (setup_in w).n (older_of t cs c.wish) ≡ actions_left (setup_in w) (decided m (taken_out w m m.kind))
-  taken_rest takes = by c.wish m.kind refl refl is.kind takes
+  taken_rest takes = by c.wish m.kind refl refl (alike c.wish m.kind is.kind) takes
     where
-      by : (v : Wish) (k : Kind) → c.wish ≡ v → m.kind ≡ k → IsKindOf v k → is_taker v c.opening ≡ true →
+      by : (v : Wish) (k : Kind) → c.wish ≡ v → m.kind ≡ k → IsAlike v k → is_taker v c.opening ≡ true →
           removals_of (setup_in w).n (older_of t cs v) ≡ actions_left (setup_in w) (decided m (taken_out w m k))
       by (wish.Put name size) (PutJob called bytes) e g h b =
           (let opened : c.opening ≡ false = not-true c.opening b in
-          let first : is_first_append m ≡ false = sym (ap (λ (x : Wish). opens x && is_first_append m) e) ∙ (sym is.opening ∙ opened) in
+          let first : is_first_append m ≡ false = sym (ap (λ (x : Wish). is_opener x && is_first_append m) e) ∙ (sym is.opening ∙ opened) in
           let later : 4 ≤ m.place = ltb-false m.place 4 first in
           let at = gate_place w m called bytes g next later in
           ap (λ (o : Option File). removals_of (setup_in w).n (removable_in cs o)) (file_here t w.records name f ∙ ap (file_of w.records) (sym h.0))
@@ -119,12 +121,12 @@ module _ (w : State) (t : Kept) (cs : List CoreJob) (c : CoreJob) (m : Job) (f :
 
   -- another job takes nothing away
   keeps : is_taker c.wish c.opening ≡ false → taken_out w m m.kind ≡ m.older
-  keeps not_ = by c.wish m.kind refl is.kind not_ ∙ sym older
+  keeps not_ = by c.wish m.kind refl (alike c.wish m.kind is.kind) not_ ∙ sym older
     where
-      by : (v : Wish) (k : Kind) → c.wish ≡ v → IsKindOf v k → is_taker v c.opening ≡ false → taken_out w m k ≡ []
+      by : (v : Wish) (k : Kind) → c.wish ≡ v → IsAlike v k → is_taker v c.opening ≡ false → taken_out w m k ≡ []
       by (wish.Put name size) (PutJob called bytes) e h b =
           ap (λ (x : Bool). if x then [] else removable w (file_in w called))
-          (sym (ap (λ (x : Wish). opens x && is_first_append m) e) ∙ (sym is.opening ∙ not-false c.opening b))
+          (sym (ap (λ (x : Wish). is_opener x && is_first_append m) e) ∙ (sym is.opening ∙ not-false c.opening b))
       by (wish.Get name) (GetJob called) e h b = refl
       by (wish.Drop name) k e h b = absurd (false≢true (sym b))
       by wish.Audit AuditJob e h b = refl
@@ -144,11 +146,11 @@ module _ (w : State) (t : Kept) (cs : List CoreJob) (c : CoreJob) (m : Job) (f :
       p = asked_parts (stepped c) has
 
       kind : m.kind ≡ AuditJob
-      kind = audit_kind c.wish m.kind p.audit is.kind
+      kind = audit_kind c.wish m.kind p.audit (alike c.wish m.kind is.kind)
 
       four : c.opening ≡ true → 4 ≡ m.place + 1
       four b =
-          (let first : is_first_append m ≡ true = sym (ap (λ (x : Wish). opens x && is_first_append m) p.audit) ∙ (sym is.opening ∙ b) in
+          (let first : is_first_append m ≡ true = sym (ap (λ (x : Wish). is_opener x && is_first_append m) p.audit) ∙ (sym is.opening ∙ b) in
           let three = gate_within (audit_rest (setup_in w) m) m.place (ltb-true m.place 4 first) (ap (λ (xs : List Action). slice_get xs m.place) (sym (audit-list (setup_in w) m kind)) ∙ next_stands w m SyncGate next not_end) in
           omega (arith, three))
 

@@ -1,6 +1,6 @@
 -- How many gates are among the actions that a job has not yet made.
 use Rattle.std.proofs.Common.{◌≡◌, ℕ, ◌+◌, ◌*◌, ◌-◌, Bool, true, false, cond, List, [], ◌∷◌, ◌++◌, length, map, drop, inl, inr, refl, ap, sym, arith}
-use Rattle.std.specs.Prelude.{sum, count_by}
+use Rattle.std.specs.Prelude.{sum, count_by, if◌then◌else◌}
 use Rattle.std.specs.List.{flat_map}
 use Rattle.std.proofs.lemmas.Bool.{cases_Bool, false≢true}
 use Rattle.std.proofs.lemmas.List.Sums.{sum_by-cons, sum_by-append}
@@ -16,7 +16,7 @@ use Rattle.vault_core.specs.declared.job.Task.{Task}
 use Rattle.vault_core.specs.declared.job.Job.{Job}
 use Rattle.vault_core.specs.View.{flag_at}
 use Rattle.vault_core.specs.Rest.{numbers, call_of, calls_from, rewrite_of, rewrites_from, work_of, turn_of, turns_from, tasks_of, moves_from, closing_of, tasks_on, beyond, rest_at, rest_of}
-use Rattle.vault_core.specs.Reserves.{sizes_of, last_size, reserved_of}
+use Rattle.vault_core.specs.Reserves.{sizes_of, room_behind, last_appends, reserved_of}
 use Rattle.vault_core.specs.Parts.{comes_to, is_opening, is_past, core_job}
 
 -- how many gates are among these actions
@@ -83,40 +83,34 @@ moves_one move.GateSync = refl
 
 -- ---- by where a job is
 
--- the gates of the last append
-abbrev pub last_gates : Wish → ℕ
-last_gates (wish.Get name) = 0
-last_gates (wish.Drop name) = 0
-last_gates w = 1
-
 -- the gates from a cursor on
 abbrev pub gates_at : Wish → Cursor → ℕ
-gates_at w (at.Opening m) = 1 + last_gates w
-gates_at w (at.Calling spot j) = last_gates w
-gates_at w (at.Working spot) = last_gates w
-gates_at w (at.Rewriting spot j) = last_gates w
+gates_at w (at.Opening m) = 1 + last_appends w
+gates_at w (at.Calling spot j) = last_appends w
+gates_at w (at.Working spot) = last_appends w
+gates_at w (at.Rewriting spot j) = last_appends w
 gates_at w (at.Closing m) = 1
 gates_at w (at.Removing object j) = 0
 gates_at w at.Ending = 0
 
-closing_one : (w : Wish) → gates (closing_of w) ≡ last_gates w
+closing_one : (w : Wish) → gates (closing_of w) ≡ last_appends w
 closing_one (wish.Put name size) = refl
 closing_one (wish.Get name) = refl
 closing_one (wish.Drop name) = refl
 closing_one wish.Audit = refl
 closing_one wish.Repair = refl
 
-tasks_on_one : (n : ℕ) (job : Job) (ts : List Task) → gates (tasks_on n job ts) ≡ last_gates job.wish
+tasks_on_one : (n : ℕ) (job : Job) (ts : List Task) → gates (tasks_on n job ts) ≡ last_appends job.wish
 tasks_on_one n job ts = let e = gates-append (tasks_of n job.wish job.flagged ts) (closing_of job.wish) in let a = tasks_none n job.wish job.flagged ts in let b = closing_one job.wish in omega (arith, e, a, b)
 
-beyond_one : (n : ℕ) (job : Job) (spot : Spot) → gates (beyond n job spot) ≡ last_gates job.wish
+beyond_one : (n : ℕ) (job : Job) (spot : Spot) → gates (beyond n job spot) ≡ last_appends job.wish
 beyond_one n job spot =
     let e = gates-append (turns_from (spot.turn + 1) n job.wish job.flagged spot.object spot.turns) (tasks_on n job (drop spot.behind job.tasks.items)) in
     let a = turns_none (spot.turn + 1) n job.wish job.flagged spot.object spot.turns in
     let b = tasks_on_one n job (drop spot.behind job.tasks.items) in
     omega (arith, e, a, b)
 
-work_one : (n : ℕ) (job : Job) (spot : Spot) → gates (work_of n job.wish job.flagged spot.object spot.turn ++ beyond n job spot) ≡ last_gates job.wish
+work_one : (n : ℕ) (job : Job) (spot : Spot) → gates (work_of n job.wish job.flagged spot.object spot.turn ++ beyond n job spot) ≡ last_appends job.wish
 work_one n job spot =
     let e = gates-append (work_of n job.wish job.flagged spot.object spot.turn) (beyond n job spot) in
     let a = work_none n job.wish job.flagged spot.object spot.turn in
@@ -148,10 +142,10 @@ gates_is n job = gates_here n job job.cursor
 -- ---- the room that is still needed
 
 abbrev pub reserved_at : ℕ → Wish → Cursor → ℕ
-reserved_at n w c = sum (drop (length (sizes_of n w) - gates_at w c) (sizes_of n w))
+reserved_at n w c = room_behind n w (gates_at w c)
 
 pub reserved_is : (n : ℕ) (job : Job) → reserved_of n (core_job n job) ≡ reserved_at n job.wish job.cursor
-reserved_is n job = ap (λ (k : ℕ). sum (drop (length (sizes_of n job.wish) - k) (sizes_of n job.wish))) (gates_is n job)
+reserved_is n job = ap (room_behind n job.wish) (gates_is n job)
 
 pub reserved_opening : (n : ℕ) (w : Wish) (c : Cursor) → comes_to w c ≡ true → is_opening c ≡ true → sum (sizes_of n w) ≡ reserved_at n w c
 reserved_opening n (wish.Put name size) (at.Opening m) h o = refl
@@ -161,17 +155,16 @@ reserved_opening n (wish.Get name) (at.Opening m) h o = absurd (false≢true h)
 reserved_opening n wish.Repair (at.Opening m) h o = absurd (false≢true h)
 reserved_opening n w c h o = absurd (false≢true o)
 
+none-left : (n : ℕ) (w : Wish) → 0 ≡ room_behind n w 0
+none-left n (wish.Put name size) = refl
+none-left n (wish.Get name) = refl
+none-left n (wish.Drop name) = refl
+none-left n wish.Audit = refl
+none-left n wish.Repair = refl
+
 pub reserved_past : (n : ℕ) (w : Wish) (c : Cursor) → is_past c ≡ true → 0 ≡ reserved_at n w c
-reserved_past n (wish.Put name size) (at.Removing object j) p = refl
-reserved_past n (wish.Get name) (at.Removing object j) p = refl
-reserved_past n (wish.Drop name) (at.Removing object j) p = refl
-reserved_past n wish.Audit (at.Removing object j) p = refl
-reserved_past n wish.Repair (at.Removing object j) p = refl
-reserved_past n (wish.Put name size) at.Ending p = refl
-reserved_past n (wish.Get name) at.Ending p = refl
-reserved_past n (wish.Drop name) at.Ending p = refl
-reserved_past n wish.Audit at.Ending p = refl
-reserved_past n wish.Repair at.Ending p = refl
+reserved_past n w (at.Removing object j) p = none-left n w
+reserved_past n w at.Ending p = none-left n w
 reserved_past n w c p = absurd (false≢true p)
 
 pub one : (k : ℕ) → k ≡ sum (k ∷ [])
@@ -180,27 +173,9 @@ one k = omega (arith, sum_by-cons (λ (x : ℕ). x) k [])
 pub two : (a b : ℕ) → a + b ≡ sum (a ∷ b ∷ [])
 two a b = let e = sum_by-cons (λ (x : ℕ). x) a (b ∷ []) in let f = one b in omega (arith, e, f)
 
-pub reserved_last : (n : ℕ) (w : Wish) (c : Cursor) → comes_to w c ≡ true → is_opening c ≡ false → is_past c ≡ false → last_size n w ≡ reserved_at n w c
+pub reserved_last : (n : ℕ) (w : Wish) (c : Cursor) → comes_to w c ≡ true → is_opening c ≡ false → is_past c ≡ false → room_behind n w (last_appends w) ≡ reserved_at n w c
 reserved_last n w (at.Opening m) h o p = absurd (false≢true (sym o))
 reserved_last n w (at.Removing object j) h o p = absurd (false≢true (sym p))
 reserved_last n w at.Ending h o p = absurd (false≢true (sym p))
-reserved_last n (wish.Put name size) (at.Calling spot j) h o p = refl
-reserved_last n (wish.Put name size) (at.Working spot) h o p = refl
-reserved_last n (wish.Put name size) (at.Rewriting spot j) h o p = refl
-reserved_last n (wish.Put name size) (at.Closing m) h o p = refl
-reserved_last n (wish.Get name) (at.Calling spot j) h o p = refl
-reserved_last n (wish.Get name) (at.Working spot) h o p = refl
-reserved_last n (wish.Get name) (at.Rewriting spot j) h o p = refl
-reserved_last n (wish.Get name) (at.Closing m) h o p = refl
-reserved_last n (wish.Drop name) (at.Calling spot j) h o p = refl
-reserved_last n (wish.Drop name) (at.Working spot) h o p = refl
-reserved_last n (wish.Drop name) (at.Rewriting spot j) h o p = refl
-reserved_last n (wish.Drop name) (at.Closing m) h o p = absurd (false≢true h)
-reserved_last n wish.Audit (at.Calling spot j) h o p = one (15 + 4 * n)
-reserved_last n wish.Audit (at.Working spot) h o p = one (15 + 4 * n)
-reserved_last n wish.Audit (at.Rewriting spot j) h o p = one (15 + 4 * n)
-reserved_last n wish.Audit (at.Closing m) h o p = one (15 + 4 * n)
-reserved_last n wish.Repair (at.Calling spot j) h o p = refl
-reserved_last n wish.Repair (at.Working spot) h o p = refl
-reserved_last n wish.Repair (at.Rewriting spot j) h o p = refl
-reserved_last n wish.Repair (at.Closing m) h o p = refl
+reserved_last n w (at.Closing m) h o p = ap (λ (b : Bool). room_behind n w (if b then 1 else 0)) h
+reserved_last n w c h o p = refl

@@ -6,6 +6,7 @@ use Rattle.std.proofs.lemmas.List.{map-append, length-map}
 use Rattle.std.proofs.lemmas.List.Elements.{All-map}
 use Rattle.std.specs.declared.vec.Vec.{Vec}
 use Rattle.hail_machine.specs.Actions.{Action, WriteBody, SyncBody, WriteGate, SyncGate, Store, Fetch, Ask, Work, Remove, End, append_actions, ends_append}
+use Rattle.hail_machine.specs.Left.{removes_older}
 use Rattle.vault_core.specs.declared.wish.Wish.{Wish}
 use Rattle.vault_core.specs.declared.wish.Wish.TheVariants as wish
 use Rattle.vault_core.specs.declared.cursor.Move.TheVariants as move
@@ -15,7 +16,6 @@ use Rattle.vault_core.specs.declared.job.Task.{Task}
 use Rattle.vault_core.specs.declared.job.Job.{Job}
 use Rattle.vault_core.specs.declared.own.Core.TheInside.{Inside}
 use Rattle.vault_core.specs.View.{CoreJob, CoreView}
-use Rattle.vault_core.specs.Coming.{takes_older}
 use Rattle.vault_core.specs.Rest.{numbers, calls_from, turn_of, turns_from, tasks_of, closing_of, rest_at, rest_of}
 use Rattle.vault_core.specs.Going.{aimed, drawn_tasks, decides, decides_at, goes_opening}
 use Rattle.vault_core.specs.Parts.{core_job, view_of, is_opening, is_over, IsJobKept, IsCore}
@@ -25,6 +25,7 @@ use Rattle.vault_core.proofs.Counts.{gates, gates-cons}
 use Rattle.vault_core.proofs.Gates.{action_at, first_is}
 use Rattle.vault_core.proofs.Kept.{seen_at, other_view, starts_not_more, and_left, moved_room, reserved_fewer, renamed_stripe}
 use Rattle.vault_core.proofs.Moving.{within, kept_at, seen_by, seen_moved}
+use Rattle.vault_core.specs.Wished.{aim_of_wish}
 
 -- ---- stores under another number
 
@@ -162,9 +163,9 @@ kept_drawn n job k v kept h e = record {
   within = kept.within;
   left =
       kept.left
-      ∙ (ap (λ (l : ℕ). l + (if takes_older job.wish && nat_lt 0 (gates (rest_of n job)) then n else 0)) (sym (renamed_length k job.wish (rest_of n job)))
-      ∙ (ap (λ (g : ℕ). length (all_renamed k job.wish (rest_of n job)) + (if takes_older job.wish && nat_lt 0 g then n else 0)) (sym (renamed_gates k job.wish (rest_of n job)))
-      ∙ ap (λ (xs : List Action). length xs + (if takes_older job.wish && nat_lt 0 (gates xs) then n else 0)) (sym (rest_drawn n job k v kept h e))));
+      ∙ (ap (λ (l : ℕ). l + (if removes_older (aim_of_wish job.wish) && nat_lt 0 (gates (rest_of n job)) then n else 0)) (sym (renamed_length k job.wish (rest_of n job)))
+      ∙ (ap (λ (g : ℕ). length (all_renamed k job.wish (rest_of n job)) + (if removes_older (aim_of_wish job.wish) && nat_lt 0 g then n else 0)) (sym (renamed_gates k job.wish (rest_of n job)))
+      ∙ ap (λ (xs : List Action). length xs + (if removes_older (aim_of_wish job.wish) && nat_lt 0 (gates xs) then n else 0)) (sym (rest_drawn n job k v kept h e))));
 }
 
 pub start_going : (n : ℕ) (job : Job) → IsJobKept n job → slice_get (rest_of n job) 0 ≡ Some WriteBody → (is_over job.cursor ≡ false) × (decides job ≡ false)

@@ -8,6 +8,7 @@ use Rattle.std.proofs.lemmas.List.{map-set, length-drop}
 use Rattle.std.proofs.lemmas.Bool.{cases_Bool, lt-ltb, ltb-true, false≢true, ne_eqb, eqb-true, eq-eqb}
 use Rattle.hail_columns.specs.Verdicts.{Sums}
 use Rattle.hail_machine.specs.Actions.{Action, SyncGate, End}
+use Rattle.hail_machine.specs.Left.{removes_older}
 use Rattle.vault_table.specs.Values.{Kept}
 use Rattle.vault_core.specs.declared.wish.Wish.{Wish}
 use Rattle.vault_core.specs.declared.wish.Wish.TheVariants as wish
@@ -19,7 +20,7 @@ use Rattle.vault_core.specs.View.{CoreJob, CoreView, AreRising, job_in}
 use Rattle.vault_core.specs.Rest.{rest_of}
 use Rattle.vault_core.specs.Going.{decides, removals_of}
 use Rattle.vault_core.specs.Parts.{core_job, view_of, setup_kept, comes_to, IsJobKept, IsCore}
-use Rattle.vault_core.specs.Coming.{Coming, Acts, Waits, IsNoJob, IsBarred, seen_action, action_next, next_in, is_idle, takes_older, most_of, core_left, written_by, HasReply, TakesReply}
+use Rattle.vault_core.specs.Coming.{Coming, Acts, Waits, IsNoJob, IsBarred, seen_action, action_next, next_in, is_idle, most_of, core_left, written_by, HasReply, TakesReply}
 use Rattle.vault_core.specs.declared.action.Action.{Action as ActionValue}
 use Rattle.vault_core.specs.declared.action.Action.TheVariants as act
 use Rattle.vault_core.specs.declared.reply.Reply.{Reply}
@@ -36,6 +37,7 @@ use Rattle.std.proofs.lemmas.Option.{slice_get_within}
 use Rattle.vault_core.proofs.Gates.{action_at, rest_some, decides_left, decided, ended}
 use Rattle.vault_core.proofs.Drawing.{renamed_gates, renamed_length}
 use Rattle.vault_core.proofs.Gating.{gate_at, decides_is, gated_number, providers}
+use Rattle.vault_core.specs.Wished.{aim_of_wish}
 
 -- ---- a job goes on
 
@@ -56,13 +58,13 @@ extra_less true x y n l = elim (cases_Bool (nat_lt 0 x)) [
 pub moved_falls : (n : ℕ) (j : CoreJob) → 0 < length j.rest → most_of n (stepped j) < most_of n j
 moved_falls n j l =
     let a = length-drop 1 j.rest in
-    let b = extra_less (takes_older j.wish) (gates (drop 1 j.rest)) (gates j.rest) n (gates_fewer j.rest) in
+    let b = extra_less (removes_older (aim_of_wish j.wish)) (gates (drop 1 j.rest)) (gates j.rest) n (gates_fewer j.rest) in
     omega (arith, a, b, l)
 
 renamed_most : (n k : ℕ) (j : CoreJob) → most_of n (record j { subject = k; rest = all_renamed k j.wish j.rest }) ≡ most_of n j
 renamed_most n k j =
-    ap (λ (m : ℕ). m + extra (takes_older j.wish) (gates (all_renamed k j.wish j.rest)) n) (renamed_length k j.wish j.rest)
-    ∙ ap (λ (m : ℕ). length j.rest + extra (takes_older j.wish) m n) (renamed_gates k j.wish j.rest)
+    ap (λ (m : ℕ). m + extra (removes_older (aim_of_wish j.wish)) (gates (all_renamed k j.wish j.rest)) n) (renamed_length k j.wish j.rest)
+    ∙ ap (λ (m : ℕ). length j.rest + extra (removes_older (aim_of_wish j.wish)) m n) (renamed_gates k j.wish j.rest)
 
 pub drawn_falls : (n k : ℕ) (j : CoreJob) → 0 < length j.rest → most_of n (drawn j k) < most_of n j
 drawn_falls n k j l =
@@ -74,7 +76,7 @@ drawn_falls n k j l =
 -- ---- an append is done
 
 removed_most : (n : ℕ) (job : Job) (o : Option ℕ) → 0 < n → IsJobKept n job → decides job ≡ true →
-    length (removals_of n o) + extra (takes_older job.wish) (gates (removals_of n o)) n ≤ 1 + n
+    length (removals_of n o) + extra (removes_older (aim_of_wish job.wish)) (gates (removals_of n o)) n ≤ 1 + n
 unfolding rest_of
 removed_most n job None l kept d = let e = (ended n job kept).left in omega (arith, e)
 removed_most n job (Some object) l kept d = let e = (decided n job object (1 + n) l kept d refl).left in omega (arith, e)

@@ -8,6 +8,7 @@ use Rattle.std.proofs.lemmas.List.{length-append, length-map, length-drop}
 use Rattle.std.proofs.lemmas.List.FromFn.{length-range_with_len}
 use Rattle.std.proofs.lemmas.Option.{slice_get_within}
 use Rattle.hail_machine.specs.Actions.{Action, WriteBody, SyncBody, WriteGate, SyncGate, Store, Ask, Work, Remove, End, ends_append}
+use Rattle.hail_machine.specs.Left.{removes_older}
 use Rattle.hail_records.specs.Table.{File, find_file}
 use Rattle.vault_table.specs.Values.{Kept}
 use Rattle.vault_core.specs.declared.wish.Wish.{Wish}
@@ -20,10 +21,11 @@ use Rattle.vault_core.specs.declared.cursor.Cursor.TheVariants as at
 use Rattle.vault_core.specs.declared.job.Task.{Task}
 use Rattle.vault_core.specs.declared.job.Job.{Job}
 use Rattle.vault_core.specs.Rest.{numbers, call_of, calls_from, work_of, turns_from, tasks_of, moves_from, actions_after, closing_of, tasks_on, beyond, rest_at, rest_of}
-use Rattle.vault_core.specs.Coming.{takes_older, most_of, asks_next, begins_append, is_last_ask, is_gone, is_idle}
+use Rattle.vault_core.specs.Coming.{most_of, asks_next, begins_append, is_last_ask, is_gone, is_idle}
 use Rattle.vault_core.specs.Going.{decides, decides_at}
 use Rattle.vault_core.specs.Parts.{comes_to, is_unbegun, is_opening, is_start, is_over, is_caller, is_worker, is_rewriter, core_job, IsWithin, MayBeAt, IsJobKept}
 use Rattle.vault_core.proofs.Rests.{numbers_here, calls_here, rewrites_take, rest_is, rest_opening, rest_closing, rest_calling, rest_removing, first_work, first_of_front}
+use Rattle.vault_core.specs.Wished.{aim_of_wish}
 
 -- the action at a cursor
 abbrev pub action_at : Wish → Cursor → Action
@@ -152,7 +154,7 @@ gate_before move.Gate xs h = gate_first xs
 gate_before move.GateSync xs h = absurd (h refl)
 
 -- who takes an older object away is a put or a drop
-takers : (w : Wish) → takes_older w ≡ true → ((name : List ℕ) × ((size : ℕ) × (w ≡ wish.Put name size))) ⊎ ((name : List ℕ) × (w ≡ wish.Drop name))
+takers : (w : Wish) → removes_older (aim_of_wish w) ≡ true → ((name : List ℕ) × ((size : ℕ) × (w ≡ wish.Put name size))) ⊎ ((name : List ℕ) × (w ≡ wish.Drop name))
 takers (wish.Put name size) h = inl (name, (size, refl))
 takers (wish.Get name) h = absurd (false≢true h)
 takers (wish.Drop name) h = inr (name, refl)
@@ -169,7 +171,7 @@ both : (xs ys : List Action) → has_gate xs ≡ true → has_gate ys ≡ true �
 both xs ys a b = a ∙ sym b
 
 -- a gate is left behind an action where one was, but for the action that decides
-pub gates_kept : (n : ℕ) (job : Job) → IsJobKept n job → decides job ≡ false → takes_older job.wish ≡ true →
+pub gates_kept : (n : ℕ) (job : Job) → IsJobKept n job → decides job ≡ false → removes_older (aim_of_wish job.wish) ≡ true →
     has_gate (drop 1 (rest_of n job)) ≡ has_gate (rest_of n job)
 gates_kept n job kept undecided takes = by job.cursor refl
   where
@@ -200,17 +202,17 @@ gates_kept n job kept undecided takes = by job.cursor refl
       | inr drops ↦ absurd (false≢true (sym (ap (λ (w : Wish). comes_to w (at.Calling spot j)) drops.1) ∙ comes (at.Calling spot j) e))
     ]
 
-    never : (c : Cursor) → job.cursor ≡ c → ((w : Wish) → takes_older w ≡ true → comes_to w c ≡ false) → ⊥
+    never : (c : Cursor) → job.cursor ≡ c → ((w : Wish) → removes_older (aim_of_wish w) ≡ true → comes_to w c ≡ false) → ⊥
     never c e f = false≢true (sym (f job.wish takes) ∙ comes c e)
 
-    no_worker : (w : Wish) → takes_older w ≡ true → is_worker w ≡ false
+    no_worker : (w : Wish) → removes_older (aim_of_wish w) ≡ true → is_worker w ≡ false
     no_worker (wish.Put name size) h = refl
     no_worker (wish.Get name) h = absurd (false≢true h)
     no_worker (wish.Drop name) h = refl
     no_worker wish.Audit h = refl
     no_worker wish.Repair h = absurd (false≢true h)
 
-    no_rewriter : (w : Wish) → takes_older w ≡ true → is_rewriter w ≡ false
+    no_rewriter : (w : Wish) → removes_older (aim_of_wish w) ≡ true → is_rewriter w ≡ false
     no_rewriter (wish.Put name size) h = refl
     no_rewriter (wish.Get name) h = refl
     no_rewriter (wish.Drop name) h = refl
@@ -238,9 +240,9 @@ gates_kept n job kept undecided takes = by job.cursor refl
 
 -- how many steps may remain falls by one
 pub most_falls : (n : ℕ) (job : Job) (rest : List Action) → IsJobKept n job → decides job ≡ false → rest ≡ drop 1 (rest_of n job) →
-    length rest + (if takes_older job.wish && has_gate rest then n else 0) ≡ most_of n (core_job n job) - 1
-most_falls n job rest kept undecided e = subst (λ (xs : List Action). length xs + (if takes_older job.wish && has_gate xs then n else 0) ≡ most_of n (core_job n job) - 1) (sym e)
-    (elim (cases_Bool (takes_older job.wish)) [
+    length rest + (if removes_older (aim_of_wish job.wish) && has_gate rest then n else 0) ≡ most_of n (core_job n job) - 1
+most_falls n job rest kept undecided e = subst (λ (xs : List Action). length xs + (if removes_older (aim_of_wish job.wish) && has_gate xs then n else 0) ≡ most_of n (core_job n job) - 1) (sym e)
+    (elim (cases_Bool (removes_older (aim_of_wish job.wish))) [
       | inl takes ↦ rw (gates_kept n job kept undecided takes, length-drop 1 (rest_of n job)) (let l = rest_some n job kept in omega arith)
       | inr not ↦ rw (not, length-drop 1 (rest_of n job)) (let l = rest_some n job kept in omega arith)
     ])
@@ -289,10 +291,10 @@ decides_rest n job kept d = by job.wish job.cursor refl refl d
         ∙ (ap (λ (ts : List Task). SyncGate ∷ tasks_on n job ts) (no_tasks name v) ∙ ap (λ (w : Wish). SyncGate ∷ closing_of w) v)
     by w c v e h = absurd (false≢true h)
 
-pub decides_takes : (job : Job) → decides job ≡ true → takes_older job.wish ≡ true
+pub decides_takes : (job : Job) → decides job ≡ true → removes_older (aim_of_wish job.wish) ≡ true
 decides_takes job d = by job.wish job.cursor d
   where
-    by : (w : Wish) (c : Cursor) → decides_at w c ≡ true → takes_older w ≡ true
+    by : (w : Wish) (c : Cursor) → decides_at w c ≡ true → removes_older (aim_of_wish w) ≡ true
     by (wish.Put name size) c h = refl
     by (wish.Drop name) c h = refl
     by (wish.Get name) c h = absurd (false≢true h)
@@ -305,17 +307,17 @@ decides_left n job kept d = kept.left ∙ rw (decides_rest n job kept d, decides
 length_numbers : (a b : ℕ) → length (numbers a b) ≡ b - a
 length_numbers a b = length-range_with_len a (b - a)
 
-and_no_gate : (w : Wish) (xs : List Action) (n : ℕ) → has_gate xs ≡ false → (if takes_older w && has_gate xs then n else 0) ≡ 0
-and_no_gate w xs n h = elim (cases_Bool (takes_older w)) [
+and_no_gate : (w : Wish) (xs : List Action) (n : ℕ) → has_gate xs ≡ false → (if removes_older (aim_of_wish w) && has_gate xs then n else 0) ≡ 0
+and_no_gate w xs n h = elim (cases_Bool (removes_older (aim_of_wish w))) [
   | inl t ↦ rw (t, h) refl
   | inr f ↦ rw f refl
 ]
 
-ending_most : (n : ℕ) (w : Wish) → length (End ∷ []) + (if takes_older w && has_gate (End ∷ []) then n else 0) ≡ 1
+ending_most : (n : ℕ) (w : Wish) → length (End ∷ []) + (if removes_older (aim_of_wish w) && has_gate (End ∷ []) then n else 0) ≡ 1
 ending_most n w = ap (λ (k : ℕ). 1 + k) (and_no_gate w (End ∷ []) n refl)
 
 removing_most : (n object : ℕ) (w : Wish) →
-    length (map (λ k. Remove k object) (numbers 0 n) ++ End ∷ []) + (if takes_older w && has_gate (map (λ k. Remove k object) (numbers 0 n) ++ End ∷ []) then n else 0) ≡ 1 + n
+    length (map (λ k. Remove k object) (numbers 0 n) ++ End ∷ []) + (if removes_older (aim_of_wish w) && has_gate (map (λ k. Remove k object) (numbers 0 n) ++ End ∷ []) then n else 0) ≡ 1 + n
 removing_most n object w =
     let a = length-append (map (λ k. Remove k object) (numbers 0 n)) (End ∷ []) in
     let b : length (map (λ k. Remove k object) (numbers 0 n)) ≡ length (numbers 0 n) = simp length-map in

@@ -31,7 +31,7 @@ use Rattle.vault_core.specs.Coming.{written_by}
 use Rattle.vault_core.specs.Going.{decides, decides_at, goes_opening, removals_of}
 use Rattle.vault_core.specs.Parts.{core_job, view_of, IsCore, is_opening, is_over, comes_to, IsJobKept}
 use Rattle.vault_core.specs.Fed.{first_of, first_at, older_of, gated, HasGated, is_gate, is_taker, stepped, decides_now, gated_by}
-use Rattle.vault_core.specs.Reserves.{sizes_of, reserved_of, starts_by, starts_of}
+use Rattle.vault_core.specs.Reserves.{room_behind, reserved_of, starts_by, starts_of}
 use Rattle.vault_core.proofs.Counts.{gates, gates-append, gates-cons, removes_none, gates_at, gates_is, reserved_at, reserved_is, one, two}
 use Rattle.vault_core.proofs.Gates.{action_at, first_is, decides_rest}
 use Rattle.vault_core.proofs.Moving.{within, kept_at, seen_by, seen_moved}
@@ -138,7 +138,7 @@ gated_opening n older j h = elim (cases_Bool (decides_now j)) [
 
 -- the room that is reserved with one gate less
 abbrev pub reserved_less : ℕ → Wish → ℕ → ℕ
-reserved_less n w g = sum (drop (length (sizes_of n w) - (g - 1)) (sizes_of n w))
+reserved_less n w g = room_behind n w (g - 1)
 
 -- the size of a job's record, by whether it is the first
 abbrev pub entry_size : ℕ → Wish → Bool → ℕ
@@ -199,8 +199,8 @@ gated_room n job older t entry kept h w =
     ∙ sym (reserved_is n job))
   where
     after : (gated_by n older (core_job n job)).wish ≡ job.wish → reserved_of n (gated_by n older (core_job n job)) ≡ reserved_less n job.wish (gates_at job.wish job.cursor)
-    after e = ap (λ (v : Wish). sum (drop (length (sizes_of n v) - gates (gated_by n older (core_job n job)).rest) (sizes_of n v))) e
-        ∙ ap (λ (k : ℕ). sum (drop (length (sizes_of n job.wish) - k) (sizes_of n job.wish))) (gated_gates n job older kept h ∙ ap (λ (k : ℕ). k - 1) (gates_is n job))
+    after e = ap (λ (v : Wish). room_behind n v (gates (gated_by n older (core_job n job)).rest)) e
+        ∙ ap (room_behind n job.wish) (gated_gates n job older kept h ∙ ap (λ (k : ℕ). k - 1) (gates_is n job))
 
     sizes : (b : Bool) → b ≡ is_opening job.cursor → entry_size n job.wish b ≡ record_size entry
     sizes b e = size_of_entry n t (core_job n job) job.wish entry (length_counted n job kept) w b e

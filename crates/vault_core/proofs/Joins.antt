@@ -12,16 +12,17 @@ use Rattle.hail_records.specs.Records.{Setup}
 use Rattle.hail_records.specs.Table.{File, Due, find_file, files_of, file_of, due_of}
 use Rattle.hail_records.proofs.FilesLaws.{find-files_of}
 use Rattle.hail_machine.specs.Setups.{profiled, stripes_of}
-use Rattle.hail_machine.specs.Jobs.{Kind, PutJob, GetJob, DropJob, AuditJob, RepairJob}
+use Rattle.hail_machine.specs.Jobs.{Kind, PutJob, GetJob, DropJob, AuditJob, RepairJob, ToPut, ToGet, ToDrop, ToAudit, ToRepair, ToUpgrade, Aim, aim_of}
 use Rattle.hail_machine.specs.Jobs.{Job as MachineJob, Pinned as PinnedBytes}
-use Rattle.hail_machine.specs.Actions.{Action, Store, Ask, Work, End, append_actions, on_each_provider, on_each_stripe, store_actions, open_actions, rewrite_actions, rounds_of, remove_actions, actions_by, actions_of, actions_left}
-use Rattle.hail_machine.specs.Begins.{pinned_file, pin, pin_all, pin_one, pinned_for, due_number, due_flags, subject_at_begin, new_job}
+use Rattle.hail_machine.specs.Actions.{Action, Store, Ask, Work, End, append_actions, on_each_provider, on_each_stripe, store_actions, open_actions, rewrite_actions, rounds_of, remove_actions, actions_by, actions_of, actions_left, machine_pins}
+use Rattle.hail_machine.specs.Begins.{pinned_file, pinned_for, due_number, due_flags, subject_at_begin, new_job, pin_by, pin_each, pin_found, pins_by}
 use Rattle.hail_machine.specs.States.{State, setup_in, file_in}
 use Rattle.hail_machine.proofs.RecordFacts.{listed_file}
 use Rattle.sound_states.specs.Follows.{AreHeld}
 use Rattle.record_codec.specs.declared.counts.Counts.{Counts}
 use Rattle.record_codec.specs.Entries.{counted}
 use Rattle.vault_table.specs.Values.{Kept, IsFoldOf}
+use Rattle.vault_core.proofs.Alike.{IsAlike, alike}
 use Rattle.vault_core.specs.declared.pinned.Pinned.{Pinned}
 use Rattle.vault_core.specs.declared.wish.Wish.{Wish}
 use Rattle.vault_core.specs.declared.wish.Wish.TheVariants as wish
@@ -29,16 +30,17 @@ use Rattle.vault_core.specs.declared.job.Task.{Task}
 use Rattle.vault_core.specs.declared.job.Job.{Job}
 use Rattle.vault_core.specs.View.{CoreJob, flag_at}
 use Rattle.vault_core.specs.Rest.{numbers, call_of, calls_from, rewrite_of, rewrites_from, turn_of, turns_from, tasks_of, closing_of, rest_of}
-use Rattle.vault_core.specs.Carried.{IsKindOf, pin_of, has_asked, opens, IsJobOf}
+use Rattle.vault_core.specs.Carried.{IsKindOf, pin_of, has_asked, IsJobOf}
 use Rattle.vault_core.specs.Parts.{core_job, is_opening}
-use Rattle.vault_core.specs.Making.{pin_of_file, put_pin, pins_of, pins_found, pins_for, targets_of, turns_for, tasks_made, subject_for, cursor_first, IsMade}
+use Rattle.vault_core.specs.Making.{pin_of_file, pins_for, targets_of, turns_for, tasks_made, subject_for, cursor_first, IsMade, core_pins}
 use Rattle.vault_core.proofs.Plain.{ArePlain, flat-plain}
 use Rattle.vault_core.proofs.Rests.{turns_none}
 use Rattle.vault_core.proofs.Begun.{front_of, take-zeros, made-rest}
+use Rattle.vault_core.specs.Wished.{is_opener}
 
 -- ---- pinned files
 
-map-pin : (p : PinnedBytes) (qs : List PinnedBytes) → map pin_of (pin p qs) ≡ put_pin (pin_of p) (map pin_of qs)
+map-pin : (p : PinnedBytes) (qs : List PinnedBytes) → map pin_of (pin_by machine_pins p qs) ≡ pin_by core_pins (pin_of p) (map pin_of qs)
 map-pin p [] = refl
 map-pin p (q ∷ qs) = elim (cases_Bool (nat_lt p.id q.id)) [
   | inl t ↦ rw t refl
@@ -48,23 +50,28 @@ map-pin p (q ∷ qs) = elim (cases_Bool (nat_lt p.id q.id)) [
 pin-file : (w : State) (f : File) → length (w.bytes f.id) ≡ f.size → pin_of_file f ≡ pin_of (pinned_file w f)
 pin-file w f e = ap (λ (k : ℕ). record { id = f.id; length = k }) (sym e)
 
-pins-all : (w : State) (fs : List File) → ((f : File) → In f fs → length (w.bytes f.id) ≡ f.size) → pins_of fs ≡ map pin_of (pin_all w fs)
+pins-all : (w : State) (fs : List File) → ((f : File) → In f fs → length (w.bytes f.id) ≡ f.size) → pin_each core_pins pin_of_file fs ≡ map pin_of (pin_each machine_pins (pinned_file w) fs)
 pins-all w [] h = refl
-pins-all w (f ∷ fs) h = ap (λ (p : Pinned). put_pin p (pins_of fs)) (pin-file w f (h f (inl refl)))
-    ∙ (ap (put_pin (pin_of (pinned_file w f))) (pins-all w fs (λ g i. h g (inr i))) ∙ sym (map-pin (pinned_file w f) (pin_all w fs)))
+pins-all w (f ∷ fs) h = ap (λ (p : Pinned). pin_by core_pins p (pin_each core_pins pin_of_file fs)) (pin-file w f (h f (inl refl)))
+    ∙ (ap (pin_by core_pins (pin_of (pinned_file w f))) (pins-all w fs (λ g i. h g (inr i))) ∙ sym (map-pin (pinned_file w f) (pin_each machine_pins (pinned_file w) fs)))
 
-pins-one : (w : State) (o : Option File) → ((f : File) → o ≡ Some f → length (w.bytes f.id) ≡ f.size) → pins_found o ≡ map pin_of (pin_one w o)
+pins-one : (w : State) (o : Option File) → ((f : File) → o ≡ Some f → length (w.bytes f.id) ≡ f.size) → pin_found pin_of_file o ≡ map pin_of (pin_found (pinned_file w) o)
 pins-one w None h = refl
 pins-one w (Some f) h = ap (λ (p : Pinned). p ∷ []) (pin-file w f (h f refl))
 
 pub pins-are : (t : Kept) (w : State) (v : Wish) (k : Kind) → IsFoldOf w.records t → AreHeld w.bytes w.records → IsKindOf v k → pins_for t v ≡ map pin_of (pinned_for w k)
-pins-are t w (wish.Put name size) (PutJob n b) fold held h = refl
-pins-are t w (wish.Get name) (GetJob n) fold held h = ap pins_found (ap (λ (fs : List File). find_file fs name) fold.files ∙ (find-files_of w.records name ∙ ap (file_of w.records) (sym h)))
-    ∙ pins-one w (file_in w n) (λ f e. (held n f e).1)
-pins-are t w (wish.Drop name) (DropJob n) fold held h = refl
-pins-are t w wish.Audit AuditJob fold held h = ap pins_of fold.files ∙ pins-all w (files_of w.records) (λ f i. (held f.name f (listed_file w.records f i)).1)
-pins-are t w wish.Repair RepairJob fold held h = ap pins_of fold.files ∙ pins-all w (files_of w.records) (λ f i. (held f.name f (listed_file w.records f i)).1)
-pins-are t w v k fold held h = absurd h
+pins-are t w v k fold held kind = ap (pins_by core_pins pin_of_file (find_file t.files) t.files) kind ∙ by (aim_of k)
+  where
+    all : pin_each core_pins pin_of_file t.files ≡ map pin_of (pin_each machine_pins (pinned_file w) (files_of w.records))
+    all = ap (pin_each core_pins pin_of_file) fold.files ∙ pins-all w (files_of w.records) (λ f i. (held f.name f (listed_file w.records f i)).1)
+
+    by : (aim : Aim) → pins_by core_pins pin_of_file (find_file t.files) t.files aim ≡ map pin_of (pins_by machine_pins (pinned_file w) (file_in w) (files_of w.records) aim)
+    by (ToPut name size) = refl
+    by (ToGet name) = ap (pin_found pin_of_file) (ap (λ (fs : List File). find_file fs name) fold.files ∙ find-files_of w.records name) ∙ pins-one w (file_in w name) (λ f e. (held name f e).1)
+    by (ToDrop name) = refl
+    by ToAudit = all
+    by ToRepair = all
+    by ToUpgrade = refl
 
 -- ---- lists of actions
 
@@ -139,7 +146,7 @@ files-are s j v fl g h mp plain = tasks-pins s.n v fl (turns_for s v) (map pin_o
     ∙ (flat-same (λ (f : PinnedBytes). turns_from 0 s.n v fl f.id (turns_for s v (length f.bytes))) (g s.profile) mp h
     ∙ flat-plain s g mp plain))
 
-pub actions-are : (s : Setup) (j : MachineJob) (v : Wish) (k : Kind) (fl : List Bool) → j.profile ≡ s.profile → ArePlain s j.pinned → IsKindOf v k → HasNoPins v j.pinned → j.older ≡ [] → ((name bytes : List ℕ) → k ≡ PutJob name bytes → j.subject ≡ 0) → ((i : ℕ) → i < s.n → flag_at fl i ≡ j.flagged i) →
+pub actions-are : (s : Setup) (j : MachineJob) (v : Wish) (k : Kind) (fl : List Bool) → j.profile ≡ s.profile → ArePlain s j.pinned → IsAlike v k → HasNoPins v j.pinned → j.older ≡ [] → ((name bytes : List ℕ) → k ≡ PutJob name bytes → j.subject ≡ 0) → ((i : ℕ) → i < s.n → flag_at fl i ≡ j.flagged i) →
     front_of v ++ (tasks_of s.n v fl (tasks_made (turns_for s v) (targets_of v (map pin_of j.pinned))) ++ closing_of v) ≡ actions_by s j k
 actions-are s j (wish.Put name size) (PutJob n b) fl own plain h z o u flags =
     ap (λ (xs : List Action). append_actions ++ (xs ++ (append_actions ++ End ∷ []))) stores
@@ -171,7 +178,7 @@ actions-are s j v k fl own plain h z o u flags = absurd h
 kind-along : (v u : Wish) (k : Kind) → u ≡ v → IsKindOf v k → IsKindOf u k
 kind-along v u k e h = subst (λ (x : Wish). IsKindOf x k) (sym e) h
 
-opens-first : (v : Wish) (ts : List Task) → is_opening (cursor_first v ts) ≡ (opens v && true)
+opens-first : (v : Wish) (ts : List Task) → is_opening (cursor_first v ts) ≡ (is_opener v && true)
 opens-first (wish.Put name size) ts = refl
 opens-first (wish.Get name) [] = refl
 opens-first (wish.Get name) (t ∷ ts) = refl
@@ -180,17 +187,17 @@ opens-first wish.Audit ts = refl
 opens-first wish.Repair [] = refl
 opens-first wish.Repair (t ∷ ts) = refl
 
-not-asked : (j : CoreJob) (v : Wish) → j.wish ≡ v → j.opening ≡ (opens v && true) → IsTrue (has_asked j) → ⊥
+not-asked : (j : CoreJob) (v : Wish) → j.wish ≡ v → j.opening ≡ (is_opener v && true) → IsTrue (has_asked j) → ⊥
 not-asked j v e o h = by v (ap (λ (x : Wish). has_asked (record j { wish = x; opening = j.opening })) e) o
   where
-    by : (x : Wish) → has_asked j ≡ has_asked (record j { wish = x; opening = j.opening }) → j.opening ≡ (opens x && true) → ⊥
+    by : (x : Wish) → has_asked j ≡ has_asked (record j { wish = x; opening = j.opening }) → j.opening ≡ (is_opener x && true) → ⊥
     by (wish.Put name size) f p = false≢true (sym f ∙ h)
     by (wish.Get name) f p = false≢true (sym f ∙ h)
     by (wish.Drop name) f p = false≢true (sym f ∙ h)
     by wish.Audit f p = false≢true (sym (f ∙ ap (λ (b : Bool). has_asked (record j { wish = wish.Audit; opening = b })) p) ∙ h)
     by wish.Repair f p = false≢true (sym f ∙ h)
 
-subject-are : (t : Kept) (w : State) (v : Wish) (k : Kind) → IsFoldOf w.records t → IsKindOf v k → subject_for t v ≡ subject_at_begin w k
+subject-are : (t : Kept) (w : State) (v : Wish) (k : Kind) → IsFoldOf w.records t → IsAlike v k → subject_for t v ≡ subject_at_begin w k
 subject-are t w (wish.Put name size) (PutJob n b) fold h = refl
 subject-are t w (wish.Get name) (GetJob n) fold h = refl
 subject-are t w (wish.Drop name) (DropJob n) fold h = refl
@@ -201,7 +208,7 @@ subject-are t w v k fold h = absurd h
 put-unnumbered : (w : State) (k : Kind) (name bytes : List ℕ) → k ≡ PutJob name bytes → subject_at_begin w k ≡ 0
 put-unnumbered w k name bytes e = ap (subject_at_begin w) e
 
-no-pins : (w : State) (v : Wish) (k : Kind) → IsKindOf v k → HasNoPins v (pinned_for w k)
+no-pins : (w : State) (v : Wish) (k : Kind) → IsAlike v k → HasNoPins v (pinned_for w k)
 no-pins w (wish.Put name size) (PutJob n b) h = tt
 no-pins w (wish.Get name) (GetJob n) h = tt
 no-pins w (wish.Drop name) (DropJob n) h = refl
@@ -225,13 +232,13 @@ module _ (t : Kept) (s : Setup) (w : State) (moment : ℕ) (v : Wish) (k : Kind)
   made-actions = made-rest t s w.next_job v job made least most
       ∙ (ap (λ (ts : List Task). front_of v ++ (tasks_of s.n job.wish job.flagged ts ++ closing_of job.wish)) (made.tasks ∙ ap (λ (ps : List Pinned). tasks_made (turns_for s v) (targets_of v ps)) made-pins)
       ∙ (ap (λ (x : Wish). front_of v ++ (tasks_of s.n x job.flagged (tasks_made (turns_for s v) (targets_of v (map pin_of (pinned_for w k)))) ++ closing_of x)) made.wish
-      ∙ actions-are s (new_job w moment k) v k job.flagged (ap (λ (x : Setup). x.profile) (sym setup)) (λ f i. plain f i ∙ ap (λ (x : Setup). x.profile) (sym setup)) kind (no-pins w v k kind) refl (put-unnumbered w k) made-flags))
+      ∙ actions-are s (new_job w moment k) v k job.flagged (ap (λ (x : Setup). x.profile) (sym setup)) (λ f i. plain f i ∙ ap (λ (x : Setup). x.profile) (sym setup)) (alike v k kind) (no-pins w v k (alike v k kind)) refl (put-unnumbered w k) made-flags))
 
   made-sums : sums_of (counted job.counts) job.undecided ≡ sums_of (replicate s.n 0) 0
   made-sums = ap (λ (c : Counts). sums_of (counted c) job.undecided) made.counts
       ∙ (ap (λ (xs : List ℕ). sums_of xs job.undecided) (take-zeros s.n 16 most) ∙ ap (sums_of (replicate s.n 0)) made.undecided)
 
-  made-opening : is_opening job.cursor ≡ (opens v && true)
+  made-opening : is_opening job.cursor ≡ (is_opener v && true)
   made-opening = ap is_opening made.cursor ∙ opens-first v job.tasks.items
 
   pub made-is : IsJobOf s (core_job s.n job) (new_job w moment k)
@@ -240,8 +247,8 @@ module _ (t : Kept) (s : Setup) (w : State) (moment : ℕ) (v : Wish) (k : Kind)
     kind = kind-along v job.wish k made.wish kind;
     pinned = made-pins;
     flagged = made-flags;
-    subject = made.subject ∙ subject-are t w v k fold kind;
-    opening = made-opening ∙ ap (λ (x : Wish). opens x && true) (sym made.wish);
+    subject = made.subject ∙ subject-are t w v k fold (alike v k kind);
+    opening = made-opening ∙ ap (λ (x : Wish). is_opener x && true) (sym made.wish);
     rest = made-actions;
     unjudged = λ _. made-sums;
     sums = λ h. absurd (not-asked (core_job s.n job) v made.wish made-opening h);

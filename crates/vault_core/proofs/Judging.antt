@@ -11,16 +11,18 @@ use Rattle.hail_machine.specs.Audits.{HasSums}
 use Rattle.hail_machine.specs.Steps.{next_action}
 use Rattle.hail_machine.proofs.NextActions.{next_stands}
 use Rattle.sound_states.proofs.Going.{onward}
+use Rattle.vault_core.proofs.Alike.{IsAlike, alike}
 use Rattle.vault_core.specs.declared.wish.Wish.{Wish}
 use Rattle.vault_core.specs.declared.wish.Wish.TheVariants as wish
 use Rattle.vault_core.specs.View.{CoreJob}
 use Rattle.vault_core.specs.Coming.{asks_next, begins_append, is_last_ask}
-use Rattle.vault_core.specs.Carried.{IsKindOf, is_audit_wish, has_asked, opens, IsJobOf}
+use Rattle.vault_core.specs.Carried.{is_audit_wish, has_asked, IsJobOf}
 use Rattle.vault_core.specs.Fed.{goes_plainly, is_gate, stepped, judged}
 use Rattle.vault_core.proofs.Kept.{and_left}
 use Rattle.vault_core.proofs.Standing.{get-drop}
 use Rattle.vault_core.proofs.Onward.{opens-list, ask_behind, sums-same, ask-then, head-here, left-here, rest-on, opening-on}
 use Rattle.vault_core.proofs.Gates.{second_of}
+use Rattle.vault_core.specs.Wished.{is_opener}
 
 audit_is : (v : Wish) → is_audit_wish v ≡ true → v ≡ wish.Audit
 audit_is (wish.Put name size) h = absurd (false≢true h)
@@ -29,7 +31,7 @@ audit_is (wish.Drop name) h = absurd (false≢true h)
 audit_is wish.Audit h = refl
 audit_is wish.Repair h = absurd (false≢true h)
 
-pub audit_kind : (v : Wish) (k : Kind) → v ≡ wish.Audit → IsKindOf v k → k ≡ AuditJob
+pub audit_kind : (v : Wish) (k : Kind) → v ≡ wish.Audit → IsAlike v k → k ≡ AuditJob
 audit_kind wish.Audit AuditJob e h = refl
 audit_kind wish.Audit k e h = absurd h
 audit_kind (wish.Put name size) k e h = cc
@@ -75,7 +77,7 @@ module _ (w : State) (c : CoreJob) (m : Job) (a : Action) (is : IsJobOf (setup_i
       parts = asked_parts (stepped c) has
 
       kind : m.kind ≡ AuditJob
-      kind = audit_kind c.wish m.kind parts.audit is.kind
+      kind = audit_kind c.wish m.kind parts.audit (alike c.wish m.kind is.kind)
 
       opened : c.opening ≡ false
       opened = sym (and-true c.opening) ∙ (ap (λ (b : Bool). c.opening && not b) (sym (ap is_gate (head-here w c m a is next on) ∙ no_gate a plain)) ∙ parts.opened)
@@ -121,10 +123,10 @@ module _ (w : State) (c : CoreJob) (m : Job) (a : Action) (is : IsJobOf (setup_i
   }
     where
       opened : c.opening ≡ false
-      opened = is.opening ∙ by (opens c.wish) refl
+      opened = is.opening ∙ by (is_opener c.wish) refl
         where
-          by : (b : Bool) → opens c.wish ≡ b → (opens c.wish && nat_lt m.place 4) ≡ false
+          by : (b : Bool) → is_opener c.wish ≡ b → (is_opener c.wish && nat_lt m.place 4) ≡ false
           by false f = ap (λ (x : Bool). x && nat_lt m.place 4) f
-          by true f = (let l = opens-list (setup_in w) m c.wish m.kind refl is.kind f in
+          by true f = (let l = opens-list (setup_in w) m c.wish m.kind refl (alike c.wish m.kind is.kind) f in
               ap (λ (x : Bool). x && nat_lt m.place 4) f
               ∙ ask_behind l.0 m.place j o t (ap (λ (xs : List Action). slice_get xs m.place) (sym l.1) ∙ (next_stands w m a next on ∙ ap Some e)))

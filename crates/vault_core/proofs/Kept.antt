@@ -17,7 +17,7 @@ use Rattle.std.specs.declared.vec.Vec.{Vec}
 use Rattle.vault_core.specs.declared.own.Core.TheInside.{Inside}
 use Rattle.vault_core.specs.Parts.{core_job, view_of, IsJobKept, IsCore}
 use Rattle.vault_core.specs.View.{CoreJob, CoreView, AreRising, job_in}
-use Rattle.vault_core.specs.Reserves.{sizes_of, reserved_of, starts_by, starts_of, Reserves}
+use Rattle.vault_core.specs.Reserves.{sizes_of, room_behind, reserved_of, starts_by, starts_of, Reserves}
 use Rattle.vault_core.specs.Fed.{stepped, is_own, freed, is_gate, renamed}
 use Rattle.vault_core.proofs.Counts.{gates, gates-cons}
 
@@ -66,7 +66,7 @@ sum_drop (x ∷ xs) (suc a) (suc b) l = sum_drop xs a b (omega arith)
 
 -- fewer gates need less room
 pub reserved_fewer : (n : ℕ) (j k : CoreJob) → k.wish ≡ j.wish → gates k.rest ≤ gates j.rest → reserved_of n k ≤ reserved_of n j
-reserved_fewer n j k w l = subst (λ (x : Wish). sum (drop (length (sizes_of n x) - gates k.rest) (sizes_of n x)) ≤ reserved_of n j) (sym w)
+reserved_fewer n j k w l = subst (λ (x : Wish). room_behind n x (gates k.rest) ≤ reserved_of n j) (sym w)
     (sum_drop (sizes_of n j.wish) (length (sizes_of n j.wish) - gates j.rest) (length (sizes_of n j.wish) - gates k.rest) (omega arith))
 
 starts_fewer : (w : Wish) (a b : Bool) → (b ≡ true → a ≡ true) → starts_by w b ≤ starts_by w a

@@ -1,3 +1,4 @@
+pub mod Alike
 pub mod Rests
 pub mod Gates
 pub mod Grammar

@@ -7,6 +7,7 @@ use Rattle.std.proofs.lemmas.List.{length-map}
 use Rattle.std.proofs.lemmas.List.Elements.{All-get_or}
 use Rattle.hail_columns.specs.Verdicts.{Sums}
 use Rattle.hail_machine.specs.Actions.{Action, ends_append}
+use Rattle.hail_machine.specs.Left.{removes_older}
 use Rattle.record_codec.specs.Entries.{counted, IsPadded}
 use Rattle.record_codec.specs.declared.counts.Counts.{Counts}
 use Rattle.vault_core.specs.declared.wish.Wish.{Wish}
@@ -18,13 +19,13 @@ use Rattle.vault_core.specs.declared.job.Job.{Job}
 use Rattle.std.specs.declared.vec.Vec.{Vec}
 use Rattle.vault_core.specs.declared.own.Core.TheInside.{Inside}
 use Rattle.vault_core.specs.View.{CoreJob, CoreView}
-use Rattle.vault_core.specs.Coming.{takes_older}
 use Rattle.vault_core.specs.Rest.{rest_at, rest_of}
 use Rattle.vault_core.specs.Going.{decides, decides_at, goes_opening}
 use Rattle.vault_core.specs.Parts.{core_job, view_of, is_opening, is_over, IsJobKept, IsCore}
 use Rattle.vault_core.specs.Fed.{first_of, first_at, goes_plainly, is_gate, stepped, judged}
 use Rattle.vault_core.proofs.Gates.{action_at, first_is}
 use Rattle.vault_core.proofs.Kept.{seen_at, other_view}
+use Rattle.vault_core.specs.Wished.{aim_of_wish}
 
 -- ---- the job at a place
 
@@ -198,7 +199,7 @@ kept_judged n job u cs kept e padded = record {
   };
   comes = kept.comes;
   within = kept.within;
-  left = kept.left ∙ ap (λ (xs : List Action). length xs + (if takes_older job.wish && nat_lt 0 (count_by ends_append xs) then n else 0)) (sym (rest_judged n job u cs));
+  left = kept.left ∙ ap (λ (xs : List Action). length xs + (if removes_older (aim_of_wish job.wish) && nat_lt 0 (count_by ends_append xs) then n else 0)) (sym (rest_judged n job u cs));
 }
 
 pub seen_judged : (n : ℕ) (old new : Job) (u : ℕ) (cs : Counts) → IsJobKept n old → IsJobKept n (record old { undecided = u; counts = cs }) →

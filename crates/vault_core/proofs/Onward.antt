@@ -20,18 +20,20 @@ use Rattle.hail_machine.proofs.NextActions.{next_stands}
 use Rattle.sound_states.proofs.Orders.{put-list, audit-list, put_rest, drop_rest, audit_rest, next-left}
 use Rattle.sound_states.proofs.Gates.{drop-list}
 use Rattle.sound_states.proofs.Going.{onward, actions-onward}
+use Rattle.vault_core.proofs.Alike.{IsAlike, alike}
 use Rattle.vault_core.specs.declared.wish.Wish.{Wish}
 use Rattle.vault_core.specs.declared.wish.Wish.TheVariants as wish
 use Rattle.vault_core.specs.View.{CoreJob}
 use Rattle.vault_core.specs.Coming.{asks_next, begins_append}
-use Rattle.vault_core.specs.Carried.{IsKindOf, has_asked, opens, IsJobOf}
+use Rattle.vault_core.specs.Carried.{has_asked, IsJobOf}
 use Rattle.vault_core.specs.Fed.{is_gate, stepped}
 use Rattle.vault_core.proofs.Kept.{and_left}
+use Rattle.vault_core.specs.Wished.{is_opener}
 
 -- ---- the first append
 
 -- the list of a job that has a first append begins with it
-pub opens-list : (s : Setup) (m : Job) (v : Wish) (k : Kind) → m.kind ≡ k → IsKindOf v k → opens v ≡ true → (rest : List Action) × (actions_of s m ≡ append_actions ++ rest)
+pub opens-list : (s : Setup) (m : Job) (v : Wish) (k : Kind) → m.kind ≡ k → IsAlike v k → is_opener v ≡ true → (rest : List Action) × (actions_of s m ≡ append_actions ++ rest)
 opens-list s m (wish.Put name size) (PutJob called bytes) e h o = (put_rest s m bytes, put-list s m called bytes e)
 opens-list s m (wish.Drop name) (DropJob called) e h o = (drop_rest s m, drop-list s m called e)
 opens-list s m wish.Audit AuditJob e h o = (audit_rest s m, audit-list s m e)
@@ -182,14 +184,14 @@ module _ (w : State) (c : CoreJob) (m : Job) (a : Action) (is : IsJobOf (setup_i
   pub rest-on : (given : List Given) → drop 1 c.rest ≡ actions_left (setup_in w) (onward m m.subject given)
   rest-on given = ap (drop 1) left-here ∙ ap (drop (m.place + 1)) (sym (actions-onward (setup_in w) m given))
 
-  pub opening-on : (c.opening && not (is_gate (slice_get c.rest 0))) ≡ (opens c.wish && nat_lt (m.place + 1) 4)
+  pub opening-on : (c.opening && not (is_gate (slice_get c.rest 0))) ≡ (is_opener c.wish && nat_lt (m.place + 1) 4)
   opening-on =
       ap (λ (b : Bool). b && not (is_gate (slice_get c.rest 0))) is.opening
-      ∙ (ap (λ (o : Option Action). (opens c.wish && nat_lt m.place 4) && not (is_gate o)) head-here ∙ by (opens c.wish) refl)
+      ∙ (ap (λ (o : Option Action). (is_opener c.wish && nat_lt m.place 4) && not (is_gate o)) head-here ∙ by (is_opener c.wish) refl)
     where
-      by : (b : Bool) → opens c.wish ≡ b → ((opens c.wish && nat_lt m.place 4) && not (is_gate (Some a))) ≡ (opens c.wish && nat_lt (m.place + 1) 4)
+      by : (b : Bool) → is_opener c.wish ≡ b → ((is_opener c.wish && nat_lt m.place 4) && not (is_gate (Some a))) ≡ (is_opener c.wish && nat_lt (m.place + 1) 4)
       by false e = ap (λ (x : Bool). (x && nat_lt m.place 4) && not (is_gate (Some a))) e ∙ sym (ap (λ (x : Bool). x && nat_lt (m.place + 1) 4) e)
-      by true e = (let l = opens-list (setup_in w) m c.wish m.kind refl is.kind e in
+      by true e = (let l = opens-list (setup_in w) m c.wish m.kind refl (alike c.wish m.kind is.kind) e in
           ap (λ (x : Bool). (x && nat_lt m.place 4) && not (is_gate (Some a))) e
           ∙ (gate_step l.0 m.place a (ap (λ (xs : List Action). slice_get xs m.place) (sym l.1) ∙ next_stands w m a next on)
           ∙ sym (ap (λ (x : Bool). x && nat_lt (m.place + 1) 4) e)))

@@ -15,10 +15,10 @@ use Rattle.vault_core.specs.declared.wish.Wish.TheVariants as wish
 use Rattle.vault_core.specs.declared.job.Task.{Task}
 use Rattle.vault_core.specs.View.{flag_at}
 use Rattle.vault_table.specs.Values.{Kept}
-use Rattle.hail_machine.specs.Begins.{due_number}
+use Rattle.hail_machine.specs.Begins.{due_number, pin_by, pin_each}
 use Rattle.vault_core.specs.Parts.{is_rewriter}
 use Rattle.vault_core.specs.Rest.{rewrites_from}
-use Rattle.vault_core.specs.Making.{pin_of_file, put_pin, pins_of, turns_for, tasks_made, targets_of, subject_for}
+use Rattle.vault_core.specs.Making.{pin_of_file, turns_for, tasks_made, targets_of, subject_for, core_pins}
 use Rattle.vault_core.proofs.Rests.{rewrites_take, rewrites_skip}
 
 -- ---- flags
@@ -93,10 +93,10 @@ targets_other wish.Repair pins h = refl
 
 -- ---- pinned files
 
-pub pins_step : (files : List File) (k : ℕ) (f : File) (old new : List Pinned) → 0 < k → Some f ≡ slice_get files (k - 1) → old ≡ pins_of (drop k files) → new ≡ put_pin (pin_of_file f) old →
-    new ≡ pins_of (drop (k - 1) files)
-pins_step files k f old new l g o e = e ∙ (ap (put_pin (pin_of_file f)) (o ∙ ap (λ (m : ℕ). pins_of (drop m files)) (let m : k ≡ k - 1 + 1 = omega arith in m))
-    ∙ ap pins_of (sym (drop-get files (k - 1) f (sym g))))
+pub pins_step : (files : List File) (k : ℕ) (f : File) (old new : List Pinned) → 0 < k → Some f ≡ slice_get files (k - 1) → old ≡ pin_each core_pins pin_of_file (drop k files) → new ≡ pin_by core_pins (pin_of_file f) old →
+    new ≡ pin_each core_pins pin_of_file (drop (k - 1) files)
+pins_step files k f old new l g o e = e ∙ (ap (pin_by core_pins (pin_of_file f)) (o ∙ ap (λ (m : ℕ). pin_each core_pins pin_of_file (drop m files)) (let m : k ≡ k - 1 + 1 = omega arith in m))
+    ∙ ap (pin_each core_pins pin_of_file) (sym (drop-get files (k - 1) f (sym g))))
 
 pub subject_is : (t : Kept) (v : Wish) (k : ℕ) → (is_rewriter v ≡ true → k ≡ due_number t.due) → (is_rewriter v ≡ false → k ≡ 0) → k ≡ subject_for t v
 subject_is t (wish.Put name size) k r o = o refl

@@ -10,9 +10,9 @@ use Rattle.hail_records.specs.Journal.{text_size}
 use Rattle.hail_records.specs.Areas.{Area, A, end_in}
 use Rattle.hail_records.proofs.AreaLaws.{text_size-end}
 use Rattle.hail_machine.specs.Jobs.{Kind, PutJob, GetJob, DropJob, AuditJob, RepairJob, UpgradeJob, Pinned}
-use Rattle.hail_machine.specs.Actions.{Action}
+use Rattle.hail_machine.specs.Actions.{Action, machine_pins}
 use Rattle.hail_machine.specs.States.{State, setup_in, file_in, journal_end}
-use Rattle.hail_machine.specs.Begins.{pinned_file, pin, pin_all, pin_one, pinned_for}
+use Rattle.hail_machine.specs.Begins.{pinned_file, pin_by, pin_each, pin_found, pinned_for}
 use Rattle.hail_machine.proofs.RecordFacts.{listed_file}
 use Rattle.sound_states.specs.Sound.{IsWholeJournal}
 
@@ -36,23 +36,23 @@ more-plain : (s : Setup) (p : Pinned) (ps : List Pinned) → p.profile ≡ s.pro
 more-plain s p ps e h f (inl i) = ap (λ (x : Pinned). x.profile) i ∙ e
 more-plain s p ps e h f (inr i) = h f i
 
-pin-plain : (s : Setup) (p : Pinned) (ps : List Pinned) → p.profile ≡ s.profile → ArePlain s ps → ArePlain s (pin p ps)
+pin-plain : (s : Setup) (p : Pinned) (ps : List Pinned) → p.profile ≡ s.profile → ArePlain s ps → ArePlain s (pin_by machine_pins p ps)
 pin-plain s p [] e h = more-plain s p [] e h
 pin-plain s p (q ∷ qs) e h = elim (cases_Bool (nat_lt p.id q.id)) [
-  | inl t ↦ subst (ArePlain s) (sym (ap (λ b. if b then p ∷ q ∷ qs else q ∷ pin p qs) t)) (more-plain s p (q ∷ qs) e h)
-  | inr f ↦ subst (ArePlain s) (sym (ap (λ b. if b then p ∷ q ∷ qs else q ∷ pin p qs) f))
-      (more-plain s q (pin p qs) (h q (inl refl)) (pin-plain s p qs e (λ x i. h x (inr i))))
+  | inl t ↦ subst (ArePlain s) (sym (ap (λ b. if b then p ∷ q ∷ qs else q ∷ pin_by machine_pins p qs) t)) (more-plain s p (q ∷ qs) e h)
+  | inr f ↦ subst (ArePlain s) (sym (ap (λ b. if b then p ∷ q ∷ qs else q ∷ pin_by machine_pins p qs) f))
+      (more-plain s q (pin_by machine_pins p qs) (h q (inl refl)) (pin-plain s p qs e (λ x i. h x (inr i))))
 ]
 
 -- a file in effect has the setup's profile
 abbrev pub AreFilesPlain : State → Type 0
 AreFilesPlain w = (name : List ℕ) (file : File) → file_in w name ≡ Some file → file.profile ≡ (setup_in w).profile
 
-all-plain : (w : State) (fs : List File) → ((f : File) → In f fs → f.profile ≡ (setup_in w).profile) → ArePlain (setup_in w) (pin_all w fs)
+all-plain : (w : State) (fs : List File) → ((f : File) → In f fs → f.profile ≡ (setup_in w).profile) → ArePlain (setup_in w) (pin_each machine_pins (pinned_file w) fs)
 all-plain w [] h = none-plain (setup_in w)
-all-plain w (f ∷ fs) h = pin-plain (setup_in w) (pinned_file w f) (pin_all w fs) (h f (inl refl)) (all-plain w fs (λ x i. h x (inr i)))
+all-plain w (f ∷ fs) h = pin-plain (setup_in w) (pinned_file w f) (pin_each machine_pins (pinned_file w) fs) (h f (inl refl)) (all-plain w fs (λ x i. h x (inr i)))
 
-one-plain : (w : State) (o : Option File) → ((f : File) → o ≡ Some f → f.profile ≡ (setup_in w).profile) → ArePlain (setup_in w) (pin_one w o)
+one-plain : (w : State) (o : Option File) → ((f : File) → o ≡ Some f → f.profile ≡ (setup_in w).profile) → ArePlain (setup_in w) (pin_found (pinned_file w) o)
 one-plain w None h = none-plain (setup_in w)
 one-plain w (Some f) h = more-plain (setup_in w) (pinned_file w f) [] (h f refl) (none-plain (setup_in w))
 

@@ -7,25 +7,27 @@ use Rattle.plain_facts.proofs.Each.{each_get, each_append, each_map, each_flat}
 use Rattle.hail_records.specs.Records.{Setup, Record, PutStart, PutDone, Drop, AuditStart, AuditDone, RepairDone}
 use Rattle.hail_records.specs.Table.{File, version_of, find_file, file_of, next_id}
 use Rattle.hail_records.proofs.FilesLaws.{find-files_of}
-use Rattle.hail_machine.specs.Jobs.{Kind, PutJob, GetJob, DropJob, AuditJob, RepairJob, Pinned, Job, job_of}
+use Rattle.hail_machine.specs.Jobs.{Kind, PutJob, GetJob, DropJob, AuditJob, RepairJob, Pinned, Job, job_of, Aim}
 use Rattle.hail_machine.specs.Actions.{Action, WriteBody, SyncBody, WriteGate, SyncGate, Store, Fetch, Ask, Work, Remove, End, append_actions, on_each_provider, on_each_stripe, open_actions, read_actions, remove_actions, actions_by, actions_of, actions_left, ends_append}
 use Rattle.hail_codes.specs.Points.{upto}
 use Rattle.hail_machine.specs.Setups.{profiled, stripes_of}
 use Rattle.hail_machine.specs.States.{State, Append, setup_in, file_in}
 use Rattle.hail_machine.specs.Appends.{Writes, done_record, is_first_append}
 use Rattle.hail_machine.specs.Refusals.{Refusal, MustReopen, Busy}
-use Rattle.hail_machine.specs.Left.{most_left, removes_older}
+use Rattle.hail_machine.specs.Left.{most_left, removes_older, most_after}
 use Rattle.hail_machine.specs.Steps.{is_idle_drop, next_action, holder_of}
 use Rattle.vault_table.specs.Values.{Kept, IsFoldOf, id_after}
 use Rattle.sound_states.proofs.Orders.{in_order-first}
+use Rattle.vault_core.proofs.Alike.{IsAlike, alike}
 use Rattle.vault_core.specs.declared.action.Next.{Next}
 use Rattle.vault_core.specs.declared.action.Next.TheVariants as next
 use Rattle.vault_core.specs.declared.wish.Wish.{Wish}
 use Rattle.vault_core.specs.declared.wish.Wish.TheVariants as wish
 use Rattle.vault_core.specs.View.{CoreJob, CoreView, job_in}
-use Rattle.vault_core.specs.Coming.{Acts, Waits, IsNoJob, IsBarred, seen_action, seen_next, is_gone, is_idle, action_next, begins_append, is_move, asks_next, waits_or_acts, next_of, next_in, takes_older, most_of, left_in, written_by, entry_of_job, entry_of_found, entry_in}
-use Rattle.vault_core.specs.Carried.{IsKindOf, has_asked, opens, IsJobOf, IsCoreFlight, CoreIs, ComesNext, IsNextOf, IsEntryOf}
+use Rattle.vault_core.specs.Coming.{Acts, Waits, IsNoJob, IsBarred, seen_action, seen_next, is_gone, is_idle, action_next, begins_append, is_move, asks_next, waits_or_acts, next_of, next_in, most_of, left_in, written_by, entry_of_job, entry_of_found, entry_in}
+use Rattle.vault_core.specs.Carried.{has_asked, IsJobOf, IsCoreFlight, CoreIs, ComesNext, IsNextOf, IsEntryOf}
 use Rattle.vault_core.proofs.Pairs.{pair_some, pair_none, pair_length}
+use Rattle.vault_core.specs.Wished.{is_opener, aim_of_wish}
 
 pub get-drop : {X : Type 0} (i : ℕ) (xs : List X) → slice_get (drop i xs) 0 ≡ slice_get xs i
 get-drop zero xs = refl
@@ -51,7 +53,7 @@ pub file_here : (t : Kept) (rs : List Record) (name : List ℕ) → IsFoldOf rs 
 file_here t rs name f = ap (λ (fs : List File). find_file fs name) f.files ∙ find-files_of rs name
 
 pub idle_same : (w : State) (t : Kept) (c : CoreJob) (m : Job) → IsFoldOf w.records t → IsJobOf (setup_in w) c m → is_idle_drop w m m.kind ≡ is_idle t c
-idle_same w t c m f is = by c.wish m.kind refl refl is.kind
+idle_same w t c m f is = by c.wish m.kind refl refl (alike c.wish m.kind is.kind)
   where
     gone : (v : Wish) → c.wish ≡ v → (is_gone t v ≡ false) → false ≡ is_idle t c
     gone v e g = sym (ap (λ (b : Bool). b && (c.opening && begins_append (slice_get c.rest 0))) (ap (is_gone t) e ∙ g))
@@ -59,7 +61,7 @@ idle_same w t c m f is = by c.wish m.kind refl refl is.kind
     drops : (name called : List ℕ) → c.wish ≡ wish.Drop name → m.kind ≡ DropJob called → called ≡ name → is_idle_drop w m (DropJob called) ≡ is_idle t c
     drops name called e k n =
         let start : (c.opening && begins_append (slice_get c.rest 0)) ≡ (m.place == 0) =
-        ap (λ (b : Bool). b && begins_append (slice_get c.rest 0)) (is.opening ∙ ap (λ (v : Wish). opens v && is_first_append m) e)
+        ap (λ (b : Bool). b && begins_append (slice_get c.rest 0)) (is.opening ∙ ap (λ (v : Wish). is_opener v && is_first_append m) e)
         ∙ (ap (λ (xs : List Action). is_first_append m && begins_append (slice_get xs 0)) (is.rest ∙ ap (drop m.place) (actions_of_kind (setup_in w) m (DropJob called) k))
         ∙ after_start m.place (remove_actions (setup_in w) m ++ End ∷ [])) in
         swap (m.place == 0) (not (is_some (file_in w called)))
@@ -73,7 +75,7 @@ idle_same w t c m f is = by c.wish m.kind refl refl is.kind
         swap false true = refl
         swap false false = refl
 
-    by : (v : Wish) (k : Kind) → c.wish ≡ v → m.kind ≡ k → IsKindOf v k → is_idle_drop w m k ≡ is_idle t c
+    by : (v : Wish) (k : Kind) → c.wish ≡ v → m.kind ≡ k → IsAlike v k → is_idle_drop w m k ≡ is_idle t c
     by (wish.Put name size) (PutJob called bytes) e k h = gone _ e refl
     by (wish.Get name) (GetJob called) e k h = gone _ e refl
     by (wish.Drop name) (DropJob called) e k h = drops name called e k h
@@ -89,18 +91,8 @@ next_same w t c m f is =
 
 -- ---- how many steps may remain
 
-older_same : (v : Wish) (k : Kind) → IsKindOf v k → takes_older v ≡ removes_older k
-older_same (wish.Put name size) (PutJob called bytes) h = refl
-older_same (wish.Get name) (GetJob called) h = refl
-older_same (wish.Drop name) (DropJob called) h = refl
-older_same wish.Audit AuditJob h = refl
-older_same wish.Repair RepairJob h = refl
-older_same v k h = absurd h
-
 pub most_same : (s : Setup) (c : CoreJob) (m : Job) → IsJobOf s c m → most_of s.n c ≡ most_left s m
-most_same s c m is =
-    ap (λ (xs : List Action). length xs + (if takes_older c.wish && nat_lt 0 (count_by ends_append xs) then s.n else 0)) is.rest
-    ∙ ap (λ (b : Bool). length (actions_left s m) + (if b && nat_lt 0 (count_by ends_append (actions_left s m)) then s.n else 0)) (older_same c.wish m.kind is.kind)
+most_same s c m is = ap (most_after s (aim_of_wish c.wish)) is.rest ∙ ap (λ (aim : Aim). most_after s aim (actions_left s m)) is.kind
 
 pub left_same : (c : CoreView) (w : State) (k : ℕ) → CoreIs c w → left_in c k ≡ option_map (most_left (setup_in w)) (job_of w.jobs k)
 left_same c w k is = by (job_in c.jobs k) refl
@@ -132,7 +124,7 @@ asked_moving c g o mv = rw (g, o, no_ask (slice_get c.rest 0) mv) refl
 
 pub writes_same : (w : State) (t : Kept) (c : CoreJob) (m : Job) (entry : Record) → version_of w.records ≡ 1 → IsFoldOf w.records t → IsJobOf (setup_in w) c m → is_move (slice_get c.rest 0) ≡ true →
     written_by t c c.wish ≡ Some entry → Writes w m m.kind entry
-writes_same w t c m entry first f is mv e = by c.wish m.kind refl refl is.kind
+writes_same w t c m entry first f is mv e = by c.wish m.kind refl refl (alike c.wish m.kind is.kind)
   where
     is_it : (r : Record) → written_by t c c.wish ≡ Some r → entry ≡ r
     is_it r h = (let s : Some entry ≡ Some r = sym e ∙ h in cc)
@@ -140,10 +132,10 @@ writes_same w t c m entry first f is mv e = by c.wish m.kind refl refl is.kind
     asked : c.wish ≡ wish.Audit → c.opening ≡ false → has_asked c ≡ true
     asked g o = asked_moving c g o mv
 
-    opened : (v : Wish) → c.wish ≡ v → opens v ≡ true → c.opening ≡ is_first_append m
-    opened v g h = is.opening ∙ (ap (λ (x : Wish). opens x && is_first_append m) g ∙ ap (λ (b : Bool). b && is_first_append m) h)
+    opened : (v : Wish) → c.wish ≡ v → is_opener v ≡ true → c.opening ≡ is_first_append m
+    opened v g h = is.opening ∙ (ap (λ (x : Wish). is_opener x && is_first_append m) g ∙ ap (λ (b : Bool). b && is_first_append m) h)
 
-    by : (v : Wish) (k : Kind) → c.wish ≡ v → m.kind ≡ k → IsKindOf v k → Writes w m k entry
+    by : (v : Wish) (k : Kind) → c.wish ≡ v → m.kind ≡ k → IsAlike v k → Writes w m k entry
     by (wish.Put name size) (PutJob called bytes) g k h =
         is_it (if c.opening then PutStart (id_after t) name else PutDone c.subject size) (ap (written_by t c) g)
         ∙ (ap (λ (b : Bool). if b then PutStart (id_after t) name else PutDone c.subject size) (opened _ g refl)
@@ -391,7 +383,7 @@ writes_nothing t j (wish.Drop name) h = cc
 writes_nothing t j wish.Audit h = cc
 writes_nothing t j wish.Repair h = cc
 
-get_kind : (v : Wish) (k : Kind) (name : List ℕ) → v ≡ wish.Get name → IsKindOf v k → (called : List ℕ) × (k ≡ GetJob called)
+get_kind : (v : Wish) (k : Kind) (name : List ℕ) → v ≡ wish.Get name → IsAlike v k → (called : List ℕ) × (k ≡ GetJob called)
 get_kind (wish.Get own) (GetJob called) name e h = (called, refl)
 get_kind (wish.Put own size) k name e h = cc
 get_kind (wish.Drop own) k name e h = cc
@@ -403,7 +395,7 @@ entry_none : (c : CoreView) (w : State) (k : ℕ) → CoreIs c w → entry_in c 
 entry_none c w k is h m runs = by (job_in c.jobs k) refl
   where
     of_get : (j : CoreJob) → IsJobOf (setup_in w) j m → (name : List ℕ) → j.wish ≡ wish.Get name → is_move (next_action w m) ≡ false
-    of_get j p name e = (let g = get_kind j.wish m.kind name e p.kind in
+    of_get j p name e = (let g = get_kind j.wish m.kind name e (alike j.wish m.kind p.kind) in
         by_action g.0 g.1 (slice_get (actions_of (setup_in w) m) m.place) refl)
       where
         idle : (called : List ℕ) → m.kind ≡ GetJob called → is_idle_drop w m m.kind ≡ false

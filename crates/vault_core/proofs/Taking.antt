@@ -18,15 +18,17 @@ use Rattle.sound_states.specs.Orders.{IsInOrder}
 use Rattle.sound_states.proofs.Orders.{put-list, next-left, in_order-step, appends-order, appends-cons, appends_in}
 use Rattle.sound_states.proofs.Going.{onward}
 use Rattle.vault_table.specs.Values.{Kept, IsFoldOf, id_after}
+use Rattle.vault_core.proofs.Alike.{IsAlike, alike}
 use Rattle.vault_core.specs.declared.wish.Wish.{Wish}
 use Rattle.vault_core.specs.declared.wish.Wish.TheVariants as wish
 use Rattle.vault_core.specs.View.{CoreJob}
 use Rattle.vault_core.specs.Coming.{asks_next}
-use Rattle.vault_core.specs.Carried.{IsKindOf, has_asked, opens, IsJobOf}
+use Rattle.vault_core.specs.Carried.{has_asked, IsJobOf}
 use Rattle.vault_core.specs.Fed.{is_gate, renamed, all_renamed, number_drawn, drawn}
 use Rattle.vault_core.proofs.Kept.{and_left, renamed_stripe}
 use Rattle.vault_core.proofs.Onward.{sums-same, head-here, rest-on, opening-on}
 use Rattle.vault_core.proofs.Judging.{asked_parts, asked_whole, audit_kind}
+use Rattle.vault_core.specs.Wished.{is_opener}
 
 -- an append that begins is left
 pub append_left : (s : Setup) (m : Job) (moves : ℕ) (more : List Action) → actions_left s m ≡ WriteBody ∷ more → IsInOrder moves (actions_left s m) → 0 < appends_left s m
@@ -43,12 +45,12 @@ gate_left s m more e = let r = ap appends_in e ∙ appends-cons SyncGate more in
 -- ---- the number
 
 number_same : (w : State) (t : Kept) (c : CoreJob) (m : Job) → IsFoldOf w.records t → IsJobOf (setup_in w) c m → number_drawn t c c.wish ≡ subject_drawn w m m.kind
-number_same w t c m f is = by c.wish m.kind refl is.kind
+number_same w t c m f is = by c.wish m.kind refl (alike c.wish m.kind is.kind)
   where
-    opened : (v : Wish) → c.wish ≡ v → opens v ≡ true → c.opening ≡ is_first_append m
-    opened v g h = is.opening ∙ (ap (λ (x : Wish). opens x && is_first_append m) g ∙ ap (λ (b : Bool). b && is_first_append m) h)
+    opened : (v : Wish) → c.wish ≡ v → is_opener v ≡ true → c.opening ≡ is_first_append m
+    opened v g h = is.opening ∙ (ap (λ (x : Wish). is_opener x && is_first_append m) g ∙ ap (λ (b : Bool). b && is_first_append m) h)
 
-    by : (v : Wish) (k : Kind) → c.wish ≡ v → IsKindOf v k → number_drawn t c v ≡ subject_drawn w m k
+    by : (v : Wish) (k : Kind) → c.wish ≡ v → IsAlike v k → number_drawn t c v ≡ subject_drawn w m k
     by (wish.Put name size) (PutJob called bytes) e h =
         ap (λ (b : Bool). if b then id_after t else c.subject) (opened _ e refl)
         ∙ (ap (λ (i : ℕ). if is_first_append m then i else c.subject) f.id ∙ ap (λ (i : ℕ). if is_first_append m then next_id w.records else i) is.subject)
@@ -97,7 +99,7 @@ drop_one (suc p) [] = none (suc p + 1)
 drop_one (suc p) (x ∷ xs) = drop_one p xs ∙ ap (λ (k : ℕ). drop k (x ∷ xs)) (let e : suc (p + 1) ≡ suc p + 1 = omega arith in e)
 
 -- no other job's actions name its number
-other_same : (s : Setup) (m : Job) (k : ℕ) (given : List Given) (v : Wish) (kind : Kind) → m.kind ≡ kind → IsKindOf v kind → (xs : List Action) →
+other_same : (s : Setup) (m : Job) (k : ℕ) (given : List Given) (v : Wish) (kind : Kind) → m.kind ≡ kind → IsAlike v kind → (xs : List Action) →
     ((name bytes : List ℕ) → kind ≡ PutJob name bytes → ⊥) → (actions_of s (onward m k given) ≡ actions_of s (onward m m.subject given)) × (all_renamed k v xs ≡ xs)
 unfolding actions_of
 other_same s m k given (wish.Get name) (GetJob called) e h xs n = (ap (actions_by s (onward m k given)) e ∙ ap (actions_by s (onward m m.subject given)) (sym e), refl)
@@ -115,7 +117,7 @@ renamed_head k (wish.Drop name) (x ∷ xs) h = h
 renamed_head k wish.Audit (x ∷ xs) h = h
 renamed_head k wish.Repair (x ∷ xs) h = h
 
-put_wish : (v : Wish) (name bytes : List ℕ) → IsKindOf v (PutJob name bytes) → (called : List ℕ) × ((size : ℕ) × (v ≡ wish.Put called size))
+put_wish : (v : Wish) (name bytes : List ℕ) → IsAlike v (PutJob name bytes) → (called : List ℕ) × ((size : ℕ) × (v ≡ wish.Put called size))
 put_wish (wish.Put called size) name bytes h = (called, (size, refl))
 put_wish (wish.Get called) name bytes h = absurd h
 put_wish (wish.Drop called) name bytes h = absurd h
@@ -143,14 +145,14 @@ module _ (w : State) (t : Kept) (c : CoreJob) (m : Job) (moves : ℕ) (f : IsFol
 
   rest_taken : drop 1 (all_renamed (number_drawn t c c.wish) c.wish c.rest) ≡ actions_left (setup_in w) (onward m (subject_drawn w m m.kind) m.given)
   rest_taken = elim (not_put m.kind) [
-    | inl p ↦ (let kind = subst (IsKindOf c.wish) p.1.1 is.kind in let v = put_wish c.wish p.0 p.1.0 kind in
+    | inl p ↦ (let kind = subst (IsAlike c.wish) p.1.1 (alike c.wish m.kind is.kind) in let v = put_wish c.wish p.0 p.1.0 kind in
         ap (λ (x : Wish). drop 1 (all_renamed (number_drawn t c c.wish) x c.rest)) v.1.1
         ∙ (ap (λ (xs : List Action). drop 1 (map (renamed (number_drawn t c c.wish)) xs)) is.rest
         ∙ (ap (drop 1) (drop-map (renamed (number_drawn t c c.wish)) m.place (actions_of (setup_in w) m))
         ∙ (drop_one m.place (map (renamed (number_drawn t c c.wish)) (actions_of (setup_in w) m))
         ∙ (ap (λ (n : ℕ). drop (m.place + 1) (map (renamed n) (actions_of (setup_in w) m))) same
         ∙ sym (ap (drop (m.place + 1)) (put_renamed (setup_in w) m p.0 p.1.0 (subject_drawn w m m.kind) m.given p.1.1 older)))))))
-    | inr n ↦ (let o = other_same (setup_in w) m (subject_drawn w m m.kind) m.given c.wish m.kind refl is.kind c.rest n in
+    | inr n ↦ (let o = other_same (setup_in w) m (subject_drawn w m m.kind) m.given c.wish m.kind refl (alike c.wish m.kind is.kind) c.rest n in
         ap (λ (x : ℕ). drop 1 (all_renamed x c.wish c.rest)) same
         ∙ (ap (drop 1) o.1 ∙ (rest-on w c m WriteBody is next not_end m.given ∙ ap (drop (m.place + 1)) (sym o.0))))
   ]
@@ -158,7 +160,7 @@ module _ (w : State) (t : Kept) (c : CoreJob) (m : Job) (moves : ℕ) (f : IsFol
   head_taken : slice_get (all_renamed (number_drawn t c c.wish) c.wish c.rest) 0 ≡ Some WriteBody
   head_taken = renamed_head (number_drawn t c c.wish) c.wish c.rest (head-here w c m WriteBody is next not_end)
 
-  opening_taken : (c.opening && not (is_gate (slice_get (all_renamed (number_drawn t c c.wish) c.wish c.rest) 0))) ≡ (opens c.wish && nat_lt (m.place + 1) 4)
+  opening_taken : (c.opening && not (is_gate (slice_get (all_renamed (number_drawn t c c.wish) c.wish c.rest) 0))) ≡ (is_opener c.wish && nat_lt (m.place + 1) 4)
   opening_taken =
       ap (λ (o : Option Action). c.opening && not (is_gate o)) (head_taken ∙ sym (head-here w c m WriteBody is next not_end))
       ∙ opening-on w c m WriteBody is next not_end
@@ -166,11 +168,11 @@ module _ (w : State) (t : Kept) (c : CoreJob) (m : Job) (moves : ℕ) (f : IsFol
   sums_taken : IsTrue (has_asked (drawn c (number_drawn t c c.wish))) → HasSums (setup_in w) (onward m (subject_drawn w m m.kind) m.given) c.sums
   sums_taken has =
       (let p = asked_parts (drawn c (number_drawn t c c.wish)) has in
-      let kind = audit_kind c.wish m.kind p.audit is.kind in
+      let kind = audit_kind c.wish m.kind p.audit (alike c.wish m.kind is.kind) in
       let opened : c.opening ≡ false =
       sym (and-true c.opening) ∙ (ap (λ (o : Option Action). c.opening && not (is_gate o)) (sym head_taken) ∙ p.opened) in
       let first : is_first_append m ≡ false =
-      sym (ap (λ (x : Wish). opens x && is_first_append m) p.audit) ∙ (sym is.opening ∙ opened) in
+      sym (ap (λ (x : Wish). is_opener x && is_first_append m) p.audit) ∙ (sym is.opening ∙ opened) in
       let subject : subject_drawn w m m.kind ≡ m.subject = ap (subject_drawn w m) kind ∙ ap (λ (b : Bool). if b then next_audit w.records else m.subject) first in
       sums-same (setup_in w) m (onward m (subject_drawn w m m.kind) m.given) refl (sym subject) c.sums refl
       (is.sums (asked_whole c p.audit opened (ap asks_next (head-here w c m WriteBody is next not_end)))))

@@ -3,7 +3,6 @@
 --   IsKindOf wish kind     == the machine's kind of a wish: a put's bytes are as many as it says
 --   pin_of f               == a pinned file, without its bytes
 --   has_asked c            == an audit that has asked all that it asks
---   opens wish             == a job of this wish has a first append: a put, a drop, an audit
 --   IsJobOf s c j          == a job of a core stands for a job of the machine
 --   IsCoreFlight c append      == the append in flight is that of the same job, and its record is the one
 --                                 that this job writes
@@ -18,7 +17,7 @@ use Rattle.std.specs.List.{AllZip}
 use Rattle.hail_records.specs.Records.{Setup, Record}
 use Rattle.hail_records.specs.Journal.{text_size}
 use Rattle.hail_records.specs.Table.{version_of}
-use Rattle.hail_machine.specs.Jobs.{Kind, PutJob, GetJob, DropJob, AuditJob, RepairJob, Job, job_of}
+use Rattle.hail_machine.specs.Jobs.{Kind, aim_of, Job, job_of}
 use Rattle.hail_machine.specs.Jobs.{Pinned as PinnedBytes}
 use Rattle.hail_machine.specs.Actions.{Action, actions_left}
 use Rattle.hail_machine.specs.Refusals as refusal
@@ -37,17 +36,13 @@ use Rattle.vault_core.specs.declared.wish.Wish.{Wish}
 use Rattle.vault_core.specs.declared.wish.Wish.TheVariants as wish
 use Rattle.vault_core.specs.declared.wish.BeginFault.{BeginFault}
 use Rattle.vault_core.specs.declared.wish.BeginFault.TheVariants as fault
+use Rattle.vault_core.specs.Wished.{aim_of_wish, is_opener}
 use Rattle.vault_core.specs.View.{CoreJob, CoreView, flag_at}
 use Rattle.vault_core.specs.Coming.{seen_action, asks_next, is_move, entry_in}
 
 -- the machine's kind of a wish
 abbrev pub IsKindOf : Wish → Kind → Type 0
-IsKindOf (wish.Put name size) (PutJob called bytes) = (called ≡ name) × (length bytes ≡ size)
-IsKindOf (wish.Get name) (GetJob called) = called ≡ name
-IsKindOf (wish.Drop name) (DropJob called) = called ≡ name
-IsKindOf wish.Audit AuditJob = Unit {0}
-IsKindOf wish.Repair RepairJob = Unit {0}
-IsKindOf w kind = ⊥
+IsKindOf w kind = aim_of_wish w ≡ aim_of kind
 
 -- a pinned file, without its bytes
 abbrev pub pin_of : PinnedBytes → Pinned
@@ -62,13 +57,6 @@ is_audit_wish w = false
 abbrev pub has_asked : CoreJob → Bool
 has_asked c = is_audit_wish c.wish && (not c.opening && not (asks_next (slice_get c.rest 0)))
 
--- a job that has a first append: a put, a drop, an audit
-abbrev pub opens : Wish → Bool
-opens (wish.Put name size) = true
-opens (wish.Drop name) = true
-opens wish.Audit = true
-opens w = false
-
 -- a job of a core stands for a job of the machine
 pub record IsJobOf (s : Setup) (c : CoreJob) (j : Job) : Type 0 where
   pub number : c.number ≡ j.number
@@ -76,7 +64,7 @@ pub record IsJobOf (s : Setup) (c : CoreJob) (j : Job) : Type 0 where
   pub pinned : c.pinned ≡ map pin_of j.pinned
   pub flagged : (k : ℕ) → k < s.n → flag_at c.flagged k ≡ j.flagged k
   pub subject : c.subject ≡ j.subject
-  pub opening : c.opening ≡ (opens c.wish && is_first_append j)
+  pub opening : c.opening ≡ (is_opener c.wish && is_first_append j)
   pub rest : c.rest ≡ actions_left s j
   pub unjudged : c.opening ≡ true → c.sums ≡ record { counts = replicate s.n 0; undecided = 0 }
   pub sums : IsTrue (has_asked c) → HasSums s j c.sums

@@ -4,7 +4,6 @@
 --   Coming, seen_next   == what comes next: an action, the job to wait for, or why none does; the same of
 --                          an answer
 --   next_in c number    == what comes next for the job of a number
---   takes_older wish    == the job takes an older object away, where there is one
 --   most_of n j         == how many steps a job may still make at most
 --   left_in c number    == the same of the job of a number; None where there is none
 --   core_left c number    == the same; 0 where there is none
@@ -13,11 +12,12 @@
 --   calls_disk coming      == what comes next is a move of an append, the only action that calls the disk
 --   HasReply c number coming reply  == the reply is one that this action has
 --   TakesReply c number reply  == the reply is one that the next action has
-use Rattle.std.specs.Prelude.{◌≡◌, ℕ, ◌+◌, ◌&&◌, Bool, true, false, not, List, length, Option, None, Some, is_some, nat_lt, unwrap_or, count_by, slice_get, if◌then◌else◌}
+use Rattle.std.specs.Prelude.{◌≡◌, ℕ, ◌&&◌, Bool, true, false, not, List, Option, None, Some, is_some, unwrap_or, slice_get, if◌then◌else◌}
 use Rattle.std.specs.Option.{option_map}
 use Rattle.hail_records.specs.Records.{Record, PutStart, PutDone, Drop, AuditStart, AuditDone, RepairDone}
 use Rattle.hail_records.specs.Table.{find_file}
-use Rattle.hail_machine.specs.Actions.{Action, WriteBody, SyncBody, WriteGate, SyncGate, Store, Fetch, Ask, Work, Remove, End, ends_append}
+use Rattle.hail_machine.specs.Actions.{Action, WriteBody, SyncBody, WriteGate, SyncGate, Store, Fetch, Ask, Work, Remove, End}
+use Rattle.hail_machine.specs.Left.{most_after}
 use Rattle.record_codec.specs.Entries.{IsPadded}
 use Rattle.vault_table.specs.Values.{Kept, id_after}
 use Rattle.vault_core.specs.declared.action.Action.{Action as ActionValue}
@@ -28,7 +28,8 @@ use Rattle.vault_core.specs.declared.reply.Reply.{Reply}
 use Rattle.vault_core.specs.declared.reply.Reply.TheVariants as reply
 use Rattle.vault_core.specs.declared.wish.Wish.{Wish}
 use Rattle.vault_core.specs.declared.wish.Wish.TheVariants as wish
-use Rattle.vault_core.specs.View.{CoreJob, CoreView, job_in}
+use Rattle.vault_core.specs.Wished.{aim_of_wish}
+use Rattle.vault_core.specs.View.{CoreJob, CoreView, job_in, of_providers}
 
 -- the action of the machine
 abbrev pub seen_action : ActionValue → Action
@@ -98,15 +99,9 @@ next_of c (Some j) = waits_or_acts c.append (action_next c.table j)
 abbrev pub next_in : CoreView → ℕ → Coming
 next_in c number = if c.barred then IsBarred else next_of c (job_in c.jobs number)
 
--- a job takes an older object away, where there is one: a put, a drop
-abbrev pub takes_older : Wish → Bool
-takes_older (wish.Put name size) = true
-takes_older (wish.Drop name) = true
-takes_older w = false
-
 -- how many steps a job may still make at most: a removal from each provider counts until it is decided
 abbrev pub most_of : ℕ → CoreJob → ℕ
-most_of n j = length j.rest + (if takes_older j.wish && nat_lt 0 (count_by ends_append j.rest) then n else 0)
+most_of n j = most_after (of_providers n) (aim_of_wish j.wish) j.rest
 
 -- the same of the job of a number
 abbrev pub left_in : CoreView → ℕ → Option ℕ

@@ -1,10 +1,10 @@
+pub mod Wished
 pub mod View
 pub mod Rest
 pub mod Parts
 pub mod Coming
 pub mod Carried
 pub mod Replies
-pub mod Wished
 pub mod Going
 pub mod Reserves
 pub mod Fed

@@ -1,8 +1,7 @@
 -- The job that a begin makes.
 --
 --   pin_of_file f           == a file as a job works on it
---   put_pin p ps            == pinned files with one more, in ascending order of their numbers
---   pins_of files           == all these files, in ascending order of their numbers
+--   core_pins               == how pinned files are read
 --   pins_for t w            == the files that a job of this wish works on
 --   targets_of w ps         == the files on whose stripes it works: a put on its own, whose number is not
 --                              yet drawn
@@ -16,11 +15,12 @@
 --   IsMade t s k w job      == a job as it is made
 --   starts_for w            == 1 for a put, which has a PutStart
 --   admitted c w job        == the core in which the job runs
-use Rattle.std.specs.Prelude.{◌≡◌, ℕ, ◌+◌, ◌<◌, ◌==◌, Bool, List, [], ◌∷◌, ◌++◌, length, Option, None, Some, replicate, nat_lt, if◌then◌else◌}
+use Rattle.std.specs.Prelude.{◌≡◌, ℕ, ◌+◌, ◌<◌, ◌==◌, Bool, List, [], ◌∷◌, ◌++◌, length, replicate, nat_lt, if◌then◌else◌}
 use Rattle.hail_records.specs.Records.{Setup}
 use Rattle.hail_records.specs.Table.{File, find_file}
 use Rattle.hail_machine.specs.Setups.{stripes_of}
-use Rattle.hail_machine.specs.Begins.{due_number, due_flags}
+use Rattle.hail_machine.specs.Actions.{PinsOf}
+use Rattle.hail_machine.specs.Begins.{pins_by, due_number, due_flags}
 use Rattle.vault_table.specs.Values.{Kept}
 use Rattle.vault_core.specs.declared.pinned.Pinned.{Pinned}
 use Rattle.vault_core.specs.declared.wish.Wish.{Wish}
@@ -30,6 +30,7 @@ use Rattle.vault_core.specs.declared.cursor.Cursor.{Cursor}
 use Rattle.vault_core.specs.declared.cursor.Cursor.TheVariants as at
 use Rattle.vault_core.specs.declared.job.Task.{Task}
 use Rattle.vault_core.specs.declared.job.Job.{Job}
+use Rattle.vault_core.specs.Wished.{aim_of_wish}
 use Rattle.vault_core.specs.View.{CoreView, flag_at}
 use Rattle.vault_core.specs.Parts.{core_job}
 use Rattle.vault_core.specs.Rest.{rewrites_from}
@@ -38,27 +39,13 @@ use Rattle.vault_core.specs.Rest.{rewrites_from}
 abbrev pub pin_of_file : File → Pinned
 pin_of_file f = record { id = f.id; length = f.size }
 
--- pinned files with one more, in ascending order of their numbers
-abbrev pub put_pin : Pinned → List Pinned → List Pinned
-put_pin p [] = p ∷ []
-put_pin p (q ∷ qs) = if nat_lt p.id q.id then p ∷ q ∷ qs else q ∷ put_pin p qs
-
--- all these files, in ascending order of their numbers
-abbrev pub pins_of : List File → List Pinned
-pins_of [] = []
-pins_of (f ∷ fs) = put_pin (pin_of_file f) (pins_of fs)
-
--- a file, if it was found
-abbrev pub pins_found : Option File → List Pinned
-pins_found None = []
-pins_found (Some f) = pin_of_file f ∷ []
+-- how pinned files are read; a journal of the first version gives none a profile of its own
+abbrev pub core_pins : PinsOf Pinned
+core_pins = record { id = λ f. f.id; profile = λ f. 0; size = λ f. f.length }
 
 -- the files that a job of this wish works on
 abbrev pub pins_for : Kept → Wish → List Pinned
-pins_for t (wish.Put name size) = []
-pins_for t (wish.Get name) = pins_found (find_file t.files name)
-pins_for t (wish.Drop name) = []
-pins_for t w = pins_of t.files
+pins_for t w = pins_by core_pins pin_of_file (find_file t.files) t.files (aim_of_wish w)
 
 -- the files on whose stripes it works: a put on its own, whose number is not yet drawn
 abbrev pub targets_of : Wish → List Pinned → List Pinned

@@ -2,8 +2,6 @@
 --
 --   core_job n job       == what a contract sees of a job
 --   view_of a        == what a contract sees of a core
---   most_of n j      == how many steps a job may still make at most: a removal from each provider counts
---                       until it is decided
 --   IsWithin n flagged cursor == the cursor is at a provider, and at a stripe or round that there is, and
 --                                is one that a job of this wish comes to
 --   IsSet n job      == what stays of a job as it is kept while it goes on
@@ -12,8 +10,9 @@
 --   IsCore a         == a core as it is kept
 use Rattle.std.specs.Prelude.{◌≡◌, ℕ, ◌<◌, ◌≤◌, Bool, true, false, IsTrue, List, [], length, map}
 use Rattle.std.specs.List.{All}
-use Rattle.hail_records.specs.Records.{Setup, is_setup, is_name, largest_file}
+use Rattle.hail_records.specs.Records.{Setup, is_setup}
 use Rattle.hail_machine.specs.Actions.{Action}
+use Rattle.hail_machine.specs.Left.{removes_older}
 use Rattle.record_codec.specs.Entries.{counted, with_master, IsPadded}
 use Rattle.vault_core.specs.declared.wish.Wish.{Wish}
 use Rattle.vault_core.specs.declared.wish.Wish.TheVariants as wish
@@ -24,9 +23,10 @@ use Rattle.vault_core.specs.declared.job.Task.{Task}
 use Rattle.vault_core.specs.declared.job.Job.{Job}
 use Rattle.vault_core.specs.declared.own.Core.TheInside.{Inside}
 use Rattle.vault_core.specs.View.{CoreJob, CoreView, AreRising, flag_at}
+use Rattle.vault_core.specs.Wished.{aim_of_wish, is_opener, is_closer, HasName, IsShort}
 use Rattle.vault_core.specs.Rest.{rest_at, rest_of}
 use Rattle.vault_core.specs.Reserves.{Reserves}
-use Rattle.vault_core.specs.Coming.{most_of, takes_older}
+use Rattle.vault_core.specs.Coming.{most_of}
 
 -- a cursor is at a first append
 abbrev pub is_opening : Cursor → Bool
@@ -84,20 +84,6 @@ view_of a = record {
   barred = a.barred;
 }
 
--- a wish that has a first append
-abbrev pub is_opener : Wish → Bool
-is_opener (wish.Put name size) = true
-is_opener (wish.Drop name) = true
-is_opener wish.Audit = true
-is_opener w = false
-
--- a wish that has a last append
-abbrev pub is_closer : Wish → Bool
-is_closer (wish.Put name size) = true
-is_closer wish.Audit = true
-is_closer wish.Repair = true
-is_closer w = false
-
 -- a wish that has an append
 abbrev pub has_append : Wish → Bool
 has_append (wish.Get name) = false
@@ -126,7 +112,7 @@ comes_to w (at.Calling spot j) = is_caller w
 comes_to w (at.Working spot) = is_worker w
 comes_to w (at.Rewriting spot j) = is_rewriter w
 comes_to w (at.Closing m) = is_closer w
-comes_to w (at.Removing object j) = takes_older w
+comes_to w (at.Removing object j) = removes_older (aim_of_wish w)
 comes_to w at.Ending = true
 
 -- a cursor is at a provider, and at a stripe or round that there is
@@ -137,17 +123,11 @@ IsWithin n flagged (at.Rewriting spot j) = (j < n) × (flag_at flagged j ≡ tru
 IsWithin n flagged (at.Removing object j) = j < n
 IsWithin n flagged c = Unit {0}
 
--- the wish of a put has a file that is not too long, and a wish has a name
-abbrev pub IsWishable : Wish → Type 0
-IsWishable (wish.Put name size) = IsTrue (is_name name) × (size ≤ largest_file)
-IsWishable (wish.Drop name) = IsTrue (is_name name)
-IsWishable w = Unit {0}
-
 -- what stays of a job as it is kept while it goes on
 pub record IsSet (n : ℕ) (job : Job) : Type 0 where
   pub tasks : All (λ (t : Task). 0 < t.turns) job.tasks.items
   pub idle : is_caller job.wish ≡ false → job.tasks.items ≡ []
-  pub wishable : IsWishable job.wish
+  pub wishable : HasName job.wish × IsShort job.wish
   pub flags : length job.flagged ≡ 16
   pub counts : job.counts.n ≡ n
   pub padded : IsPadded job.counts

@@ -1,38 +1,36 @@
 -- What is reserved for running jobs: room in the journal, and room in the table.
 --
 --   sizes_of n wish    == the sizes of the records that a job of this wish appends, in order, each with its
---                         gate, for n providers
---   last_size n wish   == that of the last one; 0 where there is none behind a first one
---   reserved_of n j    == the room that the records of a job still need: a record counts until its append
---                         ends
+--                         gate, for n providers, in a journal of the first version
+--   last_appends wish  == how many appends a job has behind its files: its last one, where it has one
+--   reserved_of n j    == the room that the records of a job still need
 --   starts_of j        == 1 for a put whose PutStart is not yet in effect
 --   Reserves c         == the journal has room for the records of all jobs, and the table for all their
 --                         PutStarts
-use Rattle.std.specs.Prelude.{ℕ, ◌+◌, ◌-◌, ◌*◌, ◌≤◌, Bool, List, [], ◌∷◌, length, drop, sum, sum_by, count_by, if◌then◌else◌}
+use Rattle.std.specs.Prelude.{ℕ, ◌+◌, ◌≤◌, Bool, List, sum_by, count_by, if◌then◌else◌}
 use Rattle.hail_records.specs.Records.{largest_journal}
 use Rattle.hail_machine.specs.Actions.{ends_append}
+use Rattle.hail_machine.specs.Space.{append_sizes, room_left}
 use Rattle.vault_core.specs.declared.wish.Wish.{Wish}
 use Rattle.vault_core.specs.declared.wish.Wish.TheVariants as wish
-use Rattle.vault_core.specs.View.{CoreJob, CoreView}
+use Rattle.vault_core.specs.Wished.{aim_of_wish, is_closer}
+use Rattle.vault_core.specs.View.{CoreJob, CoreView, of_providers}
 
 -- the sizes of the records that a job appends, in order, each with its gate
 abbrev pub sizes_of : ℕ → Wish → List ℕ
-sizes_of n (wish.Put name size) = (11 + length name) ∷ 14 ∷ []
-sizes_of n (wish.Get name) = []
-sizes_of n (wish.Drop name) = (3 + length name) ∷ []
-sizes_of n wish.Audit = 10 ∷ (15 + 4 * n) ∷ []
-sizes_of n wish.Repair = 10 ∷ []
+sizes_of n w = append_sizes 1 (of_providers n) (aim_of_wish w)
 
--- the size of the last of these records; 0 where there is none behind a first one
-abbrev pub last_size : ℕ → Wish → ℕ
-last_size n (wish.Put name size) = 14
-last_size n wish.Audit = 15 + 4 * n
-last_size n wish.Repair = 10
-last_size n w = 0
+-- the room that the records of a job still need of which so many appends have not ended
+abbrev pub room_behind : ℕ → Wish → ℕ → ℕ
+room_behind n w appends = room_left 1 (of_providers n) (aim_of_wish w) appends
+
+-- how many appends a job has behind its files
+abbrev pub last_appends : Wish → ℕ
+last_appends w = if is_closer w then 1 else 0
 
 -- the room that the records of a job still need
 abbrev pub reserved_of : ℕ → CoreJob → ℕ
-reserved_of n j = sum (drop (length (sizes_of n j.wish) - count_by ends_append j.rest) (sizes_of n j.wish))
+reserved_of n j = room_behind n j.wish (count_by ends_append j.rest)
 
 -- 1 for a put whose PutStart is not yet in effect
 abbrev pub starts_by : Wish → Bool → ℕ

@@ -9,6 +9,8 @@
 --   job_in jobs number == the job of that number; None where there is none
 --   AreRising low jobs next == the numbers of jobs ascend, from `low` on, and are below `next`
 --   flag_at flags j    == the flag of provider j; false past the end
+--   of_providers n     == a setup of so many providers, all else 0: the room of records and the steps left
+--                         hang on no more of it
 use Rattle.std.specs.Prelude.{ℕ, ◌+◌, ◌≤◌, ◌==◌, Bool, false, List, [], ◌∷◌, Option, None, Some, slice_index_or, if◌then◌else◌}
 use Rattle.hail_columns.specs.Verdicts.{Sums}
 use Rattle.hail_records.specs.Records.{Setup}
@@ -51,3 +53,7 @@ AreRising low (j ∷ js) next = (low ≤ j.number) × AreRising (j.number + 1) j
 -- the flag of a provider
 abbrev pub flag_at : List Bool → ℕ → Bool
 flag_at flags j = slice_index_or flags j false
+
+-- a setup of so many providers, all else 0
+abbrev pub of_providers : ℕ → Setup
+of_providers n = record { n = n; l = 0; b = 0; profile = 0; rounds = 0; picks = 0; tolerance = 0; master = [] }

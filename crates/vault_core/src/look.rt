@@ -6,7 +6,7 @@ ghost use Rattle.hail_machine.specs.Actions.{WriteBody};
 ghost use Rattle.vault_table.specs.Values.{setup_of_pair};
 ghost use Rattle.hail_machine.specs.States.{State, setup_in};
 ghost use Rattle.hail_machine.specs.Left.{most_left};
-ghost use Rattle.hail_machine.specs.Begins.{is_shut};
+ghost use Rattle.hail_machine.specs.Sights.{sight_of, is_shut};
 ghost use Rattle.hail_machine.specs.Refusals as refusal;
 ghost use Rattle.hail_machine.specs.Refusals.{first_refusal};
 ghost use Rattle.hail_columns.specs.Verdicts.{Sums};
@@ -71,7 +71,7 @@ impl Core {
     pub fn barred(&self) -> Option<BeginFault>
         ensures { (w : State) → CoreIs self.now w → option_map refusal_of result ≡ first_refusal (
             record { applies = w.is_barred; refusal = refusal.MustReopen }
-            ∷ record { applies = is_shut w || nat_le 8 (length w.jobs); refusal = refusal.Busy } ∷ []) }
+            ∷ record { applies = is_shut (sight_of w) || nat_le 8 (length w.jobs); refusal = refusal.Busy } ∷ []) }
     {
         if self.barred {
             return Some(BeginFault::MustReopen);

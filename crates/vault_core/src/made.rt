@@ -4,16 +4,15 @@ ghost use Rattle.std.specs.Option.{option_map};
 ghost use Rattle.std.specs.List.{insert};
 ghost use Rattle.record_codec.specs.Entries.{with_master, IsPadded};
 ghost use Rattle.hail_machine.specs.Setups.{stripes_of};
-ghost use Rattle.hail_machine.specs.Begins.{due_number, due_flags};
+ghost use Rattle.hail_machine.specs.Begins.{pin_by, pin_found, pin_each, due_number, due_flags};
 ghost use Rattle.vault_table.specs.Values.{file_of_entry, due_of_pair};
 ghost use Rattle.vault_core.specs.declared.pinned.Pinned.{Pinned as PinnedFile};
 ghost use Rattle.vault_core.specs.declared.job.Task.{Task as TaskData};
 ghost use Rattle.vault_core.specs.View.{flag_at};
 ghost use Rattle.vault_core.specs.Rest.{rewrites_from};
 ghost use Rattle.vault_core.specs.Parts.{IsJobKept, is_rewriter};
-ghost use Rattle.vault_core.specs.Refusing.{HasName};
-ghost use Rattle.vault_core.specs.Wished.{IsShort};
-ghost use Rattle.vault_core.specs.Making.{pin_of_file, put_pin, pins_of, pins_found, pins_for, targets_of, turns_for, tasks_made, size_of_turn, other_actions, cursor_on, cursor_first, IsMade};
+ghost use Rattle.vault_core.specs.Wished.{HasName, IsShort};
+ghost use Rattle.vault_core.specs.Making.{pin_of_file, core_pins, pins_for, targets_of, turns_for, tasks_made, size_of_turn, other_actions, cursor_on, cursor_first, IsMade};
 
 use crate::cursor::{Cursor, Move, Spot};
 use crate::job::{Job, Task};
@@ -44,7 +43,7 @@ fn stripes(setup: &Setup, length: u32) -> u32
 fn place_of(pinned: &[Pinned], id: u64) -> usize
     ensures within { result ≤ length pinned.now }
     ensures place { (file : PinnedFile) → file.id ≡ id
-        → insert pinned.now result file ≡ put_pin file pinned.now }
+        → insert pinned.now result file ≡ pin_by core_pins file pinned.now }
 {
     for place in 0..pinned.len() {
         if id < pinned[place].id {
@@ -56,7 +55,7 @@ fn place_of(pinned: &[Pinned], id: u64) -> usize
 
 /// Puts a file among others, in ascending order of their object numbers.
 fn pin(pinned: &mut Vec<Pinned>, file: Pinned) -> Result<(), Memory>
-    ensures { OnOk result (pinned.new.items ≡ put_pin file pinned.old.items) }
+    ensures { OnOk result (pinned.new.items ≡ pin_by core_pins file pinned.old.items) }
 {
     let place = place_of(pinned, file.id);
     match pinned.insert(place, file) {
@@ -77,7 +76,7 @@ fn pinned_entry(file: &Entry) -> Pinned
 
 /// The file in effect under the name of a get.
 fn pin_one(alloc: Global, file: Option<Entry>) -> Result<Vec<Pinned>, Memory>
-    ensures { IfOk result (λ pinned. pinned.items ≡ pins_found (option_map file_of_entry file)) }
+    ensures { IfOk result (λ pinned. pinned.items ≡ pin_found pin_of_file (option_map file_of_entry file)) }
 {
     let mut pinned = Vec::with_capacity(alloc, 1)?;
     if let Some(file) = file {
@@ -88,7 +87,7 @@ fn pin_one(alloc: Global, file: Option<Entry>) -> Result<Vec<Pinned>, Memory>
 
 /// All files in effect.
 fn pin_all(alloc: Global, table: &Table) -> Result<Vec<Pinned>, Memory>
-    ensures { IfOk result (λ pinned. pinned.items ≡ pins_of table.now.files) }
+    ensures { IfOk result (λ pinned. pinned.items ≡ pin_each core_pins pin_of_file table.now.files) }
 {
     let mut place = table.count();
     let mut pinned = Vec::with_capacity(alloc, place)?;

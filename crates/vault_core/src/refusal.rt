@@ -1,17 +1,18 @@
 //! Why a job does not begin.
-ghost use Rattle.std.specs.Prelude.{◌≡◌, ◌≤◌, ◌+◌, ◌||◌, ℕ, Some, None, is_some, if◌then◌else◌, length, sum_by};
+ghost use Rattle.std.specs.Prelude.{◌≡◌, ◌≤◌, ◌+◌, ℕ, Some, None, if◌then◌else◌, length, sum_by, ◌∷◌};
 ghost use Rattle.std.specs.Option.{option_map};
 ghost use Rattle.std.specs.List.{list_any, All};
-ghost use Rattle.hail_records.specs.Table.{find_file};
 ghost use Rattle.hail_machine.specs.Jobs.{Kind};
 ghost use Rattle.hail_machine.specs.States.{State};
+ghost use Rattle.hail_machine.specs.Refusals.{first_refusal};
+ghost use Rattle.hail_machine.specs.Sights.{is_check, is_put_or_check, is_name_among, is_busy, is_crowded, is_full, causes};
 ghost use Rattle.hail_machine.specs.Begins.{begin_refusal};
 ghost use Rattle.vault_core.specs.declared.job.Job.{Job as JobData};
 ghost use Rattle.vault_core.specs.Carried.{CoreIs, IsKindOf, refusal_of};
-ghost use Rattle.vault_core.specs.Wished.{IsShort};
+ghost use Rattle.vault_core.specs.Wished.{aim_of_wish, HasName, IsShort};
 ghost use Rattle.vault_core.specs.Parts.{core_job, IsJobKept};
 ghost use Rattle.vault_core.specs.Reserves.{reserved_of};
-ghost use Rattle.vault_core.specs.Refusing.{wishes_kept, checks, puts_or_checks, puts_name, is_new, names_beside, is_busy_in, is_crowded_in, word_refusal_in, is_full_in, refusal_in, HasName};
+ghost use Rattle.vault_core.specs.Refusing.{sight_in, aims_kept, puts_name, taken_names, word_refusal_in, refusal_in};
 
 use crate::job::Job;
 use crate::look::MOST_JOBS;
@@ -32,21 +33,21 @@ pub const LARGEST_NUMBER: u64 = u64::MAX - 31;
 
 /// A job is a put, an audit or a repair.
 fn is_put_or_check(job: &Job) -> bool
-    ensures { result ≡ puts_or_checks job.now.wish }
+    ensures { result ≡ is_put_or_check (aim_of_wish job.now.wish) }
 {
     matches!(job.wish, Wish::Put { .. } | Wish::Audit | Wish::Repair)
 }
 
 /// A job is an audit or a repair.
 fn is_check(job: &Job) -> bool
-    ensures { result ≡ checks job.now.wish }
+    ensures { result ≡ is_check (aim_of_wish job.now.wish) }
 {
     matches!(job.wish, Wish::Audit | Wish::Repair)
 }
 
 /// A job is a put of this name.
 fn puts(job: &Job, name: &Name) -> bool
-    ensures { result ≡ puts_name name.now job.now.wish }
+    ensures { result ≡ puts_name name.now (aim_of_wish job.now.wish) }
 {
     match &job.wish {
         Wish::Put { name: own, .. } => own.as_bytes() == name.as_bytes(),
@@ -56,36 +57,36 @@ fn puts(job: &Job, name: &Name) -> bool
 
 /// One of these jobs is a put, an audit or a repair.
 fn some_put_or_check(jobs: &[Job]) -> bool
-    ensures { result ≡ list_any (λ (j : JobData). puts_or_checks j.wish) jobs.now }
+    ensures { result ≡ list_any (λ (j : JobData). is_put_or_check (aim_of_wish j.wish)) jobs.now }
 {
     jobs.iter().any(is_put_or_check)
 }
 
 /// One of these jobs is an audit or a repair.
 fn some_check(jobs: &[Job]) -> bool
-    ensures { result ≡ list_any (λ (j : JobData). checks j.wish) jobs.now }
+    ensures { result ≡ list_any (λ (j : JobData). is_check (aim_of_wish j.wish)) jobs.now }
 {
     jobs.iter().any(is_check)
 }
 
 /// One of these jobs is a put of this name.
 fn some_puts(jobs: &[Job], name: &Name) -> bool
-    ensures { result ≡ list_any (λ (j : JobData). puts_name name.now j.wish) jobs.now }
+    ensures { result ≡ list_any (λ (j : JobData). puts_name name.now (aim_of_wish j.wish)) jobs.now }
 {
     jobs.iter().any(|job| puts(job, name))
 }
 
 /// A name is in effect, or one of these jobs puts it.
 fn is_taken(table: &Table, jobs: &[Job], name: &Name) -> bool
-    ensures { result ≡ (list_any (λ (j : JobData). puts_name name.now j.wish) jobs.now
-        || is_some (find_file table.now.files name.now)) }
+    ensures { result ≡ is_name_among (taken_names table.now.files (aims_kept jobs.now)) name.now }
 {
     some_puts(jobs, name) || table.find(name).is_some()
 }
 
 /// A job puts a name that is not in effect and that none of these jobs puts.
 fn is_new(table: &Table, jobs: &[Job], job: &Job) -> bool
-    ensures { result ≡ is_new table.now.files (wishes_kept jobs.now) job.now.wish }
+    ensures { length (taken_names table.now.files (aim_of_wish job.now.wish ∷ aims_kept jobs.now))
+        ≡ (if result then 1 else 0) + length (taken_names table.now.files (aims_kept jobs.now)) }
 {
     match &job.wish {
         Wish::Put { name, .. } => !is_taken(table, jobs, name),
@@ -95,7 +96,8 @@ fn is_new(table: &Table, jobs: &[Job], job: &Job) -> bool
 
 /// How many names jobs put that are not in effect, each once.
 fn names_beside(table: &Table, jobs: &[Job]) -> usize
-    ensures value { result ≡ names_beside table.now.files (wishes_kept jobs.now) }
+    ensures value { length (taken_names table.now.files (aims_kept jobs.now))
+        ≡ result + length table.now.files }
     ensures few { result ≤ length jobs.now }
 {
     let mut count = 0;
@@ -140,7 +142,7 @@ fn read_name(wish: &Wish)
 impl Core {
     /// The running jobs leave no place for one of this wish.
     fn is_busy(&self, wish: &Wish) -> bool
-        ensures { result ≡ is_busy_in self.now wish.now }
+        ensures { result ≡ is_busy 8 (sight_in self.now) (aim_of_wish wish.now) }
     {
         if self.jobs.len() >= MOST_JOBS {
             return true;
@@ -154,7 +156,7 @@ impl Core {
 
     /// No further name fits in beside those in effect and those of running puts.
     fn is_crowded(&self, name: &Name) -> bool
-        ensures { result ≡ is_crowded_in self.now name.now }
+        ensures { result ≡ is_crowded (sight_in self.now) name.now }
     {
         let beside = names_beside(&self.table, &self.jobs);
         self.table.count().saturating_add(beside) >= MOST_FILES
@@ -163,7 +165,7 @@ impl Core {
 
     /// Why the words of a wish, or what is in effect, let no job begin.
     fn word_refusal(&self, wish: &Wish) -> Option<BeginFault>
-        ensures { result ≡ word_refusal_in self.now wish.now }
+        ensures { result ≡ word_refusal_in (sight_in self.now) wish.now }
     {
         match wish {
             Wish::Put { name, .. } => when(self.is_crowded(name), BeginFault::TooManyFiles),
@@ -177,7 +179,7 @@ impl Core {
 
     /// The records of a job find no room, or its number would come too near the last one.
     fn is_full(&self, wish: &Wish) -> bool
-        ensures { result ≡ is_full_in self.now wish.now }
+        ensures { result ≡ is_full (sight_in self.now) (aim_of_wish wish.now) }
     {
         if let Wish::Get { .. } = wish {
             return false;
@@ -216,6 +218,8 @@ impl Core {
     pub(crate) fn refusal(&self, wish: &Wish) -> Option<BeginFault>
         ensures value { result ≡ refusal_in self.now wish.now }
         ensures named { HasName wish.now }
+        ensures sight { IsShort wish.now → option_map refusal_of result
+            ≡ first_refusal (causes 8 (sight_in self.now) (aim_of_wish wish.now) None) }
         ensures machine { (w : State) (kind : Kind) → CoreIs self.now w → IsKindOf wish.now kind
             → IsShort wish.now →
             option_map refusal_of result ≡ begin_refusal 8 w kind }

@@ -1,7 +1,7 @@
 //! The room that the records of jobs take in the journal.
 ghost use Rattle.std.specs.Prelude.{◌≡◌, ◌≤◌, ◌*◌, ◌+◌, ℕ, sum};
 ghost use Rattle.vault_core.specs.Parts.{core_job, IsJobKept};
-ghost use Rattle.vault_core.specs.Reserves.{sizes_of, last_size, reserved_of};
+ghost use Rattle.vault_core.specs.Reserves.{sizes_of, room_behind, last_appends, reserved_of};
 
 use crate::job::Job;
 use crate::wish::Wish;
@@ -22,13 +22,13 @@ pub fn sizes(wish: &Wish, providers: u8) -> u64
 
 /// The size of the last of these records with its gate; 0 where there is none behind a first one.
 fn last_size(wish: &Wish, providers: u8) -> u64
-    ensures { result ≡ last_size providers wish.now }
+    ensures { result ≡ room_behind providers wish.now (last_appends wish.now) }
 {
     match wish {
         Wish::Put { .. } => 14,
         Wish::Audit => 15 + 4 * providers as u64,
         Wish::Repair => 10,
-        _ => 0,
+        Wish::Get { .. } | Wish::Drop { .. } => 0,
     }
 }
 

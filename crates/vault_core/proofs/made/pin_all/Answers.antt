@@ -2,15 +2,16 @@ use Rattle.std.proofs.Common.{◌-◌, ◌∙◌, ap, arith}
 use Rattle.plain_facts.proofs.Lists.{get_within}
 use Rattle.vault_table.specs.Values.{file_of_entry}
 use Rattle.vault_core.specs.declared.pinned.Pinned.{Pinned}
-use Rattle.vault_core.specs.Making.{put_pin}
+use Rattle.vault_core.specs.Making.{core_pins}
 use Rattle.vault_core.proofs.Pins.{pins_step}
 use Rattle.vault_core.proofs.made.pin_all.Goals as goal
+use Rattle.hail_machine.specs.Begins.{pin_by}
 
 pub loop-place-preserved : goal.loop-place-preserved
 loop-place-preserved c = record {
   within = omega arith;
   pinned = pins_step c.args.table.now.files c.loop-place.place (file_of_entry c.in-Some.file) c.loop-place.pinned.items c.pin.new.pinned.items (omega arith) c.in-Some.ensures
-      c.loop-place.invariant.pinned (c.in_ok-pin-in-Some.ensures ∙ ap (λ (p : Pinned). put_pin p c.loop-place.pinned.items) c.pinned_entry.ensures);
+      c.loop-place.invariant.pinned (c.in_ok-pin-in-Some.ensures ∙ ap (λ (p : Pinned). pin_by core_pins p c.loop-place.pinned.items) c.pinned_entry.ensures);
 }
 
 pub unreachable-requires : goal.unreachable-requires

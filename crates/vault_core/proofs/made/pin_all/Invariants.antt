@@ -1,11 +1,12 @@
 use Rattle.std.proofs.Common.{◌≡◌, ◌≤◌, drop, length}
-use Rattle.vault_core.specs.Making.{pins_of}
+use Rattle.vault_core.specs.Making.{core_pins, pin_of_file}
 use Rattle.vault_core.proofs.made.pin_all.Given as goal
+use Rattle.hail_machine.specs.Begins.{pin_each}
 
 abbrev pub invariant-loop-place : goal.invariant-loop-place
 invariant-loop-place l = record {
   within : l.place ≤ length l.table.files;
-  pinned : l.pinned.items ≡ pins_of (drop l.place l.table.files);
+  pinned : l.pinned.items ≡ pin_each core_pins pin_of_file (drop l.place l.table.files);
 }
 
 abbrev pub decreases-loop-place : goal.decreases-loop-place

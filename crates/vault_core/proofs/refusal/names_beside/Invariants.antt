@@ -1,9 +1,9 @@
-use Rattle.std.proofs.Common.{◌≡◌, ◌+◌, ◌≤◌, drop}
-use Rattle.vault_core.specs.Refusing.{wishes_kept, names_beside}
+use Rattle.std.proofs.Common.{◌≡◌, ◌+◌, ◌≤◌, drop, length}
+use Rattle.vault_core.specs.Refusing.{aims_kept, taken_names}
 use Rattle.vault_core.proofs.refusal.names_beside.Given as goal
 
 abbrev pub invariant-loop-place : goal.invariant-loop-place
 invariant-loop-place l = record {
-  value : l.count + names_beside l.table.files (wishes_kept (drop l.place l.jobs)) ≡ names_beside l.table.files (wishes_kept l.jobs);
+  value : length (taken_names l.table.files (aims_kept l.jobs)) ≡ l.count + length (taken_names l.table.files (aims_kept (drop l.place l.jobs)));
   few : l.count ≤ l.place;
 }

@@ -9,7 +9,7 @@ use Rattle.vault_core.specs.Parts.{core_job}
 use Rattle.vault_core.specs.Reserves.{Reserves, reserved_of}
 use Rattle.vault_core.specs.Carried.{CoreIs, refusal_of, begun}
 use Rattle.vault_core.specs.Making.{admitted, IsMade}
-use Rattle.vault_core.proofs.Admitted.{core-begun, made-room, room-left, on_ok_then}
+use Rattle.vault_core.proofs.Admitted.{core-begun, made-room, room-left, few-left, on_ok_then}
 use Rattle.vault_core.proofs.own.Core.begin.Goals as goal
 use Rattle.vault_core.proofs.Gating.{providers}
 
@@ -20,6 +20,9 @@ admit-requires-clause-room c =
     let l = room-left c.args.self.now c.args.wish (subst Reserves c.self.view_is c.self.invariant.reserves) (sym c.in_default.is ∙ c.refusal.ensures.value) in
     let whole : c.args.self.now.end + sum_by (reserved_of c.args.self.now.setup.n) c.args.self.now.jobs + reserved_of c.args.self.now.setup.n (core_job c.args.self.now.setup.n c.in-Ok.job) ≤ largest_journal = omega (arith, e, l) in
     whole
+
+pub admit-requires-clause-few : goal.admit-requires-clause-few
+admit-requires-clause-few c = few-left c.args.self.now c.args.wish (sym c.in_default.is ∙ c.refusal.ensures.value)
 
 pub returns-in-Ok-clause-begun : goal.returns-in-Ok-clause-begun
 returns-in-Ok-clause-begun c = λ w kind moment is of spelled.

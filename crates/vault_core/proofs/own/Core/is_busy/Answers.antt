@@ -1,16 +1,29 @@
-use Rattle.std.proofs.Common.{◌∙◌, ap, sym, List, arith}
+use Rattle.std.proofs.Common.{◌∙◌, ap, sym, false, Bool, ◌||◌, List, length, arith}
+use Rattle.std.specs.Prelude.{nat_le}
 use Rattle.std.specs.List.{list_any}
+use Rattle.std.proofs.lemmas.Bool.{le-leb, lt-leb}
+use Rattle.hail_machine.specs.Sights.{is_put_or_check, is_check}
 use Rattle.vault_core.specs.declared.job.Job.{Job}
-use Rattle.vault_core.specs.Refusing.{wishes_kept, checks, puts_or_checks, is_kept_out}
-use Rattle.vault_core.proofs.Refusals.{busy, any-wishes}
+use Rattle.vault_core.specs.Wished.{aim_of_wish}
+use Rattle.vault_core.specs.Refusing.{aims_kept}
+use Rattle.vault_core.proofs.Places.{any-map}
+use Rattle.vault_core.proofs.Refusals.{busy, beside, none-beside, are_in_the_way}
 use Rattle.vault_core.proofs.own.Core.is_busy.Goals as goal
 
+pub returns-then-len-ge-MOST_JOBS : goal.returns-then-len-ge-MOST_JOBS
+returns-then-len-ge-MOST_JOBS c = busy c.self.inside c.args.self.now c.args.wish.now _ c.self.view_is
+    (sym (ap (λ (b : Bool). b || are_in_the_way (aims_kept c.self.inside.jobs.items) (aim_of_wish c.args.wish.now)) (le-leb 8 (length c.self.inside.jobs.items) (omega (arith, c.len.ensures)))))
+
 pub returns-in-Audit : goal.returns-in-Audit
-returns-in-Audit c = busy c.self.inside c.args.self.now c.args.wish.now c.some_put_or_check.result c.self.view_is (omega (arith, c.len.ensures))
-    (c.some_put_or_check.ensures ∙ (any-wishes puts_or_checks c.deref.result.now
-    ∙ (ap (λ (js : List Job). list_any puts_or_checks (wishes_kept js)) c.deref.ensures.value ∙ ap (is_kept_out (wishes_kept c.self.inside.jobs.items)) (sym c.in-Audit.is))))
+returns-in-Audit c = beside c.self.inside c.args.self.now c.args.wish.now c.some_put_or_check.result c.self.view_is (omega (arith, c.len.ensures))
+    (c.some_put_or_check.ensures ∙ (any-map (λ (j : Job). aim_of_wish j.wish) is_put_or_check c.deref.result.now
+    ∙ (ap (λ (js : List Job). list_any is_put_or_check (aims_kept js)) c.deref.ensures.value ∙ ap (λ w. are_in_the_way (aims_kept c.self.inside.jobs.items) (aim_of_wish w)) (sym c.in-Audit.is))))
 
 pub returns-in-Repair : goal.returns-in-Repair
-returns-in-Repair c = busy c.self.inside c.args.self.now c.args.wish.now c.some_check.result c.self.view_is (omega (arith, c.len.ensures))
-    (c.some_check.ensures ∙ (any-wishes checks c.deref-in-Repair.result.now
-    ∙ (ap (λ (js : List Job). list_any checks (wishes_kept js)) c.deref-in-Repair.ensures.value ∙ ap (is_kept_out (wishes_kept c.self.inside.jobs.items)) (sym c.in-Repair.is))))
+returns-in-Repair c = beside c.self.inside c.args.self.now c.args.wish.now c.some_check.result c.self.view_is (omega (arith, c.len.ensures))
+    (c.some_check.ensures ∙ (any-map (λ (j : Job). aim_of_wish j.wish) is_check c.deref-in-Repair.result.now
+    ∙ (ap (λ (js : List Job). list_any is_check (aims_kept js)) c.deref-in-Repair.ensures.value ∙ ap (λ w. are_in_the_way (aims_kept c.self.inside.jobs.items) (aim_of_wish w)) (sym c.in-Repair.is))))
+
+pub returns-in_default : goal.returns-in_default
+returns-in_default c = beside c.self.inside c.args.self.now c.args.wish.now false c.self.view_is (omega (arith, c.len.ensures))
+    (none-beside (aims_kept c.self.inside.jobs.items) c.args.wish.now c.in_default.not-Audit c.in_default.not-Repair)

@@ -1,31 +1,34 @@
-use Rattle.std.proofs.Common.{◌∙◌, ap, sym, List, arith}
+use Rattle.std.proofs.Common.{◌∙◌, ap, sym, ◌+◌, List, arith}
 use Rattle.std.specs.Prelude.{sum_by, nat_lt}
+use Rattle.hail_machine.specs.Sights.{are_numbers_used_up}
 use Rattle.vault_core.specs.declared.job.Job.{Job}
-use Rattle.vault_core.specs.Parts.{core_job}
+use Rattle.vault_core.specs.declared.wish.Wish.{Wish}
+use Rattle.vault_core.specs.Wished.{aim_of_wish}
+use Rattle.vault_core.specs.Parts.{core_job, view_of}
 use Rattle.vault_core.specs.Reserves.{reserved_of}
-use Rattle.vault_core.specs.Refusing.{is_used_up}
-use Rattle.vault_core.proofs.Refusals.{over, under, used-none}
+use Rattle.vault_core.specs.Refusing.{sight_in}
+use Rattle.vault_core.proofs.Refusals.{full, over, under, used-none}
 use Rattle.vault_core.proofs.own.Core.is_full.Goals as goal
 
 pub returns-then-self-room-gt-LARGEST_JOURNAL : goal.returns-then-self-room-gt-LARGEST_JOURNAL
-returns-then-self-room-gt-LARGEST_JOURNAL c = over c.self.inside c.args.self.now c.args.wish.now c.reserved_for-room.result c.sizes.result c.self.view_is c.in_default.not-Get
+returns-then-self-room-gt-LARGEST_JOURNAL c = full c.self.inside c.args.self.now c.args.wish.now c.reserved_for-room.result c.sizes.result _ c.self.view_is c.in_default.not-Get
     (c.reserved_for-room.ensures.value ∙ ap (λ (js : List Job). sum_by (λ (j : Job). reserved_of c.self.inside.setup.n (core_job c.self.inside.setup.n j)) js) c.deref.ensures.value)
-    c.sizes.ensures.value (omega arith)
+    c.sizes.ensures.value (over (c.self.inside.end + c.reserved_for-room.result + c.sizes.result) (are_numbers_used_up (sight_in (view_of c.self.inside)) (aim_of_wish c.args.wish.now)) (omega arith))
 
 pub returns-in-Put : goal.returns-in-Put
-returns-in-Put c = under c.self.inside c.args.self.now c.args.wish.now c.reserved_for-room.result c.sizes.result _ c.self.view_is c.in_default.not-Get
+returns-in-Put c = full c.self.inside c.args.self.now c.args.wish.now c.reserved_for-room.result c.sizes.result _ c.self.view_is c.in_default.not-Get
     (c.reserved_for-room.ensures.value ∙ ap (λ (js : List Job). sum_by (λ (j : Job). reserved_of c.self.inside.setup.n (core_job c.self.inside.setup.n j)) js) c.deref.ensures.value)
-    c.sizes.ensures.value (omega arith)
-    (ap (nat_lt 18446744073709551584) c.next_id.ensures ∙ ap (is_used_up c.self.inside.table) (sym c.in-Put.is))
+    c.sizes.ensures.value (under (c.self.inside.end + c.reserved_for-room.result + c.sizes.result) (are_numbers_used_up (sight_in (view_of c.self.inside)) (aim_of_wish c.args.wish.now)) _ (omega arith)
+    (ap (nat_lt 18446744073709551584) c.next_id.ensures ∙ ap (λ (w : Wish). are_numbers_used_up (sight_in (view_of c.self.inside)) (aim_of_wish w)) (sym c.in-Put.is)))
 
 pub returns-in-Audit : goal.returns-in-Audit
-returns-in-Audit c = under c.self.inside c.args.self.now c.args.wish.now c.reserved_for-room.result c.sizes.result _ c.self.view_is c.in_default.not-Get
+returns-in-Audit c = full c.self.inside c.args.self.now c.args.wish.now c.reserved_for-room.result c.sizes.result _ c.self.view_is c.in_default.not-Get
     (c.reserved_for-room.ensures.value ∙ ap (λ (js : List Job). sum_by (λ (j : Job). reserved_of c.self.inside.setup.n (core_job c.self.inside.setup.n j)) js) c.deref.ensures.value)
-    c.sizes.ensures.value (omega arith)
-    (ap (nat_lt 18446744073709551584) c.next_audit.ensures ∙ ap (is_used_up c.self.inside.table) (sym c.in-Audit.is))
+    c.sizes.ensures.value (under (c.self.inside.end + c.reserved_for-room.result + c.sizes.result) (are_numbers_used_up (sight_in (view_of c.self.inside)) (aim_of_wish c.args.wish.now)) _ (omega arith)
+    (ap (nat_lt 18446744073709551584) c.next_audit.ensures ∙ ap (λ (w : Wish). are_numbers_used_up (sight_in (view_of c.self.inside)) (aim_of_wish w)) (sym c.in-Audit.is)))
 
 pub returns-in_default-wish : goal.returns-in_default-wish
-returns-in_default-wish c = under c.self.inside c.args.self.now c.args.wish.now c.reserved_for-room.result c.sizes.result _ c.self.view_is c.in_default.not-Get
+returns-in_default-wish c = full c.self.inside c.args.self.now c.args.wish.now c.reserved_for-room.result c.sizes.result _ c.self.view_is c.in_default.not-Get
     (c.reserved_for-room.ensures.value ∙ ap (λ (js : List Job). sum_by (λ (j : Job). reserved_of c.self.inside.setup.n (core_job c.self.inside.setup.n j)) js) c.deref.ensures.value)
-    c.sizes.ensures.value (omega arith)
-    (used-none c.self.inside.table c.args.wish.now c.in_default-wish.not-Put c.in_default-wish.not-Audit)
+    c.sizes.ensures.value (under (c.self.inside.end + c.reserved_for-room.result + c.sizes.result) (are_numbers_used_up (sight_in (view_of c.self.inside)) (aim_of_wish c.args.wish.now)) _ (omega arith)
+    (used-none (sight_in (view_of c.self.inside)) c.args.wish.now c.in_default-wish.not-Put c.in_default-wish.not-Audit))
