@@ -7,7 +7,7 @@ use Rattle.std.specs.declared.vec.Vec.{Vec}
 use Rattle.std.proofs.lemmas.List.{map-set, length-drop}
 use Rattle.std.proofs.lemmas.Bool.{cases_Bool, lt-ltb, ltb-true, false≢true, ne_eqb, eqb-true, eq-eqb}
 use Rattle.hail_columns.specs.Verdicts.{Sums}
-use Rattle.hail_machine.specs.Actions.{Action, SyncGate, End}
+use Rattle.hail_machine.specs.Actions.{Action, SyncGate, End, Store, Ask, Fetch}
 use Rattle.hail_machine.specs.Left.{removes_older}
 use Rattle.vault_table.specs.Values.{Kept}
 use Rattle.vault_core.specs.declared.wish.Wish.{Wish}
@@ -297,25 +297,13 @@ step_runs c k r takes none =
 -- an action that is no first or last move of an append and no end goes plainly
 pub plain_by : (a : ActionValue) → (a ≡ act.WriteBody → ⊥) → (a ≡ act.SyncGate → ⊥) → (a ≡ act.End → ⊥) → goes_plainly (Some (seen_action a)) ≡ true
 plain_by act.WriteBody b g e = absurd (b refl)
-plain_by act.SyncBody b g e = refl
-plain_by act.WriteGate b g e = refl
 plain_by act.SyncGate b g e = absurd (g refl)
-plain_by (act.Store provider object stripe) b g e = refl
-plain_by (act.Fetch provider object stripe) b g e = refl
-plain_by (act.Ask provider object round) b g e = refl
-plain_by (act.Work object stripe) b g e = refl
-plain_by (act.Remove provider object) b g e = refl
 plain_by act.End b g e = absurd (e refl)
+plain_by a b g e = refl
 
 -- only an ask has a verdict
 pub verdict_plain : (c : CoreView) (k : ℕ) (a : ActionValue) (u : ℕ) (counts : Counts) → HasReply c k (Acts (seen_action a)) (reply.Verdict u counts) → goes_plainly (Some (seen_action a)) ≡ true
 verdict_plain c k act.WriteBody u counts h = absurd h
-verdict_plain c k act.SyncBody u counts h = refl
-verdict_plain c k act.WriteGate u counts h = refl
 verdict_plain c k act.SyncGate u counts h = absurd h
-verdict_plain c k (act.Store provider object stripe) u counts h = refl
-verdict_plain c k (act.Fetch provider object stripe) u counts h = refl
-verdict_plain c k (act.Ask provider object round) u counts h = refl
-verdict_plain c k (act.Work object stripe) u counts h = refl
-verdict_plain c k (act.Remove provider object) u counts h = refl
 verdict_plain c k act.End u counts h = absurd h
+verdict_plain c k a u counts h = refl

@@ -17,7 +17,7 @@ use Rattle.hail_machine.specs.Refusals.{Refusal, MustReopen, Busy}
 use Rattle.hail_machine.specs.Left.{most_left, removes_older, most_after}
 use Rattle.hail_machine.specs.Steps.{is_idle_drop, next_action, holder_of}
 use Rattle.vault_table.specs.Values.{Kept, IsFoldOf, id_after}
-use Rattle.sound_states.proofs.Orders.{in_order-first}
+use Rattle.sound_states.proofs.Orders.{in_order-first, get-drop}
 use Rattle.vault_core.proofs.Alike.{IsAlike, alike}
 use Rattle.vault_core.specs.declared.action.Next.{Next}
 use Rattle.vault_core.specs.declared.action.Next.TheVariants as next
@@ -28,11 +28,6 @@ use Rattle.vault_core.specs.Coming.{Acts, Waits, IsNoJob, IsBarred, seen_action,
 use Rattle.vault_core.specs.Carried.{has_asked, IsJobOf, IsCoreFlight, CoreIs, ComesNext, IsNextOf, IsEntryOf}
 use Rattle.vault_core.proofs.Pairs.{pair_some, pair_none, pair_length}
 use Rattle.vault_core.specs.Wished.{is_opener, aim_of_wish}
-
-pub get-drop : {X : Type 0} (i : ℕ) (xs : List X) → slice_get (drop i xs) 0 ≡ slice_get xs i
-get-drop zero xs = refl
-get-drop (suc i) [] = refl
-get-drop (suc i) (x ∷ xs) = get-drop i xs
 
 -- ---- an idle drop
 
@@ -87,7 +82,7 @@ idle_same w t c m f is = by c.wish m.kind refl refl (alike c.wish m.kind is.kind
 pub next_same : (w : State) (t : Kept) (c : CoreJob) (m : Job) → IsFoldOf w.records t → IsJobOf (setup_in w) c m → next_action w m ≡ action_next t c
 next_same w t c m f is =
     ap (λ (b : Bool). if b then Some End else slice_get (actions_of (setup_in w) m) m.place) (idle_same w t c m f is)
-    ∙ ap (λ (o : Option Action). if is_idle t c then Some End else o) (sym (get-drop m.place (actions_of (setup_in w) m)) ∙ ap (λ (xs : List Action). slice_get xs 0) (sym is.rest))
+    ∙ ap (λ (o : Option Action). if is_idle t c then Some End else o) (sym (get-drop (actions_of (setup_in w) m) m.place) ∙ ap (λ (xs : List Action). slice_get xs 0) (sym is.rest))
 
 -- ---- how many steps may remain
 
@@ -106,17 +101,8 @@ left_same c w k is = by (job_in c.jobs k) refl
 -- ---- the record of an append
 
 no_ask : (o : Option Action) → is_move o ≡ true → asks_next o ≡ false
-no_ask None h = refl
-no_ask (Some WriteBody) h = refl
-no_ask (Some SyncBody) h = refl
-no_ask (Some WriteGate) h = refl
-no_ask (Some SyncGate) h = refl
-no_ask (Some (Store j o t)) h = refl
-no_ask (Some (Fetch j o t)) h = refl
 no_ask (Some (Ask j o t)) h = absurd (false≢true h)
-no_ask (Some (Work o t)) h = refl
-no_ask (Some (Remove j o)) h = refl
-no_ask (Some End) h = refl
+no_ask o h = refl
 
 -- an audit that is at its last append has asked all that it asks
 pub asked_moving : (c : CoreJob) → c.wish ≡ wish.Audit → c.opening ≡ false → is_move (slice_get c.rest 0) ≡ true → has_asked c ≡ true
@@ -167,26 +153,8 @@ core_holder (Some h) WriteBody = Some h
 core_holder flight action = None
 
 acts_or_waits : (flight : Option ℕ) (x : Action) → ((waits_or_acts flight (Some x) ≡ Acts x) × (core_holder flight x ≡ None)) ⊎ ((h : ℕ) × ((waits_or_acts flight (Some x) ≡ Waits h) × (core_holder flight x ≡ Some h)))
-acts_or_waits None WriteBody = inl (refl, refl)
 acts_or_waits (Some h) WriteBody = inr (h, (refl, refl))
-acts_or_waits None SyncBody = inl (refl, refl)
-acts_or_waits (Some h) SyncBody = inl (refl, refl)
-acts_or_waits None WriteGate = inl (refl, refl)
-acts_or_waits (Some h) WriteGate = inl (refl, refl)
-acts_or_waits None SyncGate = inl (refl, refl)
-acts_or_waits (Some h) SyncGate = inl (refl, refl)
-acts_or_waits None (Store j o t) = inl (refl, refl)
-acts_or_waits (Some h) (Store j o t) = inl (refl, refl)
-acts_or_waits None (Fetch j o t) = inl (refl, refl)
-acts_or_waits (Some h) (Fetch j o t) = inl (refl, refl)
-acts_or_waits None (Ask j o t) = inl (refl, refl)
-acts_or_waits (Some h) (Ask j o t) = inl (refl, refl)
-acts_or_waits None (Work o t) = inl (refl, refl)
-acts_or_waits (Some h) (Work o t) = inl (refl, refl)
-acts_or_waits None (Remove j o) = inl (refl, refl)
-acts_or_waits (Some h) (Remove j o) = inl (refl, refl)
-acts_or_waits None End = inl (refl, refl)
-acts_or_waits (Some h) End = inl (refl, refl)
+acts_or_waits flight x = inl (refl, refl)
 
 -- a job runs in a core, with its next action and the job that it waits for
 pub record Comes (c : CoreView) (k : ℕ) (a : Action) (holder : Option ℕ) : Type 0 where
@@ -282,28 +250,12 @@ holder_same c None a h = none a ∙ ap (λ (x : Option ℕ). core_holder x a) (s
   where
     none : (x : Action) → holder_of None x ≡ core_holder None x
     none WriteBody = refl
-    none SyncBody = refl
-    none WriteGate = refl
-    none SyncGate = refl
-    none (Store j o t) = refl
-    none (Fetch j o t) = refl
-    none (Ask j o t) = refl
-    none (Work o t) = refl
-    none (Remove j o) = refl
-    none End = refl
+    none x = refl
 holder_same c (Some f) a h = some a ∙ ap (λ (x : Option ℕ). core_holder x a) (sym h.0)
   where
     some : (x : Action) → holder_of (Some f) x ≡ core_holder (Some f.job) x
     some WriteBody = refl
-    some SyncBody = refl
-    some WriteGate = refl
-    some SyncGate = refl
-    some (Store j o t) = refl
-    some (Fetch j o t) = refl
-    some (Ask j o t) = refl
-    some (Work o t) = refl
-    some (Remove j o) = refl
-    some End = refl
+    some x = refl
 
 pub same_job : (s t : Setup) (c : CoreJob) (m : Job) → s ≡ t → IsJobOf s c m → IsJobOf t c m
 same_job s t c m e is = subst (λ (x : Setup). IsJobOf x c m) e is
