@@ -112,9 +112,7 @@ module _ (w : State) (t : Kept) (cs : List CoreJob) (c : CoreJob) (m : Job) (f :
           ∙ drop-append-add append_actions (drop_rest (setup_in w) (decided m (taken_out w m (DropJob called)))) 0))))
       by (wish.Put name size) k e g h b = absurd h
       by (wish.Drop name) k e g h b = absurd h
-      by (wish.Get name) k e g h b = absurd (false≢true b)
-      by wish.Audit k e g h b = absurd (false≢true b)
-      by wish.Repair k e g h b = absurd (false≢true b)
+      by v k e g h b = absurd (false≢true b)
 
   -- another job takes nothing away
   keeps : is_taker c.wish c.opening ≡ false → taken_out w m m.kind ≡ m.older

@@ -68,18 +68,9 @@ renamed_closing k w = refl
 -- a job whose next action begins an append is at the first move of its first append or of its last one
 at_start : (w : Wish) (c : Cursor) → action_at w c ≡ WriteBody → (X : Type 0) → (c ≡ at.Opening move.Body → X) → (c ≡ at.Closing move.Body → X) → X
 at_start w (at.Opening move.Body) h X a b = a refl
-at_start w (at.Opening move.BodySync) h X a b = cc
-at_start w (at.Opening move.Gate) h X a b = cc
-at_start w (at.Opening move.GateSync) h X a b = cc
 at_start w (at.Calling spot j) h X a b = by_call (λ x. x ≡ WriteBody → X) w spot.object spot.turn j (λ e. cc) (λ e. cc) (λ e. cc) h
-at_start w (at.Working spot) h X a b = cc
-at_start w (at.Rewriting spot j) h X a b = cc
 at_start w (at.Closing move.Body) h X a b = b refl
-at_start w (at.Closing move.BodySync) h X a b = cc
-at_start w (at.Closing move.Gate) h X a b = cc
-at_start w (at.Closing move.GateSync) h X a b = cc
-at_start w (at.Removing object j) h X a b = cc
-at_start w at.Ending h X a b = cc
+at_start w c h X a b = cc
 
 starts_at : (n : ℕ) (job : Job) → IsJobKept n job → slice_get (rest_of n job) 0 ≡ Some WriteBody → action_at job.wish job.cursor ≡ WriteBody
 starts_at n job kept h = let s : Some (action_at job.wish job.cursor) ≡ Some WriteBody = sym (first_is n job kept) ∙ h in let r : action_at job.wish job.cursor ≡ WriteBody = cc in r
@@ -116,10 +107,7 @@ renamed_length k w xs = refl
 
 drawn_turns : (k : ℕ) (w : Wish) (ts us : List Task) → us ≡ drawn_tasks k w ts → All (λ (t : Task). 0 < t.turns) ts → All (λ (t : Task). 0 < t.turns) us
 drawn_turns k (wish.Put name size) ts us e h = subst (All (λ (t : Task). 0 < t.turns)) (sym e) (All-map (λ (t : Task). 0 < t.turns) (aimed k) ts h)
-drawn_turns k (wish.Get name) ts us e h = subst (All (λ (t : Task). 0 < t.turns)) (sym e) h
-drawn_turns k (wish.Drop name) ts us e h = subst (All (λ (t : Task). 0 < t.turns)) (sym e) h
-drawn_turns k wish.Audit ts us e h = subst (All (λ (t : Task). 0 < t.turns)) (sym e) h
-drawn_turns k wish.Repair ts us e h = subst (All (λ (t : Task). 0 < t.turns)) (sym e) h
+drawn_turns k w ts us e h = subst (All (λ (t : Task). 0 < t.turns)) (sym e) h
 
 drawn_idle : (k : ℕ) (w : Wish) (ts us : List Task) → us ≡ drawn_tasks k w ts → ts ≡ [] → us ≡ []
 drawn_idle k (wish.Put name size) ts us e h = e ∙ ap (map (aimed k)) h

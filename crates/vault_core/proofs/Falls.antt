@@ -97,23 +97,16 @@ gated_falls n job older l kept h = elim (cases_Bool (decides_now (core_job n job
 
 get_gate : (name : List ℕ) (c : Cursor) → comes_to (wish.Get name) c ≡ true → action_at (wish.Get name) c ≡ SyncGate → ⊥
 get_gate name (at.Opening m) h e = false≢true h
-get_gate name (at.Calling spot j) h e = cc
-get_gate name (at.Working spot) h e = cc
-get_gate name (at.Rewriting spot j) h e = cc
 get_gate name (at.Closing m) h e = false≢true h
-get_gate name (at.Removing object j) h e = cc
-get_gate name at.Ending h e = cc
+get_gate name c h e = cc
 
 -- who is at the last move of an append writes a record
 pub gate_writes : (t : Kept) (n : ℕ) (job : Job) → IsJobKept n job → slice_get (rest_of n job) 0 ≡ Some SyncGate → None ≡ written_by t (core_job n job) job.wish → ⊥
 gate_writes t n job kept h e = by job.wish refl e
   where
     by : (w : Wish) → job.wish ≡ w → None ≡ written_by t (core_job n job) w → ⊥
-    by (wish.Put name size) v f = cc
     by (wish.Get name) v f = get_gate name job.cursor (subst (λ (x : Wish). comes_to x job.cursor ≡ true) v kept.comes) (subst (λ (x : Wish). action_at x job.cursor ≡ SyncGate) v (gate_at n job kept h))
-    by (wish.Drop name) v f = cc
-    by wish.Audit v f = cc
-    by wish.Repair v f = cc
+    by w v f = cc
 
 -- ---- the job of a number, among jobs whose numbers ascend
 

@@ -28,11 +28,8 @@ use Rattle.vault_core.proofs.Rests.{by_call}
 move_at : (w : Wish) (c : Cursor) → is_move (Some (action_at w c)) ≡ true → ((m : Move) × (c ≡ at.Opening m)) ⊎ ((m : Move) × (c ≡ at.Closing m))
 move_at w (at.Opening m) h = inl (m, refl)
 move_at w (at.Calling spot j) h = absurd (by_call (λ x. is_move (Some x) ≡ true → ⊥) w spot.object spot.turn j (λ e. false≢true e) (λ e. false≢true e) (λ e. false≢true e) h)
-move_at w (at.Working spot) h = absurd (false≢true h)
-move_at w (at.Rewriting spot j) h = absurd (false≢true h)
 move_at w (at.Closing m) h = inr (m, refl)
-move_at w (at.Removing object j) h = absurd (false≢true h)
-move_at w at.Ending h = absurd (false≢true h)
+move_at w c h = absurd (false≢true h)
 
 -- the room of a record is reserved until its append is done
 pub written_room : (n : ℕ) (job : Job) (t : Kept) (entry : Record) → IsJobKept n job → is_move (slice_get (core_job n job).rest 0) ≡ true → written_by t (core_job n job) job.wish ≡ Some entry →

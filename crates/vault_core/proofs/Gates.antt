@@ -45,19 +45,13 @@ action_at w at.Ending = End
 
 pub first_at : (n : ℕ) (job : Job) (c : Cursor) → comes_to job.wish c ≡ true → IsWithin n job.flagged c →
     slice_get (rest_at n job c) 0 ≡ Some (action_at job.wish c)
-first_at n job (at.Opening move.Body) h w = refl
-first_at n job (at.Opening move.BodySync) h w = refl
-first_at n job (at.Opening move.Gate) h w = refl
-first_at n job (at.Opening move.GateSync) h w = refl
 first_at n job (at.Calling spot j) h w = first_of_front _ _ _ _ (calls_here j n job.wish spot.object spot.turn w.0)
 first_at n job (at.Working spot) h w = first_work n job.wish job.flagged spot.object spot.turn _ h
 first_at n job (at.Rewriting spot j) h w = first_of_front _ _ _ _ (rewrites_take j n job.flagged spot.object spot.turn w.0 w.1)
-first_at n job (at.Closing move.Body) h w = refl
-first_at n job (at.Closing move.BodySync) h w = refl
-first_at n job (at.Closing move.Gate) h w = refl
-first_at n job (at.Closing move.GateSync) h w = refl
 first_at n job (at.Removing object j) h w = first_of_front _ _ _ _ (ap (map (λ k. Remove k object)) (numbers_here j n w))
-first_at n job at.Ending h w = refl
+first_at n job (at.Opening move.Body) h w = refl
+first_at n job (at.Closing move.Body) h w = refl
+first_at n job c h w = refl
 
 pub first_is : (n : ℕ) (job : Job) → IsJobKept n job → slice_get (rest_of n job) 0 ≡ Some (action_at job.wish job.cursor)
 unfolding rest_of
@@ -119,9 +113,7 @@ gate_in (x ∷ xs) ys h = gate_behind x (xs ++ ys) (gate_in xs ys h)
 
 gate_moves : (m : Move) (xs : List Action) → has_gate (moves_from m ++ xs) ≡ true
 gate_moves move.Body xs = gate_first xs
-gate_moves move.BodySync xs = gate_first xs
-gate_moves move.Gate xs = gate_first xs
-gate_moves move.GateSync xs = gate_first xs
+gate_moves m xs = gate_first xs
 
 no_removes : (object : ℕ) (ks : List ℕ) → has_gate (map (λ k. Remove k object) ks ++ End ∷ []) ≡ false
 no_removes object [] = refl
@@ -346,15 +338,7 @@ ended n job kept = record {
 -- a cursor is at the first move of a first append where its first action begins an append
 pub unbegun_is : (n : ℕ) (job : Job) (c : Cursor) → is_unbegun c ≡ (is_opening c && begins_append (slice_get (rest_at n job c) 0))
 unbegun_is n job (at.Opening move.Body) = refl
-unbegun_is n job (at.Opening move.BodySync) = refl
-unbegun_is n job (at.Opening move.Gate) = refl
-unbegun_is n job (at.Opening move.GateSync) = refl
-unbegun_is n job (at.Calling spot j) = refl
-unbegun_is n job (at.Working spot) = refl
-unbegun_is n job (at.Rewriting spot j) = refl
-unbegun_is n job (at.Closing m) = refl
-unbegun_is n job (at.Removing object j) = refl
-unbegun_is n job at.Ending = refl
+unbegun_is n job c = refl
 
 pub idle_is : (n : ℕ) (job : Job) (t : Kept) (name : List ℕ) → job.wish ≡ wish.Drop name → find_file t.files name ≡ None →
     is_unbegun job.cursor ≡ is_idle t (core_job n job)

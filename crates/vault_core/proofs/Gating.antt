@@ -40,19 +40,10 @@ use Rattle.vault_core.proofs.Rests.{by_call}
 
 -- a job at the fourth move of an append is at that of its first append or of its last one
 at_gate : (w : Wish) (c : Cursor) → action_at w c ≡ SyncGate → (X : Type 0) → (c ≡ at.Opening move.GateSync → X) → (c ≡ at.Closing move.GateSync → X) → X
-at_gate w (at.Opening move.Body) h X a b = cc
-at_gate w (at.Opening move.BodySync) h X a b = cc
-at_gate w (at.Opening move.Gate) h X a b = cc
 at_gate w (at.Opening move.GateSync) h X a b = a refl
 at_gate w (at.Calling spot j) h X a b = by_call (λ x. x ≡ SyncGate → X) w spot.object spot.turn j (λ e. cc) (λ e. cc) (λ e. cc) h
-at_gate w (at.Working spot) h X a b = cc
-at_gate w (at.Rewriting spot j) h X a b = cc
-at_gate w (at.Closing move.Body) h X a b = cc
-at_gate w (at.Closing move.BodySync) h X a b = cc
-at_gate w (at.Closing move.Gate) h X a b = cc
 at_gate w (at.Closing move.GateSync) h X a b = b refl
-at_gate w (at.Removing object j) h X a b = cc
-at_gate w at.Ending h X a b = cc
+at_gate w c h X a b = cc
 
 pub gate_at : (n : ℕ) (job : Job) → IsJobKept n job → slice_get (rest_of n job) 0 ≡ Some SyncGate → action_at job.wish job.cursor ≡ SyncGate
 gate_at n job kept h = let s : Some (action_at job.wish job.cursor) ≡ Some SyncGate = sym (first_is n job kept) ∙ h in let r : action_at job.wish job.cursor ≡ SyncGate = cc in r

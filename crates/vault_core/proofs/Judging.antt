@@ -31,10 +31,7 @@ audit_is v h = absurd (false≢true h)
 pub audit_kind : (v : Wish) (k : Kind) → v ≡ wish.Audit → IsAlike v k → k ≡ AuditJob
 audit_kind wish.Audit AuditJob e h = refl
 audit_kind wish.Audit k e h = absurd h
-audit_kind (wish.Put name size) k e h = cc
-audit_kind (wish.Get name) k e h = cc
-audit_kind (wish.Drop name) k e h = cc
-audit_kind wish.Repair k e h = cc
+audit_kind v k e h = cc
 
 -- what it says that an audit has asked all
 pub record Asked (c : CoreJob) : Type 0 where
@@ -87,15 +84,7 @@ module _ (w : State) (c : CoreJob) (m : Job) (a : Action) (is : IsJobOf (setup_i
             | inr starts ↦ false≢true (sym last ∙ (ap (λ (o : Option Action). asks_next o && begins_append (slice_get c.rest 1)) (head-here w c m a is next on)
                 ∙ (ap (λ (b : Bool). b && begins_append (slice_get c.rest 1)) e ∙ (ap begins_append (second_of c.rest ∙ head) ∙ starts))))
           ]
-          not_ask WriteBody f listed = false≢true f
-          not_ask SyncBody f listed = false≢true f
-          not_ask WriteGate f listed = false≢true f
-          not_ask SyncGate f listed = false≢true f
-          not_ask (Store j o t) f listed = false≢true f
-          not_ask (Fetch j o t) f listed = false≢true f
-          not_ask (Work o t) f listed = false≢true f
-          not_ask (Remove j o) f listed = false≢true f
-          not_ask End f listed = false≢true f
+          not_ask x f listed = false≢true f
 
   -- an audit that is judged
   pub on-judged : (j o t : ℕ) → a ≡ Ask j o t → (given : List Given) (sums : Sums) → HasSums (setup_in w) (onward m m.subject given) sums → IsJobOf (setup_in w) (judged c sums) (onward m m.subject given)

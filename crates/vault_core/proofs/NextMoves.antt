@@ -7,17 +7,8 @@ use Rattle.vault_core.specs.Coming.{Coming, IsBarred, action_next, is_move, move
 -- a job that may go on and has a move next has this move as its next action
 moves-acts : (flight : Option ℕ) (o : Option Action) → moves_next (waits_or_acts flight o) ≡ true → is_move o ≡ true
 moves-acts flight None h = (let e : false ≡ true = h in cc)
-moves-acts None (Some a) h = h
 moves-acts (Some k) (Some WriteBody) h = refl
-moves-acts (Some k) (Some SyncBody) h = refl
-moves-acts (Some k) (Some WriteGate) h = refl
-moves-acts (Some k) (Some SyncGate) h = refl
-moves-acts (Some k) (Some (Store j object stripe)) h = h
-moves-acts (Some k) (Some (Fetch j object stripe)) h = h
-moves-acts (Some k) (Some (Ask j object round)) h = h
-moves-acts (Some k) (Some (Work object stripe)) h = h
-moves-acts (Some k) (Some (Remove j object)) h = h
-moves-acts (Some k) (Some End) h = h
+moves-acts flight (Some a) h = h
 
 -- the same of the job of a number
 pub moves-job : (c : CoreView) (number : ℕ) (j : CoreJob) → job_in c.jobs number ≡ Some j → moves_next (next_in c number) ≡ true → is_move (action_next c.table j) ≡ true

@@ -81,9 +81,7 @@ first_rewriting n job spot j e h =
 pub first_work : (n : ℕ) (w : Wish) (fl : List Bool) (o t : ℕ) (zs : List Action) → is_worker w ≡ true → slice_get (work_of n w fl o t ++ zs) 0 ≡ Some (Work o t)
 first_work n (wish.Get name) fl o t zs h = refl
 first_work n wish.Repair fl o t zs h = refl
-first_work n (wish.Put name size) fl o t zs h = cc
-first_work n (wish.Drop name) fl o t zs h = cc
-first_work n wish.Audit fl o t zs h = cc
+first_work n w fl o t zs h = cc
 
 pub first_working : (n : ℕ) (job : Job) (spot : Spot) → job.cursor ≡ at.Working spot → comes_to job.wish job.cursor ≡ true →
     slice_get (rest_of n job) 0 ≡ Some (Work spot.object spot.turn)
@@ -202,9 +200,7 @@ no_work n job spot c get repair h = at_along n job c _ _ (ap (λ (xs : List Acti
 
 moves_shift : (m : Move) (more : List Action) → drop 1 (moves_from m ++ more) ≡ actions_after m ++ more
 moves_shift move.Body more = refl
-moves_shift move.BodySync more = refl
-moves_shift move.Gate more = refl
-moves_shift move.GateSync more = refl
+moves_shift m more = refl
 
 drop_front : (x : Action) (xs ys zs : List Action) → xs ≡ x ∷ ys → drop 1 (xs ++ zs) ≡ ys ++ zs
 drop_front x xs ys zs e = ap (λ (l : List Action). drop 1 (l ++ zs)) e
@@ -312,18 +308,12 @@ worked n job spot c repair works h = at_along n job c _ _ (ap (λ (xs : List Act
     none w r f = refl
 
 pub rewriter_calls : (w : Wish) → is_rewriter w ≡ true → is_caller w ≡ true
-rewriter_calls (wish.Put name size) h = refl
-rewriter_calls (wish.Get name) h = refl
 rewriter_calls (wish.Drop name) h = cc
-rewriter_calls wish.Audit h = refl
-rewriter_calls wish.Repair h = refl
+rewriter_calls w h = refl
 
 pub worker_calls : (w : Wish) → is_worker w ≡ true → is_caller w ≡ true
-worker_calls (wish.Put name size) h = refl
-worker_calls (wish.Get name) h = refl
 worker_calls (wish.Drop name) h = cc
-worker_calls wish.Audit h = refl
-worker_calls wish.Repair h = refl
+worker_calls w h = refl
 
 -- ---- the object of a put's own file
 

@@ -329,19 +329,13 @@ found_entry c k e h = by (job_in c.jobs k) refl
     by (Some j) f = (j, (f, sym (ap (entry_of_found c.table) f) ∙ h))
 
 writes_nothing : (t : Kept) (j : CoreJob) (v : Wish) → written_by t j v ≡ None → (name : List ℕ) × (v ≡ wish.Get name)
-writes_nothing t j (wish.Put name size) h = cc
 writes_nothing t j (wish.Get name) h = (name, refl)
-writes_nothing t j (wish.Drop name) h = cc
-writes_nothing t j wish.Audit h = cc
-writes_nothing t j wish.Repair h = cc
+writes_nothing t j v h = cc
 
 get_kind : (v : Wish) (k : Kind) (name : List ℕ) → v ≡ wish.Get name → IsAlike v k → (called : List ℕ) × (k ≡ GetJob called)
 get_kind (wish.Get own) (GetJob called) name e h = (called, refl)
-get_kind (wish.Put own size) k name e h = cc
-get_kind (wish.Drop own) k name e h = cc
-get_kind wish.Audit k name e h = cc
-get_kind wish.Repair k name e h = cc
 get_kind (wish.Get own) k name e h = absurd h
+get_kind v k name e h = cc
 
 entry_none : (c : CoreView) (w : State) (k : ℕ) → CoreIs c w → entry_in c k ≡ None → (m : Job) → job_of w.jobs k ≡ Some m → is_move (next_action w m) ≡ false
 entry_none c w k is h m runs = by (job_in c.jobs k) refl
