@@ -9,7 +9,6 @@ use Rattle.record_codec.specs.declared.records.Record.{Record as RecordValue}
 use Rattle.record_codec.specs.Entries.{entry_of}
 use Rattle.vault_table.specs.Values.{Kept}
 use Rattle.vault_core.specs.declared.wish.Wish.{Wish}
-use Rattle.vault_core.specs.declared.wish.Wish.TheVariants as wish
 use Rattle.vault_core.specs.declared.cursor.Move.{Move}
 use Rattle.vault_core.specs.declared.cursor.Move.TheVariants as move
 use Rattle.vault_core.specs.declared.cursor.Cursor.{Cursor}

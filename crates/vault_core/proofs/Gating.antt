@@ -1,6 +1,6 @@
 -- A job whose append is done.
 use Rattle.std.proofs.Common.{◌≡◌, ℕ, ◌+◌, ◌-◌, ◌<◌, ◌≤◌, Bool, true, false, cond, List, [], ◌∷◌, Some, None, length, map, drop, set, get_or, inl, inr, refl, ap, sym, subst, ◌∙◌, arith, Global}
-use Rattle.std.specs.Prelude.{Option, Result, Ok, Err, is_err, IfErr, OnOk, IsErrOf, IsTrue, sum_by, ◌⊎◌, ◌*◌, sum, ◌&&◌, not, slice_get, if◌then◌else◌}
+use Rattle.std.specs.Prelude.{Option, Result, Ok, Err, is_err, IfErr, OnOk, IsErrOf, IsTrue, sum_by, ◌⊎◌, ◌*◌, ◌&&◌, not, slice_get, if◌then◌else◌}
 use Rattle.std.proofs.lemmas.Bool.{cases_Bool, false≢true}
 use Rattle.hail_machine.specs.Actions.{Action, SyncGate, Remove, End, ends_append}
 use Rattle.hail_records.specs.Records.{Setup, Record, is_setup, PutStart, PutDone, Drop, AuditStart, AuditDone, RepairDone, record_size}

@@ -9,7 +9,7 @@ use Rattle.plain_facts.specs.Lists.{In}
 use Rattle.hail_codes.specs.Points.{upto}
 use Rattle.hail_columns.specs.Verdicts.{Sums}
 use Rattle.hail_records.specs.Records.{Setup}
-use Rattle.hail_records.specs.Table.{File, Due, find_file, files_of, file_of, due_of}
+use Rattle.hail_records.specs.Table.{File, Due, find_file, files_of, due_of}
 use Rattle.hail_records.proofs.FilesLaws.{find-files_of}
 use Rattle.hail_machine.specs.Setups.{profiled, stripes_of}
 use Rattle.hail_machine.specs.Jobs.{Kind, PutJob, GetJob, DropJob, AuditJob, RepairJob, ToPut, ToGet, ToDrop, ToAudit, ToRepair, ToUpgrade, Aim, aim_of}

@@ -5,7 +5,7 @@ use Rattle.std.proofs.lemmas.Bool.{false≢true, not-true, and_parts}
 use Rattle.std.proofs.Math.Bool.{and-true}
 use Rattle.hail_columns.specs.Verdicts.{Sums}
 use Rattle.hail_machine.specs.Jobs.{Kind, AuditJob, Given, Job}
-use Rattle.hail_machine.specs.Actions.{Action, WriteBody, SyncBody, WriteGate, SyncGate, Store, Fetch, Ask, Work, Remove, End, actions_of}
+use Rattle.hail_machine.specs.Actions.{Action, SyncGate, Ask, End, actions_of}
 use Rattle.hail_machine.specs.States.{State, setup_in}
 use Rattle.hail_machine.specs.Audits.{HasSums}
 use Rattle.hail_machine.specs.Steps.{next_action}

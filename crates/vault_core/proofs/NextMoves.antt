@@ -1,6 +1,6 @@
 -- A move that comes next is the next action of a job.
-use Rattle.std.proofs.Common.{◌≡◌, ℕ, Bool, true, false, cond, Option, None, Some, refl, ap, sym, subst, ◌∙◌}
-use Rattle.hail_machine.specs.Actions.{Action, WriteBody, SyncBody, WriteGate, SyncGate, Store, Fetch, Ask, Work, Remove, End}
+use Rattle.std.proofs.Common.{◌≡◌, ℕ, Bool, true, false, cond, Option, None, Some, refl, subst}
+use Rattle.hail_machine.specs.Actions.{Action, WriteBody}
 use Rattle.vault_core.specs.View.{CoreJob, CoreView, job_in}
 use Rattle.vault_core.specs.Coming.{Coming, IsBarred, action_next, is_move, moves_next, waits_or_acts, next_of, next_in}
 
@@ -16,6 +16,7 @@ moves-job c number j found h = by_barred c.barred (subst (λ (o : Option CoreJob
   where
     by : Bool → Option CoreJob → Coming
     by barred o = cond barred IsBarred (next_of c o)
+
     by_barred : (b : Bool) → moves_next (by b (Some j)) ≡ true → is_move (action_next c.table j) ≡ true
     by_barred true h = (let e : false ≡ true = h in cc)
     by_barred false h = moves-acts c.append (action_next c.table j) h

@@ -4,7 +4,7 @@ use Rattle.std.specs.Prelude.{Option, ◌⊎◌, ◌&&◌, not, nat_lt, slice_ge
 use Rattle.std.specs.List.{flat_map, range_with_len}
 use Rattle.std.proofs.lemmas.Bool.{le-ltb, false≢true}
 use Rattle.plain_facts.specs.Lists.{Each}
-use Rattle.plain_facts.proofs.Each.{each_get, each_append, each_map, each_flat}
+use Rattle.plain_facts.proofs.Each.{each_get, each_append}
 use Rattle.hail_codes.specs.Points.{upto}
 use Rattle.hail_columns.specs.Verdicts.{Sums, Judges}
 use Rattle.hail_columns.specs.Challenges.{challenge_of}

@@ -1,5 +1,5 @@
 -- Why no job begins: what a core sees is what the machine sees.
-use Rattle.std.proofs.Common.{◌≡◌, ℕ, suc, ◌+◌, ◌<◌, ◌≤◌, Bool, true, false, not, ◌&&◌, ◌||◌, List, [], ◌∷◌, Option, Some, None, ◌^◌, ◌-◌, min, length, map, drop, inl, inr, refl, ap, sym, subst, ◌∙◌, arith}
+use Rattle.std.proofs.Common.{◌≡◌, ℕ, suc, ◌+◌, ◌<◌, ◌≤◌, Bool, true, false, not, ◌&&◌, ◌||◌, List, [], ◌∷◌, Option, Some, None, ◌-◌, min, length, map, drop, inl, inr, refl, ap, sym, subst, ◌∙◌, arith}
 use Rattle.std.specs.Prelude.{nat_lt, nat_le, nat_eq, is_some, sum, sum_by, count_by, if◌then◌else◌}
 use Rattle.std.specs.List.{list_any, AllZip}
 use Rattle.std.specs.Cmp.Lexicographic.{pointwise}
@@ -9,14 +9,14 @@ use Rattle.std.proofs.Math.Bool.{or-false}
 use Rattle.std.proofs.lemmas.Bool.Decides.{nat_tests}
 use Rattle.std.proofs.lemmas.List.{length-map}
 use Rattle.std.proofs.lemmas.List.Sums.{sum_by-cons}
-use Rattle.hail_records.specs.Records.{Setup, is_name, largest_file, largest_journal, most_files}
-use Rattle.hail_records.specs.Table.{File, version_of, is_same_name, find_file}
-use Rattle.hail_machine.specs.Jobs.{Aim, ToPut, ToGet, ToDrop, ToAudit, ToRepair, ToUpgrade, aim_of}
+use Rattle.hail_records.specs.Records.{Setup, largest_file, largest_journal, most_files}
+use Rattle.hail_records.specs.Table.{File, is_same_name, find_file}
+use Rattle.hail_machine.specs.Jobs.{Aim, ToPut, ToGet, ToDrop, ToAudit, ToRepair, aim_of}
 use Rattle.hail_machine.specs.Jobs.{Job as MachineJob}
 use Rattle.hail_machine.specs.Actions.{Action, ends_append}
 use Rattle.hail_machine.specs.Refusals as refusal
 use Rattle.hail_machine.specs.Refusals.{Refusal, Cause, first_refusal}
-use Rattle.hail_machine.specs.States.{State, Alone, setup_in, journal_end}
+use Rattle.hail_machine.specs.States.{State, Alone, setup_in}
 use Rattle.hail_machine.specs.Space.{append_sizes, room_left, reserved}
 use Rattle.hail_machine.specs.Sights.{Sight, sight_of, aims_of, room_used, is_put_or_check, is_check, is_upgrade, is_shut, are_jobs_in_the_way, is_busy, is_name_among, with_name, is_crowded, is_stored, is_full, is_too_full, are_numbers_used_up, causes}
 use Rattle.sound_states.proofs.NamesTaken.{listed-with_puts, listed-files, length-names_in}
@@ -32,9 +32,9 @@ use Rattle.vault_core.specs.View.{CoreJob, CoreView}
 use Rattle.vault_core.proofs.Standing.{refused_early}
 use Rattle.vault_core.specs.Wished.{aim_of_wish, HasName, IsShort}
 use Rattle.vault_core.specs.Parts.{core_job, view_of}
-use Rattle.vault_core.specs.Reserves.{sizes_of, room_behind, reserved_of}
+use Rattle.vault_core.specs.Reserves.{sizes_of, reserved_of}
 use Rattle.vault_core.specs.Carried.{IsJobOf, CoreIs, refusal_of}
-use Rattle.vault_core.specs.Refusing.{aims_in, sight_in, aims_kept, puts_name, taken_names, word_refusal_in, or_full, refusal_in}
+use Rattle.vault_core.specs.Refusing.{aims_in, sight_in, aims_kept, puts_name, taken_names, or_full, refusal_in}
 
 -- ---- lists of jobs, as they are kept and as they are seen
 

@@ -1,6 +1,6 @@
 -- What comes next for a job, in a core and in a state of the machine that it stands for.
-use Rattle.std.proofs.Common.{◌≡◌, ℕ, zero, suc, ◌+◌, Bool, true, false, List, [], ◌∷◌, ◌++◌, Some, None, length, drop, inl, inr, refl, ap, sym, subst, ◌∙◌, arith}
-use Rattle.std.specs.Prelude.{Option, ◌⊎◌, if◌then◌else◌, ◌==◌, ◌&&◌, not, is_some, nat_lt, nat_le, slice_get, count_by}
+use Rattle.std.proofs.Common.{◌≡◌, ℕ, zero, suc, Bool, true, false, List, [], ◌∷◌, ◌++◌, Some, None, length, drop, inl, inr, refl, ap, sym, subst, ◌∙◌, arith}
+use Rattle.std.specs.Prelude.{Option, ◌⊎◌, if◌then◌else◌, ◌==◌, ◌&&◌, not, is_some, nat_lt, nat_le, slice_get}
 use Rattle.std.specs.Option.{option_map}
 use Rattle.std.proofs.lemmas.Bool.{cases_Bool, le-ltb, ne_eqb, false≢true}
 use Rattle.plain_facts.proofs.Each.{each_get, each_append, each_map, each_flat}
@@ -8,13 +8,13 @@ use Rattle.hail_records.specs.Records.{Setup, Record, PutStart, PutDone, Drop, A
 use Rattle.hail_records.specs.Table.{File, version_of, find_file, file_of, next_id}
 use Rattle.hail_records.proofs.FilesLaws.{find-files_of}
 use Rattle.hail_machine.specs.Jobs.{Kind, PutJob, GetJob, DropJob, AuditJob, RepairJob, Pinned, Job, job_of, Aim}
-use Rattle.hail_machine.specs.Actions.{Action, WriteBody, SyncBody, WriteGate, SyncGate, Store, Fetch, Ask, Work, Remove, End, append_actions, on_each_provider, on_each_stripe, open_actions, read_actions, remove_actions, actions_by, actions_of, actions_left, ends_append}
+use Rattle.hail_machine.specs.Actions.{Action, WriteBody, Fetch, Ask, Work, End, append_actions, on_each_provider, on_each_stripe, open_actions, read_actions, remove_actions, actions_by, actions_of, actions_left}
 use Rattle.hail_codes.specs.Points.{upto}
 use Rattle.hail_machine.specs.Setups.{profiled, stripes_of}
 use Rattle.hail_machine.specs.States.{State, Append, setup_in, file_in}
 use Rattle.hail_machine.specs.Appends.{Writes, done_record, is_first_append}
 use Rattle.hail_machine.specs.Refusals.{Refusal, MustReopen, Busy}
-use Rattle.hail_machine.specs.Left.{most_left, removes_older, most_after}
+use Rattle.hail_machine.specs.Left.{most_left, most_after}
 use Rattle.hail_machine.specs.Steps.{is_idle_drop, next_action, holder_of}
 use Rattle.vault_table.specs.Values.{Kept, IsFoldOf, id_after}
 use Rattle.sound_states.proofs.Orders.{in_order-first, get-drop}

@@ -10,8 +10,8 @@ use Rattle.hail_records.specs.Table.{setup_of, version_of}
 use Rattle.hail_records.specs.Acceptance.{refused}
 use Rattle.hail_machine.specs.Jobs.{AuditJob, Given, Fetched, Answered, Worked, Job, job_of, with_job, without_job}
 use Rattle.hail_machine.specs.Actions.{Action, WriteBody, SyncBody, WriteGate, SyncGate, Store, Fetch, Ask, Work, Remove, End, actions_of, actions_left}
-use Rattle.hail_machine.specs.Answers.{Answer, Put, Got, Dropped, Audited, Repaired, Lost, ProviderFault, DiskFault, Memory, Upgraded, Scrubbed, Packed}
-use Rattle.hail_machine.specs.Events.{Outcome, Refused, More, Waiting, Ended, Step}
+use Rattle.hail_machine.specs.Answers.{Answer, Lost, ProviderFault, DiskFault, Memory}
+use Rattle.hail_machine.specs.Events.{Outcome, More, Ended, Step}
 use Rattle.hail_machine.specs.States.{State, Append, Alone, setup_in, going_on, ended, with_provider}
 use Rattle.hail_devices.specs.Providers.{Provider}
 use Rattle.hail_machine.specs.Audits.{HasSums}

@@ -8,7 +8,7 @@ use Rattle.hail_codes.specs.Points.{upto}
 use Rattle.hail_records.specs.Records.{Setup}
 use Rattle.hail_records.specs.Table.{next_id, next_audit}
 use Rattle.hail_machine.specs.Setups.{profiled, stripes_of}
-use Rattle.hail_machine.specs.Jobs.{Kind, PutJob, GetJob, DropJob, AuditJob, RepairJob, UpgradeJob, Given, Job}
+use Rattle.hail_machine.specs.Jobs.{Kind, PutJob, GetJob, DropJob, AuditJob, RepairJob, Given, Job}
 use Rattle.hail_machine.specs.Actions.{Action, WriteBody, SyncGate, Store, End, append_actions, store_actions, remove_actions, actions_by, actions_of, actions_left, appends_left}
 use Rattle.hail_machine.specs.States.{State, setup_in}
 use Rattle.hail_machine.specs.Appends.{subject_drawn, is_first_append}
