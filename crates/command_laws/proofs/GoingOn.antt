@@ -49,7 +49,8 @@ use Rattle.hail_openings.proofs.Readings.{read-once, read-set_up, read-good as r
 use Rattle.job_laws.proofs.Telling.{over-opened}
 use Rattle.command_laws.proofs.Images.{refused-keeps}
 use Rattle.command_laws.proofs.LastStates.{last-state}
-use Rattle.command_laws.proofs.Knowing.{IsGood, read-good, none-up, whole-end, StandsInState, StandsSo, stands-so}
+use Rattle.sound_states.proofs.Written.{whole-end}
+use Rattle.command_laws.proofs.Knowing.{IsGood, read-good, none-up, StandsInState, StandsSo, stands-so}
 use Rattle.command_laws.proofs.Afterwards.{read-kept}
 use Rattle.command_laws.proofs.DoneStores.{tells-past}
 use Rattle.job_laws.proofs.BeginRefusals.{refusal-of}

@@ -19,7 +19,7 @@ use Rattle.hail_machine.specs.Events.{AreBytes, IsSpelledKind}
 use Rattle.hail_machine.specs.Heard.{Entry}
 use Rattle.hail_machine.specs.Refusals.{Refusal}
 use Rattle.hail_machine.specs.Setups.{setup_or_none}
-use Rattle.hail_machine.specs.States.{State, setup_in, Doubt, journal_end}
+use Rattle.hail_machine.specs.States.{State, setup_in, Doubt}
 use Rattle.hail_machine.specs.Stands.{StandsPlain, StandsWithDoubt, StandsSwitched, StandsForState}
 use Rattle.hail_commands.specs.Seen.{Seen}
 use Rattle.hail_openings.specs.Journals.{journal_read, IsRead}
@@ -31,9 +31,7 @@ use Rattle.command_laws.specs.Ends.{IsKnown, DiskHas}
 use Rattle.command_laws.specs.After.{IsSure}
 use Rattle.job_laws.proofs.Telling.{over-opened, opened_state, state-over}
 use Rattle.command_laws.proofs.LastStates.{IsLast, last-state}
-use Rattle.hail_records.specs.Areas.{end_in}
-use Rattle.hail_records.proofs.AreaLaws.{text_size-end}
-use Rattle.sound_states.specs.Sound.{IsWholeJournal}
+use Rattle.sound_states.proofs.Written.{whole-end}
 
 -- ---- a text that fits is looked at
 
@@ -84,10 +82,6 @@ sure-good s d cells rs is good enough has = record { known = known-good s d cell
 
 pub none-up : (rs : List Record) → is_some (setup_of rs) ≡ true → rs ≢ []
 none-up rs up none = false≢true (let e : false ≡ true = sym (ap (λ l. is_some (setup_of l)) none) ∙ up in e)
-
--- the room of a whole journal is that of the history
-pub whole-end : (w : State) → IsWholeJournal w → journal_end w ≡ text_size w.records
-whole-end w W = (λ i. end_in (W.area i) (W.journal i)) ∙ text_size-end w.records
 
 -- an image stands for the history, or for it with the record in doubt
 pub data StandsSo (w : State) (image : List ℕ) : Type 0 where

@@ -32,7 +32,7 @@ use Rattle.hail_openings.specs.Journals.{journal_read, IsRead, IsResynced}
 use Rattle.vault_open.specs.Causes.{IsStartFault, LiesInJournal}
 use Rattle.vault.specs.Seen.{provider_count}
 use Rattle.vault.specs.Stands.{Stands}
-use Rattle.vault_core.proofs.Plain.{first-end}
+use Rattle.sound_states.proofs.Written.{whole-end}
 use Rattle.vault_open.proofs.FirstVersion.{Shows, ShowsFirst, shows-first, version-shown}
 use Rattle.hail_client.specs.declared.client.Client.{Client}
 use Rattle.hail_client.specs.Outcomes.{start_refusal}
@@ -75,7 +75,7 @@ module _ (w : State) (rs : List Record) (sound : IsSound 8 w) (whole : IsWholeJo
     whole = record { journal = refl; area = whole.area; unswitched = refl };
     accepted = mid.accepted;
     in_grammar = good;
-    room = (let a = mid.room in let e = first-end (settled w rs) (settled-whole w rs whole) in omega (arith, a, e));
+    room = (let a = mid.room in let e = whole-end (settled w rs) (settled-whole w rs whole) in omega (arith, a, e));
     files = mid.files;
     set_up = λ is. up;
     handed = λ is. enough;

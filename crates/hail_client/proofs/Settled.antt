@@ -18,7 +18,7 @@ use Rattle.sound_states.proofs.Events.{events-sound}
 use Rattle.hail_openings.specs.Journals.{journal_read}
 use Rattle.vault_open.proofs.Texts.{short-none}
 use Rattle.vault_open.proofs.FirstVersion.{Shows, ShowsFirst}
-use Rattle.vault_core.proofs.Plain.{first-end}
+use Rattle.sound_states.proofs.Written.{whole-end}
 
 -- ---- what bytes stand for
 
@@ -113,7 +113,7 @@ pub kept-accepted : (w : State) (rs : List Record) → IsSound 8 w → IsWholeJo
 kept-accepted w rs sound whole kept = (settled-sound w rs sound whole kept).accepted
 
 pub kept-fits : (w : State) (rs : List Record) → IsSound 8 w → IsWholeJournal w → AreKept w rs → text_size rs ≤ largest_journal
-kept-fits w rs sound whole kept = (let a = (settled-sound w rs sound whole kept).room in let e = first-end (settled w rs) (settled-whole w rs whole) in omega (arith, a, e))
+kept-fits w rs sound whole kept = (let a = (settled-sound w rs sound whole kept).room in let e = whole-end (settled w rs) (settled-whole w rs whole) in omega (arith, a, e))
 
 -- the bytes that are looked at are as many as are read, where these are few
 pub short-read : (cells : Cells) → length (journal_read cells) ≤ 9 → length (reads cells) ≤ 9

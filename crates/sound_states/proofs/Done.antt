@@ -114,7 +114,7 @@ version-kept w job RepairJob entry rs h = inl (ap (λ r. version_of (r ∷ rs)) 
 version-kept w job UpgradeJob entry rs h = inr refl
 
 -- the fourth move of a first append stands at place 3
-gate-within : (rest : List Action) (p : ℕ) → p < 4 → slice_get (append_actions ++ rest) p ≡ Some SyncGate → p ≡ 3
+pub gate-within : (rest : List Action) (p : ℕ) → p < 4 → slice_get (append_actions ++ rest) p ≡ Some SyncGate → p ≡ 3
 gate-within rest zero l h = absurd (let e : Some WriteBody ≡ Some SyncGate = h in cc)
 gate-within rest (suc zero) l h = absurd (let e : Some SyncBody ≡ Some SyncGate = h in cc)
 gate-within rest (suc (suc zero)) l h = absurd (let e : Some WriteGate ≡ Some SyncGate = h in cc)

@@ -110,9 +110,13 @@ others-repairs s job = each_flat IsOther (λ (f : Pinned). on_each_stripe (profi
     (λ stripe. each_append IsOther (open_actions s f.id stripe) (rewrite_actions s job f.id stripe) (others-open s f.id stripe)
     (each_flat IsOther (λ j. cond (job.flagged j) (Store j f.id stripe ∷ []) []) (upto s.n) (λ j. others-cond (job.flagged j) (Store j f.id stripe) tt))))
 
+-- what each ask is, those of a job are
+pub each-ask : (P : Action → Type 0) → ((j object round : ℕ) → P (Ask j object round)) → (s : Setup) (job : Job) → Each P (ask_actions s job)
+each-ask P h s job = each_flat P (λ (f : Pinned). flat_map (λ round. on_each_provider s (λ j. Ask j f.id round)) (rounds_of (profiled s f.profile) (length f.bytes))) job.pinned
+    (λ f. each_flat P (λ round. on_each_provider s (λ j. Ask j f.id round)) (rounds_of (profiled s f.profile) (length f.bytes)) (λ round. each_map P (λ j. Ask j f.id round) (upto s.n) (λ j. h j f.id round)))
+
 pub others-asks : (s : Setup) (job : Job) → Each IsOther (ask_actions s job)
-others-asks s job = each_flat IsOther (λ (f : Pinned). flat_map (λ round. on_each_provider s (λ j. Ask j f.id round)) (rounds_of (profiled s f.profile) (length f.bytes))) job.pinned
-    (λ f. each_flat IsOther (λ round. on_each_provider s (λ j. Ask j f.id round)) (rounds_of (profiled s f.profile) (length f.bytes)) (λ round. each_map IsOther (λ j. Ask j f.id round) (upto s.n) (λ j. tt)))
+others-asks s job = each-ask IsOther (λ j object round. tt) s job
 
 -- what comes behind the first append of a put, a drop and an audit
 abbrev pub put_rest : Setup → Job → List ℕ → List Action

@@ -139,6 +139,10 @@ starts-on job next kind place = elim (cases_lt next.place 4) [
         by RepairJob e = rw (kind ∙ e, e) refl
         by UpgradeJob e = rw (kind ∙ e, e) refl
 
+-- the end of a whole journal is that of the history's text
+pub whole-end : (w : State) → IsWholeJournal w → journal_end w ≡ text_size w.records
+whole-end w W = (λ i. end_in (W.area i) (W.journal i)) ∙ text_size-end w.records
+
 module _ (limit : ℕ) (w : State) (S : IsSound limit w) where
   -- a job runs while a vault is open
   pub runs-open : (number : ℕ) (job : Job) → job_of w.jobs number ≡ Some job → w.is_open ≡ true
@@ -364,7 +368,7 @@ module _ (limit : ℕ) (w : State) (S : IsSound limit w) where
     grammar-now = first-grammar w.records S.accepted S.spelled first
 
     pub end-first : journal_end w ≡ text_size w.records
-    end-first = (let W = whole-first in ap (λ area. end_in area w.journal) W.area ∙ (ap (end_in A) W.journal ∙ text_size-end w.records))
+    end-first = whole-end w whole-first
 
     pub room-first : text_size w.records + sum_by (reserved 1 (setup_in w)) w.jobs ≤ largest_journal
     room-first = (let r = S.room in let e = end-first in let v = ap (λ n. sum_by (reserved n (setup_in w)) w.jobs) first in omega (arith, r, e, v))

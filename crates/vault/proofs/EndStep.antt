@@ -22,7 +22,9 @@ use Rattle.hail_machine.specs.Steps.{Ends, GotBytes, next_action, is_idle_drop}
 use Rattle.hail_machine.proofs.JobLists.{number_of, cond_true, cond_false, same_value}
 use Rattle.record_codec.specs.declared.counts.Counts.{Counts}
 use Rattle.record_codec.specs.Entries.{counted}
-use Rattle.vault_core.specs.Carried.{ComesNext, IsJobOf, IsKindOf, has_asked, opens}
+use Rattle.vault_core.specs.Wished.{is_opener}
+use Rattle.vault_core.specs.Carried.{ComesNext, IsJobOf, IsKindOf, has_asked}
+use Rattle.vault_core.proofs.Alike.{IsAlike, alike}
 use Rattle.vault_core.specs.Coming.{asks_next}
 use Rattle.vault_core.specs.View.{CoreJob, job_in}
 use Rattle.vault_core.specs.Replies.{Tells}
@@ -103,7 +105,7 @@ asked c audits opening next =
     (subst (λ (b : Bool). IsTrue (not b)) (sym next) refl)
 
 -- the wish of an audit
-wish_of : (x : Wish) → IsKindOf x AuditJob → x ≡ wish.Audit
+wish_of : (x : Wish) → IsAlike x AuditJob → x ≡ wish.Audit
 wish_of (wish.Put name size) is = absurd is
 wish_of (wish.Get name) is = absurd is
 wish_of (wish.Drop name) is = absurd is
@@ -122,8 +124,8 @@ module _ (w : State) (job : Job) (next : next_action w job ≡ Some End) where
   -- the sums of an audit that comes to its end are those of all that it heard
   sums_are : (c : CoreJob) → IsJobOf (setup_in w) c job → job.kind ≡ AuditJob → HasSums (setup_in w) job c.sums
   sums_are c of is =
-      let audits : c.wish ≡ wish.Audit = wish_of c.wish (subst (λ (k : Kind). IsKindOf c.wish k) is of.kind) in
-      of.sums (asked c audits (of.opening ∙ (λ i. opens (audits i) && past is i))
+      let audits : c.wish ≡ wish.Audit = wish_of c.wish (alike c.wish AuditJob (subst (λ (k : Kind). IsKindOf c.wish k) is of.kind)) in
+      of.sums (asked c audits (of.opening ∙ (λ i. is_opener (audits i) && past is i))
       (ap asks_next (ap (λ (l : List Action). slice_get l 0) of.rest ∙ first_left (actions_of (setup_in w) job) job.place End (listed AuditJob is refl))))
 
   -- what a job answers at its end is what the machine says

@@ -54,16 +54,13 @@ seen-push n (i ∷ js) j = ap (λ (xs : List CoreJob). core_job n i ∷ xs) (see
 -- ---- the room of a new job
 
 cursor-room : (n : ℕ) (v : Wish) (ts : List Task) → reserved_at n v (cursor_first v ts) ≡ sum (sizes_of n v)
-cursor-room n (wish.Put name size) ts = refl
 cursor-room n (wish.Get name) ts = none (0 - gates_at (wish.Get name) (cursor_first (wish.Get name) ts))
   where
     none : (k : ℕ) → sum (drop {A = ℕ} k []) ≡ 0
     none zero = refl
     none (suc k) = refl
-cursor-room n (wish.Drop name) ts = refl
-cursor-room n wish.Audit ts = refl
 cursor-room n wish.Repair [] = refl
-cursor-room n wish.Repair (t ∷ ts) = refl
+cursor-room n v ts = refl
 
 pub made-room : (t : Kept) (s : Setup) (k : ℕ) (v : Wish) (job : Job) → IsMade t s k v job → reserved_of s.n (core_job s.n job) ≡ sum (sizes_of s.n v)
 made-room t s k v job made = reserved_is s.n job ∙ (ap (λ (x : Wish). reserved_at s.n x job.cursor) made.wish ∙ (ap (reserved_at s.n v) made.cursor ∙ cursor-room s.n v job.tasks.items))
@@ -108,10 +105,7 @@ starts-le j v e = subst (λ (k : ℕ). k ≤ starts_for v) (sym (ap (λ (x : Wis
         one : (b : Bool) → ◌≤◌ (if b then 1 else 0) 1
         one true = omega arith
         one false = omega arith
-    by (wish.Get name) = omega arith
-    by (wish.Drop name) = omega arith
-    by wish.Audit = omega arith
-    by wish.Repair = omega arith
+    by x = omega arith
 
 module _ (a : Inside) (job : Job) (t : Kept) (js : Vec Job Global) (k : ℕ) (table : t ≡ record a.table { spare = a.table.spare + starts_for job.wish }) (jobs : js.items ≡ a.jobs.items ++ job ∷ []) where
   jobs-seen : map (core_job a.setup.n) js.items ≡ map (core_job a.setup.n) a.jobs.items ++ core_job a.setup.n job ∷ []

@@ -143,10 +143,7 @@ few-more n wish.Repair ts = refl
 
 no-tasks : (t : Kept) (s : Setup) (v : Wish) (pins : List Pinned) → pins ≡ pins_for t v → is_caller v ≡ false → tasks_made (turns_for s v) (targets_of v pins) ≡ []
 no-tasks t s (wish.Drop name) pins e h = ap (tasks_made (turns_for s (wish.Drop name))) e
-no-tasks t s (wish.Put name size) pins e h = absurd (false≢true (sym h))
-no-tasks t s (wish.Get name) pins e h = absurd (false≢true (sym h))
-no-tasks t s wish.Audit pins e h = absurd (false≢true (sym h))
-no-tasks t s wish.Repair pins e h = absurd (false≢true (sym h))
+no-tasks t s v pins e h = absurd (false≢true (sym h))
 
 pub take-zeros : (n k : ℕ) → n ≤ k → take n (replicate {A = ℕ} k 0) ≡ replicate n 0
 take-zeros zero k l = refl

@@ -1,21 +1,22 @@
 -- A job of a core stands for a job of the machine after the fourth move of an append.
-use Rattle.std.proofs.Common.{◌≡◌, ℕ, zero, suc, ◌+◌, ◌-◌, ◌<◌, ◌≤◌, Bool, true, false, List, [], ◌∷◌, ◌++◌, Some, None, map, drop, inl, inr, refl, ap, sym, subst, ◌∙◌, arith}
+use Rattle.std.proofs.Common.{◌≡◌, ℕ, ◌+◌, ◌-◌, ◌<◌, ◌≤◌, Bool, true, false, List, [], ◌∷◌, ◌++◌, Some, None, map, drop, inl, inr, refl, ap, sym, subst, ◌∙◌, arith}
 use Rattle.std.specs.Prelude.{Option, if◌then◌else◌, ◌==◌, ◌&&◌, ◌||◌, not, nat_lt, slice_get, IsTrue}
 use Rattle.std.specs.List.{AllZip, flat_map, list_any, range_with_len}
 use Rattle.std.proofs.Math.Seq.{drop-append-add}
-use Rattle.std.proofs.lemmas.Bool.{cases_Bool, ltb-false, ltb-true, false≢true, not-true, not-false}
+use Rattle.std.proofs.lemmas.Bool.{cases_Bool, lt-ltb, ltb-false, ltb-true, false≢true, not-true, not-false}
 use Rattle.std.proofs.lemmas.List.{append-nil}
 use Rattle.hail_records.specs.Records.{Setup}
 use Rattle.hail_records.specs.Table.{File, file_of}
 use Rattle.hail_machine.specs.Jobs.{Kind, PutJob, GetJob, DropJob, AuditJob, RepairJob, Pinned as PinnedBytes, Job}
-use Rattle.hail_machine.specs.Actions.{Action, WriteBody, SyncBody, WriteGate, SyncGate, Remove, End, append_actions, on_each_provider, actions_of, actions_left, appends_left}
+use Rattle.hail_machine.specs.Actions.{Action, SyncGate, Remove, End, append_actions, on_each_provider, actions_of, actions_left, appends_left}
 use Rattle.hail_machine.specs.States.{State, setup_in, file_in}
 use Rattle.hail_machine.specs.Appends.{is_first_append, removable, taken_out}
 use Rattle.hail_machine.specs.Audits.{HasSums}
 use Rattle.hail_machine.specs.Steps.{next_action}
 use Rattle.hail_machine.proofs.Fair.{gate_place}
-use Rattle.sound_states.proofs.Orders.{put-list, audit-list, drop_rest, audit_rest, next-left}
+use Rattle.sound_states.proofs.Orders.{get-drop, put-list, audit-list, drop_rest, audit_rest, next-left}
 use Rattle.sound_states.proofs.Gates.{decided, drop-list, drop-gate, put-behind}
+use Rattle.sound_states.proofs.Done.{gate-within}
 use Rattle.sound_states.proofs.Going.{onward}
 use Rattle.vault_table.specs.Values.{Kept, IsFoldOf}
 use Rattle.hail_machine.proofs.NextActions.{next_stands}
@@ -25,11 +26,11 @@ use Rattle.vault_core.specs.declared.wish.Wish.{Wish}
 use Rattle.vault_core.specs.declared.wish.Wish.TheVariants as wish
 use Rattle.vault_core.specs.View.{CoreJob}
 use Rattle.vault_core.specs.Coming.{asks_next}
-use Rattle.vault_core.specs.Going.{removals_of}
+use Rattle.vault_core.specs.Going.{removals_of, is_taker}
 use Rattle.vault_core.specs.Carried.{has_asked, pin_of, IsJobOf}
-use Rattle.vault_core.specs.Fed.{is_gate, stepped, is_pinned_in, removable_in, older_of, is_taker, decides_now, gated}
+use Rattle.vault_core.specs.Fed.{is_gate, stepped, is_pinned_in, removable_in, older_of, decides_now, gated}
 use Rattle.vault_core.proofs.Places.{any-map}
-use Rattle.vault_core.proofs.Standing.{get-drop, file_here}
+use Rattle.vault_core.proofs.Standing.{file_here}
 use Rattle.vault_core.proofs.Onward.{sums-same, no-sums, asks-none, head-here, left-here, opening-on, on-moved}
 use Rattle.vault_core.proofs.Judging.{Asked, asked_parts, asked_whole, audit_kind}
 use Rattle.vault_core.proofs.Taking.{gate_left}
@@ -62,14 +63,7 @@ removals s cs w (Some f) h = subst (λ (b : Bool). removals_of s.n (if is_pinned
     by false = ap (λ (xs : List Action). xs ++ End ∷ [])
         (ap (λ (k : ℕ). map (λ j. Remove j f.id) (range_with_len 0 k)) (let e : s.n - 0 ≡ s.n = omega arith in e) ∙ sym (append-nil (on_each_provider s (λ j. Remove j f.id))))
 
--- ---- where the fourth move stands
-
-gate_within : (rest : List Action) (p : ℕ) → p < 4 → slice_get (append_actions ++ rest) p ≡ Some SyncGate → p ≡ 3
-gate_within rest zero l h = absurd (let e : Some WriteBody ≡ Some SyncGate = h in cc)
-gate_within rest (suc zero) l h = absurd (let e : Some SyncBody ≡ Some SyncGate = h in cc)
-gate_within rest (suc (suc zero)) l h = absurd (let e : Some WriteGate ≡ Some SyncGate = h in cc)
-gate_within rest (suc (suc (suc zero))) l h = refl
-gate_within rest (suc (suc (suc (suc p)))) l h = absurd (omega (arith, l))
+-- ---- the fourth move
 
 module _ (w : State) (t : Kept) (cs : List CoreJob) (c : CoreJob) (m : Job) (f : IsFoldOf w.records t) (all : AllZip (IsJobOf (setup_in w)) cs w.jobs) (is : IsJobOf (setup_in w) c m)
     (next : next_action w m ≡ Some SyncGate) (some : 0 < (setup_in w).n) (undecided : 0 < appends_left (setup_in w) m → m.older ≡ []) where
@@ -89,6 +83,9 @@ module _ (w : State) (t : Kept) (cs : List CoreJob) (c : CoreJob) (m : Job) (f :
   closed : false ≡ (is_opener c.wish && nat_lt (m.place + 1) 4)
   closed = sym (ap (λ (o : Option Action). c.opening && not (is_gate o)) head ∙ and_false c.opening) ∙ opening-on w c m SyncGate is next not_end
 
+  drop-place : (called : List ℕ) → m.kind ≡ DropJob called → m.place ≡ 3
+  drop-place called g = drop-gate (setup_in w) m m.place (ap (λ (xs : List Action). slice_get xs m.place) (sym (drop-list (setup_in w) m called g)) ∙ next_stands w m SyncGate next not_end)
+
   -- a job that takes an object away has only its removals and its end left
   taken_rest : is_taker c.wish c.opening ≡ true → removals_of (setup_in w).n (older_of t cs c.wish) ≡ actions_left (setup_in w) (decided m (taken_out w m m.kind))
   taken_rest takes = by c.wish m.kind refl refl (alike c.wish m.kind is.kind) takes
@@ -106,7 +103,7 @@ module _ (w : State) (t : Kept) (cs : List CoreJob) (c : CoreJob) (m : Job) (f :
           ∙ sym (ap (drop (m.place + 1)) (put-list (setup_in w) (decided m (taken_out w m (PutJob called bytes))) called bytes g)
           ∙ put-behind (setup_in w) (decided m (taken_out w m (PutJob called bytes))) bytes (m.place + 1) (omega (arith, at))))))
       by (wish.Drop name) (DropJob called) e g h b =
-          (let at = drop-gate (setup_in w) m m.place (ap (λ (xs : List Action). slice_get xs m.place) (sym (drop-list (setup_in w) m called g)) ∙ next_stands w m SyncGate next not_end) in
+          (let at = drop-place called g in
           let four : m.place + 1 ≡ 4 + 0 = omega (arith, at) in
           ap (λ (o : Option File). removals_of (setup_in w).n (removable_in cs o)) (file_here t w.records name f ∙ ap (file_of w.records) (sym h))
           ∙ (removals (setup_in w) cs w (file_in w called) all
@@ -115,23 +112,21 @@ module _ (w : State) (t : Kept) (cs : List CoreJob) (c : CoreJob) (m : Job) (f :
           ∙ drop-append-add append_actions (drop_rest (setup_in w) (decided m (taken_out w m (DropJob called)))) 0))))
       by (wish.Put name size) k e g h b = absurd h
       by (wish.Drop name) k e g h b = absurd h
-      by (wish.Get name) k e g h b = absurd (false≢true b)
-      by wish.Audit k e g h b = absurd (false≢true b)
-      by wish.Repair k e g h b = absurd (false≢true b)
+      by v k e g h b = absurd (false≢true b)
 
   -- another job takes nothing away
   keeps : is_taker c.wish c.opening ≡ false → taken_out w m m.kind ≡ m.older
-  keeps not_ = by c.wish m.kind refl (alike c.wish m.kind is.kind) not_ ∙ sym older
+  keeps not_ = by c.wish m.kind refl refl (alike c.wish m.kind is.kind) not_ ∙ sym older
     where
-      by : (v : Wish) (k : Kind) → c.wish ≡ v → IsAlike v k → is_taker v c.opening ≡ false → taken_out w m k ≡ []
-      by (wish.Put name size) (PutJob called bytes) e h b =
+      by : (v : Wish) (k : Kind) → c.wish ≡ v → m.kind ≡ k → IsAlike v k → is_taker v c.opening ≡ false → taken_out w m k ≡ []
+      by (wish.Put name size) (PutJob called bytes) e g h b =
           ap (λ (x : Bool). if x then [] else removable w (file_in w called))
           (sym (ap (λ (x : Wish). is_opener x && is_first_append m) e) ∙ (sym is.opening ∙ not-false c.opening b))
-      by (wish.Get name) (GetJob called) e h b = refl
-      by (wish.Drop name) k e h b = absurd (false≢true (sym b))
-      by wish.Audit AuditJob e h b = refl
-      by wish.Repair RepairJob e h b = refl
-      by v k e h b = absurd h
+      by (wish.Get name) (GetJob called) e g h b = refl
+      by (wish.Drop name) (DropJob called) e g h b = absurd (false≢true (sym b ∙ (is.opening ∙ (ap (λ (x : Wish). is_opener x && is_first_append m) e ∙ lt-ltb m.place 4 (let at = drop-place called g in omega (arith, at))))))
+      by wish.Audit AuditJob e g h b = refl
+      by wish.Repair RepairJob e g h b = refl
+      by v k e g h b = absurd h
 
   sums_closed : IsTrue (has_asked (stepped c)) → HasSums (setup_in w) (onward m m.subject m.given) c.sums
   sums_closed has = elim (cases_Bool c.opening) [
@@ -139,7 +134,7 @@ module _ (w : State) (t : Kept) (cs : List CoreJob) (c : CoreJob) (m : Job) (f :
     | inl b ↦ subst (HasSums (setup_in w) (onward m m.subject m.given)) (sym (is.unjudged b))
         (no-sums (setup_in w) (onward m m.subject m.given) some
         (asks-none (setup_in w) m kind (ap (λ (k : ℕ). asks_next (slice_get (actions_of (setup_in w) m) k)) (four b)
-        ∙ (sym (ap asks_next (ap (λ (xs : List Action). slice_get (drop 1 xs) 0) (left-here w c m SyncGate is next not_end) ∙ get-drop (m.place + 1) (actions_of (setup_in w) m))) ∙ p.head))))
+        ∙ (sym (ap asks_next (ap (λ (xs : List Action). slice_get (drop 1 xs) 0) (left-here w c m SyncGate is next not_end) ∙ get-drop (actions_of (setup_in w) m) (m.place + 1))) ∙ p.head))))
   ]
     where
       p : Asked (stepped c)
@@ -151,7 +146,7 @@ module _ (w : State) (t : Kept) (cs : List CoreJob) (c : CoreJob) (m : Job) (f :
       four : c.opening ≡ true → 4 ≡ m.place + 1
       four b =
           (let first : is_first_append m ≡ true = sym (ap (λ (x : Wish). is_opener x && is_first_append m) p.audit) ∙ (sym is.opening ∙ b) in
-          let three = gate_within (audit_rest (setup_in w) m) m.place (ltb-true m.place 4 first) (ap (λ (xs : List Action). slice_get xs m.place) (sym (audit-list (setup_in w) m kind)) ∙ next_stands w m SyncGate next not_end) in
+          let three = gate-within (audit_rest (setup_in w) m) m.place (ltb-true m.place 4 first) (ap (λ (xs : List Action). slice_get xs m.place) (sym (audit-list (setup_in w) m kind)) ∙ next_stands w m SyncGate next not_end) in
           omega (arith, three))
 
   decides_is : decides_now c ≡ is_taker c.wish c.opening

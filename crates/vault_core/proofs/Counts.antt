@@ -1,5 +1,5 @@
 -- How many gates are among the actions that a job has not yet made.
-use Rattle.std.proofs.Common.{◌≡◌, ℕ, ◌+◌, ◌*◌, ◌-◌, Bool, true, false, cond, List, [], ◌∷◌, ◌++◌, length, map, drop, inl, inr, refl, ap, sym, arith}
+use Rattle.std.proofs.Common.{◌≡◌, ℕ, ◌+◌, Bool, true, false, cond, List, [], ◌∷◌, ◌++◌, map, drop, inl, inr, refl, ap, sym, arith}
 use Rattle.std.specs.Prelude.{sum, count_by, if◌then◌else◌}
 use Rattle.std.specs.List.{flat_map}
 use Rattle.std.proofs.lemmas.Bool.{cases_Bool, false≢true}
@@ -18,6 +18,7 @@ use Rattle.vault_core.specs.View.{flag_at}
 use Rattle.vault_core.specs.Rest.{numbers, call_of, calls_from, rewrite_of, rewrites_from, work_of, turn_of, turns_from, tasks_of, moves_from, closing_of, tasks_on, beyond, rest_at, rest_of}
 use Rattle.vault_core.specs.Reserves.{sizes_of, room_behind, last_appends, reserved_of}
 use Rattle.vault_core.specs.Parts.{comes_to, is_opening, is_past, core_job}
+use Rattle.vault_core.proofs.Rests.{by_call}
 
 -- how many gates are among these actions
 abbrev pub gates : List Action → ℕ
@@ -38,11 +39,7 @@ none_flat f [] h = refl
 none_flat f (k ∷ ks) h = let e = gates-append (f k) (flat_map f ks) in let i = none_flat f ks h in let c = h k in omega (arith, e, i, c)
 
 call_none : (w : Wish) (o t j : ℕ) → ends_append (call_of w o t j) ≡ false
-call_none (wish.Put name size) o t j = refl
-call_none (wish.Get name) o t j = refl
-call_none (wish.Drop name) o t j = refl
-call_none wish.Audit o t j = refl
-call_none wish.Repair o t j = refl
+call_none w o t j = by_call (λ a. ends_append a ≡ false) w o t j refl refl refl
 
 pub calls_none : (j n : ℕ) (w : Wish) (o t : ℕ) → gates (calls_from j n w o t) ≡ 0
 calls_none j n w o t = none_map (call_of w o t) (numbers j n) (call_none w o t)
@@ -57,11 +54,8 @@ pub rewrites_none : (j n : ℕ) (fl : List Bool) (o t : ℕ) → gates (rewrites
 rewrites_none j n fl o t = none_flat (rewrite_of fl o t) (numbers j n) (rewrite_none fl o t)
 
 pub work_none : (n : ℕ) (w : Wish) (fl : List Bool) (o t : ℕ) → gates (work_of n w fl o t) ≡ 0
-work_none n (wish.Put name size) fl o t = refl
-work_none n (wish.Get name) fl o t = refl
-work_none n (wish.Drop name) fl o t = refl
-work_none n wish.Audit fl o t = refl
 work_none n wish.Repair fl o t = let e = gates-cons (Work o t) (rewrites_from 0 n fl o t) in let r = rewrites_none 0 n fl o t in omega (arith, e, r)
+work_none n w fl o t = refl
 
 turn_none : (n : ℕ) (w : Wish) (fl : List Bool) (o t : ℕ) → gates (turn_of n w fl o t) ≡ 0
 turn_none n w fl o t = let e = gates-append (calls_from 0 n w o t) (work_of n w fl o t) in let a = calls_none 0 n w o t in let b = work_none n w fl o t in omega (arith, e, a, b)
@@ -77,9 +71,7 @@ removes_none object ks = none_map (λ k. Remove k object) ks (λ k. refl)
 
 moves_one : (m : Move) → gates (moves_from m) ≡ 1
 moves_one move.Body = refl
-moves_one move.BodySync = refl
-moves_one move.Gate = refl
-moves_one move.GateSync = refl
+moves_one m = refl
 
 -- ---- by where a job is
 
@@ -95,10 +87,7 @@ gates_at w at.Ending = 0
 
 closing_one : (w : Wish) → gates (closing_of w) ≡ last_appends w
 closing_one (wish.Put name size) = refl
-closing_one (wish.Get name) = refl
-closing_one (wish.Drop name) = refl
-closing_one wish.Audit = refl
-closing_one wish.Repair = refl
+closing_one w = refl
 
 tasks_on_one : (n : ℕ) (job : Job) (ts : List Task) → gates (tasks_on n job ts) ≡ last_appends job.wish
 tasks_on_one n job ts = let e = gates-append (tasks_of n job.wish job.flagged ts) (closing_of job.wish) in let a = tasks_none n job.wish job.flagged ts in let b = closing_one job.wish in omega (arith, e, a, b)
@@ -157,10 +146,7 @@ reserved_opening n w c h o = absurd (false≢true o)
 
 none-left : (n : ℕ) (w : Wish) → 0 ≡ room_behind n w 0
 none-left n (wish.Put name size) = refl
-none-left n (wish.Get name) = refl
-none-left n (wish.Drop name) = refl
-none-left n wish.Audit = refl
-none-left n wish.Repair = refl
+none-left n w = refl
 
 pub reserved_past : (n : ℕ) (w : Wish) (c : Cursor) → is_past c ≡ true → 0 ≡ reserved_at n w c
 reserved_past n w (at.Removing object j) p = none-left n w

@@ -5,7 +5,7 @@ use Rattle.std.specs.List.{All, flat_map}
 use Rattle.std.proofs.lemmas.List.{map-append, length-map}
 use Rattle.std.proofs.lemmas.List.Elements.{All-map}
 use Rattle.std.specs.declared.vec.Vec.{Vec}
-use Rattle.hail_machine.specs.Actions.{Action, WriteBody, SyncBody, WriteGate, SyncGate, Store, Fetch, Ask, Work, Remove, End, append_actions, ends_append}
+use Rattle.hail_machine.specs.Actions.{Action, WriteBody, Store, End, append_actions, ends_append}
 use Rattle.hail_machine.specs.Left.{removes_older}
 use Rattle.vault_core.specs.declared.wish.Wish.{Wish}
 use Rattle.vault_core.specs.declared.wish.Wish.TheVariants as wish
@@ -26,6 +26,7 @@ use Rattle.vault_core.proofs.Gates.{action_at, first_is}
 use Rattle.vault_core.proofs.Kept.{seen_at, other_view, starts_not_more, and_left, moved_room, reserved_fewer, renamed_stripe}
 use Rattle.vault_core.proofs.Moving.{within, kept_at, seen_by, seen_moved}
 use Rattle.vault_core.specs.Wished.{aim_of_wish}
+use Rattle.vault_core.proofs.Rests.{by_call}
 
 -- ---- stores under another number
 
@@ -62,30 +63,14 @@ renamed_on n k wish.Repair fl ts us e = ap (λ (vs : List Task). append_actions 
 
 renamed_closing : (k : ℕ) (w : Wish) → append_actions ++ End ∷ [] ≡ all_renamed k w (append_actions ++ End ∷ [])
 renamed_closing k (wish.Put name size) = refl
-renamed_closing k (wish.Get name) = refl
-renamed_closing k (wish.Drop name) = refl
-renamed_closing k wish.Audit = refl
-renamed_closing k wish.Repair = refl
+renamed_closing k w = refl
 
 -- a job whose next action begins an append is at the first move of its first append or of its last one
 at_start : (w : Wish) (c : Cursor) → action_at w c ≡ WriteBody → (X : Type 0) → (c ≡ at.Opening move.Body → X) → (c ≡ at.Closing move.Body → X) → X
 at_start w (at.Opening move.Body) h X a b = a refl
-at_start w (at.Opening move.BodySync) h X a b = cc
-at_start w (at.Opening move.Gate) h X a b = cc
-at_start w (at.Opening move.GateSync) h X a b = cc
-at_start (wish.Put name size) (at.Calling spot j) h X a b = cc
-at_start (wish.Get name) (at.Calling spot j) h X a b = cc
-at_start (wish.Drop name) (at.Calling spot j) h X a b = cc
-at_start wish.Audit (at.Calling spot j) h X a b = cc
-at_start wish.Repair (at.Calling spot j) h X a b = cc
-at_start w (at.Working spot) h X a b = cc
-at_start w (at.Rewriting spot j) h X a b = cc
+at_start w (at.Calling spot j) h X a b = by_call (λ x. x ≡ WriteBody → X) w spot.object spot.turn j (λ e. cc) (λ e. cc) (λ e. cc) h
 at_start w (at.Closing move.Body) h X a b = b refl
-at_start w (at.Closing move.BodySync) h X a b = cc
-at_start w (at.Closing move.Gate) h X a b = cc
-at_start w (at.Closing move.GateSync) h X a b = cc
-at_start w (at.Removing object j) h X a b = cc
-at_start w at.Ending h X a b = cc
+at_start w c h X a b = cc
 
 starts_at : (n : ℕ) (job : Job) → IsJobKept n job → slice_get (rest_of n job) 0 ≡ Some WriteBody → action_at job.wish job.cursor ≡ WriteBody
 starts_at n job kept h = let s : Some (action_at job.wish job.cursor) ≡ Some WriteBody = sym (first_is n job kept) ∙ h in let r : action_at job.wish job.cursor ≡ WriteBody = cc in r
@@ -100,16 +85,8 @@ rest_drawn n job k v kept h e = at_start job.wish job.cursor (starts_at n job ke
 -- ---- renaming keeps how many gates there are
 
 renamed_gate : (k : ℕ) (x : Action) → ends_append (renamed k x) ≡ ends_append x
-renamed_gate k WriteBody = refl
-renamed_gate k SyncBody = refl
-renamed_gate k WriteGate = refl
-renamed_gate k SyncGate = refl
 renamed_gate k (Store j o t) = refl
-renamed_gate k (Fetch j o t) = refl
-renamed_gate k (Ask j o t) = refl
-renamed_gate k (Work o t) = refl
-renamed_gate k (Remove j o) = refl
-renamed_gate k End = refl
+renamed_gate k x = refl
 
 map_gates : (k : ℕ) (xs : List Action) → gates (map (renamed k) xs) ≡ gates xs
 map_gates k [] = refl
@@ -120,33 +97,21 @@ map_gates k (x ∷ xs) =
 
 pub renamed_gates : (k : ℕ) (w : Wish) (xs : List Action) → gates (all_renamed k w xs) ≡ gates xs
 renamed_gates k (wish.Put name size) xs = map_gates k xs
-renamed_gates k (wish.Get name) xs = refl
-renamed_gates k (wish.Drop name) xs = refl
-renamed_gates k wish.Audit xs = refl
-renamed_gates k wish.Repair xs = refl
+renamed_gates k w xs = refl
 
 pub renamed_length : (k : ℕ) (w : Wish) (xs : List Action) → length (all_renamed k w xs) ≡ length xs
 renamed_length k (wish.Put name size) xs = length-map xs (renamed k)
-renamed_length k (wish.Get name) xs = refl
-renamed_length k (wish.Drop name) xs = refl
-renamed_length k wish.Audit xs = refl
-renamed_length k wish.Repair xs = refl
+renamed_length k w xs = refl
 
 -- ---- a job that has taken its number
 
 drawn_turns : (k : ℕ) (w : Wish) (ts us : List Task) → us ≡ drawn_tasks k w ts → All (λ (t : Task). 0 < t.turns) ts → All (λ (t : Task). 0 < t.turns) us
 drawn_turns k (wish.Put name size) ts us e h = subst (All (λ (t : Task). 0 < t.turns)) (sym e) (All-map (λ (t : Task). 0 < t.turns) (aimed k) ts h)
-drawn_turns k (wish.Get name) ts us e h = subst (All (λ (t : Task). 0 < t.turns)) (sym e) h
-drawn_turns k (wish.Drop name) ts us e h = subst (All (λ (t : Task). 0 < t.turns)) (sym e) h
-drawn_turns k wish.Audit ts us e h = subst (All (λ (t : Task). 0 < t.turns)) (sym e) h
-drawn_turns k wish.Repair ts us e h = subst (All (λ (t : Task). 0 < t.turns)) (sym e) h
+drawn_turns k w ts us e h = subst (All (λ (t : Task). 0 < t.turns)) (sym e) h
 
 drawn_idle : (k : ℕ) (w : Wish) (ts us : List Task) → us ≡ drawn_tasks k w ts → ts ≡ [] → us ≡ []
 drawn_idle k (wish.Put name size) ts us e h = e ∙ ap (map (aimed k)) h
-drawn_idle k (wish.Get name) ts us e h = e ∙ h
-drawn_idle k (wish.Drop name) ts us e h = e ∙ h
-drawn_idle k wish.Audit ts us e h = e ∙ h
-drawn_idle k wish.Repair ts us e h = e ∙ h
+drawn_idle k w ts us e h = e ∙ h
 
 pub kept_drawn : (n : ℕ) (job : Job) (k : ℕ) (v : Vec Task Global) → IsJobKept n job → slice_get (rest_of n job) 0 ≡ Some WriteBody → v.items ≡ drawn_tasks k job.wish job.tasks.items →
     IsJobKept n (record job { subject = k; tasks = v })
@@ -170,22 +135,8 @@ kept_drawn n job k v kept h e = record {
 
 pub start_going : (n : ℕ) (job : Job) → IsJobKept n job → slice_get (rest_of n job) 0 ≡ Some WriteBody → (is_over job.cursor ≡ false) × (decides job ≡ false)
 start_going n job kept h = at_start job.wish job.cursor (starts_at n job kept h) _
-    (λ c. (ap is_over c, ap (decides_at job.wish) c ∙ opening job.wish))
-    (λ c. (ap is_over c, ap (decides_at job.wish) c ∙ closing job.wish))
-  where
-    opening : (w : Wish) → decides_at w (at.Opening move.Body) ≡ false
-    opening (wish.Put name size) = refl
-    opening (wish.Get name) = refl
-    opening (wish.Drop name) = refl
-    opening wish.Audit = refl
-    opening wish.Repair = refl
-
-    closing : (w : Wish) → decides_at w (at.Closing move.Body) ≡ false
-    closing (wish.Put name size) = refl
-    closing (wish.Get name) = refl
-    closing (wish.Drop name) = refl
-    closing wish.Audit = refl
-    closing wish.Repair = refl
+    (λ c. (ap is_over c, ap (decides_at job.wish) c))
+    (λ c. (ap is_over c, ap (decides_at job.wish) c))
 
 -- the job at a place, whose next action is the first move of an append
 pub record StartHere (a : Inside) (place : ℕ) (job : Job) : Type 0 where

@@ -97,23 +97,16 @@ gated_falls n job older l kept h = elim (cases_Bool (decides_now (core_job n job
 
 get_gate : (name : List ℕ) (c : Cursor) → comes_to (wish.Get name) c ≡ true → action_at (wish.Get name) c ≡ SyncGate → ⊥
 get_gate name (at.Opening m) h e = false≢true h
-get_gate name (at.Calling spot j) h e = cc
-get_gate name (at.Working spot) h e = cc
-get_gate name (at.Rewriting spot j) h e = cc
 get_gate name (at.Closing m) h e = false≢true h
-get_gate name (at.Removing object j) h e = cc
-get_gate name at.Ending h e = cc
+get_gate name c h e = cc
 
 -- who is at the last move of an append writes a record
 pub gate_writes : (t : Kept) (n : ℕ) (job : Job) → IsJobKept n job → slice_get (rest_of n job) 0 ≡ Some SyncGate → None ≡ written_by t (core_job n job) job.wish → ⊥
 gate_writes t n job kept h e = by job.wish refl e
   where
     by : (w : Wish) → job.wish ≡ w → None ≡ written_by t (core_job n job) w → ⊥
-    by (wish.Put name size) v f = cc
     by (wish.Get name) v f = get_gate name job.cursor (subst (λ (x : Wish). comes_to x job.cursor ≡ true) v kept.comes) (subst (λ (x : Wish). action_at x job.cursor ≡ SyncGate) v (gate_at n job kept h))
-    by (wish.Drop name) v f = cc
-    by wish.Audit v f = cc
-    by wish.Repair v f = cc
+    by w v f = cc
 
 -- ---- the job of a number, among jobs whose numbers ascend
 
@@ -297,25 +290,13 @@ step_runs c k r takes none =
 -- an action that is no first or last move of an append and no end goes plainly
 pub plain_by : (a : ActionValue) → (a ≡ act.WriteBody → ⊥) → (a ≡ act.SyncGate → ⊥) → (a ≡ act.End → ⊥) → goes_plainly (Some (seen_action a)) ≡ true
 plain_by act.WriteBody b g e = absurd (b refl)
-plain_by act.SyncBody b g e = refl
-plain_by act.WriteGate b g e = refl
 plain_by act.SyncGate b g e = absurd (g refl)
-plain_by (act.Store provider object stripe) b g e = refl
-plain_by (act.Fetch provider object stripe) b g e = refl
-plain_by (act.Ask provider object round) b g e = refl
-plain_by (act.Work object stripe) b g e = refl
-plain_by (act.Remove provider object) b g e = refl
 plain_by act.End b g e = absurd (e refl)
+plain_by a b g e = refl
 
 -- only an ask has a verdict
 pub verdict_plain : (c : CoreView) (k : ℕ) (a : ActionValue) (u : ℕ) (counts : Counts) → HasReply c k (Acts (seen_action a)) (reply.Verdict u counts) → goes_plainly (Some (seen_action a)) ≡ true
 verdict_plain c k act.WriteBody u counts h = absurd h
-verdict_plain c k act.SyncBody u counts h = refl
-verdict_plain c k act.WriteGate u counts h = refl
 verdict_plain c k act.SyncGate u counts h = absurd h
-verdict_plain c k (act.Store provider object stripe) u counts h = refl
-verdict_plain c k (act.Fetch provider object stripe) u counts h = refl
-verdict_plain c k (act.Ask provider object round) u counts h = refl
-verdict_plain c k (act.Work object stripe) u counts h = refl
-verdict_plain c k (act.Remove provider object) u counts h = refl
 verdict_plain c k act.End u counts h = absurd h
+verdict_plain c k a u counts h = refl

@@ -9,7 +9,6 @@ use Rattle.record_codec.specs.declared.records.Record.{Record as RecordValue}
 use Rattle.record_codec.specs.Entries.{entry_of}
 use Rattle.vault_table.specs.Values.{Kept}
 use Rattle.vault_core.specs.declared.wish.Wish.{Wish}
-use Rattle.vault_core.specs.declared.wish.Wish.TheVariants as wish
 use Rattle.vault_core.specs.declared.cursor.Move.{Move}
 use Rattle.vault_core.specs.declared.cursor.Move.TheVariants as move
 use Rattle.vault_core.specs.declared.cursor.Cursor.{Cursor}
@@ -23,19 +22,13 @@ use Rattle.vault_core.proofs.Counts.{reserved_at, reserved_is}
 use Rattle.vault_core.proofs.Gates.{action_at, first_is}
 use Rattle.vault_core.proofs.Gating.{entry_size, size_of_entry, length_counted, room_at}
 use Rattle.vault_core.proofs.Standing.{head_moves, in_append}
+use Rattle.vault_core.proofs.Rests.{by_call}
 
 move_at : (w : Wish) (c : Cursor) → is_move (Some (action_at w c)) ≡ true → ((m : Move) × (c ≡ at.Opening m)) ⊎ ((m : Move) × (c ≡ at.Closing m))
 move_at w (at.Opening m) h = inl (m, refl)
-move_at (wish.Put name size) (at.Calling spot j) h = absurd (false≢true h)
-move_at (wish.Get name) (at.Calling spot j) h = absurd (false≢true h)
-move_at (wish.Drop name) (at.Calling spot j) h = absurd (false≢true h)
-move_at wish.Audit (at.Calling spot j) h = absurd (false≢true h)
-move_at wish.Repair (at.Calling spot j) h = absurd (false≢true h)
-move_at w (at.Working spot) h = absurd (false≢true h)
-move_at w (at.Rewriting spot j) h = absurd (false≢true h)
+move_at w (at.Calling spot j) h = absurd (by_call (λ x. is_move (Some x) ≡ true → ⊥) w spot.object spot.turn j (λ e. false≢true e) (λ e. false≢true e) (λ e. false≢true e) h)
 move_at w (at.Closing m) h = inr (m, refl)
-move_at w (at.Removing object j) h = absurd (false≢true h)
-move_at w at.Ending h = absurd (false≢true h)
+move_at w c h = absurd (false≢true h)
 
 -- the room of a record is reserved until its append is done
 pub written_room : (n : ℕ) (job : Job) (t : Kept) (entry : Record) → IsJobKept n job → is_move (slice_get (core_job n job).rest 0) ≡ true → written_by t (core_job n job) job.wish ≡ Some entry →

@@ -22,9 +22,9 @@ use Rattle.vault_core.specs.declared.job.Task.{Task}
 use Rattle.vault_core.specs.declared.job.Job.{Job}
 use Rattle.vault_core.specs.Rest.{numbers, call_of, calls_from, work_of, turns_from, tasks_of, moves_from, actions_after, closing_of, tasks_on, beyond, rest_at, rest_of}
 use Rattle.vault_core.specs.Coming.{most_of, asks_next, begins_append, is_last_ask, is_gone, is_idle}
-use Rattle.vault_core.specs.Going.{decides, decides_at}
+use Rattle.vault_core.specs.Going.{decides, decides_at, is_taker}
 use Rattle.vault_core.specs.Parts.{comes_to, is_unbegun, is_opening, is_start, is_over, is_caller, is_worker, is_rewriter, core_job, IsWithin, MayBeAt, IsJobKept}
-use Rattle.vault_core.proofs.Rests.{numbers_here, calls_here, rewrites_take, rest_is, rest_opening, rest_closing, rest_calling, rest_removing, first_work, first_of_front}
+use Rattle.vault_core.proofs.Rests.{numbers_here, calls_here, rewrites_take, rest_is, rest_opening, rest_closing, rest_calling, rest_removing, first_work, first_of_front, by_call}
 use Rattle.vault_core.specs.Wished.{aim_of_wish}
 
 -- the action at a cursor
@@ -45,19 +45,13 @@ action_at w at.Ending = End
 
 pub first_at : (n : ℕ) (job : Job) (c : Cursor) → comes_to job.wish c ≡ true → IsWithin n job.flagged c →
     slice_get (rest_at n job c) 0 ≡ Some (action_at job.wish c)
-first_at n job (at.Opening move.Body) h w = refl
-first_at n job (at.Opening move.BodySync) h w = refl
-first_at n job (at.Opening move.Gate) h w = refl
-first_at n job (at.Opening move.GateSync) h w = refl
 first_at n job (at.Calling spot j) h w = first_of_front _ _ _ _ (calls_here j n job.wish spot.object spot.turn w.0)
 first_at n job (at.Working spot) h w = first_work n job.wish job.flagged spot.object spot.turn _ h
 first_at n job (at.Rewriting spot j) h w = first_of_front _ _ _ _ (rewrites_take j n job.flagged spot.object spot.turn w.0 w.1)
-first_at n job (at.Closing move.Body) h w = refl
-first_at n job (at.Closing move.BodySync) h w = refl
-first_at n job (at.Closing move.Gate) h w = refl
-first_at n job (at.Closing move.GateSync) h w = refl
 first_at n job (at.Removing object j) h w = first_of_front _ _ _ _ (ap (map (λ k. Remove k object)) (numbers_here j n w))
-first_at n job at.Ending h w = refl
+first_at n job (at.Opening move.Body) h w = refl
+first_at n job (at.Closing move.Body) h w = refl
+first_at n job c h w = refl
 
 pub first_is : (n : ℕ) (job : Job) → IsJobKept n job → slice_get (rest_of n job) 0 ≡ Some (action_at job.wish job.cursor)
 unfolding rest_of
@@ -69,26 +63,13 @@ rest_some n job kept = slice_get_within (rest_of n job) 0 (action_at job.wish jo
 -- ---- asks
 
 call_begins : (w : Wish) (o t j : ℕ) → begins_append (Some (call_of w o t j)) ≡ false
-call_begins (wish.Put name size) o t j = refl
-call_begins (wish.Get name) o t j = refl
-call_begins (wish.Drop name) o t j = refl
-call_begins wish.Audit o t j = refl
-call_begins wish.Repair o t j = refl
+call_begins w o t j = by_call (λ a. begins_append (Some a) ≡ false) w o t j refl refl refl
 
 begins_is : (w : Wish) (c : Cursor) → begins_append (Some (action_at w c)) ≡ is_start c
-begins_is w (at.Opening move.Body) = refl
-begins_is w (at.Opening move.BodySync) = refl
-begins_is w (at.Opening move.Gate) = refl
-begins_is w (at.Opening move.GateSync) = refl
 begins_is w (at.Calling spot j) = call_begins w spot.object spot.turn j
-begins_is w (at.Working spot) = refl
-begins_is w (at.Rewriting spot j) = refl
+begins_is w (at.Opening move.Body) = refl
 begins_is w (at.Closing move.Body) = refl
-begins_is w (at.Closing move.BodySync) = refl
-begins_is w (at.Closing move.Gate) = refl
-begins_is w (at.Closing move.GateSync) = refl
-begins_is w (at.Removing object j) = refl
-begins_is w at.Ending = refl
+begins_is w c = refl
 
 pub second_of : (xs : List Action) → slice_get xs 1 ≡ slice_get (drop 1 xs) 0
 second_of [] = refl
@@ -132,9 +113,7 @@ gate_in (x ∷ xs) ys h = gate_behind x (xs ++ ys) (gate_in xs ys h)
 
 gate_moves : (m : Move) (xs : List Action) → has_gate (moves_from m ++ xs) ≡ true
 gate_moves move.Body xs = gate_first xs
-gate_moves move.BodySync xs = gate_first xs
-gate_moves move.Gate xs = gate_first xs
-gate_moves move.GateSync xs = gate_first xs
+gate_moves m xs = gate_first xs
 
 no_removes : (object : ℕ) (ks : List ℕ) → has_gate (map (λ k. Remove k object) ks ++ End ∷ []) ≡ false
 no_removes object [] = refl
@@ -206,18 +185,13 @@ gates_kept n job kept undecided takes = by job.cursor refl
     never c e f = false≢true (sym (f job.wish takes) ∙ comes c e)
 
     no_worker : (w : Wish) → removes_older (aim_of_wish w) ≡ true → is_worker w ≡ false
-    no_worker (wish.Put name size) h = refl
     no_worker (wish.Get name) h = absurd (false≢true h)
-    no_worker (wish.Drop name) h = refl
-    no_worker wish.Audit h = refl
     no_worker wish.Repair h = absurd (false≢true h)
+    no_worker w h = refl
 
     no_rewriter : (w : Wish) → removes_older (aim_of_wish w) ≡ true → is_rewriter w ≡ false
-    no_rewriter (wish.Put name size) h = refl
-    no_rewriter (wish.Get name) h = refl
-    no_rewriter (wish.Drop name) h = refl
-    no_rewriter wish.Audit h = refl
     no_rewriter wish.Repair h = absurd (false≢true h)
+    no_rewriter w h = refl
 
     by : (c : Cursor) → job.cursor ≡ c → has_gate (drop 1 (rest_of n job)) ≡ has_gate (rest_of n job)
     by (at.Opening m) e = ap has_gate (rest_opening n job m e) ∙ (both (actions_after m ++ tasks_on n job job.tasks.items) (moves_from m ++ tasks_on n job job.tasks.items) (at_opening m e) (gate_moves m (tasks_on n job job.tasks.items)) ∙ ap has_gate (sym (rest_is n job _ e)))
@@ -251,12 +225,7 @@ most_falls n job rest kept undecided e = subst (λ (xs : List Action). length xs
 
 at_same : (n : ℕ) (job : Job) (k : ℕ) (at_ c : Cursor) → rest_at n (record job { cursor = at_; left = k }) c ≡ rest_at n job c
 at_same n job k at_ (at.Opening m) = refl
-at_same n job k at_ (at.Calling spot j) = refl
-at_same n job k at_ (at.Working spot) = refl
-at_same n job k at_ (at.Rewriting spot j) = refl
-at_same n job k at_ (at.Closing m) = refl
-at_same n job k at_ (at.Removing object j) = refl
-at_same n job k at_ at.Ending = refl
+at_same n job k at_ c = refl
 
 pub rest_moved : (n : ℕ) (job : Job) (c : Cursor) (k : ℕ) (xs : List Action) → MayBeAt n job c xs → rest_of n (record job { cursor = c; left = k }) ≡ xs
 unfolding rest_of
@@ -280,26 +249,32 @@ advanced n job c kept undecided is = record {
 
 -- what is left of a job that decides
 pub decides_rest : (n : ℕ) (job : Job) → IsJobKept n job → decides job ≡ true → rest_of n job ≡ SyncGate ∷ End ∷ []
-decides_rest n job kept d = by job.wish job.cursor refl refl d
+decides_rest n job kept d = by job.cursor refl d
   where
     no_tasks : (name : List ℕ) → job.wish ≡ wish.Drop name → job.tasks.items ≡ []
     no_tasks name e = kept.stays.idle (ap is_caller e)
 
-    by : (w : Wish) (c : Cursor) → job.wish ≡ w → job.cursor ≡ c → decides_at w c ≡ true → rest_of n job ≡ SyncGate ∷ End ∷ []
-    by (wish.Put name size) (at.Closing move.GateSync) v e h = rest_is n job _ e
-    by (wish.Drop name) (at.Opening move.GateSync) v e h = rest_is n job _ e
-        ∙ (ap (λ (ts : List Task). SyncGate ∷ tasks_on n job ts) (no_tasks name v) ∙ ap (λ (w : Wish). SyncGate ∷ closing_of w) v)
-    by w c v e h = absurd (false≢true h)
+    drops : (w : Wish) → job.wish ≡ w → is_taker w true ≡ true → SyncGate ∷ tasks_on n job job.tasks.items ≡ SyncGate ∷ End ∷ []
+    drops (wish.Drop name) v h = ap (λ (ts : List Task). SyncGate ∷ tasks_on n job ts) (no_tasks name v) ∙ ap (λ (w : Wish). SyncGate ∷ closing_of w) v
+    drops w v h = absurd (false≢true h)
+
+    by : (c : Cursor) → job.cursor ≡ c → decides_at job.wish c ≡ true → rest_of n job ≡ SyncGate ∷ End ∷ []
+    by (at.Opening move.GateSync) e h = rest_is n job _ e ∙ drops job.wish refl h
+    by (at.Closing move.GateSync) e h = rest_is n job _ e
+    by c e h = absurd (false≢true h)
 
 pub decides_takes : (job : Job) → decides job ≡ true → removes_older (aim_of_wish job.wish) ≡ true
-decides_takes job d = by job.wish job.cursor d
+decides_takes job d = by job.cursor d
   where
-    by : (w : Wish) (c : Cursor) → decides_at w c ≡ true → removes_older (aim_of_wish w) ≡ true
-    by (wish.Put name size) c h = refl
-    by (wish.Drop name) c h = refl
-    by (wish.Get name) c h = absurd (false≢true h)
-    by wish.Audit c h = absurd (false≢true h)
-    by wish.Repair c h = absurd (false≢true h)
+    takes : (w : Wish) (b : Bool) → is_taker w b ≡ true → removes_older (aim_of_wish w) ≡ true
+    takes (wish.Put name size) b h = refl
+    takes (wish.Drop name) b h = refl
+    takes w b h = absurd (false≢true h)
+
+    by : (c : Cursor) → decides_at job.wish c ≡ true → removes_older (aim_of_wish job.wish) ≡ true
+    by (at.Opening move.GateSync) h = takes job.wish true h
+    by (at.Closing move.GateSync) h = takes job.wish false h
+    by c h = absurd (false≢true h)
 
 pub decides_left : (n : ℕ) (job : Job) → IsJobKept n job → decides job ≡ true → job.left ≡ 2 + n
 decides_left n job kept d = kept.left ∙ rw (decides_rest n job kept d, decides_takes job d) refl
@@ -363,15 +338,7 @@ ended n job kept = record {
 -- a cursor is at the first move of a first append where its first action begins an append
 pub unbegun_is : (n : ℕ) (job : Job) (c : Cursor) → is_unbegun c ≡ (is_opening c && begins_append (slice_get (rest_at n job c) 0))
 unbegun_is n job (at.Opening move.Body) = refl
-unbegun_is n job (at.Opening move.BodySync) = refl
-unbegun_is n job (at.Opening move.Gate) = refl
-unbegun_is n job (at.Opening move.GateSync) = refl
-unbegun_is n job (at.Calling spot j) = refl
-unbegun_is n job (at.Working spot) = refl
-unbegun_is n job (at.Rewriting spot j) = refl
-unbegun_is n job (at.Closing m) = refl
-unbegun_is n job (at.Removing object j) = refl
-unbegun_is n job at.Ending = refl
+unbegun_is n job c = refl
 
 pub idle_is : (n : ℕ) (job : Job) (t : Kept) (name : List ℕ) → job.wish ≡ wish.Drop name → find_file t.files name ≡ None →
     is_unbegun job.cursor ≡ is_idle t (core_job n job)

@@ -1,6 +1,6 @@
 -- A job whose append is done.
 use Rattle.std.proofs.Common.{◌≡◌, ℕ, ◌+◌, ◌-◌, ◌<◌, ◌≤◌, Bool, true, false, cond, List, [], ◌∷◌, Some, None, length, map, drop, set, get_or, inl, inr, refl, ap, sym, subst, ◌∙◌, arith, Global}
-use Rattle.std.specs.Prelude.{Option, Result, Ok, Err, is_err, IfErr, OnOk, IsErrOf, IsTrue, sum_by, ◌⊎◌, ◌*◌, sum, ◌&&◌, not, slice_get, if◌then◌else◌}
+use Rattle.std.specs.Prelude.{Option, Result, Ok, Err, is_err, IfErr, OnOk, IsErrOf, IsTrue, sum_by, ◌⊎◌, ◌*◌, ◌&&◌, not, slice_get, if◌then◌else◌}
 use Rattle.std.proofs.lemmas.Bool.{cases_Bool, false≢true}
 use Rattle.hail_machine.specs.Actions.{Action, SyncGate, Remove, End, ends_append}
 use Rattle.hail_records.specs.Records.{Setup, Record, is_setup, PutStart, PutDone, Drop, AuditStart, AuditDone, RepairDone, record_size}
@@ -28,34 +28,22 @@ use Rattle.vault_core.specs.declared.own.Core.TheInside.{Inside}
 use Rattle.vault_core.specs.View.{CoreJob, CoreView, AreRising}
 use Rattle.vault_core.specs.Rest.{numbers, rest_of}
 use Rattle.vault_core.specs.Coming.{written_by}
-use Rattle.vault_core.specs.Going.{decides, decides_at, goes_opening, removals_of}
+use Rattle.vault_core.specs.Going.{decides, decides_at, goes_opening, removals_of, is_taker}
 use Rattle.vault_core.specs.Parts.{core_job, view_of, IsCore, is_opening, is_over, comes_to, IsJobKept}
-use Rattle.vault_core.specs.Fed.{first_of, first_at, older_of, gated, HasGated, is_gate, is_taker, stepped, decides_now, gated_by}
+use Rattle.vault_core.specs.Fed.{first_of, first_at, older_of, gated, HasGated, is_gate, stepped, decides_now, gated_by}
 use Rattle.vault_core.specs.Reserves.{room_behind, reserved_of, starts_by, starts_of}
 use Rattle.vault_core.proofs.Counts.{gates, gates-append, gates-cons, removes_none, gates_at, gates_is, reserved_at, reserved_is, one, two}
 use Rattle.vault_core.proofs.Gates.{action_at, first_is, decides_rest}
 use Rattle.vault_core.proofs.Moving.{within, kept_at, seen_by, seen_moved}
 use Rattle.vault_core.proofs.Kept.{seen_at, rising_set}
+use Rattle.vault_core.proofs.Rests.{by_call}
 
 -- a job at the fourth move of an append is at that of its first append or of its last one
 at_gate : (w : Wish) (c : Cursor) → action_at w c ≡ SyncGate → (X : Type 0) → (c ≡ at.Opening move.GateSync → X) → (c ≡ at.Closing move.GateSync → X) → X
-at_gate w (at.Opening move.Body) h X a b = cc
-at_gate w (at.Opening move.BodySync) h X a b = cc
-at_gate w (at.Opening move.Gate) h X a b = cc
 at_gate w (at.Opening move.GateSync) h X a b = a refl
-at_gate (wish.Put name size) (at.Calling spot j) h X a b = cc
-at_gate (wish.Get name) (at.Calling spot j) h X a b = cc
-at_gate (wish.Drop name) (at.Calling spot j) h X a b = cc
-at_gate wish.Audit (at.Calling spot j) h X a b = cc
-at_gate wish.Repair (at.Calling spot j) h X a b = cc
-at_gate w (at.Working spot) h X a b = cc
-at_gate w (at.Rewriting spot j) h X a b = cc
-at_gate w (at.Closing move.Body) h X a b = cc
-at_gate w (at.Closing move.BodySync) h X a b = cc
-at_gate w (at.Closing move.Gate) h X a b = cc
+at_gate w (at.Calling spot j) h X a b = by_call (λ x. x ≡ SyncGate → X) w spot.object spot.turn j (λ e. cc) (λ e. cc) (λ e. cc) h
 at_gate w (at.Closing move.GateSync) h X a b = b refl
-at_gate w (at.Removing object j) h X a b = cc
-at_gate w at.Ending h X a b = cc
+at_gate w c h X a b = cc
 
 pub gate_at : (n : ℕ) (job : Job) → IsJobKept n job → slice_get (rest_of n job) 0 ≡ Some SyncGate → action_at job.wish job.cursor ≡ SyncGate
 gate_at n job kept h = let s : Some (action_at job.wish job.cursor) ≡ Some SyncGate = sym (first_is n job kept) ∙ h in let r : action_at job.wish job.cursor ≡ SyncGate = cc in r
@@ -66,23 +54,8 @@ gate_going n job kept h = at_gate job.wish job.cursor (gate_at n job kept h) _ (
 -- whether it decides, seen from its actions
 pub decides_is : (n : ℕ) (job : Job) → IsJobKept n job → slice_get (rest_of n job) 0 ≡ Some SyncGate → decides job ≡ decides_now (core_job n job)
 decides_is n job kept h = at_gate job.wish job.cursor (gate_at n job kept h) _
-    (λ c. ap (decides_at job.wish) c ∙ (opening job.wish ∙ (ap (λ (x : Cursor). is_taker job.wish (is_opening x)) (sym c) ∙ ap (λ (o : Option Action). is_gate o && is_taker job.wish (is_opening job.cursor)) (sym h))))
-    (λ c. ap (decides_at job.wish) c ∙ (closing job.wish (subst (λ (x : Cursor). comes_to job.wish x ≡ true) c kept.comes)
-    ∙ (ap (λ (x : Cursor). is_taker job.wish (is_opening x)) (sym c) ∙ ap (λ (o : Option Action). is_gate o && is_taker job.wish (is_opening job.cursor)) (sym h))))
-  where
-    opening : (w : Wish) → decides_at w (at.Opening move.GateSync) ≡ is_taker w true
-    opening (wish.Put name size) = refl
-    opening (wish.Get name) = refl
-    opening (wish.Drop name) = refl
-    opening wish.Audit = refl
-    opening wish.Repair = refl
-
-    closing : (w : Wish) → comes_to w (at.Closing move.GateSync) ≡ true → decides_at w (at.Closing move.GateSync) ≡ is_taker w false
-    closing (wish.Put name size) k = refl
-    closing (wish.Get name) k = absurd (false≢true k)
-    closing (wish.Drop name) k = absurd (false≢true k)
-    closing wish.Audit k = refl
-    closing wish.Repair k = refl
+    (λ c. ap (decides_at job.wish) c ∙ (ap (λ (x : Cursor). is_taker job.wish (is_opening x)) (sym c) ∙ ap (λ (o : Option Action). is_gate o && is_taker job.wish (is_opening job.cursor)) (sym h)))
+    (λ c. ap (decides_at job.wish) c ∙ (ap (λ (x : Cursor). is_taker job.wish (is_opening x)) (sym c) ∙ ap (λ (o : Option Action). is_gate o && is_taker job.wish (is_opening job.cursor)) (sym h)))
 
 pub seen_decided : (n : ℕ) (old new : Job) (older : Option ℕ) → IsJobKept n old → slice_get (rest_of n old) 0 ≡ Some SyncGate → decides old ≡ true → rest_of n new ≡ removals_of n older →
     is_opening new.cursor ≡ false → new ≡ record old { cursor = new.cursor; left = new.left } → core_job n new ≡ gated_by n older (core_job n old)

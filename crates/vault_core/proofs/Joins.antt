@@ -9,7 +9,7 @@ use Rattle.plain_facts.specs.Lists.{In}
 use Rattle.hail_codes.specs.Points.{upto}
 use Rattle.hail_columns.specs.Verdicts.{Sums}
 use Rattle.hail_records.specs.Records.{Setup}
-use Rattle.hail_records.specs.Table.{File, Due, find_file, files_of, file_of, due_of}
+use Rattle.hail_records.specs.Table.{File, Due, find_file, files_of, due_of}
 use Rattle.hail_records.proofs.FilesLaws.{find-files_of}
 use Rattle.hail_machine.specs.Setups.{profiled, stripes_of}
 use Rattle.hail_machine.specs.Jobs.{Kind, PutJob, GetJob, DropJob, AuditJob, RepairJob, ToPut, ToGet, ToDrop, ToAudit, ToRepair, ToUpgrade, Aim, aim_of}
@@ -179,23 +179,16 @@ kind-along : (v u : Wish) (k : Kind) → u ≡ v → IsKindOf v k → IsKindOf u
 kind-along v u k e h = subst (λ (x : Wish). IsKindOf x k) (sym e) h
 
 opens-first : (v : Wish) (ts : List Task) → is_opening (cursor_first v ts) ≡ (is_opener v && true)
-opens-first (wish.Put name size) ts = refl
 opens-first (wish.Get name) [] = refl
-opens-first (wish.Get name) (t ∷ ts) = refl
-opens-first (wish.Drop name) ts = refl
-opens-first wish.Audit ts = refl
 opens-first wish.Repair [] = refl
-opens-first wish.Repair (t ∷ ts) = refl
+opens-first v ts = refl
 
 not-asked : (j : CoreJob) (v : Wish) → j.wish ≡ v → j.opening ≡ (is_opener v && true) → IsTrue (has_asked j) → ⊥
 not-asked j v e o h = by v (ap (λ (x : Wish). has_asked (record j { wish = x; opening = j.opening })) e) o
   where
     by : (x : Wish) → has_asked j ≡ has_asked (record j { wish = x; opening = j.opening }) → j.opening ≡ (is_opener x && true) → ⊥
-    by (wish.Put name size) f p = false≢true (sym f ∙ h)
-    by (wish.Get name) f p = false≢true (sym f ∙ h)
-    by (wish.Drop name) f p = false≢true (sym f ∙ h)
     by wish.Audit f p = false≢true (sym (f ∙ ap (λ (b : Bool). has_asked (record j { wish = wish.Audit; opening = b })) p) ∙ h)
-    by wish.Repair f p = false≢true (sym f ∙ h)
+    by x f p = false≢true (sym f ∙ h)
 
 subject-are : (t : Kept) (w : State) (v : Wish) (k : Kind) → IsFoldOf w.records t → IsAlike v k → subject_for t v ≡ subject_at_begin w k
 subject-are t w (wish.Put name size) (PutJob n b) fold h = refl

@@ -5,11 +5,12 @@ use Rattle.std.proofs.lemmas.Bool.{false≢true, not-true, and_parts}
 use Rattle.std.proofs.Math.Bool.{and-true}
 use Rattle.hail_columns.specs.Verdicts.{Sums}
 use Rattle.hail_machine.specs.Jobs.{Kind, AuditJob, Given, Job}
-use Rattle.hail_machine.specs.Actions.{Action, WriteBody, SyncBody, WriteGate, SyncGate, Store, Fetch, Ask, Work, Remove, End, actions_of}
+use Rattle.hail_machine.specs.Actions.{Action, SyncGate, Ask, End, actions_of}
 use Rattle.hail_machine.specs.States.{State, setup_in}
 use Rattle.hail_machine.specs.Audits.{HasSums}
 use Rattle.hail_machine.specs.Steps.{next_action}
 use Rattle.hail_machine.proofs.NextActions.{next_stands}
+use Rattle.sound_states.proofs.Orders.{get-drop}
 use Rattle.sound_states.proofs.Going.{onward}
 use Rattle.vault_core.proofs.Alike.{IsAlike, alike}
 use Rattle.vault_core.specs.declared.wish.Wish.{Wish}
@@ -19,25 +20,18 @@ use Rattle.vault_core.specs.Coming.{asks_next, begins_append, is_last_ask}
 use Rattle.vault_core.specs.Carried.{is_audit_wish, has_asked, IsJobOf}
 use Rattle.vault_core.specs.Fed.{goes_plainly, is_gate, stepped, judged}
 use Rattle.vault_core.proofs.Kept.{and_left}
-use Rattle.vault_core.proofs.Standing.{get-drop}
 use Rattle.vault_core.proofs.Onward.{opens-list, ask_behind, sums-same, ask-then, head-here, left-here, rest-on, opening-on}
 use Rattle.vault_core.proofs.Gates.{second_of}
 use Rattle.vault_core.specs.Wished.{is_opener}
 
 audit_is : (v : Wish) → is_audit_wish v ≡ true → v ≡ wish.Audit
-audit_is (wish.Put name size) h = absurd (false≢true h)
-audit_is (wish.Get name) h = absurd (false≢true h)
-audit_is (wish.Drop name) h = absurd (false≢true h)
 audit_is wish.Audit h = refl
-audit_is wish.Repair h = absurd (false≢true h)
+audit_is v h = absurd (false≢true h)
 
 pub audit_kind : (v : Wish) (k : Kind) → v ≡ wish.Audit → IsAlike v k → k ≡ AuditJob
 audit_kind wish.Audit AuditJob e h = refl
 audit_kind wish.Audit k e h = absurd h
-audit_kind (wish.Put name size) k e h = cc
-audit_kind (wish.Get name) k e h = cc
-audit_kind (wish.Drop name) k e h = cc
-audit_kind wish.Repair k e h = cc
+audit_kind v k e h = cc
 
 -- what it says that an audit has asked all
 pub record Asked (c : CoreJob) : Type 0 where
@@ -56,16 +50,8 @@ asked_whole c a o h = ap (λ (v : Wish). is_audit_wish v && (not c.opening && no
     ∙ (ap (λ (b : Bool). not b && not (asks_next (slice_get c.rest 0))) o ∙ ap not h)
 
 no_gate : (a : Action) → goes_plainly (Some a) ≡ true → is_gate (Some a) ≡ false
-no_gate WriteBody h = refl
-no_gate SyncBody h = refl
-no_gate WriteGate h = refl
 no_gate SyncGate h = absurd (false≢true h)
-no_gate (Store j o t) h = refl
-no_gate (Fetch j o t) h = refl
-no_gate (Ask j o t) h = refl
-no_gate (Work o t) h = refl
-no_gate (Remove j o) h = refl
-no_gate End h = refl
+no_gate a h = refl
 
 module _ (w : State) (c : CoreJob) (m : Job) (a : Action) (is : IsJobOf (setup_in w) c m) (next : next_action w m ≡ Some a) (on : a ≡ End → ⊥) where
   -- an action that is not the last ask of an audit changes nothing of what is judged
@@ -83,7 +69,7 @@ module _ (w : State) (c : CoreJob) (m : Job) (a : Action) (is : IsJobOf (setup_i
       opened = sym (and-true c.opening) ∙ (ap (λ (b : Bool). c.opening && not b) (sym (ap is_gate (head-here w c m a is next on) ∙ no_gate a plain)) ∙ parts.opened)
 
       head : slice_get (stepped c).rest 0 ≡ slice_get (actions_of (setup_in w) m) (m.place + 1)
-      head = ap (λ (xs : List Action). slice_get (drop 1 xs) 0) (left-here w c m a is next on) ∙ get-drop (m.place + 1) (actions_of (setup_in w) m)
+      head = ap (λ (xs : List Action). slice_get (drop 1 xs) 0) (left-here w c m a is next on) ∙ get-drop (actions_of (setup_in w) m) (m.place + 1)
 
       by : (b : Bool) → asks_next (Some a) ≡ b → HasSums (setup_in w) (onward m m.subject given) c.sums
       by false e = elim gave [
@@ -98,15 +84,7 @@ module _ (w : State) (c : CoreJob) (m : Job) (a : Action) (is : IsJobOf (setup_i
             | inr starts ↦ false≢true (sym last ∙ (ap (λ (o : Option Action). asks_next o && begins_append (slice_get c.rest 1)) (head-here w c m a is next on)
                 ∙ (ap (λ (b : Bool). b && begins_append (slice_get c.rest 1)) e ∙ (ap begins_append (second_of c.rest ∙ head) ∙ starts))))
           ]
-          not_ask WriteBody f listed = false≢true f
-          not_ask SyncBody f listed = false≢true f
-          not_ask WriteGate f listed = false≢true f
-          not_ask SyncGate f listed = false≢true f
-          not_ask (Store j o t) f listed = false≢true f
-          not_ask (Fetch j o t) f listed = false≢true f
-          not_ask (Work o t) f listed = false≢true f
-          not_ask (Remove j o) f listed = false≢true f
-          not_ask End f listed = false≢true f
+          not_ask x f listed = false≢true f
 
   -- an audit that is judged
   pub on-judged : (j o t : ℕ) → a ≡ Ask j o t → (given : List Given) (sums : Sums) → HasSums (setup_in w) (onward m m.subject given) sums → IsJobOf (setup_in w) (judged c sums) (onward m m.subject given)

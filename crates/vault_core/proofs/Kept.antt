@@ -74,10 +74,7 @@ starts_fewer (wish.Put name size) true true h = omega arith
 starts_fewer (wish.Put name size) true false h = omega arith
 starts_fewer (wish.Put name size) false true h = absurd (false≢true (h refl))
 starts_fewer (wish.Put name size) false false h = omega arith
-starts_fewer (wish.Get name) a b h = omega arith
-starts_fewer (wish.Drop name) a b h = omega arith
-starts_fewer wish.Audit a b h = omega arith
-starts_fewer wish.Repair a b h = omega arith
+starts_fewer w a b h = omega arith
 
 pub starts_not_more : (j k : CoreJob) → k.wish ≡ j.wish → (k.opening ≡ true → j.opening ≡ true) → starts_of k ≤ starts_of j
 starts_not_more j k w h = subst (λ (x : Wish). starts_by x k.opening ≤ starts_of j) (sym w) (starts_fewer j.wish j.opening k.opening h)

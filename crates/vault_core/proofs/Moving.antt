@@ -11,7 +11,6 @@ use Rattle.hail_machine.specs.Left.{removes_older}
 use Rattle.record_codec.specs.Entries.{counted, IsPadded}
 use Rattle.record_codec.specs.declared.counts.Counts.{Counts}
 use Rattle.vault_core.specs.declared.wish.Wish.{Wish}
-use Rattle.vault_core.specs.declared.wish.Wish.TheVariants as wish
 use Rattle.vault_core.specs.declared.cursor.Move.TheVariants as move
 use Rattle.vault_core.specs.declared.cursor.Cursor.{Cursor}
 use Rattle.vault_core.specs.declared.cursor.Cursor.TheVariants as at
@@ -49,50 +48,11 @@ kept_at a place job h l e =
 
 plain_at : (w : Wish) (c : Cursor) → goes_plainly (Some (action_at w c)) ≡ true → (is_over c ≡ false) × (decides_at w c ≡ false)
 plain_at w (at.Opening move.Body) h = absurd (false≢true h)
-plain_at (wish.Put name size) (at.Opening move.BodySync) h = (refl, refl)
-plain_at (wish.Get name) (at.Opening move.BodySync) h = (refl, refl)
-plain_at (wish.Drop name) (at.Opening move.BodySync) h = (refl, refl)
-plain_at wish.Audit (at.Opening move.BodySync) h = (refl, refl)
-plain_at wish.Repair (at.Opening move.BodySync) h = (refl, refl)
-plain_at (wish.Put name size) (at.Opening move.Gate) h = (refl, refl)
-plain_at (wish.Get name) (at.Opening move.Gate) h = (refl, refl)
-plain_at (wish.Drop name) (at.Opening move.Gate) h = (refl, refl)
-plain_at wish.Audit (at.Opening move.Gate) h = (refl, refl)
-plain_at wish.Repair (at.Opening move.Gate) h = (refl, refl)
 plain_at w (at.Opening move.GateSync) h = absurd (false≢true h)
 plain_at w (at.Closing move.Body) h = absurd (false≢true h)
-plain_at (wish.Put name size) (at.Closing move.BodySync) h = (refl, refl)
-plain_at (wish.Get name) (at.Closing move.BodySync) h = (refl, refl)
-plain_at (wish.Drop name) (at.Closing move.BodySync) h = (refl, refl)
-plain_at wish.Audit (at.Closing move.BodySync) h = (refl, refl)
-plain_at wish.Repair (at.Closing move.BodySync) h = (refl, refl)
-plain_at (wish.Put name size) (at.Closing move.Gate) h = (refl, refl)
-plain_at (wish.Get name) (at.Closing move.Gate) h = (refl, refl)
-plain_at (wish.Drop name) (at.Closing move.Gate) h = (refl, refl)
-plain_at wish.Audit (at.Closing move.Gate) h = (refl, refl)
-plain_at wish.Repair (at.Closing move.Gate) h = (refl, refl)
 plain_at w (at.Closing move.GateSync) h = absurd (false≢true h)
 plain_at w at.Ending h = absurd (false≢true h)
-plain_at (wish.Put name size) (at.Calling spot j) h = (refl, refl)
-plain_at (wish.Get name) (at.Calling spot j) h = (refl, refl)
-plain_at (wish.Drop name) (at.Calling spot j) h = (refl, refl)
-plain_at wish.Audit (at.Calling spot j) h = (refl, refl)
-plain_at wish.Repair (at.Calling spot j) h = (refl, refl)
-plain_at (wish.Put name size) (at.Working spot) h = (refl, refl)
-plain_at (wish.Get name) (at.Working spot) h = (refl, refl)
-plain_at (wish.Drop name) (at.Working spot) h = (refl, refl)
-plain_at wish.Audit (at.Working spot) h = (refl, refl)
-plain_at wish.Repair (at.Working spot) h = (refl, refl)
-plain_at (wish.Put name size) (at.Rewriting spot j) h = (refl, refl)
-plain_at (wish.Get name) (at.Rewriting spot j) h = (refl, refl)
-plain_at (wish.Drop name) (at.Rewriting spot j) h = (refl, refl)
-plain_at wish.Audit (at.Rewriting spot j) h = (refl, refl)
-plain_at wish.Repair (at.Rewriting spot j) h = (refl, refl)
-plain_at (wish.Put name size) (at.Removing object j) h = (refl, refl)
-plain_at (wish.Get name) (at.Removing object j) h = (refl, refl)
-plain_at (wish.Drop name) (at.Removing object j) h = (refl, refl)
-plain_at wish.Audit (at.Removing object j) h = (refl, refl)
-plain_at wish.Repair (at.Removing object j) h = (refl, refl)
+plain_at w c h = (refl, refl)
 
 pub plain_job : (n : ℕ) (job : Job) → IsJobKept n job → goes_plainly (slice_get (rest_of n job) 0) ≡ true → (is_over job.cursor ≡ false) × (decides job ≡ false)
 plain_job n job kept h = plain_at job.wish job.cursor (ap goes_plainly (sym (first_is n job kept)) ∙ h)
@@ -101,15 +61,7 @@ plain_job n job kept h = plain_at job.wish job.cursor (ap goes_plainly (sym (fir
 
 call_gate : (w : Wish) (c : Cursor) → goes_opening c ≡ (is_opening c && not (is_gate (Some (action_at w c))))
 call_gate w (at.Opening move.Body) = refl
-call_gate w (at.Opening move.BodySync) = refl
-call_gate w (at.Opening move.Gate) = refl
-call_gate w (at.Opening move.GateSync) = refl
-call_gate w (at.Calling spot j) = refl
-call_gate w (at.Working spot) = refl
-call_gate w (at.Rewriting spot j) = refl
-call_gate w (at.Closing m) = refl
-call_gate w (at.Removing object j) = refl
-call_gate w at.Ending = refl
+call_gate w c = refl
 
 pub opening_moves : (n : ℕ) (job : Job) → IsJobKept n job → goes_opening job.cursor ≡ (is_opening job.cursor && not (is_gate (slice_get (rest_of n job) 0)))
 opening_moves n job kept = call_gate job.wish job.cursor ∙ ap (λ (o : Option Action). is_opening job.cursor && not (is_gate o)) (sym (first_is n job kept))
@@ -176,12 +128,7 @@ set_view_same a c v place job before f view e here s j g =
 
 judged_at : (n : ℕ) (job : Job) (u : ℕ) (cs : Counts) (c : Cursor) → rest_at n (record job { undecided = u; counts = cs }) c ≡ rest_at n job c
 judged_at n job u cs (at.Opening m) = refl
-judged_at n job u cs (at.Calling spot j) = refl
-judged_at n job u cs (at.Working spot) = refl
-judged_at n job u cs (at.Rewriting spot j) = refl
-judged_at n job u cs (at.Closing m) = refl
-judged_at n job u cs (at.Removing object j) = refl
-judged_at n job u cs at.Ending = refl
+judged_at n job u cs c = refl
 
 pub rest_judged : (n : ℕ) (job : Job) (u : ℕ) (cs : Counts) → rest_of n (record job { undecided = u; counts = cs }) ≡ rest_of n job
 unfolding rest_of

@@ -1,23 +1,14 @@
 -- A move that comes next is the next action of a job.
-use Rattle.std.proofs.Common.{◌≡◌, ℕ, Bool, true, false, cond, Option, None, Some, refl, ap, sym, subst, ◌∙◌}
-use Rattle.hail_machine.specs.Actions.{Action, WriteBody, SyncBody, WriteGate, SyncGate, Store, Fetch, Ask, Work, Remove, End}
+use Rattle.std.proofs.Common.{◌≡◌, ℕ, Bool, true, false, cond, Option, None, Some, refl, subst}
+use Rattle.hail_machine.specs.Actions.{Action, WriteBody}
 use Rattle.vault_core.specs.View.{CoreJob, CoreView, job_in}
 use Rattle.vault_core.specs.Coming.{Coming, IsBarred, action_next, is_move, calls_disk, waits_or_acts, next_of, next_in}
 
 -- a job that may go on and has a move next has this move as its next action
 moves-acts : (flight : Option ℕ) (o : Option Action) → calls_disk (waits_or_acts flight o) ≡ true → is_move o ≡ true
 moves-acts flight None h = (let e : false ≡ true = h in cc)
-moves-acts None (Some a) h = h
 moves-acts (Some k) (Some WriteBody) h = refl
-moves-acts (Some k) (Some SyncBody) h = refl
-moves-acts (Some k) (Some WriteGate) h = refl
-moves-acts (Some k) (Some SyncGate) h = refl
-moves-acts (Some k) (Some (Store j object stripe)) h = h
-moves-acts (Some k) (Some (Fetch j object stripe)) h = h
-moves-acts (Some k) (Some (Ask j object round)) h = h
-moves-acts (Some k) (Some (Work object stripe)) h = h
-moves-acts (Some k) (Some (Remove j object)) h = h
-moves-acts (Some k) (Some End) h = h
+moves-acts flight (Some a) h = h
 
 -- the same of the job of a number
 pub moves-job : (c : CoreView) (number : ℕ) (j : CoreJob) → job_in c.jobs number ≡ Some j → calls_disk (next_in c number) ≡ true → is_move (action_next c.table j) ≡ true
@@ -25,6 +16,7 @@ moves-job c number j found h = by_barred c.barred (subst (λ (o : Option CoreJob
   where
     by : Bool → Option CoreJob → Coming
     by barred o = cond barred IsBarred (next_of c o)
+
     by_barred : (b : Bool) → calls_disk (by b (Some j)) ≡ true → is_move (action_next c.table j) ≡ true
     by_barred true h = (let e : false ≡ true = h in cc)
     by_barred false h = moves-acts c.append (action_next c.table j) h

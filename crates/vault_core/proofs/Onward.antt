@@ -4,7 +4,7 @@ use Rattle.std.specs.Prelude.{Option, ◌⊎◌, ◌&&◌, not, nat_lt, slice_ge
 use Rattle.std.specs.List.{flat_map, range_with_len}
 use Rattle.std.proofs.lemmas.Bool.{le-ltb, false≢true}
 use Rattle.plain_facts.specs.Lists.{Each}
-use Rattle.plain_facts.proofs.Each.{each_get, each_append, each_map, each_flat}
+use Rattle.plain_facts.proofs.Each.{each_get, each_append}
 use Rattle.hail_codes.specs.Points.{upto}
 use Rattle.hail_columns.specs.Verdicts.{Sums, Judges}
 use Rattle.hail_columns.specs.Challenges.{challenge_of}
@@ -17,7 +17,7 @@ use Rattle.hail_machine.specs.States.{State, setup_in}
 use Rattle.hail_machine.specs.Audits.{JudgesRounds, JudgesFiles, HasSums}
 use Rattle.hail_machine.specs.Steps.{next_action}
 use Rattle.hail_machine.proofs.NextActions.{next_stands}
-use Rattle.sound_states.proofs.Orders.{put-list, audit-list, put_rest, drop_rest, audit_rest, next-left}
+use Rattle.sound_states.proofs.Orders.{each-ask, put-list, audit-list, put_rest, drop_rest, audit_rest, next-left}
 use Rattle.sound_states.proofs.Gates.{drop-list}
 use Rattle.sound_states.proofs.Going.{onward, actions-onward}
 use Rattle.vault_core.proofs.Alike.{IsAlike, alike}
@@ -116,8 +116,7 @@ NoAsk a = asks_next (Some a) ≡ false
 
 asks_ask : (s : Setup) (m : Job) → Each IsAnAsk (ask_actions s m)
 unfolding IsAnAsk
-asks_ask s m = each_flat IsAnAsk (λ (f : Pinned). flat_map (λ round. on_each_provider s (λ j. Ask j f.id round)) (rounds_of (profiled s f.profile) (length f.bytes))) m.pinned
-    (λ f. each_flat IsAnAsk (λ round. on_each_provider s (λ j. Ask j f.id round)) (rounds_of (profiled s f.profile) (length f.bytes)) (λ r. each_map IsAnAsk (λ j. Ask j f.id r) (upto s.n) (λ j. refl)))
+asks_ask s m = each-ask IsAnAsk (λ j o t. refl) s m
 
 -- behind asks comes the first move of the next append
 ask_then : (xs ys : List Action) (p j o t : ℕ) → Each IsAnAsk xs → Each NoAsk ys → slice_get (xs ++ WriteBody ∷ ys) p ≡ Some (Ask j o t) →
@@ -165,12 +164,8 @@ IsAudits a = Unit {0}
 pub audit-action : (s : Setup) (m : Job) (a : Action) → m.kind ≡ AuditJob → slice_get (actions_of s m) m.place ≡ Some a → IsAudits a
 audit-action s m a kind e = each_get IsAudits (append_actions ++ audit_rest s m) m.place a
     (each_append IsAudits append_actions (audit_rest s m) (tt, (tt, (tt, (tt, tt))))
-    (each_append IsAudits (ask_actions s m) (append_actions ++ End ∷ []) asks (tt, (tt, (tt, (tt, (tt, tt)))))))
+    (each_append IsAudits (ask_actions s m) (append_actions ++ End ∷ []) (each-ask IsAudits (λ j o t. tt) s m) (tt, (tt, (tt, (tt, (tt, tt)))))))
     (ap (λ (xs : List Action). slice_get xs m.place) (sym (audit-list s m kind)) ∙ e)
-  where
-    asks : Each IsAudits (ask_actions s m)
-    asks = each_flat IsAudits (λ (f : Pinned). flat_map (λ round. on_each_provider s (λ j. Ask j f.id round)) (rounds_of (profiled s f.profile) (length f.bytes))) m.pinned
-        (λ f. each_flat IsAudits (λ round. on_each_provider s (λ j. Ask j f.id round)) (rounds_of (profiled s f.profile) (length f.bytes)) (λ r. each_map IsAudits (λ j. Ask j f.id r) (upto s.n) (λ j. tt)))
 
 -- ---- a job that has made a plain action
 

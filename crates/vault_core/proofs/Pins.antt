@@ -53,11 +53,8 @@ turns_some s w size k e h z = subst (λ (v : Wish). s.rounds ≡ turns_for s v s
     some m f = grind (arith, nat_tests, f)
 
 pub turns_other : (s : Setup) (w : Wish) (size k : ℕ) → (w ≡ wish.Audit → ⊥) → k ≡ stripes_of s size → k ≡ turns_for s w size
-turns_other s (wish.Put name n) size k f h = h
-turns_other s (wish.Get name) size k f h = h
-turns_other s (wish.Drop name) size k f h = h
 turns_other s wish.Audit size k f h = absurd (f refl)
-turns_other s wish.Repair size k f h = h
+turns_other s w size k f h = h
 
 -- ---- tasks
 
@@ -86,10 +83,7 @@ take_over (x ∷ xs) (suc i) l = ap (λ (ys : List Pinned). x ∷ ys) (take_over
 
 pub targets_other : (w : Wish) (pins : List Pinned) → ((name : List ℕ) (size : ℕ) → w ≡ wish.Put name size → ⊥) → pins ≡ targets_of w pins
 targets_other (wish.Put name size) pins h = absurd (h name size refl)
-targets_other (wish.Get name) pins h = refl
-targets_other (wish.Drop name) pins h = refl
-targets_other wish.Audit pins h = refl
-targets_other wish.Repair pins h = refl
+targets_other w pins h = refl
 
 -- ---- pinned files
 
@@ -99,8 +93,5 @@ pins_step files k f old new l g o e = e ∙ (ap (pin_by core_pins (pin_of_file f
     ∙ ap (pin_each core_pins pin_of_file) (sym (drop-get files (k - 1) f (sym g))))
 
 pub subject_is : (t : Kept) (v : Wish) (k : ℕ) → (is_rewriter v ≡ true → k ≡ due_number t.due) → (is_rewriter v ≡ false → k ≡ 0) → k ≡ subject_for t v
-subject_is t (wish.Put name size) k r o = o refl
-subject_is t (wish.Get name) k r o = o refl
-subject_is t (wish.Drop name) k r o = o refl
-subject_is t wish.Audit k r o = o refl
 subject_is t wish.Repair k r o = r refl
+subject_is t w k r o = o refl

@@ -1,4 +1,4 @@
--- While the journal has its first version: the end of its text, and the profile of every file that a job works on.
+-- While the journal has its first version: the profile of every file that a job works on.
 use Rattle.std.proofs.Common.{◌≡◌, ℕ, List, [], ◌∷◌, Option, Some, None, inl, inr, refl, ap, sym, subst, ◌∙◌}
 use Rattle.std.specs.Prelude.{nat_lt, if◌then◌else◌}
 use Rattle.std.specs.List.{flat_map}
@@ -6,19 +6,11 @@ use Rattle.std.proofs.lemmas.Bool.{cases_Bool}
 use Rattle.plain_facts.specs.Lists.{In}
 use Rattle.hail_records.specs.Records.{Setup}
 use Rattle.hail_records.specs.Table.{File, files_of}
-use Rattle.hail_records.specs.Journal.{text_size}
-use Rattle.hail_records.specs.Areas.{Area, A, end_in}
-use Rattle.hail_records.proofs.AreaLaws.{text_size-end}
 use Rattle.hail_machine.specs.Jobs.{Kind, PutJob, GetJob, DropJob, AuditJob, RepairJob, UpgradeJob, Pinned}
 use Rattle.hail_machine.specs.Actions.{Action, machine_pins}
-use Rattle.hail_machine.specs.States.{State, setup_in, file_in, journal_end}
+use Rattle.hail_machine.specs.States.{State, setup_in, file_in}
 use Rattle.hail_machine.specs.Begins.{pinned_file, pin_by, pin_each, pin_found, pinned_for}
 use Rattle.hail_machine.proofs.RecordFacts.{listed_file}
-use Rattle.sound_states.specs.Sound.{IsWholeJournal}
-
--- the end of a whole journal
-pub first-end : (w : State) → IsWholeJournal w → journal_end w ≡ text_size w.records
-first-end w whole = ap (λ (a : Area). end_in a w.journal) whole.area ∙ (ap (end_in A) whole.journal ∙ text_size-end w.records)
 
 -- files of the setup's profile
 abbrev pub ArePlain : Setup → List Pinned → Type 0

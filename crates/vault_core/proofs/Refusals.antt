@@ -1,5 +1,5 @@
 -- Why no job begins: what a core sees is what the machine sees.
-use Rattle.std.proofs.Common.{◌≡◌, ℕ, suc, ◌+◌, ◌<◌, ◌≤◌, Bool, true, false, not, ◌&&◌, ◌||◌, List, [], ◌∷◌, Option, Some, None, ◌^◌, ◌-◌, min, length, map, drop, inl, inr, refl, ap, sym, subst, ◌∙◌, arith}
+use Rattle.std.proofs.Common.{◌≡◌, ℕ, suc, ◌+◌, ◌<◌, ◌≤◌, Bool, true, false, not, ◌&&◌, ◌||◌, List, [], ◌∷◌, Option, Some, None, ◌-◌, min, length, map, drop, inl, inr, refl, ap, sym, subst, ◌∙◌, arith}
 use Rattle.std.specs.Prelude.{nat_lt, nat_le, nat_eq, is_some, sum, sum_by, count_by, if◌then◌else◌}
 use Rattle.std.specs.List.{list_any, AllZip}
 use Rattle.std.specs.Cmp.Lexicographic.{pointwise}
@@ -9,14 +9,14 @@ use Rattle.std.proofs.Math.Bool.{or-false}
 use Rattle.std.proofs.lemmas.Bool.Decides.{nat_tests}
 use Rattle.std.proofs.lemmas.List.{length-map}
 use Rattle.std.proofs.lemmas.List.Sums.{sum_by-cons}
-use Rattle.hail_records.specs.Records.{Setup, is_name, largest_file, largest_journal, most_files}
-use Rattle.hail_records.specs.Table.{File, version_of, is_same_name, find_file}
-use Rattle.hail_machine.specs.Jobs.{Aim, ToPut, ToGet, ToDrop, ToAudit, ToRepair, ToUpgrade, aim_of}
+use Rattle.hail_records.specs.Records.{Setup, largest_file, largest_journal, most_files}
+use Rattle.hail_records.specs.Table.{File, is_same_name, find_file}
+use Rattle.hail_machine.specs.Jobs.{Aim, ToPut, ToGet, ToDrop, ToAudit, ToRepair, aim_of}
 use Rattle.hail_machine.specs.Jobs.{Job as MachineJob}
 use Rattle.hail_machine.specs.Actions.{Action, ends_append}
 use Rattle.hail_machine.specs.Refusals as refusal
 use Rattle.hail_machine.specs.Refusals.{Refusal, Cause, first_refusal}
-use Rattle.hail_machine.specs.States.{State, Alone, setup_in, journal_end}
+use Rattle.hail_machine.specs.States.{State, Alone, setup_in}
 use Rattle.hail_machine.specs.Space.{append_sizes, room_left, reserved}
 use Rattle.hail_machine.specs.Sights.{Sight, sight_of, aims_of, room_used, is_put_or_check, is_check, is_upgrade, is_shut, are_jobs_in_the_way, is_busy, is_name_among, with_name, is_crowded, is_stored, is_full, is_too_full, are_numbers_used_up, causes}
 use Rattle.sound_states.proofs.NamesTaken.{listed-with_puts, listed-files, length-names_in}
@@ -32,9 +32,9 @@ use Rattle.vault_core.specs.View.{CoreJob, CoreView}
 use Rattle.vault_core.proofs.Standing.{refused_early}
 use Rattle.vault_core.specs.Wished.{aim_of_wish, HasName, IsShort}
 use Rattle.vault_core.specs.Parts.{core_job, view_of}
-use Rattle.vault_core.specs.Reserves.{sizes_of, room_behind, reserved_of}
+use Rattle.vault_core.specs.Reserves.{sizes_of, reserved_of}
 use Rattle.vault_core.specs.Carried.{IsJobOf, CoreIs, refusal_of}
-use Rattle.vault_core.specs.Refusing.{aims_in, sight_in, aims_kept, puts_name, taken_names, word_refusal_in, or_full, refusal_in}
+use Rattle.vault_core.specs.Refusing.{aims_in, sight_in, aims_kept, puts_name, taken_names, or_full, refusal_in}
 
 -- ---- lists of jobs, as they are kept and as they are seen
 
@@ -61,11 +61,7 @@ same-pointwise (x ∷ xs) (y ∷ ys) = grind (arith, nat_tests, same-pointwise x
 any-puts : (name : List ℕ) (aims : List Aim) → list_any (machine_puts name) aims ≡ list_any (puts_name name) aims
 any-puts name [] = refl
 any-puts name (ToPut own size ∷ aims) = ap (λ (b : Bool). is_same_name name own || b) (any-puts name aims)
-any-puts name (ToGet own ∷ aims) = any-puts name aims
-any-puts name (ToDrop own ∷ aims) = any-puts name aims
-any-puts name (ToAudit ∷ aims) = any-puts name aims
-any-puts name (ToRepair ∷ aims) = any-puts name aims
-any-puts name (ToUpgrade ∷ aims) = any-puts name aims
+any-puts name (aim ∷ aims) = any-puts name aims
 
 -- a name is taken where a job puts it or a file has it
 pub taken-by : (files : List File) (aims : List Aim) (name : List ℕ) → is_name_among (taken_names files aims) name ≡ (list_any (puts_name name) aims || is_some (find_file files name))
@@ -89,10 +85,7 @@ more-put files aims w name size b e h = subst (λ (v : Wish). length (taken_name
 pub more-other : (files : List File) (aims : List Aim) (w : Wish) → ((name : List ℕ) (size : ℕ) → w ≡ wish.Put name size → ⊥) →
     length (taken_names files (aim_of_wish w ∷ aims)) ≡ 0 + length (taken_names files aims)
 more-other files aims (wish.Put name size) h = absurd (h name size refl)
-more-other files aims (wish.Get name) h = omega arith
-more-other files aims (wish.Drop name) h = omega arith
-more-other files aims wish.Audit h = omega arith
-more-other files aims wish.Repair h = omega arith
+more-other files aims w h = omega arith
 
 pub none-more : (files : List File) → length (taken_names files []) ≡ length files
 none-more files = length-names_in files
@@ -101,10 +94,7 @@ none-more files = length-names_in files
 
 no_upgrade : (w : Wish) → is_upgrade (aim_of_wish w) ≡ false
 no_upgrade (wish.Put name size) = refl
-no_upgrade (wish.Get name) = refl
-no_upgrade (wish.Drop name) = refl
-no_upgrade wish.Audit = refl
-no_upgrade wish.Repair = refl
+no_upgrade w = refl
 
 -- nothing keeps every job from beginning
 unshut : (js : List CoreJob) → list_any is_upgrade (aims_in js) ≡ false
@@ -118,11 +108,9 @@ are_in_the_way aims ToRepair = list_any is_check aims
 are_in_the_way aims aim = false
 
 pub way : (aims : List Aim) (w : Wish) → are_jobs_in_the_way 8 aims (aim_of_wish w) ≡ (nat_le 8 (length aims) || are_in_the_way aims (aim_of_wish w))
-way aims (wish.Put name size) = sym (or-false (nat_le 8 (length aims)))
-way aims (wish.Get name) = sym (or-false (nat_le 8 (length aims)))
-way aims (wish.Drop name) = sym (or-false (nat_le 8 (length aims)))
 way aims wish.Audit = refl
 way aims wish.Repair = refl
+way aims w = sym (or-false (nat_le 8 (length aims)))
 
 pub busy : (a : Inside) (v : CoreView) (w : Wish) (b : Bool) → view_of a ≡ v → b ≡ (nat_le 8 (length a.jobs.items) || are_in_the_way (aims_kept a.jobs.items) (aim_of_wish w)) →
     b ≡ is_busy 8 (sight_in v) (aim_of_wish w)
@@ -137,11 +125,9 @@ pub beside : (a : Inside) (v : CoreView) (w : Wish) (b : Bool) → view_of a ≡
 beside a v w b e l h = busy a v w b e (h ∙ sym (ap (λ (t : Bool). t || are_in_the_way (aims_kept a.jobs.items) (aim_of_wish w)) (lt-leb 8 (length a.jobs.items) l)))
 
 pub none-beside : (aims : List Aim) (w : Wish) → (w ≡ wish.Audit → ⊥) → (w ≡ wish.Repair → ⊥) → false ≡ are_in_the_way aims (aim_of_wish w)
-none-beside aims (wish.Put name size) a r = refl
-none-beside aims (wish.Get name) a r = refl
-none-beside aims (wish.Drop name) a r = refl
 none-beside aims wish.Audit a r = absurd (a refl)
 none-beside aims wish.Repair a r = absurd (r refl)
+none-beside aims w a r = refl
 
 pub crowded : (a : Inside) (v : CoreView) (name : List ℕ) (taken : Bool) (count : ℕ) → view_of a ≡ v → taken ≡ is_name_among (taken_names a.table.files (aims_kept a.jobs.items)) name →
     nat_le 1024 count ≡ nat_le 1024 (length (taken_names a.table.files (aims_kept a.jobs.items))) → (nat_le 1024 count && not taken) ≡ is_crowded (sight_in v) name
@@ -163,17 +149,11 @@ few_false count taken l = let f : nat_le 1024 count ≡ false = grind (arith, na
 -- the sizes of records hang on the number of providers alone
 pub sizes-by : (s : Setup) (w : Wish) → append_sizes 1 s (aim_of_wish w) ≡ sizes_of s.n w
 sizes-by s (wish.Put name size) = refl
-sizes-by s (wish.Get name) = refl
-sizes-by s (wish.Drop name) = refl
-sizes-by s wish.Audit = refl
-sizes-by s wish.Repair = refl
+sizes-by s w = refl
 
 full-cases : (x : Sight) (w : Wish) → ((name : List ℕ) → w ≡ wish.Get name → ⊥) → is_full x (aim_of_wish w) ≡ (is_too_full x (aim_of_wish w) || are_numbers_used_up x (aim_of_wish w))
-full-cases x (wish.Put name size) h = refl
 full-cases x (wish.Get name) h = absurd (h name refl)
-full-cases x (wish.Drop name) h = refl
-full-cases x wish.Audit h = refl
-full-cases x wish.Repair h = refl
+full-cases x w h = refl
 
 -- the room of a job behind that of those that run, and whether its number comes too near the last one
 pub full : (a : Inside) (v : CoreView) (w : Wish) (room size : ℕ) (used : Bool) → view_of a ≡ v → ((name : List ℕ) → w ≡ wish.Get name → ⊥) →
@@ -199,10 +179,8 @@ under k u b l h = h ∙ ap (λ (t : Bool). t || u) (sym not_over)
 
 pub used-none : (x : Sight) (w : Wish) → ((name : List ℕ) (size : ℕ) → w ≡ wish.Put name size → ⊥) → (w ≡ wish.Audit → ⊥) → false ≡ are_numbers_used_up x (aim_of_wish w)
 used-none x (wish.Put name size) p a = absurd (p name size refl)
-used-none x (wish.Get name) p a = refl
-used-none x (wish.Drop name) p a = refl
 used-none x wish.Audit p a = absurd (a refl)
-used-none x wish.Repair p a = refl
+used-none x w p a = refl
 
 -- ---- what the machine sees
 

@@ -10,13 +10,5 @@ pub takes-done : (c : CoreView) (job : ℕ) (a : ActionValue) → Acts (seen_act
 takes-done c job a e f = subst (λ (x : Coming). HasReply c job x reply.Done) e (by a)
   where
     by : (b : ActionValue) → HasReply c job (Acts (seen_action b)) reply.Done
-    by act.WriteBody = tt
-    by act.SyncBody = tt
-    by act.WriteGate = tt
-    by act.SyncGate = tt
-    by (act.Store provider object stripe) = tt
-    by (act.Fetch provider object stripe) = tt
     by (act.Ask provider object round) = f
-    by (act.Work object stripe) = tt
-    by (act.Remove provider object) = tt
-    by act.End = tt
+    by b = tt

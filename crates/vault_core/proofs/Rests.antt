@@ -5,7 +5,7 @@ use Rattle.std.proofs.lemmas.Bool.{cases_Bool}
 use Rattle.std.proofs.lemmas.List.Elements.{All-head, All-tail}
 use Rattle.std.specs.List.{All, flat_map, range_with_len}
 use Rattle.plain_facts.proofs.Lists.{drop-get}
-use Rattle.hail_machine.specs.Actions.{Action, Store, Work, Remove, End}
+use Rattle.hail_machine.specs.Actions.{Action, Store, Work, Remove, End, Ask, Fetch}
 use Rattle.vault_core.specs.declared.wish.Wish.{Wish}
 use Rattle.vault_core.specs.declared.wish.Wish.TheVariants as wish
 use Rattle.vault_core.specs.declared.cursor.Move.{Move}
@@ -25,6 +25,14 @@ numbers_here a b l = let e : b - a ≡ suc (b - (a + 1)) = omega arith in ap (ra
 
 pub numbers_none : (a b : ℕ) → b ≤ a → numbers a b ≡ []
 numbers_none a b l = let e : b - a ≡ 0 = omega arith in ap (range_with_len a) e
+
+-- what a store, an ask and a fetch each have, a call has
+pub by_call : (P : Action → Type 0) (w : Wish) (o t j : ℕ) → P (Store j o t) → P (Ask j o t) → P (Fetch j o t) → P (call_of w o t j)
+by_call P (wish.Put name size) o t j stores asks fetches = stores
+by_call P (wish.Get name) o t j stores asks fetches = fetches
+by_call P (wish.Drop name) o t j stores asks fetches = fetches
+by_call P wish.Audit o t j stores asks fetches = asks
+by_call P wish.Repair o t j stores asks fetches = fetches
 
 pub calls_here : (j n : ℕ) (w : Wish) (o t : ℕ) → j < n → calls_from j n w o t ≡ call_of w o t j ∷ calls_from (j + 1) n w o t
 calls_here j n w o t l = ap (map (call_of w o t)) (numbers_here j n l)
@@ -73,9 +81,7 @@ first_rewriting n job spot j e h =
 pub first_work : (n : ℕ) (w : Wish) (fl : List Bool) (o t : ℕ) (zs : List Action) → is_worker w ≡ true → slice_get (work_of n w fl o t ++ zs) 0 ≡ Some (Work o t)
 first_work n (wish.Get name) fl o t zs h = refl
 first_work n wish.Repair fl o t zs h = refl
-first_work n (wish.Put name size) fl o t zs h = cc
-first_work n (wish.Drop name) fl o t zs h = cc
-first_work n wish.Audit fl o t zs h = cc
+first_work n w fl o t zs h = cc
 
 pub first_working : (n : ℕ) (job : Job) (spot : Spot) → job.cursor ≡ at.Working spot → comes_to job.wish job.cursor ≡ true →
     slice_get (rest_of n job) 0 ≡ Some (Work spot.object spot.turn)
@@ -186,19 +192,15 @@ pub no_work : (n : ℕ) (job : Job) (spot : Spot) (c : Cursor) → ((name : List
 no_work n job spot c get repair h = at_along n job c _ _ (ap (λ (xs : List Action). xs ++ beyond n job spot) (sym (none job.wish get repair))) h
   where
     none : (w : Wish) → ((name : List ℕ) → w ≡ wish.Get name → ⊥) → (w ≡ wish.Repair → ⊥) → work_of n w job.flagged spot.object spot.turn ≡ []
-    none (wish.Put name size) g r = refl
     none (wish.Get name) g r = absurd (g name refl)
-    none (wish.Drop name) g r = refl
-    none wish.Audit g r = refl
     none wish.Repair g r = absurd (r refl)
+    none w g r = refl
 
 -- ---- what is left behind the next action
 
 moves_shift : (m : Move) (more : List Action) → drop 1 (moves_from m ++ more) ≡ actions_after m ++ more
 moves_shift move.Body more = refl
-moves_shift move.BodySync more = refl
-moves_shift move.Gate more = refl
-moves_shift move.GateSync more = refl
+moves_shift m more = refl
 
 drop_front : (x : Action) (xs ys zs : List Action) → xs ≡ x ∷ ys → drop 1 (xs ++ zs) ≡ ys ++ zs
 drop_front x xs ys zs e = ap (λ (l : List Action). drop 1 (l ++ zs)) e
@@ -302,25 +304,16 @@ pub worked : (n : ℕ) (job : Job) (spot : Spot) (c : Cursor) → (job.wish ≡ 
 worked n job spot c repair works h = at_along n job c _ _ (ap (λ (xs : List Action). xs ++ beyond n job spot) (sym (none job.wish repair works))) h
   where
     none : (w : Wish) → (w ≡ wish.Repair → ⊥) → is_worker w ≡ true → drop 1 (work_of n w job.flagged spot.object spot.turn) ≡ []
-    none (wish.Put name size) r f = refl
-    none (wish.Get name) r f = refl
-    none (wish.Drop name) r f = refl
-    none wish.Audit r f = refl
     none wish.Repair r f = absurd (r refl)
+    none w r f = refl
 
 pub rewriter_calls : (w : Wish) → is_rewriter w ≡ true → is_caller w ≡ true
-rewriter_calls (wish.Put name size) h = refl
-rewriter_calls (wish.Get name) h = refl
 rewriter_calls (wish.Drop name) h = cc
-rewriter_calls wish.Audit h = refl
-rewriter_calls wish.Repair h = refl
+rewriter_calls w h = refl
 
 pub worker_calls : (w : Wish) → is_worker w ≡ true → is_caller w ≡ true
-worker_calls (wish.Put name size) h = refl
-worker_calls (wish.Get name) h = refl
 worker_calls (wish.Drop name) h = cc
-worker_calls wish.Audit h = refl
-worker_calls wish.Repair h = refl
+worker_calls w h = refl
 
 -- ---- the object of a put's own file
 

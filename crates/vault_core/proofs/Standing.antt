@@ -1,6 +1,6 @@
 -- What comes next for a job, in a core and in a state of the machine that it stands for.
-use Rattle.std.proofs.Common.{◌≡◌, ℕ, zero, suc, ◌+◌, Bool, true, false, List, [], ◌∷◌, ◌++◌, Some, None, length, drop, inl, inr, refl, ap, sym, subst, ◌∙◌, arith}
-use Rattle.std.specs.Prelude.{Option, ◌⊎◌, if◌then◌else◌, ◌==◌, ◌&&◌, not, is_some, nat_lt, nat_le, slice_get, count_by}
+use Rattle.std.proofs.Common.{◌≡◌, ℕ, zero, suc, Bool, true, false, List, [], ◌∷◌, ◌++◌, Some, None, length, drop, inl, inr, refl, ap, sym, subst, ◌∙◌, arith}
+use Rattle.std.specs.Prelude.{Option, ◌⊎◌, if◌then◌else◌, ◌==◌, ◌&&◌, not, is_some, nat_lt, nat_le, slice_get}
 use Rattle.std.specs.Option.{option_map}
 use Rattle.std.proofs.lemmas.Bool.{cases_Bool, le-ltb, ne_eqb, false≢true}
 use Rattle.plain_facts.proofs.Each.{each_get, each_append, each_map, each_flat}
@@ -8,16 +8,16 @@ use Rattle.hail_records.specs.Records.{Setup, Record, PutStart, PutDone, Drop, A
 use Rattle.hail_records.specs.Table.{File, version_of, find_file, file_of, next_id}
 use Rattle.hail_records.proofs.FilesLaws.{find-files_of}
 use Rattle.hail_machine.specs.Jobs.{Kind, PutJob, GetJob, DropJob, AuditJob, RepairJob, Pinned, Job, job_of, Aim}
-use Rattle.hail_machine.specs.Actions.{Action, WriteBody, SyncBody, WriteGate, SyncGate, Store, Fetch, Ask, Work, Remove, End, append_actions, on_each_provider, on_each_stripe, open_actions, read_actions, remove_actions, actions_by, actions_of, actions_left, ends_append}
+use Rattle.hail_machine.specs.Actions.{Action, WriteBody, Fetch, Ask, Work, End, append_actions, on_each_provider, on_each_stripe, open_actions, read_actions, remove_actions, actions_by, actions_of, actions_left}
 use Rattle.hail_codes.specs.Points.{upto}
 use Rattle.hail_machine.specs.Setups.{profiled, stripes_of}
 use Rattle.hail_machine.specs.States.{State, Append, setup_in, file_in}
 use Rattle.hail_machine.specs.Appends.{Writes, done_record, is_first_append}
 use Rattle.hail_machine.specs.Refusals.{Refusal, MustReopen, Busy}
-use Rattle.hail_machine.specs.Left.{most_left, removes_older, most_after}
+use Rattle.hail_machine.specs.Left.{most_left, most_after}
 use Rattle.hail_machine.specs.Steps.{is_idle_drop, next_action, holder_of}
 use Rattle.vault_table.specs.Values.{Kept, IsFoldOf, id_after}
-use Rattle.sound_states.proofs.Orders.{in_order-first}
+use Rattle.sound_states.proofs.Orders.{in_order-first, get-drop}
 use Rattle.vault_core.proofs.Alike.{IsAlike, alike}
 use Rattle.vault_core.specs.declared.action.Next.{Next}
 use Rattle.vault_core.specs.declared.action.Next.TheVariants as next
@@ -28,11 +28,6 @@ use Rattle.vault_core.specs.Coming.{Acts, Waits, IsNoJob, IsBarred, seen_action,
 use Rattle.vault_core.specs.Carried.{has_asked, IsJobOf, IsCoreFlight, CoreIs, ComesNext, IsNextOf, IsEntryOf}
 use Rattle.vault_core.proofs.Pairs.{pair_some, pair_none, pair_length}
 use Rattle.vault_core.specs.Wished.{is_opener, aim_of_wish}
-
-pub get-drop : {X : Type 0} (i : ℕ) (xs : List X) → slice_get (drop i xs) 0 ≡ slice_get xs i
-get-drop zero xs = refl
-get-drop (suc i) [] = refl
-get-drop (suc i) (x ∷ xs) = get-drop i xs
 
 -- ---- an idle drop
 
@@ -87,7 +82,7 @@ idle_same w t c m f is = by c.wish m.kind refl refl (alike c.wish m.kind is.kind
 pub next_same : (w : State) (t : Kept) (c : CoreJob) (m : Job) → IsFoldOf w.records t → IsJobOf (setup_in w) c m → next_action w m ≡ action_next t c
 next_same w t c m f is =
     ap (λ (b : Bool). if b then Some End else slice_get (actions_of (setup_in w) m) m.place) (idle_same w t c m f is)
-    ∙ ap (λ (o : Option Action). if is_idle t c then Some End else o) (sym (get-drop m.place (actions_of (setup_in w) m)) ∙ ap (λ (xs : List Action). slice_get xs 0) (sym is.rest))
+    ∙ ap (λ (o : Option Action). if is_idle t c then Some End else o) (sym (get-drop (actions_of (setup_in w) m) m.place) ∙ ap (λ (xs : List Action). slice_get xs 0) (sym is.rest))
 
 -- ---- how many steps may remain
 
@@ -106,17 +101,8 @@ left_same c w k is = by (job_in c.jobs k) refl
 -- ---- the record of an append
 
 no_ask : (o : Option Action) → is_move o ≡ true → asks_next o ≡ false
-no_ask None h = refl
-no_ask (Some WriteBody) h = refl
-no_ask (Some SyncBody) h = refl
-no_ask (Some WriteGate) h = refl
-no_ask (Some SyncGate) h = refl
-no_ask (Some (Store j o t)) h = refl
-no_ask (Some (Fetch j o t)) h = refl
 no_ask (Some (Ask j o t)) h = absurd (false≢true h)
-no_ask (Some (Work o t)) h = refl
-no_ask (Some (Remove j o)) h = refl
-no_ask (Some End) h = refl
+no_ask o h = refl
 
 -- an audit that is at its last append has asked all that it asks
 pub asked_moving : (c : CoreJob) → c.wish ≡ wish.Audit → c.opening ≡ false → is_move (slice_get c.rest 0) ≡ true → has_asked c ≡ true
@@ -167,26 +153,8 @@ core_holder (Some h) WriteBody = Some h
 core_holder flight action = None
 
 acts_or_waits : (flight : Option ℕ) (x : Action) → ((waits_or_acts flight (Some x) ≡ Acts x) × (core_holder flight x ≡ None)) ⊎ ((h : ℕ) × ((waits_or_acts flight (Some x) ≡ Waits h) × (core_holder flight x ≡ Some h)))
-acts_or_waits None WriteBody = inl (refl, refl)
 acts_or_waits (Some h) WriteBody = inr (h, (refl, refl))
-acts_or_waits None SyncBody = inl (refl, refl)
-acts_or_waits (Some h) SyncBody = inl (refl, refl)
-acts_or_waits None WriteGate = inl (refl, refl)
-acts_or_waits (Some h) WriteGate = inl (refl, refl)
-acts_or_waits None SyncGate = inl (refl, refl)
-acts_or_waits (Some h) SyncGate = inl (refl, refl)
-acts_or_waits None (Store j o t) = inl (refl, refl)
-acts_or_waits (Some h) (Store j o t) = inl (refl, refl)
-acts_or_waits None (Fetch j o t) = inl (refl, refl)
-acts_or_waits (Some h) (Fetch j o t) = inl (refl, refl)
-acts_or_waits None (Ask j o t) = inl (refl, refl)
-acts_or_waits (Some h) (Ask j o t) = inl (refl, refl)
-acts_or_waits None (Work o t) = inl (refl, refl)
-acts_or_waits (Some h) (Work o t) = inl (refl, refl)
-acts_or_waits None (Remove j o) = inl (refl, refl)
-acts_or_waits (Some h) (Remove j o) = inl (refl, refl)
-acts_or_waits None End = inl (refl, refl)
-acts_or_waits (Some h) End = inl (refl, refl)
+acts_or_waits flight x = inl (refl, refl)
 
 -- a job runs in a core, with its next action and the job that it waits for
 pub record Comes (c : CoreView) (k : ℕ) (a : Action) (holder : Option ℕ) : Type 0 where
@@ -282,28 +250,12 @@ holder_same c None a h = none a ∙ ap (λ (x : Option ℕ). core_holder x a) (s
   where
     none : (x : Action) → holder_of None x ≡ core_holder None x
     none WriteBody = refl
-    none SyncBody = refl
-    none WriteGate = refl
-    none SyncGate = refl
-    none (Store j o t) = refl
-    none (Fetch j o t) = refl
-    none (Ask j o t) = refl
-    none (Work o t) = refl
-    none (Remove j o) = refl
-    none End = refl
+    none x = refl
 holder_same c (Some f) a h = some a ∙ ap (λ (x : Option ℕ). core_holder x a) (sym h.0)
   where
     some : (x : Action) → holder_of (Some f) x ≡ core_holder (Some f.job) x
     some WriteBody = refl
-    some SyncBody = refl
-    some WriteGate = refl
-    some SyncGate = refl
-    some (Store j o t) = refl
-    some (Fetch j o t) = refl
-    some (Ask j o t) = refl
-    some (Work o t) = refl
-    some (Remove j o) = refl
-    some End = refl
+    some x = refl
 
 pub same_job : (s t : Setup) (c : CoreJob) (m : Job) → s ≡ t → IsJobOf s c m → IsJobOf t c m
 same_job s t c m e is = subst (λ (x : Setup). IsJobOf x c m) e is
@@ -377,19 +329,13 @@ found_entry c k e h = by (job_in c.jobs k) refl
     by (Some j) f = (j, (f, sym (ap (entry_of_found c.table) f) ∙ h))
 
 writes_nothing : (t : Kept) (j : CoreJob) (v : Wish) → written_by t j v ≡ None → (name : List ℕ) × (v ≡ wish.Get name)
-writes_nothing t j (wish.Put name size) h = cc
 writes_nothing t j (wish.Get name) h = (name, refl)
-writes_nothing t j (wish.Drop name) h = cc
-writes_nothing t j wish.Audit h = cc
-writes_nothing t j wish.Repair h = cc
+writes_nothing t j v h = cc
 
 get_kind : (v : Wish) (k : Kind) (name : List ℕ) → v ≡ wish.Get name → IsAlike v k → (called : List ℕ) × (k ≡ GetJob called)
 get_kind (wish.Get own) (GetJob called) name e h = (called, refl)
-get_kind (wish.Put own size) k name e h = cc
-get_kind (wish.Drop own) k name e h = cc
-get_kind wish.Audit k name e h = cc
-get_kind wish.Repair k name e h = cc
 get_kind (wish.Get own) k name e h = absurd h
+get_kind v k name e h = cc
 
 entry_none : (c : CoreView) (w : State) (k : ℕ) → CoreIs c w → entry_in c k ≡ None → (m : Job) → job_of w.jobs k ≡ Some m → is_move (next_action w m) ≡ false
 entry_none c w k is h m runs = by (job_in c.jobs k) refl

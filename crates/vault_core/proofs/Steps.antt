@@ -10,8 +10,8 @@ use Rattle.hail_records.specs.Table.{setup_of, version_of}
 use Rattle.hail_records.specs.Acceptance.{refused}
 use Rattle.hail_machine.specs.Jobs.{AuditJob, Given, Fetched, Answered, Worked, Job, job_of, with_job, without_job}
 use Rattle.hail_machine.specs.Actions.{Action, WriteBody, SyncBody, WriteGate, SyncGate, Store, Fetch, Ask, Work, Remove, End, actions_of, actions_left}
-use Rattle.hail_machine.specs.Answers.{Answer, Put, Got, Dropped, Audited, Repaired, Lost, ProviderFault, DiskFault, Memory, Upgraded, Scrubbed, Packed}
-use Rattle.hail_machine.specs.Events.{Outcome, Refused, More, Waiting, Ended, Step}
+use Rattle.hail_machine.specs.Answers.{Answer, Lost, ProviderFault, DiskFault, Memory}
+use Rattle.hail_machine.specs.Events.{Outcome, More, Ended, Step}
 use Rattle.hail_machine.specs.States.{State, Append, Alone, setup_in, going_on, ended, with_provider}
 use Rattle.hail_devices.specs.Providers.{Provider}
 use Rattle.hail_machine.specs.Audits.{HasSums}
@@ -246,7 +246,6 @@ move_after (suc (suc (suc n))) = SyncGate
 
 comes_move : (n : ℕ) (xs : List Action) → n < 3 → IsInOrder (suc n) xs → slice_get xs 0 ≡ Some (move_after (suc n))
 comes_move n [] l o = absurd o
-comes_move n (WriteBody ∷ xs) l o = absurd (let e : suc n ≡ 0 = o.0 in omega (arith, e))
 comes_move zero (SyncBody ∷ xs) l o = refl
 comes_move (suc n) (SyncBody ∷ xs) l o = absurd (let e : suc (suc n) ≡ 1 = o.0 in omega (arith, e))
 comes_move zero (WriteGate ∷ xs) l o = absurd (let e : 1 ≡ 2 = o.0 in omega (arith, e))
@@ -255,12 +254,7 @@ comes_move (suc (suc n)) (WriteGate ∷ xs) l o = absurd (let e : suc (suc (suc 
 comes_move zero (SyncGate ∷ xs) l o = absurd (let e : 1 ≡ 3 = o.0 in omega (arith, e))
 comes_move (suc zero) (SyncGate ∷ xs) l o = absurd (let e : 2 ≡ 3 = o.0 in omega (arith, e))
 comes_move (suc (suc n)) (SyncGate ∷ xs) l o = refl
-comes_move n (Store j object stripe ∷ xs) l o = absurd (let e : suc n ≡ 0 = o.0 in omega (arith, e))
-comes_move n (Fetch j object stripe ∷ xs) l o = absurd (let e : suc n ≡ 0 = o.0 in omega (arith, e))
-comes_move n (Ask j object round ∷ xs) l o = absurd (let e : suc n ≡ 0 = o.0 in omega (arith, e))
-comes_move n (Work object stripe ∷ xs) l o = absurd (let e : suc n ≡ 0 = o.0 in omega (arith, e))
-comes_move n (Remove j object ∷ xs) l o = absurd (let e : suc n ≡ 0 = o.0 in omega (arith, e))
-comes_move n (End ∷ xs) l o = absurd (let e : suc n ≡ 0 = o.0 in omega (arith, e))
+comes_move n (x ∷ xs) l o = absurd (let e : suc n ≡ 0 = o.0 in omega (arith, e))
 
 later_move : (n : ℕ) → (is_move (Some (move_after (suc n))) ≡ true) × (begins_append (Some (move_after (suc n))) ≡ false)
 later_move zero = (refl, refl)
@@ -287,20 +281,15 @@ written_moved t j a h g = by j.wish
 
     by : (v : Wish) → written_by t (stepped j) v ≡ written_by t j v
     by (wish.Put name size) = ap (λ (b : Bool). Some (if b then PutStart (id_after t) name else PutDone j.subject size)) opening
-    by (wish.Get name) = refl
-    by (wish.Drop name) = refl
     by wish.Audit = ap (λ (b : Bool). Some (if b then AuditStart t.next_audit else AuditDone j.subject j.sums.undecided j.sums.counts)) opening
-    by wish.Repair = refl
+    by v = refl
 
 written_drawn : (t : Kept) (j : CoreJob) (xs : List Action) → j.rest ≡ WriteBody ∷ xs → written_by t (drawn j (number_drawn t j j.wish)) j.wish ≡ written_by t j j.wish
 written_drawn t j xs h = by j.wish
   where
     head : (n : ℕ) (v : Wish) → slice_get (all_renamed n v j.rest) 0 ≡ Some WriteBody
     head n (wish.Put name size) = ap (λ (ys : List Action). slice_get (map (renamed n) ys) 0) h
-    head n (wish.Get name) = ap (λ (ys : List Action). slice_get ys 0) h
-    head n (wish.Drop name) = ap (λ (ys : List Action). slice_get ys 0) h
-    head n wish.Audit = ap (λ (ys : List Action). slice_get ys 0) h
-    head n wish.Repair = ap (λ (ys : List Action). slice_get ys 0) h
+    head n v = ap (λ (ys : List Action). slice_get ys 0) h
 
     opening : (n : ℕ) → (drawn j n).opening ≡ j.opening
     opening n = ap (λ (o : Option Action). j.opening && not (is_gate o)) (head n j.wish) ∙ and-true j.opening
@@ -316,10 +305,8 @@ written_drawn t j xs h = by j.wish
 
     by : (v : Wish) → written_by t (drawn j (number_drawn t j v)) v ≡ written_by t j v
     by (wish.Put name size) = ap (λ (b : Bool). Some (if b then PutStart (id_after t) name else PutDone (number_drawn t j (wish.Put name size)) size)) (opening (number_drawn t j (wish.Put name size))) ∙ ap {B = Option Record} Some (put j.opening name size)
-    by (wish.Get name) = refl
-    by (wish.Drop name) = refl
     by wish.Audit = ap (λ (b : Bool). Some (if b then AuditStart t.next_audit else AuditDone (number_drawn t j wish.Audit) j.sums.undecided j.sums.counts)) (opening (number_drawn t j wish.Audit)) ∙ ap {B = Option Record} Some (audit j.opening)
-    by wish.Repair = refl
+    by v = refl
 
 -- no job writes a setup, or the second version
 no_setup : (t : Kept) (j : CoreJob) (v : Wish) (e : Record) (rs : List Record) → written_by t j v ≡ Some e → (setup_of (e ∷ rs) ≡ setup_of rs) × (version_of (e ∷ rs) ≡ version_of rs)
@@ -424,42 +411,12 @@ gated_arm c cnew w new k place cj outcome o y at own gates faults e =
 
 -- an append is at no end of a job that ended well
 moves_well : (w : State) (m : Job) (a : Action) (flight : Option Append) (answer : Answer) (new : State) → IsEndAnswer answer → Moves w m a flight (Ended answer) new → ⊥
-moves_well w m a flight (Lost stripe row) new e h = absurd e
-moves_well w m a flight (ProviderFault j) new e h = absurd e
 moves_well w m a flight DiskFault new e h = absurd e
 moves_well w m a flight Memory new e h = absurd e
-moves_well w m a flight Upgraded new e h = absurd e
-moves_well w m a flight (Scrubbed stripes symbols blocks) new e h = absurd e
-moves_well w m a flight (Packed before after) new e h = absurd e
-moves_well w m WriteBody flight Put new e h = absurd h
-moves_well w m WriteBody flight (Got bytes) new e h = absurd h
-moves_well w m WriteBody flight Dropped new e h = absurd h
-moves_well w m WriteBody flight (Audited number undecided counts) new e h = absurd h
-moves_well w m WriteBody flight (Repaired number) new e h = absurd h
 moves_well w m SyncBody None answer new e h = absurd h
-moves_well w m SyncBody (Some x) Put new e h = absurd h
-moves_well w m SyncBody (Some x) (Got bytes) new e h = absurd h
-moves_well w m SyncBody (Some x) Dropped new e h = absurd h
-moves_well w m SyncBody (Some x) (Audited number undecided counts) new e h = absurd h
-moves_well w m SyncBody (Some x) (Repaired number) new e h = absurd h
 moves_well w m WriteGate None answer new e h = absurd h
-moves_well w m WriteGate (Some x) Put new e h = absurd h
-moves_well w m WriteGate (Some x) (Got bytes) new e h = absurd h
-moves_well w m WriteGate (Some x) Dropped new e h = absurd h
-moves_well w m WriteGate (Some x) (Audited number undecided counts) new e h = absurd h
-moves_well w m WriteGate (Some x) (Repaired number) new e h = absurd h
 moves_well w m SyncGate None answer new e h = absurd h
-moves_well w m SyncGate (Some x) Put new e h = absurd h
-moves_well w m SyncGate (Some x) (Got bytes) new e h = absurd h
-moves_well w m SyncGate (Some x) Dropped new e h = absurd h
-moves_well w m SyncGate (Some x) (Audited number undecided counts) new e h = absurd h
-moves_well w m SyncGate (Some x) (Repaired number) new e h = absurd h
-moves_well w m (Store j object stripe) flight answer new e h = absurd h
-moves_well w m (Fetch j object stripe) flight answer new e h = absurd h
-moves_well w m (Ask j object round) flight answer new e h = absurd h
-moves_well w m (Work object stripe) flight answer new e h = absurd h
-moves_well w m (Remove j object) flight answer new e h = absurd h
-moves_well w m End flight answer new e h = absurd h
+moves_well w m a flight answer new e h = absurd h
 
 -- so another action than the end leaves the job running where it is done
 pub goes_well : (w : State) (m : Job) (a : Action) (answer : Answer) (new : State) → (a ≡ End → ⊥) → IsEndAnswer answer → Acts w m a (Ended answer) new → ⊥
@@ -467,35 +424,18 @@ goes_well w m a (Lost stripe row) new n e h = absurd e
 goes_well w m a (ProviderFault j) new n e h = absurd e
 goes_well w m a DiskFault new n e h = absurd e
 goes_well w m a Memory new n e h = absurd e
-goes_well w m a Upgraded new n e h = absurd e
-goes_well w m a (Scrubbed stripes symbols blocks) new n e h = absurd e
-goes_well w m a (Packed before after) new n e h = absurd e
 goes_well w m End answer new n e h = absurd (n refl)
 goes_well w m WriteBody answer new n e h = moves_well w m WriteBody w.append answer new e h
 goes_well w m SyncBody answer new n e h = moves_well w m SyncBody w.append answer new e h
 goes_well w m WriteGate answer new n e h = moves_well w m WriteGate w.append answer new e h
 goes_well w m SyncGate answer new n e h = moves_well w m SyncGate w.append answer new e h
-goes_well w m (Store j object stripe) Put new n e h = absurd h
-goes_well w m (Store j object stripe) (Got bytes) new n e h = absurd h
-goes_well w m (Store j object stripe) Dropped new n e h = absurd h
-goes_well w m (Store j object stripe) (Audited number undecided counts) new n e h = absurd h
-goes_well w m (Store j object stripe) (Repaired number) new n e h = absurd h
-goes_well w m (Fetch j object stripe) answer new n e h = absurd h
-goes_well w m (Ask j object round) answer new n e h = absurd h
-goes_well w m (Work object stripe) Put new n e h = absurd h
-goes_well w m (Work object stripe) (Got bytes) new n e h = absurd h
-goes_well w m (Work object stripe) Dropped new n e h = absurd h
-goes_well w m (Work object stripe) (Audited number undecided counts) new n e h = absurd h
-goes_well w m (Work object stripe) (Repaired number) new n e h = absurd h
-goes_well w m (Remove j object) answer new n e h = absurd h
+goes_well w m a answer new n e h = absurd h
 
 -- done: the first move
 pub begins_done : (c : CoreView) (w new : State) (k place : ℕ) (cj : CoreJob) (outcome : Outcome) (o : OnMachine c w new k place cj WriteBody outcome) → Tells k reply.Done outcome new →
     ((y : Append) → new.append ≡ Some y → y.job ≡ k → entry_in c k ≡ Some y.entry) → CoreIs (record (with_at c place (drawn cj (number_drawn c.table cj cj.wish))) { append = Some cj.number }) new
 begins_done c w new k place cj More o t told = (let h : Moves w o.job WriteBody w.append More new = o.acts in drawn_arm c w new k place cj More o h.0 told h.2.0 h.2.2)
 begins_done c w new k place cj (Ended answer) o t told = absurd (goes_well w o.job WriteBody answer new (λ e. cc) t o.acts)
-begins_done c w new k place cj (Refused r) o t told = absurd t
-begins_done c w new k place cj (Waiting h) o t told = absurd t
 begins_done c w new k place cj outcome o t told = absurd t
 
 -- done: the fourth move
@@ -507,16 +447,12 @@ gates_done c cnew w new k place cj More o t gates = by w.append refl o.acts
     by None e h = absurd h
     by (Some y) e h = gated_arm c cnew w new k place cj More o y e h.0.0 gates h.1.0 h.1.2
 gates_done c cnew w new k place cj (Ended answer) o t gates = absurd (goes_well w o.job SyncGate answer new (λ e. cc) t o.acts)
-gates_done c cnew w new k place cj (Refused r) o t gates = absurd t
-gates_done c cnew w new k place cj (Waiting h) o t gates = absurd t
 gates_done c cnew w new k place cj outcome o t gates = absurd t
 
 -- done: the end
 pub ends_done : (c : CoreView) (w new : State) (k place : ℕ) (cj : CoreJob) (outcome : Outcome) (o : OnMachine c w new k place cj End outcome) → Tells k reply.Done outcome new → CoreIs (stopped c place) new
 ends_done c w new k place cj More o t = (let h : Moves w o.job End w.append More new = o.acts in absurd h)
 ends_done c w new k place cj (Ended answer) o t = off_arm c w new k place cj End (Ended answer) o w.providers refl o.acts.1
-ends_done c w new k place cj (Refused r) o t = absurd t
-ends_done c w new k place cj (Waiting h) o t = absurd t
 ends_done c w new k place cj outcome o t = absurd t
 
 -- done: any other
@@ -557,8 +493,6 @@ pub plain_done : (c : CoreView) (w new : State) (k place : ℕ) (cj : CoreJob) (
     goes_plainly (Some a) ≡ true → HasReply c k (ActsNext a) reply.Done → CoreIs (with_at c place (stepped cj)) new
 plain_done c w new k place cj a More o t p h = more_done c w new k place cj a o p h
 plain_done c w new k place cj a (Ended answer) o t p h = absurd (goes_well w o.job a answer new (λ e. false≢true (ap (λ (x : Action). goes_plainly (Some x)) (sym e) ∙ p)) t o.acts)
-plain_done c w new k place cj a (Refused r) o t p h = absurd t
-plain_done c w new k place cj a (Waiting x) o t p h = absurd t
 plain_done c w new k place cj a outcome o t p h = absurd t
 
 abbrev pub is_store : Action → Bool
@@ -569,8 +503,6 @@ is_store action = false
 store_fails : (c : CoreView) (w new : State) (k place : ℕ) (cj : CoreJob) (j object stripe : ℕ) (outcome : Outcome) (o : OnMachine c w new k place cj (Store j object stripe) outcome) → Tells k reply.Failed outcome new → CoreIs (stopped c place) new
 store_fails c w new k place cj j object stripe (Ended (ProviderFault i)) o t = off_arm c w new k place cj (Store j object stripe) (Ended (ProviderFault i)) o (with_provider w.providers j o.acts.1.0) refl o.acts.1.2
 store_fails c w new k place cj j object stripe (Ended DiskFault) o t = (let h : Moves w o.job (Store j object stripe) w.append (Ended DiskFault) new = o.acts in absurd h)
-store_fails c w new k place cj j object stripe (Refused r) o t = absurd t
-store_fails c w new k place cj j object stripe (Waiting x) o t = absurd t
 store_fails c w new k place cj j object stripe outcome o t = absurd t
 
 pub stops_failed : (c : CoreView) (w new : State) (k place : ℕ) (cj : CoreJob) (a : Action) (j object stripe : ℕ) (outcome : Outcome) (o : OnMachine c w new k place cj a outcome) → a ≡ Store j object stripe → Tells k reply.Failed outcome new → CoreIs (stopped c place) new
@@ -586,31 +518,14 @@ moves_fail w m WriteGate (Some y) new n h =
     (record { is_open = ap (λ (s : State). s.is_open) h.1.3; records = ap (λ (s : State). s.records) h.1.3; next_job = ap (λ (s : State). s.next_job) h.1.3; alone = ap (λ (s : State). s.alone) h.1.3 }, ap (λ (s : State). s.is_barred) h.1.3, ap (λ (s : State). s.jobs) h.1.3)
 moves_fail w m SyncGate (Some y) new n h =
     (record { is_open = ap (λ (s : State). s.is_open) h.1.3; records = ap (λ (s : State). s.records) h.1.3; next_job = ap (λ (s : State). s.next_job) h.1.3; alone = ap (λ (s : State). s.alone) h.1.3 }, ap (λ (s : State). s.is_barred) h.1.3, ap (λ (s : State). s.jobs) h.1.3)
-moves_fail w m SyncBody None new n h = absurd h
-moves_fail w m WriteGate None new n h = absurd h
-moves_fail w m SyncGate None new n h = absurd h
-moves_fail w m (Store j object stripe) flight new n h = absurd h
-moves_fail w m (Fetch j object stripe) flight new n h = absurd h
-moves_fail w m (Ask j object round) flight new n h = absurd h
-moves_fail w m (Work object stripe) flight new n h = absurd h
-moves_fail w m (Remove j object) flight new n h = absurd h
-moves_fail w m End flight new n h = absurd h
+moves_fail w m a flight new n h = absurd h
 
 -- no move of an append ends by a fault of a provider
 no_provider : (w : State) (m : Job) (a : Action) (flight : Option Append) (j : ℕ) (new : State) → Moves w m a flight (Ended (ProviderFault j)) new → ⊥
-no_provider w m WriteBody flight j new h = absurd h
-no_provider w m SyncBody (Some y) j new h = absurd h
-no_provider w m WriteGate (Some y) j new h = absurd h
-no_provider w m SyncGate (Some y) j new h = absurd h
 no_provider w m SyncBody None j new h = absurd h
 no_provider w m WriteGate None j new h = absurd h
 no_provider w m SyncGate None j new h = absurd h
-no_provider w m (Store i object stripe) flight j new h = absurd h
-no_provider w m (Fetch i object stripe) flight j new h = absurd h
-no_provider w m (Ask i object round) flight j new h = absurd h
-no_provider w m (Work object stripe) flight j new h = absurd h
-no_provider w m (Remove i object) flight j new h = absurd h
-no_provider w m End flight j new h = absurd h
+no_provider w m a flight j new h = absurd h
 
 -- the moves of an append that may fail, and their outcomes
 acts_moves : (c : CoreView) (k : ℕ) (w : State) (m : Job) (a : Action) (outcome : Outcome) (new : State) → is_store a ≡ false → HasReply c k (ActsNext a) reply.Failed → Acts w m a outcome new → Moves w m a w.append outcome new
@@ -619,19 +534,13 @@ acts_moves c k w m SyncBody outcome new n r h = h
 acts_moves c k w m WriteGate outcome new n r h = h
 acts_moves c k w m SyncGate outcome new n r h = h
 acts_moves c k w m (Store j object stripe) outcome new n r h = absurd (false≢true (sym n))
-acts_moves c k w m (Fetch j object stripe) outcome new n r h = absurd r
-acts_moves c k w m (Ask j object round) outcome new n r h = absurd r
-acts_moves c k w m (Work object stripe) outcome new n r h = absurd r
-acts_moves c k w m (Remove j object) outcome new n r h = absurd r
-acts_moves c k w m End outcome new n r h = absurd r
+acts_moves c k w m a outcome new n r h = absurd r
 
 pub bars_failed : (c : CoreView) (w new : State) (k place : ℕ) (cj : CoreJob) (a : Action) (outcome : Outcome) (o : OnMachine c w new k place cj a outcome) → is_store a ≡ false → HasReply c k (ActsNext a) reply.Failed →
     Tells k reply.Failed outcome new → CoreIs (barred_at c place) new
 bars_failed c w new k place cj a (Ended (ProviderFault i)) o n r t = absurd (no_provider w o.job a w.append i new (acts_moves c k w o.job a (Ended (ProviderFault i)) new n r o.acts))
 bars_failed c w new k place cj a (Ended DiskFault) o n r t =
     (let p = moves_fail w o.job a w.append new n (acts_moves c k w o.job a (Ended DiskFault) new n r o.acts) in bar_arm c w new k place cj a (Ended DiskFault) o p.0 p.1 p.2)
-bars_failed c w new k place cj a (Refused x) o n r t = absurd t
-bars_failed c w new k place cj a (Waiting x) o n r t = absurd t
 bars_failed c w new k place cj a outcome o n r t = absurd t
 
 -- memory: a write, or a store; a sync takes none
@@ -660,17 +569,11 @@ memory_ends c w new k place cj SyncGate o r = by w.append o.acts
     by : (f : Option Append) → Moves w o.job SyncGate f (Ended Memory) new → CoreIs (stopped c place) new
     by None h = absurd h
     by (Some y) h = absurd h
-memory_ends c w new k place cj (Fetch j object stripe) o r = absurd r
-memory_ends c w new k place cj (Ask j object round) o r = absurd r
-memory_ends c w new k place cj (Work object stripe) o r = absurd r
-memory_ends c w new k place cj (Remove j object) o r = absurd r
-memory_ends c w new k place cj End o r = absurd r
+memory_ends c w new k place cj a o r = absurd r
 
 pub stops_memory : (c : CoreView) (w new : State) (k place : ℕ) (cj : CoreJob) (a : Action) (outcome : Outcome) (o : OnMachine c w new k place cj a outcome) → HasReply c k (ActsNext a) reply.Memory → Tells k reply.Memory outcome new →
     CoreIs (stopped c place) new
 stops_memory c w new k place cj a (Ended Memory) o r t = memory_ends c w new k place cj a o r
-stops_memory c w new k place cj a (Refused x) o r t = absurd t
-stops_memory c w new k place cj a (Waiting x) o r t = absurd t
 stops_memory c w new k place cj a outcome o r t = absurd t
 
 -- lost: work on a stripe
@@ -681,8 +584,6 @@ lost_ends c w new k place cj a row stripe lost o r = absurd r
 pub stops_lost : (c : CoreView) (w new : State) (k place : ℕ) (cj : CoreJob) (a : Action) (row : ℕ) (outcome : Outcome) (o : OnMachine c w new k place cj a outcome) → HasReply c k (ActsNext a) (reply.Lost row) →
     Tells k (reply.Lost row) outcome new → CoreIs (stopped c place) new
 stops_lost c w new k place cj a row (Ended (Lost stripe lost)) o r t = lost_ends c w new k place cj a row stripe lost o r
-stops_lost c w new k place cj a row (Refused x) o r t = absurd t
-stops_lost c w new k place cj a row (Waiting x) o r t = absurd t
 stops_lost c w new k place cj a row outcome o r t = absurd t
 
 -- a verdict: the last ask
@@ -703,20 +604,9 @@ verdict_more c w new k place cj a u counts o r t = absurd r
 pub judges_verdict : (c : CoreView) (w new : State) (k place : ℕ) (cj : CoreJob) (a : Action) (u : ℕ) (counts : Counts) (outcome : Outcome) (o : OnMachine c w new k place cj a outcome) → HasReply c k (ActsNext a) (reply.Verdict u counts) →
     Tells k (reply.Verdict u counts) outcome new → CoreIs (with_at c place (judged cj (record { counts = counted counts; undecided = u }))) new
 judges_verdict c w new k place cj a u counts More o r t = verdict_more c w new k place cj a u counts o r t
-judges_verdict c w new k place cj a u counts (Ended answer) o r t = absurd t
-judges_verdict c w new k place cj a u counts (Refused x) o r t = absurd t
-judges_verdict c w new k place cj a u counts (Waiting x) o r t = absurd t
 judges_verdict c w new k place cj a u counts outcome o r t = absurd t
 
 -- another action than a store
 pub other_store : (a : ActionValue) → ((provider object stripe : ℕ) → a ≡ act.Store provider object stripe → ⊥) → is_store (seen_action a) ≡ false
-other_store act.WriteBody n = refl
-other_store act.SyncBody n = refl
-other_store act.WriteGate n = refl
-other_store act.SyncGate n = refl
 other_store (act.Store provider object stripe) n = absurd (n provider object stripe refl)
-other_store (act.Fetch provider object stripe) n = refl
-other_store (act.Ask provider object round) n = refl
-other_store (act.Work object stripe) n = refl
-other_store (act.Remove provider object) n = refl
-other_store act.End n = refl
+other_store a n = refl

@@ -8,7 +8,7 @@ use Rattle.hail_codes.specs.Points.{upto}
 use Rattle.hail_records.specs.Records.{Setup}
 use Rattle.hail_records.specs.Table.{next_id, next_audit}
 use Rattle.hail_machine.specs.Setups.{profiled, stripes_of}
-use Rattle.hail_machine.specs.Jobs.{Kind, PutJob, GetJob, DropJob, AuditJob, RepairJob, UpgradeJob, Given, Job}
+use Rattle.hail_machine.specs.Jobs.{Kind, PutJob, GetJob, DropJob, AuditJob, RepairJob, Given, Job}
 use Rattle.hail_machine.specs.Actions.{Action, WriteBody, SyncGate, Store, End, append_actions, store_actions, remove_actions, actions_by, actions_of, actions_left, appends_left}
 use Rattle.hail_machine.specs.States.{State, setup_in}
 use Rattle.hail_machine.specs.Appends.{subject_drawn, is_first_append}
@@ -112,25 +112,15 @@ other_same s m k given v kind e h xs n = absurd h
 renamed_head : (k : ℕ) (v : Wish) (xs : List Action) → slice_get xs 0 ≡ Some WriteBody → slice_get (all_renamed k v xs) 0 ≡ Some WriteBody
 renamed_head k v [] h = let f : None ≡ Some WriteBody = h in cc
 renamed_head k (wish.Put name size) (x ∷ xs) h = let f : Some x ≡ Some WriteBody = h in let g : x ≡ WriteBody = cc in ap (λ (y : Action). Some (renamed k y)) g
-renamed_head k (wish.Get name) (x ∷ xs) h = h
-renamed_head k (wish.Drop name) (x ∷ xs) h = h
-renamed_head k wish.Audit (x ∷ xs) h = h
-renamed_head k wish.Repair (x ∷ xs) h = h
+renamed_head k v (x ∷ xs) h = h
 
 put_wish : (v : Wish) (name bytes : List ℕ) → IsAlike v (PutJob name bytes) → (called : List ℕ) × ((size : ℕ) × (v ≡ wish.Put called size))
 put_wish (wish.Put called size) name bytes h = (called, (size, refl))
-put_wish (wish.Get called) name bytes h = absurd h
-put_wish (wish.Drop called) name bytes h = absurd h
-put_wish wish.Audit name bytes h = absurd h
-put_wish wish.Repair name bytes h = absurd h
+put_wish v name bytes h = absurd h
 
 not_put : (k : Kind) → ((name : List ℕ) × ((bytes : List ℕ) × (k ≡ PutJob name bytes))) ⊎ ((name bytes : List ℕ) → k ≡ PutJob name bytes → ⊥)
 not_put (PutJob name bytes) = inl (name, (bytes, refl))
-not_put (GetJob name) = inr (λ n b e. cc)
-not_put (DropJob name) = inr (λ n b e. cc)
-not_put AuditJob = inr (λ n b e. cc)
-not_put RepairJob = inr (λ n b e. cc)
-not_put UpgradeJob = inr (λ n b e. cc)
+not_put k = inr (λ n b e. cc)
 
 module _ (w : State) (t : Kept) (c : CoreJob) (m : Job) (moves : ℕ) (f : IsFoldOf w.records t) (is : IsJobOf (setup_in w) c m) (next : next_action w m ≡ Some WriteBody)
     (order : IsInOrder moves (actions_left (setup_in w) m)) (undecided : 0 < appends_left (setup_in w) m → m.older ≡ []) where

@@ -25,7 +25,7 @@ use Rattle.vault_core.specs.declared.pinned.Pinned.{Pinned}
 use Rattle.vault_core.specs.declared.wish.Wish.{Wish}
 use Rattle.vault_core.specs.declared.wish.Wish.TheVariants as wish
 use Rattle.vault_core.specs.View.{CoreJob, CoreView}
-use Rattle.vault_core.specs.Going.{removals_of}
+use Rattle.vault_core.specs.Going.{is_taker, removals_of}
 
 -- the next of the actions that a job has not yet made
 abbrev pub first_of : Option CoreJob → Option Action
@@ -113,12 +113,6 @@ abbrev pub older_of : Kept → List CoreJob → Wish → Option ℕ
 older_of t jobs (wish.Put name size) = removable_in jobs (find_file t.files name)
 older_of t jobs (wish.Drop name) = removable_in jobs (find_file t.files name)
 older_of t jobs w = None
-
--- a job is at its last append, and takes an older object away where there is one
-abbrev pub is_taker : Wish → Bool → Bool
-is_taker (wish.Put name size) opening = not opening
-is_taker (wish.Drop name) opening = true
-is_taker w opening = false
 
 -- the next action decides on the removal of an older object: the last move of a put's or a drop's last append
 abbrev pub decides_now : CoreJob → Bool

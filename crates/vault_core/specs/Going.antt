@@ -4,7 +4,7 @@
 --   decides job        == the next action decides on the removal of an older object
 --   drawn_tasks k w ts == the tasks of a job that has taken this number
 --   removals_of n object  == the removals of an object that a job takes away, if there is one, and the end
-use Rattle.std.specs.Prelude.{ℕ, Bool, true, false, List, [], ◌∷◌, ◌++◌, map, Option, None, Some}
+use Rattle.std.specs.Prelude.{ℕ, Bool, true, false, not, List, [], ◌∷◌, ◌++◌, map, Option, None, Some}
 use Rattle.hail_machine.specs.Actions.{Action, Remove, End}
 use Rattle.vault_core.specs.Rest.{numbers}
 use Rattle.vault_core.specs.declared.wish.Wish.{Wish}
@@ -19,10 +19,17 @@ use Rattle.vault_core.specs.declared.job.Job.{Job}
 abbrev pub aimed : ℕ → Task → Task
 aimed object task = record task { object = object }
 
--- an action decides on the removal of an older object: it is the last move of a put's or a drop's last append
+-- a job at its first append, or at a later one, takes an older object away once this is done: a put at its
+-- last append, a drop at its only one
+abbrev pub is_taker : Wish → Bool → Bool
+is_taker (wish.Put name size) opening = not opening
+is_taker (wish.Drop name) opening = opening
+is_taker w opening = false
+
+-- an action decides on the removal of an older object: it is the last move of such an append
 abbrev pub decides_at : Wish → Cursor → Bool
-decides_at (wish.Put name size) (at.Closing move.GateSync) = true
-decides_at (wish.Drop name) (at.Opening move.GateSync) = true
+decides_at w (at.Opening move.GateSync) = is_taker w true
+decides_at w (at.Closing move.GateSync) = is_taker w false
 decides_at w c = false
 
 -- the next action of a job does so

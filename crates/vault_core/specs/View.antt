@@ -56,4 +56,5 @@ flag_at flags j = slice_index_or flags j false
 
 -- a setup of so many providers, all else 0
 abbrev pub of_providers : ℕ → Setup
-of_providers n = record { n = n; l = 0; b = 0; profile = 0; rounds = 0; picks = 0; tolerance = 0; master = [] }
+of_providers n =
+    record { n = n; l = 0; b = 0; profile = 0; rounds = 0; picks = 0; tolerance = 0; master = [] }

@@ -71,7 +71,8 @@ impl Core {
     pub fn barred(&self) -> Option<BeginFault>
         ensures { (w : State) → CoreIs self.now w → option_map refusal_of result ≡ first_refusal (
             record { applies = w.is_barred; refusal = refusal.MustReopen }
-            ∷ record { applies = is_shut (sight_of w) || nat_le 8 (length w.jobs); refusal = refusal.Busy } ∷ []) }
+            ∷ record { applies = is_shut (sight_of w) || nat_le 8 (length w.jobs); refusal = refusal.Busy }
+            ∷ []) }
     {
         if self.barred {
             return Some(BeginFault::MustReopen);

@@ -1,6 +1,5 @@
-use Rattle.std.proofs.Common.{◌∙◌, ap, sym, Bool, ◌||◌, true, false, List}
+use Rattle.std.proofs.Common.{◌∙◌, ap, sym, Bool, ◌||◌}
 use Rattle.std.specs.Prelude.{is_some}
-use Rattle.std.specs.List.{list_any}
 use Rattle.hail_records.specs.Table.{find_file}
 use Rattle.vault_core.specs.declared.job.Job.{Job}
 use Rattle.vault_core.specs.Wished.{aim_of_wish}
