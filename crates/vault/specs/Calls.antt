@@ -1,19 +1,16 @@
 -- Which device the next step of a job calls, and what a step does to the cells of the disk.
 --
 --   calls_disk coming        == what comes next is a move of an append, the only action that calls the disk
---   called_provider coming   == the provider that the next action calls: of a store, a fetch, an ask, a
---                               removal
 --   CalledOnce calls j old new == of a list of devices the one at place j was called once, by their counts
 --                                 of calls
 --   moves_before_next coming        == how many moves of its append are made before the next action
 --   MovesCells n gate body turn old new == the cells after a step that makes the move after n, by what came
 --                                          of it
-use Rattle.std.specs.Prelude.{◌≡◌, ℕ, Bool, false, List, Option, None, Some, slice_get}
+use Rattle.std.specs.Prelude.{◌≡◌, ℕ, Bool, false, List, Option, Some, slice_get}
 use Rattle.std.specs.Option.{option_map}
 use Rattle.hail_devices.specs.Cells.{Cells}
 use Rattle.hail_devices.specs.Faults.{one_more}
 use Rattle.hail_devices.specs.Told.{Goes}
-use Rattle.hail_machine.specs.Actions.{Action, Store, Fetch, Ask, Remove}
 use Rattle.sound_states.specs.Orders.{moves_before}
 use Rattle.journal_core.specs.Moves.{cells_after, MayTear}
 use Rattle.vault_core.specs.Coming.{Coming, Acts, is_move}
@@ -26,19 +23,6 @@ use Rattle.vault.specs.declared.turn.Turn.TheVariants as turn
 abbrev pub calls_disk : Coming → Bool
 calls_disk (Acts action) = is_move (Some action)
 calls_disk coming = false
-
--- the provider that an action calls
-abbrev pub provider_of : Action → Option ℕ
-provider_of (Store j object stripe) = Some j
-provider_of (Fetch j object stripe) = Some j
-provider_of (Ask j object round) = Some j
-provider_of (Remove j object) = Some j
-provider_of action = None
-
--- the provider that the next action calls
-abbrev pub called_provider : Coming → Option ℕ
-called_provider (Acts action) = provider_of action
-called_provider coming = None
 
 -- the device at a place was called once
 abbrev pub CalledOnce : {X : Type 0} → (X → ℕ) → ℕ → List X → List X → Type 0

@@ -140,11 +140,6 @@ abbrev pub IsAsked : List Round → ℕ → List (Option ℕ) → List Given →
 IsAsked [] c symbols given = Unit {0}
 IsAsked (x ∷ xs) c symbols given = HasAnswered x c symbols given
 
--- the file that an audit asked for last has its length
-abbrev pub IsFileOf : Setup → List Pinned → FileShape → Type 0
-IsFileOf s pinned file =
-    (layout.shaped_object s.master file ≡ object_of s file.id) × (file.length ≡ pinned_size pinned file.id)
-
 -- an audit has what it heard, the sums of the rounds that are over, and room for the rest
 pub record IsAudit (s : Setup) (t : AuditTask) (job : Job) (rest : List Action) : Type 0 where
   pub kind : job.kind ≡ AuditJob
@@ -152,7 +147,6 @@ pub record IsAudit (s : Setup) (t : AuditTask) (job : Job) (rest : List Action) 
   pub heard : answered_entries t.heard.job t.heard.asks.items t.heard.symbols.items
       ≡ entries_of job.number job.given
   pub asks : length t.heard.asks.items ≡ length t.heard.symbols.items
-  pub file : IfSome t.file (IsFileOf s job.pinned)
   pub over : List Round
   pub left : List Round
   pub rounds : rounds_in s job.pinned ≡ over ++ left

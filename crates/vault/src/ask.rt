@@ -275,7 +275,7 @@ impl Vault {
         let length = self.length_in(job, object)?;
         let number = self.core.subject(job)?;
         let picks = u32::from(self.setup.picks);
-        if length > LARGEST || picks < 1 || picks > 64 {
+        if length > LARGEST {
             return None;
         }
         let file = FileShape {
@@ -304,7 +304,8 @@ impl Vault {
         round: u32,
         providers: &mut [P],
     ) -> Option<Turn>
-        requires { Comes self.old.core job (AskAction provider object round) }
+        requires next { Comes self.old.core job (AskAction provider object round) }
+        requires there { provider < length providers.old }
         ensures machine { (w : State) (moment : ℕ) (holds : Option Cells) (faults : ℕ)
             → Stands self.old (devices holds faults (map (provider_seen P.Provider) providers.old)) w
             → MakesTurn w moment job result self.new
@@ -319,9 +320,6 @@ impl Vault {
     {
         let place = place_of(&self.jobs, job)?;
         let index = provider as usize;
-        if index >= providers.len() {
-            return None;
-        }
         let question = self.question(job, object, round)?;
         let task = &mut self.jobs[place].task;
         task.ask(

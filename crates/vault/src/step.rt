@@ -3,14 +3,14 @@ ghost use Rattle.hail_devices.specs.Faults.{one_more};
 ghost use Rattle.hail_machine.specs.States.{State};
 ghost use Rattle.hail_records.specs.Records.{Record as Entry};
 ghost use Rattle.hail_records.specs.Spellings.{spelling};
-ghost use Rattle.vault.specs.Calls.{calls_disk, called_provider, moves_before_next, CalledOnce, MovesCells};
+ghost use Rattle.vault.specs.Calls.{calls_disk, moves_before_next, CalledOnce, MovesCells};
 ghost use Rattle.vault_open.specs.Devices.{Devices};
 ghost use Rattle.vault.specs.Devices.{devices_seen};
 ghost use Rattle.vault.specs.Outcomes.{IfEnded, IsNoAction, HasPaddedCounts};
 ghost use Rattle.vault.specs.declared.turn.Turn.TheVariants as turn;
 ghost use Rattle.vault.specs.Seen.{provider_count, coming_of, vault_entry, closed_gate_of, left_of, IsUnchanged};
 ghost use Rattle.vault.specs.Stands.{Stands, Comes, MakesStep, MakesTurn};
-ghost use Rattle.vault_core.specs.Coming.{Acts, IsNoJob, seen_action};
+ghost use Rattle.vault_core.specs.Coming.{Acts, IsNoJob, seen_action, called_provider};
 
 use crate::turn::Turn;
 use crate::vault::Vault;
@@ -77,7 +77,8 @@ impl Vault {
         disk: &mut D,
         providers: &mut [P],
     ) -> Option<Turn>
-        requires { Comes self.old.core job (seen_action action) }
+        requires next { Comes self.old.core job (seen_action action) }
+        requires there { (j : ℕ) → called_provider (Acts (seen_action action)) ≡ Some j → j < length providers.old }
         ensures machine { (w : State) (moment : ℕ)
             → Stands self.old (devices_seen D.Disk P.Provider disk.old providers.old) w
             → MakesTurn w moment job result self.new
@@ -124,7 +125,9 @@ impl Vault {
                 round,
             } => self.ask(job, provider, object, round, providers),
             Action::Work { object, stripe } => self.work(job, object, stripe),
-            Action::Remove { provider, object } => self.remove(job, provider, object, providers),
+            Action::Remove { provider, object } => {
+                Some(self.remove(job, provider, object, providers))
+            }
             Action::End => self.end(job),
         }
     }

@@ -112,7 +112,8 @@ IsAnAsk a = asks_next (Some a) ≡ true
 NoAsk : Action → Type 0
 NoAsk a = asks_next (Some a) ≡ false
 
-asks_ask : (s : Setup) (m : Job) → Each IsAnAsk (ask_actions s m)
+-- the asks of files are asks
+pub asks_ask : (s : Setup) (m : Job) → Each IsAnAsk (ask_actions s m)
 unfolding IsAnAsk
 asks_ask s m = each_flat IsAnAsk (λ (f : Pinned). flat_map (λ round. on_each_provider s (λ j. Ask j f.id round)) (rounds_of (profiled s f.profile) (length f.bytes))) m.pinned
     (λ f. each_flat IsAnAsk (λ round. on_each_provider s (λ j. Ask j f.id round)) (rounds_of (profiled s f.profile) (length f.bytes)) (λ r. each_map IsAnAsk (λ j. Ask j f.id r) (upto s.n) (λ j. refl)))

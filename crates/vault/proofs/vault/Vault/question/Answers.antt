@@ -12,6 +12,6 @@ returns-then-rows-lt1-clause-there c = λ p.
 pub invariant_of-result : goal.invariant_of-result
 invariant_of-result c = record {
   rows = omega (arith, c.rows.ensures.value [], c.if-rows-lt1.false);
-  some_picks = omega (arith, c.if-picks-lt1.false);
-  few_picks = omega (arith, c.if-picks-gt64.false);
+  some_picks = c.args.self.now.some_picks;
+  few_picks = c.args.self.now.few_picks;
 }
