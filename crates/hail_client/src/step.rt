@@ -6,10 +6,10 @@ ghost use Rattle.hail_machine.specs.States.{State};
 ghost use Rattle.hail_records.specs.Records.{Record as Entry};
 ghost use Rattle.hail_records.specs.Spellings.{spelling};
 ghost use Rattle.vault.specs.declared.turn.Turn.TheVariants as turn;
-ghost use Rattle.vault.specs.Calls.{calls_disk, called_provider, moves_before_next, CalledOnce, MovesCells};
+ghost use Rattle.vault.specs.Calls.{moves_before_next, CalledOnce, MovesCells};
 ghost use Rattle.vault.specs.Devices.{devices_seen};
 ghost use Rattle.vault.specs.Outcomes.{IfEnded, IsNoAction, HasPaddedCounts};
-ghost use Rattle.vault_core.specs.Coming.{IsNoJob};
+ghost use Rattle.vault_core.specs.Coming.{IsNoJob, calls_disk, called_provider};
 ghost use Rattle.hail_client.specs.Client.{uses, is_open, client_left, client_coming, client_entry, client_closed_gate, IsSame};
 ghost use Rattle.hail_client.specs.Stands.{ClientStands, ClientMakesStep};
 

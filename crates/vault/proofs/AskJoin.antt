@@ -280,8 +280,6 @@ module _ (v : Vault) (w : State) (number k o r : ℕ) (it : IsAsking v w number 
     size = length nx.x.file.bytes;
     length_is = told_size;
     few = (it.sound_job.pinned nx.x.file (of_file (Contains it.next.job.pinned) (contains_each it.next.job.pinned)).file).size;
-    number = it.in_core.0.subject;
-    number_is = subst (λ (j : Option CoreJob). IsAuditNumber j it.in_core.0.subject) (sym it.in_core.1) refl;
     rows =
         (let rows : stripes (vault_object v o) (length nx.x.file.bytes) ≡ stripes_of (profiled (setup_in w) nx.x.file.profile) (length nx.x.file.bytes) =
         (λ i. (length nx.x.file.bytes + (16 * (it.l_is i * ((it.profile_is ∙ ap profile_of (sym file_plain)) i).keep) - 1)) / (16 * (it.l_is i * ((it.profile_is ∙ ap profile_of (sym file_plain)) i).keep))) in

@@ -3,6 +3,7 @@ pub mod Opened
 pub mod Limits
 pub mod Grown
 pub mod JobPlaces
+pub mod RunningJobs
 pub mod Ways
 pub mod Allowed
 pub mod Fetched
@@ -19,7 +20,7 @@ pub mod StripeOrders
 pub mod RepairBegins
 pub mod Moving
 pub mod MoveStep
-pub mod LaterMoves
+pub mod AppendMoves
 pub mod GetBegins
 pub mod AuditBegins
 pub mod AskOrders

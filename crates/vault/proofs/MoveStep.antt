@@ -1,60 +1,50 @@
 -- A move of an append is a step of the machine.
-use Rattle.std.proofs.Common.{◌≡◌, ℕ, zero, suc, ◌+◌, ◌≤◌, true, false, List, [], ◌∷◌, ◌++◌, length, Option, Some, None, refl, sym, ap, subst, ◌∙◌, inl, inr, arith, length-append}
+use Rattle.std.proofs.Common.{◌≡◌, ℕ, zero, suc, ◌+◌, ◌≤◌, false, List, [], ◌∷◌, ◌++◌, length, Option, Some, None, refl, sym, ap, subst, ◌∙◌, inl, inr, arith, length-append}
 use Rattle.std.specs.Prelude.{◌≢◌, IfSome, slice_get, slice_set, nat_lt}
 use Rattle.std.proofs.lemmas.Bool.{cases_Bool}
 use Rattle.hail_devices.specs.Cells.{Cells}
-use Rattle.hail_devices.specs.Faults.{HasCause, Rose}
 use Rattle.hail_devices.specs.Providers.{Provider}
 use Rattle.hail_devices.specs.Told.{Goes}
 use Rattle.hail_records.specs.Records.{Record, Setup}
 use Rattle.hail_records.specs.Spellings.{spelling}
 use Rattle.hail_records.specs.Journal.{before_gate, text_size}
 use Rattle.hail_records.proofs.Sizes.{length-spelling, length-before_gate}
-use Rattle.hail_records.proofs.Standing.{text_size-least}
-use Rattle.hail_machine.specs.Actions.{Action, WriteBody}
+use Rattle.hail_machine.specs.Actions.{Action}
 use Rattle.hail_machine.specs.Answers as answers
-use Rattle.hail_machine.specs.Appends.{Writes, subject_drawn, barred, begun_append}
+use Rattle.hail_machine.specs.Appends.{subject_drawn}
 use Rattle.hail_machine.specs.Events.{More, Ended}
 use Rattle.hail_machine.specs.Jobs.{Kind, PutJob, GetJob, DropJob, AuditJob, RepairJob, UpgradeJob, Job, with_job, without_job}
-use Rattle.hail_machine.specs.States.{State, Append, Doubt, setup_in, ended}
+use Rattle.hail_machine.specs.States.{State, Append, Doubt, setup_in}
 use Rattle.hail_machine.specs.Steps.{Acts}
 use Rattle.hail_machine.proofs.JobLists.{number_of, cond_false}
-use Rattle.record_codec.specs.Entries.{with_master, entry_of, IsInGrammar}
-use Rattle.record_codec.specs.declared.records.Record.{Record as RecordValue}
+use Rattle.record_codec.specs.Entries.{with_master}
 use Rattle.journal_core.specs.declared.append.Append.{Append as AppendValue}
-use Rattle.journal_core.specs.Appends.{Appends, gate_of, body_of, moves_of}
+use Rattle.journal_core.specs.Appends.{Appends, gate_of, body_of}
 use Rattle.journal_core.specs.Moves.{IsClosed, IsAfterMoves, AllStandFor, MayStandFor, SameFrom}
-use Rattle.journal_core.proofs.BeyondLemmas.{goes_still}
-use Rattle.vault_core.specs.Carried.{CoreIs, ComesNext, IsWriting}
+use Rattle.vault_core.specs.Carried.{CoreIs, ComesNext}
 use Rattle.vault_core.specs.Coming.{entry_in}
 use Rattle.vault_core.specs.Replies.{Tells}
-use Rattle.vault_core.specs.View.{CoreView}
 use Rattle.vault_core.specs.declared.reply.Reply.{Reply}
 use Rattle.vault_core.specs.declared.reply.Reply.TheVariants as reply
 use Rattle.vault.specs.declared.flight.Flight.{Flight}
-use Rattle.vault.specs.declared.flight.Moved.{Moved}
-use Rattle.vault.specs.declared.flight.Moved.TheVariants as moves
 use Rattle.vault.specs.declared.tasks.Running.{Running}
 use Rattle.vault.specs.declared.turn.Answer.{Answer}
-use Rattle.vault.specs.declared.turn.Answer.TheVariants as answer
 use Rattle.vault.specs.declared.turn.Turn.{Turn}
 use Rattle.vault.specs.declared.turn.Turn.TheVariants as turn
 use Rattle.vault.specs.declared.vault.Vault.{Vault}
 use Rattle.hail_openings.specs.Opened.{AreHanded}
-use Rattle.vault_core.proofs.Steps.{none_flies}
 use Rattle.vault_open.specs.Devices.{devices}
-use Rattle.vault.specs.Devices.{IsSameBeyond, records_in_flight}
-use Rattle.vault.specs.Flights.{HasFailed, MakesMove, GoesOn, GivesUp}
+use Rattle.vault.specs.Devices.{IsSameBeyond}
 use Rattle.vault.specs.Outcomes.{machine_answer}
 use Rattle.vault.specs.Running.{place_in, KeepsAll, IsFed, IsStopped}
-use Rattle.vault.specs.Stands.{Stands, Comes, IsFlight, IsSamePast, MakesStep, MakesTurn}
+use Rattle.vault.specs.Stands.{Stands, IsFlight, IsSamePast, MakesStep, MakesTurn}
 use Rattle.vault.specs.Tasks.{AreRunning}
-use Rattle.vault_open.proofs.FirstVersion.{FirstStands, first-images, images-first}
-use Rattle.vault.proofs.FirstVersion.{whole-core, grammar-core}
+use Rattle.vault_open.proofs.FirstVersion.{FirstStands, images-first}
+use Rattle.vault.proofs.FirstVersion.{whole-core}
 use Rattle.vault.proofs.JobPlaces.{place_is, put_back}
 use Rattle.vault.proofs.Moving.{IsMove, moved_on, move_runs}
 use Rattle.vault.proofs.Stops.{IsAside, is_left, not_gone}
-use Rattle.vault.proofs.Ways.{happens_by, shaped_on, setup_same, images_on, handed_same, working}
+use Rattle.vault.proofs.Ways.{happens_by, shaped_on, working}
 
 -- ---- the state after
 
@@ -179,7 +169,7 @@ doubted_images (Some cells) new entry d doubt same may = λ image is. elim (may 
 
 -- ---- the number of a job
 
-subject_kept : (w : State) (job : Job) (kind : Kind) → 4 ≤ job.place → subject_drawn w job kind ≡ job.subject
+pub subject_kept : (w : State) (job : Job) (kind : Kind) → 4 ≤ job.place → subject_drawn w job kind ≡ job.subject
 subject_kept w job (PutJob name bytes) many = cond_false (nat_lt job.place 4) (Rattle.hail_records.specs.Table.next_id w.records) job.subject (few job.place many)
   where
     few : (n : ℕ) → 4 ≤ n → nat_lt n 4 ≡ false
@@ -201,111 +191,6 @@ subject_kept w job UpgradeJob many = refl
 
 -- ---- the append in flight
 
--- the disk has a closed gate where none is in flight
-closed_of : (f : Option Flight) (rs : List Record) (told : Option Cells) → IsFlight f None rs told → IfSome told (IsClosed (before_gate rs))
-closed_of None rs told is = is
-closed_of (Some f) rs told is = absurd is
-
 pub closed_after : (told : Option Cells) (front body : List ℕ) → IfSome told (IsAfterMoves 2 front body) → IfSome told (IsClosed front)
 closed_after None front body is = tt
 closed_after (Some cells) front body is = (is.0, Rattle.hail_devices.specs.Cells.firm body ++ is.1, is.2, is.3)
-
--- ---- the write of a body
-
-module _ (v : Vault) (w : State) (holds holds' : Option Cells) (faults faults' moment number : ℕ) (ps : List Provider) (stands : Stands v (devices holds faults ps) w) (comes : Comes v.core number WriteBody)
-    (entry : RecordValue) (gate : ℕ) (f : Flight) (given : entry_in v.core number ≡ Some (entry_of entry)) (writing : IsWriting w number (entry_of entry)) (good : IsInGrammar entry) (at : v.core.end ≡ gate + 1)
-    (gate_is : gate_of f.append ≡ gate) (moves_is : moves_of f.append ≡ 0) (body_is : body_of f.append ≡ spelling (entry_of entry) ++ 0 ∷ []) where
-  next : ComesNext w number WriteBody None
-  next = comes.machine w stands.core
-
-  alone : w.append ≡ None
-  alone = none_flies w.append next.holder
-
-  closed : IfSome holds (IsClosed (before_gate w.records))
-  closed = closed_of v.flight w.records holds (subst (λ (o : Option Append). IsFlight v.flight o w.records holds) alone (stands.flight next.unbarred))
-
-  begun : Appends w.records (entry_of entry) f.append holds
-  begun = record {
-    records = grammar-core v.core w stands.core;
-    entry = good.spelled;
-    gate = (let size = length-before_gate w.records (grammar-core v.core w stands.core) in let end = stands.core.end in let g = gate_is in let a = at in omega (arith, size, end, g, a));
-    body = body_is;
-    disk = subst (λ (n : ℕ). IfSome holds (IsAfterMoves n (before_gate w.records) (body_of f.append))) (sym moves_is) closed;
-  }
-
-  writes : Writes w next.job next.job.kind (entry_of entry)
-  writes =
-      let same : writing.job ≡ next.job = (let e : Some writing.job ≡ Some next.job = sym writing.runs ∙ next.runs in cc) in
-      subst (λ (j : Job). Writes w j j.kind (entry_of entry)) same writing.writes
-
-  counts : (m : Moved) → HasCause faults faults' (HasFailed m) → w.disk_faults ≤ faults'
-  counts m cause = (let a = stands.devices.faults in let b = cause.never_falls in omega (arith, a, b))
-
-  pub body_written : (v' : Vault) (g : Flight) → MakesMove f.append holds (moves.On g) holds' → Goes (SameFrom (gate_of f.append + 1 + length (body_of f.append))) holds holds' → HasCause faults faults' (HasFailed (moves.On g))
-      → v'.flight ≡ Some g → v'.jobs.items ≡ v.jobs.items → KeepsAll v v' → IsFed v.core number reply.Done v'.core
-      → MakesStep w moment number turn.More v' (devices holds faults ps) (devices holds' faults' ps)
-  body_written v' g made beyond cause flight jobs keeps fed =
-      let job = next.job in
-      let on : GoesOn f.append g.append w.records (entry_of entry) holds' = made.3 w.records (entry_of entry) begun in
-      let new : State = record (begun_append w job (entry_of entry)) { disk_faults = faults' } in
-      moves_on v v' w new holds holds' faults faults' moment number ps WriteBody (subject_drawn w job job.kind) job.older stands next tt (subject_kept w job job.kind)
-      (entry_of entry, writes, (faults', counts (moves.On g) cause, refl))
-      refl jobs
-      (record {
-        setup = setup_same w new refl;
-        handed = handed_same ps w new stands.devices.providers refl (λ j. refl);
-        faults = refl;
-        images = all_images holds' new (on.before (let m = moves_is in omega (arith, m)));
-        flight = λ free. subst (λ (x : Option Flight). IsFlight x new.append new.records holds') (sym flight) ((let m = moves_is in let k = made.0 in omega (arith, m, k)), on.appends);
-      })
-      (λ a is mine. given ∙ ap (λ (x : Append). Some x.entry) (let e : Some (record { job = job.number; entry = entry_of entry; moves = 1 }) ≡ Some a = is in one_of _ a e))
-      (beyond_of w.records (entry_of entry) f.append holds holds' begun beyond)
-      keeps fed
-    where
-      one_of : (a b : Append) → Some a ≡ Some b → a ≡ b
-      one_of a b e = cc
-
-  pub body_failed : (v2 : Vault) (result : Option Turn) → MakesMove f.append holds moves.Failed holds' → Goes (SameFrom (gate_of f.append + 1 + length (body_of f.append))) holds holds' → HasCause faults faults' (HasFailed moves.Failed) → IsStopped v number reply.Failed answer.DiskFault result v2
-      → MakesTurn w moment number result v2 (devices holds faults ps) (devices holds' faults' ps)
-  body_failed v2 result made beyond cause stopped =
-      let job = next.job in
-      let up : GivesUp f.append w.records (entry_of entry) holds' = made w.records (entry_of entry) begun in
-      let new : State = record (barred (ended w job)) { disk_faults = faults' } in
-      moves_end v v v2 w new holds holds' faults faults' moment number ps WriteBody reply.Failed answer.DiskFault result stands next
-      (faults', counts moves.Failed cause, subst (λ (n : ℕ). Rose n faults') (sym stands.devices.faults) (cause.rose tt), refl)
-      (ap (without_job w.jobs) (number_of w.jobs number job next.runs))
-      refl refl (record { setup = refl; master = refl; shape = refl; profile = refl }) stopped tt
-      (record {
-        setup = setup_same w new refl;
-        handed = handed_same ps w new stands.devices.providers refl (λ j. refl);
-        faults = refl;
-        images = all_images holds' new (up.before (let m = moves_is in omega (arith, m)));
-        flight = λ free. absurd (let e : true ≡ false = free in true_false e);
-      })
-      refl (λ on. absurd (on refl))
-      (λ e. record { entry = entry_of entry; writing = writing; in_flight = λ a is. absurd (let e : None ≡ Some a = sym alone ∙ is in cc); same = beyond_of w.records (entry_of entry) f.append holds holds' begun beyond })
-    where
-      true_false : true ≡ false → ⊥
-      true_false e = cc
-
-  pub body_unwritten : (v2 : Vault) (result : Option Turn) → MakesMove f.append holds moves.Memory holds' → HasCause faults faults' (HasFailed moves.Memory) → IsStopped v number reply.Memory answer.Memory result v2
-      → MakesTurn w moment number result v2 (devices holds faults ps) (devices holds' faults' ps)
-  body_unwritten v2 result made cause stopped =
-      let job = next.job in
-      let new : State = record (ended w job) { disk_faults = faults' } in
-      moves_end v v v2 w new holds holds' faults faults' moment number ps WriteBody reply.Memory answer.Memory result stands next
-      (faults', counts moves.Memory cause, refl)
-      (ap (without_job w.jobs) (number_of w.jobs number job next.runs))
-      refl refl (record { setup = refl; master = refl; shape = refl; profile = refl }) stopped tt
-      (record {
-        setup = setup_same w new refl;
-        handed = handed_same ps w new stands.devices.providers refl (λ j. refl);
-        faults = refl;
-        images = subst (λ (t : Option Cells). FirstStands t new) (sym made.1) (images_on holds w new refl refl (first-images holds w (whole-core v.core w stands.core) stands.devices.images));
-        flight = λ free. subst (λ (t : Option Cells). IsFlight v.flight w.append w.records t) (sym made.1) (stands.flight free);
-      })
-      alone (λ on. goes_still (text_size (records_in_flight new.records new.append)) holds holds' made.1) (λ e. cc)
-
--- a core ends behind the closed gate
-pub has_end : (c : CoreView) (w : State) → CoreIs c w → 9 ≤ c.end
-has_end c w core = (let a = text_size-least w.records in let b = core.end in omega (arith, a, b))

@@ -1,5 +1,5 @@
 -- What a move does to the cells of the disk, by what the core tells of its append.
-use Rattle.std.proofs.Common.{◌≡◌, ℕ, ◌<◌, List, [], ◌∷◌, ◌++◌, Option, None, Some, sym, ap, subst, ◌∙◌, arith}
+use Rattle.std.proofs.Common.{◌≡◌, ℕ, List, [], ◌∷◌, ◌++◌, Option, None, Some, sym, ap, subst, ◌∙◌, arith}
 use Rattle.std.specs.Prelude.{IfSome}
 use Rattle.std.specs.Option.{option_map}
 use Rattle.hail_devices.specs.Cells.{Cells}
@@ -10,8 +10,6 @@ use Rattle.hail_records.specs.Spellings.{spelling}
 use Rattle.hail_records.proofs.Sizes.{length-before_gate}
 use Rattle.hail_machine.specs.Actions.{Action}
 use Rattle.hail_machine.specs.States.{State}
-use Rattle.hail_machine.proofs.JobLists.{number_of}
-use Rattle.sound_states.specs.Orders.{moves_before}
 use Rattle.journal_core.specs.declared.append.Append.{Append}
 use Rattle.journal_core.specs.Appends.{gate_of, body_of, moves_of}
 use Rattle.journal_core.specs.Moves.{cells_after, MayTear}
@@ -20,13 +18,13 @@ use Rattle.vault.specs.declared.flight.Flight.{Flight}
 use Rattle.vault.specs.declared.turn.Answer.{Answer}
 use Rattle.vault.specs.declared.turn.Turn.{Turn}
 use Rattle.vault.specs.declared.vault.Vault.{Vault}
-use Rattle.vault.specs.Calls.{EndsCells, MovesCells}
+use Rattle.vault.specs.Calls.{EndsCells, MovesCells, moves_before_next}
 use Rattle.vault_open.specs.Devices.{devices}
 use Rattle.vault.specs.Running.{IsStopped}
-use Rattle.vault.specs.Seen.{vault_entry, closed_gate_of}
+use Rattle.vault.specs.Seen.{coming_of, vault_entry, closed_gate_of}
+use Rattle.vault.specs.Movers.{IsMover}
 use Rattle.vault.specs.Stands.{Stands, Comes}
 use Rattle.vault.proofs.FirstVersion.{grammar-core}
-use Rattle.vault.proofs.LaterMoves.{next, held, mine, made_so_far, entry_is}
 
 -- an append at the closed gate with this record, so many moves of which are made
 pub record IsAppendOf (v : Vault) (n : ℕ) (entry : Record) (a : Append) : Type 0 where
@@ -51,20 +49,16 @@ pub cells_stopped : (v1 v2 : Vault) (job n gate : ℕ) (body : List ℕ) (reply 
 cells_stopped v1 v2 job n gate body reply answer None old new stopped ends = tt
 cells_stopped v1 v2 job n gate body reply answer (Some t) old new stopped ends = subst (λ (x : Turn). MovesCells n gate body x old new) (sym stopped.turn_is) ends
 
--- the append in flight of a later move
-pub append_of : (v : Vault) (w : State) (holds : Option Cells) (faults number : ℕ) (ps : List Provider) (stands : Stands v (devices holds faults ps) w) (action : Action) (comes : Comes v.core number action) (later : 0 < moves_before action)
-    → (f : Flight) → v.flight ≡ Some f → (entry : Record) → vault_entry v number ≡ Some entry → IsAppendOf v (moves_before action) entry f.append
-append_of v w holds faults number ps stands action comes later f is entry given =
-    let next = next v w holds faults number ps stands action comes later in
-    let a = held v w holds faults number ps stands action comes later in
-    let m = mine v w holds faults number ps stands action comes later f is in
-    let own : a.0.job ≡ number = a.2.0 ∙ number_of w.jobs number next.job next.runs in
-    let same : a.0.entry ≡ entry = (let e : Some a.0.entry ≡ Some entry = sym (entry_is v w holds faults number ps stands action comes later own) ∙ given in cc) in
+-- the append at a move of a job
+pub append_of : (v : Vault) (w : State) (holds : Option Cells) (faults number : ℕ) (ps : List Provider) → Stands v (devices holds faults ps) w → (action : Action) → Comes v.core number action
+    → (f : Flight) → IsMover v w holds number action f → (entry : Record) → vault_entry v number ≡ Some entry → IsAppendOf v (moves_before_next (coming_of v number)) entry f.append
+append_of v w holds faults number ps stands action comes f m entry given =
+    let same : m.entry ≡ entry = (let e : Some m.entry ≡ Some entry = sym m.given ∙ given in cc) in
     let size = length-before_gate w.records (grammar-core v.core w stands.core) in
     let end = stands.core.end in
-    let gate = m.1.gate in
+    let gate = m.appends.gate in
     record {
-      moves = made_so_far v w holds faults number ps stands action comes later f is;
+      moves = m.moves ∙ sym (ap moves_before_next comes.value);
       gate = omega (arith, size, end, gate);
-      body = m.1.body ∙ ap (λ (r : Record). spelling r ++ 0 ∷ []) same;
+      body = m.appends.body ∙ ap (λ (r : Record). spelling r ++ 0 ∷ []) same;
     }

@@ -177,6 +177,4 @@ pub record MayPut (v : Vault) (job object : ℕ) : Type 0 where
   pub size : ℕ
   pub length_is : length_in v.core job object ≡ Some size
   pub few : size ≤ 2 ^ 22
-  pub number : ℕ
-  pub number_is : IsAuditNumber (job_in v.core.jobs job) number
   pub rows : 1 ≤ stripes (vault_object v object) size * v.profile.size

@@ -1,28 +1,22 @@
--- Which device the next step of a job calls, and what a step does to the cells of the disk.
+-- Which device a step calls, and what it does to the cells of the disk.
 --
---   calls_disk coming        == what comes next is a move of an append, the only action that calls the disk
 --   CalledOnce calls j old new == of a list of devices the one at place j was called once, by their counts
 --                                 of calls
 --   moves_before_next coming        == how many moves of its append are made before the next action
 --   MovesCells n gate body turn old new == the cells after a step that makes the move after n, by what came
 --                                          of it
-use Rattle.std.specs.Prelude.{◌≡◌, ℕ, Bool, false, List, Option, Some, slice_get}
+use Rattle.std.specs.Prelude.{◌≡◌, ℕ, List, Option, slice_get}
 use Rattle.std.specs.Option.{option_map}
 use Rattle.hail_devices.specs.Cells.{Cells}
 use Rattle.hail_devices.specs.Faults.{one_more}
 use Rattle.hail_devices.specs.Told.{Goes}
 use Rattle.sound_states.specs.Orders.{moves_before}
 use Rattle.journal_core.specs.Moves.{cells_after, MayTear}
-use Rattle.vault_core.specs.Coming.{Coming, Acts, is_move}
+use Rattle.vault_core.specs.Coming.{Coming, Acts}
 use Rattle.vault.specs.declared.turn.Answer.{Answer}
 use Rattle.vault.specs.declared.turn.Answer.TheVariants as answer
 use Rattle.vault.specs.declared.turn.Turn.{Turn}
 use Rattle.vault.specs.declared.turn.Turn.TheVariants as turn
-
--- what comes next is a move of an append
-abbrev pub calls_disk : Coming → Bool
-calls_disk (Acts action) = is_move (Some action)
-calls_disk coming = false
 
 -- the device at a place was called once
 abbrev pub CalledOnce : {X : Type 0} → (X → ℕ) → ℕ → List X → List X → Type 0

@@ -13,6 +13,7 @@ pub mod Seen
 pub mod Flights
 pub mod Running
 pub mod Stands
+pub mod Movers
 pub mod Calls
 pub mod Fresh
 pub mod Benches

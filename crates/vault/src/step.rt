@@ -3,14 +3,14 @@ ghost use Rattle.hail_devices.specs.Faults.{one_more};
 ghost use Rattle.hail_machine.specs.States.{State};
 ghost use Rattle.hail_records.specs.Records.{Record as Entry};
 ghost use Rattle.hail_records.specs.Spellings.{spelling};
-ghost use Rattle.vault.specs.Calls.{calls_disk, moves_before_next, CalledOnce, MovesCells};
+ghost use Rattle.vault.specs.Calls.{moves_before_next, CalledOnce, MovesCells};
 ghost use Rattle.vault_open.specs.Devices.{Devices};
 ghost use Rattle.vault.specs.Devices.{devices_seen};
 ghost use Rattle.vault.specs.Outcomes.{IfEnded, IsNoAction, HasPaddedCounts};
 ghost use Rattle.vault.specs.declared.turn.Turn.TheVariants as turn;
 ghost use Rattle.vault.specs.Seen.{provider_count, coming_of, vault_entry, closed_gate_of, left_of, IsUnchanged};
 ghost use Rattle.vault.specs.Stands.{Stands, Comes, MakesStep, MakesTurn};
-ghost use Rattle.vault_core.specs.Coming.{Acts, IsNoJob, seen_action, called_provider};
+ghost use Rattle.vault_core.specs.Coming.{Acts, IsNoJob, seen_action, calls_disk, called_provider};
 
 use crate::turn::Turn;
 use crate::vault::Vault;
@@ -78,7 +78,8 @@ impl Vault {
         providers: &mut [P],
     ) -> Option<Turn>
         requires next { Comes self.old.core job (seen_action action) }
-        requires there { (j : ℕ) → called_provider (Acts (seen_action action)) ≡ Some j → j < length providers.old }
+        requires there { (j : ℕ) → called_provider (Acts (seen_action action)) ≡ Some j
+            → j < length providers.old }
         ensures machine { (w : State) (moment : ℕ)
             → Stands self.old (devices_seen D.Disk P.Provider disk.old providers.old) w
             → MakesTurn w moment job result self.new
@@ -105,10 +106,9 @@ impl Vault {
         ensures acted { IfSome result (λ turn. IsNoAction turn → ⊥) }
     {
         match action {
-            Action::WriteBody => self.write_body(job, disk),
-            Action::SyncBody => self.sync_body(job, disk),
-            Action::WriteGate => self.write_gate(job, disk),
-            Action::SyncGate => self.sync_gate(job, disk),
+            Action::WriteBody | Action::SyncBody | Action::WriteGate | Action::SyncGate => {
+                self.move_append(job, disk)
+            }
             Action::Store {
                 provider,
                 object,

@@ -2,10 +2,10 @@
 use Rattle.std.proofs.Common.{◌≡◌, ℕ, Bool, true, false, cond, Option, None, Some, refl, ap, sym, subst, ◌∙◌}
 use Rattle.hail_machine.specs.Actions.{Action, WriteBody, SyncBody, WriteGate, SyncGate, Store, Fetch, Ask, Work, Remove, End}
 use Rattle.vault_core.specs.View.{CoreJob, CoreView, job_in}
-use Rattle.vault_core.specs.Coming.{Coming, IsBarred, action_next, is_move, moves_next, waits_or_acts, next_of, next_in}
+use Rattle.vault_core.specs.Coming.{Coming, IsBarred, action_next, is_move, calls_disk, waits_or_acts, next_of, next_in}
 
 -- a job that may go on and has a move next has this move as its next action
-moves-acts : (flight : Option ℕ) (o : Option Action) → moves_next (waits_or_acts flight o) ≡ true → is_move o ≡ true
+moves-acts : (flight : Option ℕ) (o : Option Action) → calls_disk (waits_or_acts flight o) ≡ true → is_move o ≡ true
 moves-acts flight None h = (let e : false ≡ true = h in cc)
 moves-acts None (Some a) h = h
 moves-acts (Some k) (Some WriteBody) h = refl
@@ -20,11 +20,11 @@ moves-acts (Some k) (Some (Remove j object)) h = h
 moves-acts (Some k) (Some End) h = h
 
 -- the same of the job of a number
-pub moves-job : (c : CoreView) (number : ℕ) (j : CoreJob) → job_in c.jobs number ≡ Some j → moves_next (next_in c number) ≡ true → is_move (action_next c.table j) ≡ true
-moves-job c number j found h = by_barred c.barred (subst (λ (o : Option CoreJob). moves_next (by c.barred o) ≡ true) found h)
+pub moves-job : (c : CoreView) (number : ℕ) (j : CoreJob) → job_in c.jobs number ≡ Some j → calls_disk (next_in c number) ≡ true → is_move (action_next c.table j) ≡ true
+moves-job c number j found h = by_barred c.barred (subst (λ (o : Option CoreJob). calls_disk (by c.barred o) ≡ true) found h)
   where
     by : Bool → Option CoreJob → Coming
     by barred o = cond barred IsBarred (next_of c o)
-    by_barred : (b : Bool) → moves_next (by b (Some j)) ≡ true → is_move (action_next c.table j) ≡ true
+    by_barred : (b : Bool) → calls_disk (by b (Some j)) ≡ true → is_move (action_next c.table j) ≡ true
     by_barred true h = (let e : false ≡ true = h in cc)
     by_barred false h = moves-acts c.append (action_next c.table j) h

@@ -106,7 +106,8 @@ module _ (s : Setup) (m : Job) (some : 0 < s.n) where
 
 -- ---- asks
 
-pub IsAnAsk : Action → Type 0
+-- an action asks a provider
+unfoldable pub IsAnAsk : Action → Type 0
 IsAnAsk a = asks_next (Some a) ≡ true
 
 NoAsk : Action → Type 0

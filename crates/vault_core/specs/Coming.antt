@@ -10,7 +10,7 @@
 --   core_left c number    == the same; 0 where there is none
 --   entry_in c number   == the record that the job's append writes; None outside an append
 --   called_provider coming == the provider that the next action calls: of a store, a fetch, an ask, a removal
---   moves_next coming      == what comes next is a move of an append
+--   calls_disk coming      == what comes next is a move of an append, the only action that calls the disk
 --   HasReply c number coming reply  == the reply is one that this action has
 --   TakesReply c number reply  == the reply is one that the next action has
 use Rattle.std.specs.Prelude.{◌≡◌, ℕ, ◌+◌, ◌&&◌, Bool, true, false, not, List, length, Option, None, Some, is_some, nat_lt, unwrap_or, count_by, slice_get, if◌then◌else◌}
@@ -152,10 +152,10 @@ abbrev pub called_provider : Coming → Option ℕ
 called_provider (Acts action) = provider_of action
 called_provider coming = None
 
--- what comes next is a move of an append
-abbrev pub moves_next : Coming → Bool
-moves_next (Acts action) = is_move (Some action)
-moves_next coming = false
+-- what comes next is a move of an append, the only action that calls the disk
+abbrev pub calls_disk : Coming → Bool
+calls_disk (Acts action) = is_move (Some action)
+calls_disk coming = false
 
 -- an action asks a provider
 abbrev pub asks_next : Option Action → Bool

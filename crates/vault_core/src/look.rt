@@ -12,7 +12,7 @@ ghost use Rattle.hail_machine.specs.Refusals.{first_refusal};
 ghost use Rattle.hail_columns.specs.Verdicts.{Sums};
 ghost use Rattle.record_codec.specs.Entries.{entry_of, counted, IsInGrammar, IsPadded};
 ghost use Rattle.vault_core.specs.View.{job_in, CoreJob};
-ghost use Rattle.vault_core.specs.Coming.{seen_next, waits_or_acts, next_in, left_in, entry_in, is_last_ask_of, called_provider, moves_next};
+ghost use Rattle.vault_core.specs.Coming.{seen_next, waits_or_acts, next_in, left_in, entry_in, is_last_ask_of, called_provider, calls_disk};
 ghost use Rattle.vault_core.specs.Reserves.{Reserves};
 ghost use Rattle.vault_core.specs.Parts.{core_job, IsJobKept};
 ghost use Rattle.vault_core.specs.Carried.{CoreIs, refusal_of, IsNextOf, IsEntryOf};
@@ -149,7 +149,7 @@ impl Core {
     /// The record that the job's current append writes, read off the core alone.
     fn writing(&self, job: u32) -> Option<Record>
         ensures value { option_map entry_of result ≡ entry_in self.now job }
-        ensures there { moves_next (next_in self.now job) ≡ true → IsSome result }
+        ensures there { calls_disk (next_in self.now job) ≡ true → IsSome result }
         ensures in_grammar { IfSome result (λ entry. IsInGrammar entry) }
         ensures room { IfSome result (λ entry. self.now.end + (1 + record_size (entry_of entry)) ≤ 2 ^ 24) }
     {
@@ -160,7 +160,7 @@ impl Core {
     /// The record that the job's current append writes; None outside an append.
     pub fn entry(&self, job: u32) -> Option<Record>
         ensures value { option_map entry_of result ≡ entry_in self.now job }
-        ensures there { moves_next (next_in self.now job) ≡ true → IsSome result }
+        ensures there { calls_disk (next_in self.now job) ≡ true → IsSome result }
         ensures machine { (w : State) → CoreIs self.now w → IsEntryOf w job (option_map entry_of result) }
         ensures in_grammar { IfSome result (λ entry. IsInGrammar entry) }
         ensures room { IfSome result (λ entry. self.now.end + (1 + record_size (entry_of entry)) ≤ 2 ^ 24) }

@@ -9,8 +9,12 @@ use Rattle.vault.specs.Running.{place_in}
 use Rattle.vault.specs.declared.tasks.Running.{Running}
 use Rattle.vault.proofs.AskJoin.{put_there, ask_there, tell_there, ask_step}
 use Rattle.vault.proofs.JobPlaces.{item_at}
+use Rattle.vault.proofs.RunningJobs.{runs_next}
 use Rattle.vault.proofs.Ways.{no_place}
 use Rattle.vault.proofs.vault.Vault.ask.Goals as goal
+
+pub question-requires : goal.question-requires
+question-requires g c = runs_next c.args.self.now.core c.args.job _ c.requires.next.value
 
 pub returns-in_err-place-clause-machine : goal.returns-in_err-place-clause-machine
 returns-in_err-place-clause-machine g c = λ w moment holds faults stands.

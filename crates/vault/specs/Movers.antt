@@ -1,0 +1,46 @@
+-- Moves of a job's append.
+--
+--   ComesMove c job       == a move of the job's append comes next
+--   IsFirst c job f       == an append, no move of which is made, of the record that the job writes
+--   IsMover v w told job action f == an append that is at this move of the job: it brings the record that the
+--                            job writes, which is that of the append in flight, if there is one
+use Rattle.std.specs.Prelude.{◌≡◌, ℕ, ◌+◌, true, Option, Some, [], ◌∷◌, ◌++◌, IsTrue}
+use Rattle.hail_devices.specs.Cells.{Cells}
+use Rattle.hail_records.specs.Records.{Record, is_in_grammar}
+use Rattle.hail_records.specs.Spellings.{spelling}
+use Rattle.hail_machine.specs.Actions.{Action}
+use Rattle.hail_machine.specs.States.{State, Append}
+use Rattle.sound_states.specs.Orders.{moves_before}
+use Rattle.journal_core.specs.Appends.{Appends, gate_of, body_of, moves_of}
+use Rattle.vault_core.specs.Carried.{IsWriting}
+use Rattle.vault_core.specs.Coming.{is_move, entry_in}
+use Rattle.vault_core.specs.View.{CoreView}
+use Rattle.vault.specs.declared.flight.Flight.{Flight}
+use Rattle.vault.specs.declared.vault.Vault.{Vault}
+use Rattle.vault.specs.Stands.{Comes}
+
+-- a move of the job's append comes next
+pub record ComesMove (c : CoreView) (job : ℕ) : Type 0 where
+  pub action : Action
+  pub comes : Comes c job action
+  pub moves : is_move (Some action) ≡ true
+
+-- an append, no move of which is made, of the record that the job writes
+pub record IsFirst (c : CoreView) (job : ℕ) (f : Flight) : Type 0 where
+  pub entry : Record
+  pub given : entry_in c job ≡ Some entry
+  pub spelled : IsTrue (is_in_grammar entry)
+  pub gate : gate_of f.append + 1 ≡ c.end
+  pub moves : moves_of f.append ≡ 0
+  pub body : body_of f.append ≡ spelling entry ++ 0 ∷ []
+
+-- an append that is at this move of the job: its moves so far are made, and it brings the record that the job
+-- writes, which is that of the append in flight, if there is one
+pub record IsMover (v : Vault) (w : State) (told : Option Cells) (job : ℕ) (action : Action) (f : Flight)
+    : Type 0 where
+  pub entry : Record
+  pub given : entry_in v.core job ≡ Some entry
+  pub writing : IsWriting w job entry
+  pub in_flight : (a : Append) → w.append ≡ Some a → a.entry ≡ entry
+  pub appends : Appends w.records entry f.append told
+  pub moves : moves_of f.append ≡ moves_before action
