@@ -1,7 +1,7 @@
 -- What a core and a vault tell of an ask, and the ask as a step of the machine.
 use Rattle.std.proofs.Common.{◌≡◌, ℕ, zero, suc, ◌+◌, ◌-◌, ◌*◌, ◌/◌, ◌<◌, ◌≤◌, ◌^◌, ◌==◌, ◌&&◌, Bool, true, false, cond, List, [], ◌∷◌, ◌++◌, length, take, drop, map, Option, Some, None, refl, sym, ap, subst, ◌∙◌, inl, inr, arith}
-use Rattle.std.specs.Prelude.{slice_get, slice_set, IsTrue, nat_lt}
-use Rattle.std.specs.List.{list_all, Contains, position_from, AllZip, flat_map}
+use Rattle.std.specs.Prelude.{slice_get, slice_set, nat_lt}
+use Rattle.std.specs.List.{list_all, Contains, position_from, AllZip}
 use Rattle.std.specs.Option.{option_map}
 use Rattle.std.proofs.Math.Nat.{mul-le-mul_right}
 use Rattle.std.proofs.lemmas.Bool.{cases_Bool, cases_eq, eq-eqb, ne_eqb, eqb-true, and_parts, false≢true, lt-ltb}
@@ -10,10 +10,9 @@ use Rattle.std.proofs.lemmas.List.Sums.{sum_by-cons}
 use Rattle.std.proofs.lemmas.Iterator.Adapters.{position_from-zero}
 use Rattle.std.proofs.Common.{zero-add}
 use Rattle.plain_facts.specs.Lists.{Each}
-use Rattle.plain_facts.proofs.Each.{each_middle, each_flat, each_map}
+use Rattle.plain_facts.proofs.Each.{each_middle}
 use Rattle.code_points.specs.Profile.{plain_profile}
 use Rattle.hail_codes.specs.Profiles.{Profile as PlainProfile, profile_of}
-use Rattle.hail_codes.specs.Points.{upto}
 use Rattle.hail_columns.specs.Challenges.{challenge_of, honest_answer}
 use Rattle.hail_columns.specs.Objects.{stripes}
 use Rattle.hail_devices.specs.Cells.{Cells}

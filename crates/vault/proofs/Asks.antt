@@ -3,7 +3,6 @@ use Rattle.std.proofs.Common.{◌≡◌, ℕ, zero, suc, ◌+◌, ◌-◌, ◌*�
 use Rattle.std.specs.List.{range_with_len, Contains}
 use Rattle.std.proofs.Math.Seq.{drop-append_seam}
 use Rattle.std.proofs.lemmas.Bool.{cases_Bool, eq-eqb, ne_eqb, eqb-true, eqb-false, false≢true}
-use Rattle.std.proofs.lemmas.List.FromFn.{length-range_with_len}
 use Rattle.plain_facts.specs.Lists.{Each}
 use Rattle.plain_facts.proofs.Each.{each_append, each_at_most, each_zero}
 use Rattle.hail_codes.specs.Points.{upto}
