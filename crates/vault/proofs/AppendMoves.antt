@@ -274,7 +274,7 @@ module _ (v : Vault) (w : State) (holds holds' : Option Cells) (faults faults' m
       let job = next.job in
       let on : GoesOn f.append g.append w.records m.entry holds' = made.3 w.records m.entry m.appends in
       let writes : Writes w job job.kind m.entry =
-        (let same : m.writing.job ≡ job = (let e : Some m.writing.job ≡ Some job = sym m.writing.runs ∙ next.runs in cc) in subst (λ (j : Job). Writes w j j.kind m.entry) same m.writing.writes) in
+      (let same : m.writing.job ≡ job = (let e : Some m.writing.job ≡ Some job = sym m.writing.runs ∙ next.runs in cc) in subst (λ (j : Job). Writes w j j.kind m.entry) same m.writing.writes) in
       let new : State = record (begun_append w job m.entry) { disk_faults = faults' } in
       moves_on v v' w new holds holds' faults faults' moment number ps WriteBody (subject_drawn w job job.kind) job.older stands next tt (subject_kept w job job.kind)
       (m.entry, writes, (faults', falls_not cause.never_falls, refl))

@@ -1,26 +1,24 @@
 -- What a core and a vault tell of an ask, and the ask as a step of the machine.
 use Rattle.std.proofs.Common.{◌≡◌, ℕ, zero, suc, ◌+◌, ◌-◌, ◌*◌, ◌/◌, ◌<◌, ◌≤◌, ◌^◌, ◌==◌, ◌&&◌, Bool, true, false, cond, List, [], ◌∷◌, ◌++◌, length, take, drop, map, Option, Some, None, refl, sym, ap, subst, ◌∙◌, inl, inr, arith}
-use Rattle.std.specs.Prelude.{slice_get, slice_set, IsTrue, nat_lt}
-use Rattle.std.specs.List.{list_all, Contains, position_from, AllZip, flat_map}
+use Rattle.std.specs.Prelude.{slice_get, slice_set, nat_lt}
+use Rattle.std.specs.List.{list_all, Contains, position_from, AllZip}
 use Rattle.std.specs.Option.{option_map}
 use Rattle.std.proofs.Math.Nat.{mul-le-mul_right}
 use Rattle.std.proofs.lemmas.Bool.{cases_Bool, cases_eq, eq-eqb, ne_eqb, eqb-true, and_parts, false≢true, lt-ltb}
-use Rattle.std.proofs.lemmas.Bool.Decides.{nat_tests}
 use Rattle.std.proofs.lemmas.List.{append-nil}
 use Rattle.std.proofs.lemmas.List.Sums.{sum_by-cons}
 use Rattle.std.proofs.lemmas.Iterator.Adapters.{position_from-zero}
 use Rattle.std.proofs.Common.{zero-add}
 use Rattle.plain_facts.specs.Lists.{Each}
-use Rattle.plain_facts.proofs.Each.{each_middle, each_flat, each_map}
+use Rattle.plain_facts.proofs.Each.{each_middle}
 use Rattle.code_points.specs.Profile.{plain_profile}
 use Rattle.hail_codes.specs.Profiles.{Profile as PlainProfile, profile_of}
-use Rattle.hail_codes.specs.Points.{upto}
 use Rattle.hail_columns.specs.Challenges.{challenge_of, honest_answer}
 use Rattle.hail_columns.specs.Objects.{stripes}
 use Rattle.hail_devices.specs.Cells.{Cells}
 use Rattle.hail_devices.specs.Providers.{Provider}
 use Rattle.hail_devices.specs.ProviderCalls.{Asks}
-use Rattle.hail_records.specs.Records.{Setup, SetUp, is_in_grammar}
+use Rattle.hail_records.specs.Records.{Setup}
 use Rattle.hail_machine.specs.Actions.{Action, Ask, WriteBody, SyncBody, WriteGate, SyncGate, End, actions_of, actions_by, actions_left, append_actions, ask_actions, on_each_provider, rounds_of}
 use Rattle.hail_machine.specs.Audits.{challenge_in, asked_challenge, HasSums}
 use Rattle.hail_machine.specs.Events.{More}
@@ -33,7 +31,7 @@ use Rattle.file_layout.specs.Files as layout
 use Rattle.record_codec.specs.Entries.{counted}
 use Rattle.hail_field.specs.declared.shape.Shape.{Shape as ShapeValue}
 use Rattle.sound_states.proofs.Orders.{next-left, get-drop}
-use Rattle.sound_states.proofs.Written.{setup-valid, setup-rounds}
+use Rattle.sound_states.proofs.Written.{setup-rounds}
 use Rattle.sound_states.specs.SoundJobs.{IsPlainJob, IsSoundJob}
 use Rattle.sound_states.specs.Orders.{moves_made}
 use Rattle.vault_core.specs.Carried.{IsJobOf, ComesNext, pin_of}
@@ -58,9 +56,10 @@ use Rattle.vault.specs.Rounds.{Round, rounds_in, asked_after, AsksOn, JudgesEach
 use Rattle.vault.specs.Running.{place_in, KeepsAll, IsFed}
 use Rattle.vault.specs.Stands.{Stands, Comes, MakesStep}
 use Rattle.vault.specs.Tasks.{IsTask, IsRunning, AreRunning, IsAudit, empty_sums}
+use Rattle.vault_core.proofs.Onward.{asks_ask}
 use Rattle.vault.proofs.FirstVersion.{plain-core, profile-among}
 use Rattle.vault.proofs.Allowed.{IsAllowed, next_allowed}
-use Rattle.vault.proofs.Asks.{Rising, IsRound, rounds_rise, each_round, each_both, sizes_found, contains_each, few_rounds, enough_answers, sums_within, as_files, behind_last, IsAnAsk}
+use Rattle.vault.proofs.Asks.{Rising, IsRound, rounds_rise, each_round, each_both, sizes_found, contains_each, few_rounds, enough_answers, sums_within, as_files, behind_last}
 use Rattle.vault.proofs.AskStep.{IsNext, IsPut, next_round, audit_kept, audit_judged, zero_all}
 use Rattle.vault.proofs.Fetched.{after}
 use Rattle.vault.proofs.JobPlaces.{place_is, put_back, one_further, from_zero}
@@ -129,12 +128,6 @@ profile_some (suc (suc (suc (suc more)))) = omega arith
 times_some : (a b : ℕ) → 1 ≤ a → 1 ≤ b → 1 ≤ a * b
 times_some a b x y = (let m = mul-le-mul_right b x in omega (arith, m, y))
 
-some_picks : (s : Setup) → IsTrue (is_in_grammar (SetUp s)) → 1 ≤ s.picks
-some_picks s g = grind (arith, nat_tests, g)
-
-few_picks : (s : Setup) → IsTrue (is_in_grammar (SetUp s)) → s.picks ≤ 64
-few_picks s g = grind (arith, nat_tests, g)
-
 all_small : (limit m : ℕ) → m < limit → (n : ℕ) (xs : List ℕ) → Each (λ count. count ≤ m) (take n xs) → list_all (λ count. count == 0) (drop n xs) ≡ true
     → list_all (λ count. nat_lt count limit) xs ≡ true
 all_small limit m l zero [] each zeros = refl
@@ -176,11 +169,6 @@ asks_late s job k o r asks is = by_place job.place is
     by_place (suc (suc (suc zero))) e = (let f : ⊥ = cc in absurd f)
     by_place (suc (suc (suc (suc n)))) e = omega arith
 
--- the asks of files are asks
-each_asks : (s : Setup) (job : Job) → Each IsAnAsk (ask_actions s job)
-each_asks s job = each_flat IsAnAsk (λ (f : Pinned). flat_map (λ round. on_each_provider s (λ j. Ask j f.id round)) (rounds_of (profiled s f.profile) (length f.bytes))) job.pinned
-    (λ f. each_flat IsAnAsk (λ round. on_each_provider s (λ j. Ask j f.id round)) (rounds_of (profiled s f.profile) (length f.bytes)) (λ round. each_map IsAnAsk (λ j. Ask j f.id round) (upto s.n) (λ j. tt)))
-
 starts_append : (k o r : ℕ) (rest : List Action) → is_last_ask (Ask k o r ∷ rest) ≡ true → (more : List Action) × (rest ≡ WriteBody ∷ more)
 starts_append k o r [] h = absurd (false≢true h)
 starts_append k o r (WriteBody ∷ more) h = (more, refl)
@@ -206,7 +194,7 @@ last_tail : (s : Setup) (job : Job) (k o r : ℕ) (more : List Action) → job.k
 unfolding actions_of
 last_tail s job k o r more kind left =
     let is : actions_by s job job.kind ≡ append_actions ++ (ask_actions s job ++ (append_actions ++ End ∷ [])) = ap (actions_by s job) kind in
-    ap (drop (suc job.place)) is ∙ behind_last (ask_actions s job) (each_asks s job) job.place k o r more (sym (ap (drop job.place) is) ∙ left)
+    ap (drop (suc job.place)) is ∙ behind_last (ask_actions s job) (asks_ask s job) job.place k o r more (sym (ap (drop job.place) is) ∙ left)
 
 none_left : (n : ℕ) (xs : List Round) (c : ℕ) → AsksOn n xs c (append_actions ++ End ∷ []) → xs ≡ []
 none_left n [] c h = refl
@@ -222,296 +210,297 @@ audit_of s job tail k o r allowed task.Drop is = absurd (subst (λ (x : Kind). I
 audit_of s job tail k o r allowed (task.Audit t) is = (t, refl, is)
 audit_of s job tail k o r allowed (task.Repair t) is = absurd (subst (λ (x : Kind). IsAllowed s.n x (Ask k o r)) is.kind allowed)
 
-module _ (v : Vault) (w : State) (holds : Option Cells) (faults moment number k o r : ℕ) (ps : List Provider) (stands : Stands v (devices holds faults ps) w) (comes : Comes v.core number (Ask k o r)) where
-  coming : ComesNext w number (Ask k o r) None
-  coming = comes.machine w stands.core
-
-  left_is : actions_left (setup_in w) coming.job ≡ Ask k o r ∷ after w coming.job
-  left_is = next-left w coming.job (Ask k o r) coming.comes (λ e. absurd (let f : ⊥ = cc in f))
-
-  sound_job : IsSoundJob (setup_in w) w.records w.bytes (moves_made w.append number) coming.job
-  sound_job = stands.core.sound.jobs number coming.job coming.runs
-
-  plain : IsPlainJob (setup_in w) coming.job
-  plain = plain-core v.core w number coming.job stands.core coming.runs
-
-  in_core : (c : CoreJob) × (job_in v.core.jobs number ≡ Some c) × IsJobOf v.core.setup c coming.job
-  in_core = core_job v.core.setup v.core.jobs w.jobs number coming.job stands.core.jobs coming.runs
-
-  valid : IsTrue (is_in_grammar (SetUp (setup_in w)))
-  valid = setup-valid 8 w stands.core.sound stands.core.is_open
-
+-- what is known of a job whose next action is an ask
+record IsAsking (v : Vault) (w : State) (number k o r : ℕ) : Type 0 where
+  next : ComesNext w number (Ask k o r) None
+  left_is : actions_left (setup_in w) next.job ≡ Ask k o r ∷ after w next.job
+  sound_job : IsSoundJob (setup_in w) w.records w.bytes (moves_made w.append number) next.job
+  plain : IsPlainJob (setup_in w) next.job
+  in_core : (c : CoreJob) × (job_in v.core.jobs number ≡ Some c) × IsJobOf v.core.setup c next.job
+  setup_is : v.core.setup ≡ setup_in w
   n_is : v.shape.n ≡ (setup_in w).n
-  n_is = stands.shaped.n ∙ sym (ap (λ (s : Setup). s.n) stands.setup)
-
   l_is : v.shape.l ≡ (setup_in w).l
-  l_is = stands.shaped.l ∙ sym (ap (λ (s : Setup). s.l) stands.setup)
-
   b_is : v.shape.b ≡ (setup_in w).b
-  b_is = stands.shaped.b ∙ sym (ap (λ (s : Setup). s.b) stands.setup)
-
   profile_is : plain_profile v.profile ≡ profile_of (setup_in w).profile
-  profile_is = stands.shaped.profile ∙ ap profile_of (sym (ap (λ (s : Setup). s.profile) stands.setup))
-
   picks_are : v.setup.picks ≡ (setup_in w).picks
-  picks_are = sym (ap (λ (s : Setup). s.picks) stands.setup)
-
   master_is : v.master.0 ≡ (setup_in w).master
-  master_is = sym (ap (λ (s : Setup). s.master) stands.setup)
+  rounds_are : (setup_in w).rounds ≤ 64
+  rising : Rising 0 0 (rounds_in (setup_in w) next.job.pinned)
 
-  audit_in : (x : Running) → IsRunning (setup_in w) x coming.job → AsksAt (setup_in w) coming.job (after w coming.job) k o r x.task
-  audit_in x running = audit_of (setup_in w) coming.job (after w coming.job) k o r (next_allowed w coming.job (Ask k o r) coming.comes) x.task
-      (subst (λ (l : List Action). IsTask (setup_in w) coming.job l x.task) left_is running.task)
-
-  rising : Rising 0 0 (rounds_in (setup_in w) coming.job.pinned)
-  rising = rounds_rise (setup_in w) 0 coming.job.pinned sound_job.ascending
-
-  module _ (t : AuditTask) (is : IsAudit (setup_in w) t coming.job (Ask k o r ∷ after w coming.job)) where
-    nx : IsNext (setup_in w) t coming.job k o r (after w coming.job)
-    nx = next_round (setup_in w) t coming.job k o r (after w coming.job) is
-
-    of_file : (P : Pinned → Type 0) → Each P coming.job.pinned → IsRound (setup_in w) P nx.x
-    of_file P each = each_middle (IsRound (setup_in w) P) nx.over nx.x nx.xs (subst (Each (IsRound (setup_in w) P)) nx.rounds (each_round (setup_in w) P coming.job.pinned each))
-
-    size_is : pinned_size coming.job.pinned nx.x.file.id ≡ length nx.x.file.bytes
-    size_is = (of_file (λ (f : Pinned). pinned_size coming.job.pinned f.id ≡ length f.bytes) (sizes_found 0 coming.job.pinned sound_job.ascending)).file
-
-    file_plain : nx.x.file.profile ≡ (setup_in w).profile
-    file_plain = plain.pinned nx.x.file (of_file (Contains coming.job.pinned) (contains_each coming.job.pinned)).file
-
-    told_size : length_in v.core number o ≡ Some (length nx.x.file.bytes)
-    told_size =
-        ap (λ (j : Option CoreJob). length_found j o) in_core.1
-        ∙ among_is in_core.0.pinned o
-        ∙ (λ i. size_at (in_core.2.pinned i) (nx.id_is i))
-        ∙ (of_file (HasSize coming.job.pinned) (have_sizes coming.job.pinned)).file
-        ∙ ap Some size_is
-
-    may_put : MayPut v number o
-    may_put = record {
-      size = length nx.x.file.bytes;
-      length_is = told_size;
-      few = (sound_job.pinned nx.x.file (of_file (Contains coming.job.pinned) (contains_each coming.job.pinned)).file).size;
-      number = in_core.0.subject;
-      number_is = subst (λ (j : Option CoreJob). IsAuditNumber j in_core.0.subject) (sym in_core.1) refl;
-      rows =
-          (let rows : stripes (vault_object v o) (length nx.x.file.bytes) ≡ stripes_of (profiled (setup_in w) nx.x.file.profile) (length nx.x.file.bytes) =
-          (λ i. (length nx.x.file.bytes + (16 * (l_is i * ((profile_is ∙ ap profile_of (sym file_plain)) i).keep) - 1)) / (16 * (l_is i * ((profile_is ∙ ap profile_of (sym file_plain)) i).keep))) in
-          let some = (of_file (Contains coming.job.pinned) (contains_each coming.job.pinned)).rows in
-          let size = ap (λ (p : PlainProfile). p.size) profile_is in
-          let least = profile_some (setup_in w).profile in
-          times_some (stripes (vault_object v o) (length nx.x.file.bytes)) v.profile.size (subst (λ (m : ℕ). 1 ≤ m) (sym rows) some) (subst (λ (m : ℕ). 1 ≤ m) (sym size) least));
-      some_picks = subst (λ (m : ℕ). 1 ≤ m) (sym picks_are) (some_picks (setup_in w) valid);
-      few_picks = subst (λ (m : ℕ). m ≤ 64) (sym picks_are) (few_picks (setup_in w) valid);
+asking : (v : Vault) (w : State) (holds : Option Cells) (faults number k o r : ℕ) (ps : List Provider) → Stands v (devices holds faults ps) w → Comes v.core number (Ask k o r) → IsAsking v w number k o r
+asking v w holds faults number k o r ps stands comes =
+    let next = comes.machine w stands.core in
+    let sound_job = stands.core.sound.jobs number next.job next.runs in
+    record {
+      next = next;
+      left_is = next-left w next.job (Ask k o r) next.comes (λ e. absurd (let f : ⊥ = cc in f));
+      sound_job = sound_job;
+      plain = plain-core v.core w number next.job stands.core next.runs;
+      in_core = core_job v.core.setup v.core.jobs w.jobs number next.job stands.core.jobs next.runs;
+      setup_is = stands.core.setup;
+      n_is = stands.shaped.n ∙ sym (ap (λ (s : Setup). s.n) stands.setup);
+      l_is = stands.shaped.l ∙ sym (ap (λ (s : Setup). s.l) stands.setup);
+      b_is = stands.shaped.b ∙ sym (ap (λ (s : Setup). s.b) stands.setup);
+      profile_is = stands.shaped.profile ∙ ap profile_of (sym (ap (λ (s : Setup). s.profile) stands.setup));
+      picks_are = sym (ap (λ (s : Setup). s.picks) stands.setup);
+      master_is = sym (ap (λ (s : Setup). s.master) stands.setup);
+      rounds_are = setup-rounds 8 w stands.core.sound stands.core.is_open;
+      rising = rounds_rise (setup_in w) 0 next.job.pinned sound_job.ascending;
     }
 
-    -- there is room, and the counters are small
-    may_ask : (n : ℕ) → n ≡ (setup_in w).n → CanAsk n k t
-    may_ask n same =
-        let asks = sum_by-cons (λ a. cond (is_ask a) 1 0) (Ask k o r) (after w coming.job) in
-        let within = sums_within (setup_in w) coming.job nx.over (sums_on t) nx.sums in
-        let all = few_rounds (setup_in w) coming.job.pinned in
-        let split = ap length nx.rounds ∙ Rattle.std.proofs.Common.length-append nx.over (nx.x ∷ nx.xs) in
-        let rounds = setup-rounds 8 w stands.core.sound stands.core.is_open in
-        let files : length coming.job.pinned ≤ 1024 = sound_job.few in
-        let most = mul-le-mul_right (setup_in w).rounds files in
-        let small : length nx.over ≤ 65536 = omega (arith, all, split, rounds, most) in
-        let few : length nx.over < 2 ^ 31 = omega (arith, small) in
-        let heard = enough_answers nx.x k t.heard.symbols.items coming.job.given nx.answered in
-        record {
-          room = record { asks = omega (arith, is.room_asks, asks); symbols = omega (arith, is.room_symbols, asks) };
-          counts = record {
-            n_is = is.counts.0 ∙ sym same;
-            small = all_small (2 ^ 31) (length nx.over) few t.counts.n t.counts.by within.counts (ap (list_all (λ count. count == 0)) is.counts.1.zeros ∙ zero_all (16 - t.counts.n));
-            few = omega (arith, within.undecided, few);
-          };
-          heard = λ last. omega (arith, last, heard, t.heard.symbols.ok.0);
-        }
+-- it works with an audit
+audit_in : (v : Vault) (w : State) (number k o r : ℕ) (it : IsAsking v w number k o r) → (x : Running) → IsRunning (setup_in w) x it.next.job → AsksAt (setup_in w) it.next.job (after w it.next.job) k o r x.task
+audit_in v w number k o r it x running = audit_of (setup_in w) it.next.job (after w it.next.job) k o r (next_allowed w it.next.job (Ask k o r) it.next.comes) x.task
+    (subst (λ (l : List Action). IsTask (setup_in w) it.next.job l x.task) it.left_is running.task)
 
-    module _ (q : Question) (put : IsQuestion v number o r q) where
-      q_length : q.file.length ≡ length nx.x.file.bytes
-      q_length = same_value _ q.file.length (length nx.x.file.bytes) put.length_is told_size
+module _ (v : Vault) (w : State) (number k o r : ℕ) (it : IsAsking v w number k o r) (t : AuditTask) (is : IsAudit (setup_in w) t it.next.job (Ask k o r ∷ after w it.next.job)) where
+  nx : IsNext (setup_in w) t it.next.job k o r (after w it.next.job)
+  nx = next_round (setup_in w) t it.next.job k o r (after w it.next.job) is
 
-      q_number : q.number ≡ coming.job.subject
-      q_number = subst (λ (j : Option CoreJob). IsAuditNumber j q.number) in_core.1 put.number_is ∙ in_core.2.subject
+  of_file : (P : Pinned → Type 0) → Each P it.next.job.pinned → IsRound (setup_in w) P nx.x
+  of_file P each = each_middle (IsRound (setup_in w) P) nx.over nx.x nx.xs (subst (Each (IsRound (setup_in w) P)) nx.rounds (each_round (setup_in w) P it.next.job.pinned each))
 
-      q_n : q.file.shape.n ≡ (setup_in w).n
-      q_n = ap (λ (x : ShapeValue). x.n) put.shape_is ∙ n_is
+  size_is : pinned_size it.next.job.pinned nx.x.file.id ≡ length nx.x.file.bytes
+  size_is = (of_file (λ (f : Pinned). pinned_size it.next.job.pinned f.id ≡ length f.bytes) (sizes_found 0 it.next.job.pinned it.sound_job.ascending)).file
 
-      q_object : layout.shaped_object (setup_in w).master q.file ≡ object_of (profiled (setup_in w) nx.x.file.profile) nx.x.file.id
-      q_object = λ i. record {
-        shape = record {
-          n = q_n i;
-          l = (ap (λ (x : ShapeValue). x.l) put.shape_is ∙ l_is) i;
-          b = (ap (λ (x : ShapeValue). x.b) put.shape_is ∙ b_is) i;
+  file_plain : nx.x.file.profile ≡ (setup_in w).profile
+  file_plain = it.plain.pinned nx.x.file (of_file (Contains it.next.job.pinned) (contains_each it.next.job.pinned)).file
+
+  told_size : length_in v.core number o ≡ Some (length nx.x.file.bytes)
+  told_size =
+      ap (λ (j : Option CoreJob). length_found j o) it.in_core.1
+      ∙ among_is it.in_core.0.pinned o
+      ∙ (λ i. size_at (it.in_core.2.pinned i) (nx.id_is i))
+      ∙ (of_file (HasSize it.next.job.pinned) (have_sizes it.next.job.pinned)).file
+      ∙ ap Some size_is
+
+  may_put : MayPut v number o
+  may_put = record {
+    size = length nx.x.file.bytes;
+    length_is = told_size;
+    few = (it.sound_job.pinned nx.x.file (of_file (Contains it.next.job.pinned) (contains_each it.next.job.pinned)).file).size;
+    rows =
+        (let rows : stripes (vault_object v o) (length nx.x.file.bytes) ≡ stripes_of (profiled (setup_in w) nx.x.file.profile) (length nx.x.file.bytes) =
+        (λ i. (length nx.x.file.bytes + (16 * (it.l_is i * ((it.profile_is ∙ ap profile_of (sym file_plain)) i).keep) - 1)) / (16 * (it.l_is i * ((it.profile_is ∙ ap profile_of (sym file_plain)) i).keep))) in
+        let some = (of_file (Contains it.next.job.pinned) (contains_each it.next.job.pinned)).rows in
+        let size = ap (λ (p : PlainProfile). p.size) it.profile_is in
+        let least = profile_some (setup_in w).profile in
+        times_some (stripes (vault_object v o) (length nx.x.file.bytes)) v.profile.size (subst (λ (m : ℕ). 1 ≤ m) (sym rows) some) (subst (λ (m : ℕ). 1 ≤ m) (sym size) least));
+  }
+
+  -- there is room, and the counters are small
+  may_ask : (n : ℕ) → n ≡ (setup_in w).n → CanAsk n k t
+  may_ask n same =
+      let asks = sum_by-cons (λ a. cond (is_ask a) 1 0) (Ask k o r) (after w it.next.job) in
+      let within = sums_within (setup_in w) it.next.job nx.over (sums_on t) nx.sums in
+      let all = few_rounds (setup_in w) it.next.job.pinned in
+      let split = ap length nx.rounds ∙ Rattle.std.proofs.Common.length-append nx.over (nx.x ∷ nx.xs) in
+      let rounds = it.rounds_are in
+      let files : length it.next.job.pinned ≤ 1024 = it.sound_job.few in
+      let most = mul-le-mul_right (setup_in w).rounds files in
+      let small : length nx.over ≤ 65536 = omega (arith, all, split, rounds, most) in
+      let few : length nx.over < 2 ^ 31 = omega (arith, small) in
+      let heard = enough_answers nx.x k t.heard.symbols.items it.next.job.given nx.answered in
+      record {
+        room = record { asks = omega (arith, is.room_asks, asks); symbols = omega (arith, is.room_symbols, asks) };
+        counts = record {
+          n_is = is.counts.0 ∙ sym same;
+          small = all_small (2 ^ 31) (length nx.over) few t.counts.n t.counts.by within.counts (ap (list_all (λ count. count == 0)) is.counts.1.zeros ∙ zero_all (16 - t.counts.n));
+          few = omega (arith, within.undecided, few);
         };
-        profile = (ap plain_profile put.profile_is ∙ profile_is ∙ ap profile_of (sym file_plain)) i;
-        master = (setup_in w).master;
-        id = (put.id_is ∙ nx.id_is) i;
+        heard = λ last. omega (arith, last, heard, t.heard.symbols.ok.0);
       }
 
-      is_put : IsPut (setup_in w) coming.job nx.x q
-      is_put = record {
-        object = q_object;
-        challenge = λ i. challenge_of (q_object i) (q_length i) ((put.picks_is ∙ picks_are) i) (q_number i) ((put.round_is ∙ nx.number_is) i);
-        id_is = put.id_is ∙ nx.id_is;
-        round_is = put.round_is ∙ nx.number_is;
-        n_is = q_n;
-      }
+  module _ (q : Question) (put : IsQuestion v number o r q) where
+    q_length : q.file.length ≡ length nx.x.file.bytes
+    q_length = same_value _ q.file.length (length nx.x.file.bytes) put.length_is told_size
 
-      -- what the audit works with after the ask
-      audit_on : (u : AuditTask) (symbol : Option ℕ) → TakesAsk v.master.0 q k t u symbol → IsAudit (setup_in w) u (advanced_with coming.job (Answered k o r symbol)) (after w coming.job)
-      audit_on u symbol takes =
-          subst (λ (a : ℕ). IsAudit (setup_in w) u (advanced_with coming.job (Answered k a r symbol)) (after w coming.job)) (sym nx.id_is)
-          (subst (λ (a : ℕ). IsAudit (setup_in w) u (advanced_with coming.job (Answered k nx.x.file.id a symbol)) (after w coming.job)) (sym nx.number_is) here)
-        where
-          is_here : IsAudit (setup_in w) t coming.job (Ask k nx.x.file.id nx.x.number ∷ after w coming.job)
-          is_here = subst (λ (a : ℕ). IsAudit (setup_in w) t coming.job (Ask k nx.x.file.id a ∷ after w coming.job)) nx.number_is
-              (subst (λ (a : ℕ). IsAudit (setup_in w) t coming.job (Ask k a r ∷ after w coming.job)) nx.id_is is)
+    q_number : q.number ≡ it.next.job.subject
+    q_number = subst (λ (j : Option CoreJob). IsAuditNumber j q.number) it.in_core.1 put.number_is ∙ it.in_core.2.subject
 
-          here : IsAudit (setup_in w) u (advanced_with coming.job (Answered k nx.x.file.id nx.x.number symbol)) (after w coming.job)
-          here = elim (cases_eq (k + 1) (setup_in w).n) [
-            | inl last ↦ audit_judged (setup_in w) coming.job rising (late_by (setup_in w) coming.job k o r (after w coming.job) is.kind left_is) k nx.x nx.xs nx.over (after w coming.job) symbol t u takes.mid q is_here nx.rounds nx.answered nx.sums is_put takes.hears last
-                (subst (λ (m : List ℕ). HasJudged m q takes.mid u) master_is (takes.judged (last ∙ sym q_n)))
-                (subst (λ (c : ℕ). AsksOn (setup_in w).n nx.xs c (after w coming.job)) (cond_true (k + 1 == (setup_in w).n) 0 (k + 1) (eq-eqb (k + 1) (setup_in w).n last))
-                (subst (λ (l : List Round). AsksOn (setup_in w).n l (asked_after (setup_in w).n k) (after w coming.job)) (cond_true (k + 1 == (setup_in w).n) nx.xs (nx.x ∷ nx.xs) (eq-eqb (k + 1) (setup_in w).n last)) nx.order))
-            | inr other ↦ subst (λ (m : AuditTask). IsAudit (setup_in w) m (advanced_with coming.job (Answered k nx.x.file.id nx.x.number symbol)) (after w coming.job)) (sym (takes.kept (λ e. other (e ∙ q_n))))
-                (audit_kept (setup_in w) coming.job rising (late_by (setup_in w) coming.job k o r (after w coming.job) is.kind left_is) k nx.x nx.xs nx.over (after w coming.job) symbol t u takes.mid q is_here nx.rounds nx.answered nx.sums is_put takes.hears
-                (subst (λ (c : ℕ). AsksOn (setup_in w).n (nx.x ∷ nx.xs) c (after w coming.job)) (cond_false (k + 1 == (setup_in w).n) 0 (k + 1) (ne_eqb (k + 1) (setup_in w).n other))
-                (subst (λ (l : List Round). AsksOn (setup_in w).n l (asked_after (setup_in w).n k) (after w coming.job)) (cond_false (k + 1 == (setup_in w).n) nx.xs (nx.x ∷ nx.xs) (ne_eqb (k + 1) (setup_in w).n other)) nx.order)))
-          ]
+    q_n : q.file.shape.n ≡ (setup_in w).n
+    q_n = ap (λ (x : ShapeValue). x.n) put.shape_is ∙ it.n_is
 
+    q_object : layout.shaped_object (setup_in w).master q.file ≡ object_of (profiled (setup_in w) nx.x.file.profile) nx.x.file.id
+    q_object = λ i. record {
+      shape = record {
+        n = q_n i;
+        l = (ap (λ (x : ShapeValue). x.l) put.shape_is ∙ it.l_is) i;
+        b = (ap (λ (x : ShapeValue). x.b) put.shape_is ∙ it.b_is) i;
+      };
+      profile = (ap plain_profile put.profile_is ∙ it.profile_is ∙ ap profile_of (sym file_plain)) i;
+      master = (setup_in w).master;
+      id = (put.id_is ∙ nx.id_is) i;
+    }
+
+    is_put : IsPut (setup_in w) it.next.job nx.x q
+    is_put = record {
+      object = q_object;
+      challenge = λ i. challenge_of (q_object i) (q_length i) ((put.picks_is ∙ it.picks_are) i) (q_number i) ((put.round_is ∙ nx.number_is) i);
+      id_is = put.id_is ∙ nx.id_is;
+      round_is = put.round_is ∙ nx.number_is;
+      n_is = q_n;
+    }
+
+    -- what the audit works with after the ask
+    audit_on : (u : AuditTask) (symbol : Option ℕ) → TakesAsk v.master.0 q k t u symbol → IsAudit (setup_in w) u (advanced_with it.next.job (Answered k o r symbol)) (after w it.next.job)
+    audit_on u symbol takes =
+        subst (λ (a : ℕ). IsAudit (setup_in w) u (advanced_with it.next.job (Answered k a r symbol)) (after w it.next.job)) (sym nx.id_is)
+        (subst (λ (a : ℕ). IsAudit (setup_in w) u (advanced_with it.next.job (Answered k nx.x.file.id a symbol)) (after w it.next.job)) (sym nx.number_is) here)
+      where
+        is_here : IsAudit (setup_in w) t it.next.job (Ask k nx.x.file.id nx.x.number ∷ after w it.next.job)
+        is_here = subst (λ (a : ℕ). IsAudit (setup_in w) t it.next.job (Ask k nx.x.file.id a ∷ after w it.next.job)) nx.number_is
+            (subst (λ (a : ℕ). IsAudit (setup_in w) t it.next.job (Ask k a r ∷ after w it.next.job)) nx.id_is is)
+
+        here : IsAudit (setup_in w) u (advanced_with it.next.job (Answered k nx.x.file.id nx.x.number symbol)) (after w it.next.job)
+        here = elim (cases_eq (k + 1) (setup_in w).n) [
+          | inl last ↦ audit_judged (setup_in w) it.next.job it.rising (late_by (setup_in w) it.next.job k o r (after w it.next.job) is.kind it.left_is) k nx.x nx.xs nx.over (after w it.next.job) symbol t u takes.mid q is_here nx.rounds nx.answered nx.sums is_put takes.hears last
+              (subst (λ (m : List ℕ). HasJudged m q takes.mid u) it.master_is (takes.judged (last ∙ sym q_n)))
+              (subst (λ (c : ℕ). AsksOn (setup_in w).n nx.xs c (after w it.next.job)) (cond_true (k + 1 == (setup_in w).n) 0 (k + 1) (eq-eqb (k + 1) (setup_in w).n last))
+              (subst (λ (l : List Round). AsksOn (setup_in w).n l (asked_after (setup_in w).n k) (after w it.next.job)) (cond_true (k + 1 == (setup_in w).n) nx.xs (nx.x ∷ nx.xs) (eq-eqb (k + 1) (setup_in w).n last)) nx.order))
+          | inr other ↦ subst (λ (m : AuditTask). IsAudit (setup_in w) m (advanced_with it.next.job (Answered k nx.x.file.id nx.x.number symbol)) (after w it.next.job)) (sym (takes.kept (λ e. other (e ∙ q_n))))
+              (audit_kept (setup_in w) it.next.job it.rising (late_by (setup_in w) it.next.job k o r (after w it.next.job) is.kind it.left_is) k nx.x nx.xs nx.over (after w it.next.job) symbol t u takes.mid q is_here nx.rounds nx.answered nx.sums is_put takes.hears
+              (subst (λ (c : ℕ). AsksOn (setup_in w).n (nx.x ∷ nx.xs) c (after w it.next.job)) (cond_false (k + 1 == (setup_in w).n) 0 (k + 1) (ne_eqb (k + 1) (setup_in w).n other))
+              (subst (λ (l : List Round). AsksOn (setup_in w).n l (asked_after (setup_in w).n k) (after w it.next.job)) (cond_false (k + 1 == (setup_in w).n) nx.xs (nx.x ∷ nx.xs) (ne_eqb (k + 1) (setup_in w).n other)) nx.order)))
+        ]
+
+module _ (v : Vault) (w : State) (number k o r : ℕ) (it : IsAsking v w number k o r) where
   -- after the last ask all rounds are judged
-  all_judged : (symbol : Option ℕ) (u : AuditTask) → IsAudit (setup_in w) u (advanced_with coming.job (Answered k o r symbol)) (after w coming.job)
-      → is_last_ask_of (job_in v.core.jobs number) ≡ true → HasSums (setup_in w) (advanced_with coming.job (Answered k o r symbol)) (sums_on u)
+  all_judged : (symbol : Option ℕ) (u : AuditTask) → IsAudit (setup_in w) u (advanced_with it.next.job (Answered k o r symbol)) (after w it.next.job)
+      → is_last_ask_of (job_in v.core.jobs number) ≡ true → HasSums (setup_in w) (advanced_with it.next.job (Answered k o r symbol)) (sums_on u)
   all_judged symbol u is last =
-      let job = coming.job in
+      let job = it.next.job in
       let s = setup_in w in
-      let rest : in_core.0.rest ≡ Ask k o r ∷ after w job = in_core.2.rest ∙ ap (λ (x : Setup). actions_left x job) stands.core.setup ∙ left_is in
-      let is_last : is_last_ask (Ask k o r ∷ after w job) ≡ true = ap is_last_ask (sym rest) ∙ sym (ap is_last_ask_of in_core.1) ∙ last in
+      let rest : it.in_core.0.rest ≡ Ask k o r ∷ after w job = it.in_core.2.rest ∙ ap (λ (x : Setup). actions_left x job) it.setup_is ∙ it.left_is in
+      let is_last : is_last_ask (Ask k o r ∷ after w job) ≡ true = ap is_last_ask (sym rest) ∙ sym (ap is_last_ask_of it.in_core.1) ∙ last in
       let st = starts_append k o r (after w job) is_last in
       let one : job.place + 1 ≡ suc job.place = omega arith in
       let tail : after w job ≡ append_actions ++ End ∷ [] =
-      ap (λ (m : ℕ). drop m (actions_of s job)) one ∙ last_tail s job k o r st.0 is.kind (left_is ∙ ap (λ (l : List Action). Ask k o r ∷ l) st.1) in
+      ap (λ (m : ℕ). drop m (actions_of s job)) one ∙ last_tail s job k o r st.0 is.kind (it.left_is ∙ ap (λ (l : List Action). Ask k o r ∷ l) st.1) in
       let none : is.left ≡ [] = none_left s.n is.left is.asked (subst (AsksOn s.n is.left is.asked) tail is.order) in
       let all : rounds_in s job.pinned ≡ is.over = is.rounds ∙ ap (λ (l : List Round). is.over ++ l) none ∙ append-nil is.over in
       as_files s (advanced_with job (Answered k o r symbol)) job.pinned (empty_sums s) (sums_on u)
       (subst (λ (l : List Round). JudgesEach s (advanced_with job (Answered k o r symbol)) l (empty_sums s) (sums_on u)) (sym all) is.sums)
 
-  -- ---- what the ask comes to
+-- ---- what the ask comes to
 
-  -- there is something to ask for
-  pub put_there : MayPut v number o
-  put_there =
-      let f = working v (devices holds faults ps) w number (Ask k o r) stands coming in
-      let a = audit_in f.running f.is in
-      may_put a.0 a.2
+-- there is something to ask for
+pub put_there : (v : Vault) (w : State) (holds : Option Cells) (faults moment number k o r : ℕ) (ps : List Provider) → Stands v (devices holds faults ps) w → Comes v.core number (Ask k o r) → MayPut v number o
+put_there v w holds faults moment number k o r ps stands comes =
+    let it = asking v w holds faults number k o r ps stands comes in
+    let f = working v (devices holds faults ps) w number (Ask k o r) stands it.next in
+    let audit = audit_in v w number k o r it f.running f.is in
+    may_put v w number k o r it audit.0 audit.2
 
-  module _ (place : ℕ) (x : Running) (at : place_in v.jobs.items number ≡ Some place) (there : slice_get v.jobs.items place ≡ Some x) (q : Question) (put : IsQuestion v number o r q) where
-    runs : IsRunning (setup_in w) x coming.job
-    runs = at_place v (devices holds faults ps) w number place (Ask k o r) x stands coming at there
+module _ (v : Vault) (w : State) (holds : Option Cells) (faults moment number k o r : ℕ) (ps : List Provider) (stands : Stands v (devices holds faults ps) w) (comes : Comes v.core number (Ask k o r))
+    (place : ℕ) (x : Running) (at : place_in v.jobs.items number ≡ Some place) (there : slice_get v.jobs.items place ≡ Some x) (q : Question) (put : IsQuestion v number o r q) where
+  it : IsAsking v w number k o r
+  it = asking v w holds faults number k o r ps stands comes
 
-    -- it can be asked
-    pub ask_there : MayAsk q.file.shape.n k x.task
-    ask_there =
-        let a = audit_in x runs in
-        subst (MayAsk q.file.shape.n k) (sym a.1) (may_ask a.0 a.2 q.file.shape.n (ap (λ (y : ShapeValue). y.n) put.shape_is ∙ n_is))
+  runs : IsRunning (setup_in w) x it.next.job
+  runs = at_place v (devices holds faults ps) w number place (Ask k o r) x stands it.next at there
 
-    abbrev AsksStill : Task → Option ℕ → Type 0
-    AsksStill y symbol = (u : AuditTask) × (y ≡ task.Audit u) × IsAudit (setup_in w) u (advanced_with coming.job (Answered k o r symbol)) (after w coming.job)
+  -- it can be asked
+  pub ask_there : MayAsk q.file.shape.n k x.task
+  ask_there =
+      let a = audit_in v w number k o r it x runs in
+      subst (MayAsk q.file.shape.n k) (sym a.1) (may_ask v w number k o r it a.0 a.2 q.file.shape.n (ap (λ (y : ShapeValue). y.n) put.shape_is ∙ it.n_is))
 
-    still : (y : Task) (symbol : Option ℕ) → Asked v.master.0 q k x.task y symbol → AsksStill y symbol
-    still y symbol asked = (let a = audit_in x runs in by_task a.0 a.2 y (subst (λ (z : Task). Asked v.master.0 q k z y symbol) a.1 asked))
-      where
-        by_task : (t : AuditTask) → IsAudit (setup_in w) t coming.job (Ask k o r ∷ after w coming.job) → (y : Task) → Asked v.master.0 q k (task.Audit t) y symbol → AsksStill y symbol
-        by_task t is (task.Audit u) takes = (u, refl, audit_on t is q put u symbol takes)
-        by_task t is (task.Put u) takes = absurd takes
-        by_task t is (task.Get u) takes = absurd takes
-        by_task t is task.Drop takes = absurd takes
-        by_task t is (task.Repair u) takes = absurd takes
+  abbrev AsksStill : Task → Option ℕ → Type 0
+  AsksStill y symbol = (u : AuditTask) × (y ≡ task.Audit u) × IsAudit (setup_in w) u (advanced_with it.next.job (Answered k o r symbol)) (after w it.next.job)
 
-    -- a last ask has a verdict
-    pub tell_there : (y : Task) (symbol : Option ℕ) (n : ℕ) → Asked v.master.0 q k x.task y symbol → n ≡ v.core.setup.n → MayTell n y
-    tell_there y symbol n asked same =
-        let u = still y symbol asked in
-        subst (MayTell n) (sym u.1) (u.2.counts.0 ∙ sym (same ∙ ap (λ (s : Setup). s.n) stands.core.setup), u.2.counts.1)
+  still : (y : Task) (symbol : Option ℕ) → Asked v.master.0 q k x.task y symbol → AsksStill y symbol
+  still y symbol asked = (let a = audit_in v w number k o r it x runs in by_task a.0 a.2 y (subst (λ (z : Task). Asked v.master.0 q k z y symbol) a.1 asked))
+    where
+      by_task : (t : AuditTask) → IsAudit (setup_in w) t it.next.job (Ask k o r ∷ after w it.next.job) → (y : Task) → Asked v.master.0 q k (task.Audit t) y symbol → AsksStill y symbol
+      by_task t is (task.Audit u) takes = (u, refl, audit_on v w number k o r it t is q put u symbol takes)
+      by_task t is (task.Put u) takes = absurd takes
+      by_task t is (task.Get u) takes = absurd takes
+      by_task t is task.Drop takes = absurd takes
+      by_task t is (task.Repair u) takes = absurd takes
 
-    -- the ask is a step of the machine
-    pub ask_step : (v' : Vault) (ps' : List Provider) (p p' : Provider) (y : Running) (symbol : Option ℕ) (n : ℕ) (is_last : Bool) (told : Reply) → y.number ≡ x.number → Asked v.master.0 q k x.task y.task symbol
-        → Asks (honest_answer (challenge_put v.master.0 q)) q.file.id p symbol p' → slice_get ps k ≡ Some p → ps' ≡ slice_set ps k p'
-        → is_last ≡ is_last_ask_of (job_in v.core.jobs number) → TellsAsk is_last n y.task told
-        → v'.jobs.items ≡ slice_set v.jobs.items place y → KeepsAll v v' → v'.flight ≡ v.flight → IsFed v.core number told v'.core
-        → MakesStep w moment number turn.More v' (devices holds faults ps) (devices holds faults ps')
-    ask_step v' ps' p p' y symbol n is_last told same_number asked call p_is ps_is last_is tells jobs keeps flight fed =
-        let job = coming.job in
-        let a = audit_in x runs in
-        let u = still y.task symbol asked in
-        let next_job = advanced_with job (Answered k o r symbol) in
-        let new : State = record (going_on w next_job) { providers = with_provider w.providers k p' } in
-        let round = nx a.0 a.2 in
-        let asked_is = is_put a.0 a.2 q put in
-        let seen : p ≡ w.providers k = same_value _ p (w.providers k) p_is (stands.devices.providers.each k (is_handed_in)) in
-        let profile : (round.x).file.profile ≡ pinned_profile (setup_in w).profile job.pinned o = file_plain a.0 a.2 ∙ sym (profile-among (setup_in w).profile job.pinned o plain.pinned) in
-        let challenge : challenge_put v.master.0 q ≡ asked_challenge (setup_in w) job o r =
-        ap (λ (m : List ℕ). challenge_put m q) master_is ∙ asked_is.challenge
-        ∙ (λ i. challenge_in (profiled (setup_in w) (profile i)) job ((sym round.id_is) i) ((sym (size_is a.0 a.2) ∙ ap (pinned_size job.pinned) (sym round.id_is)) i) ((sym round.number_is) i)) in
-        let called : Asks (honest_answer (asked_challenge (setup_in w) job o r)) o (w.providers k) symbol p' =
-        subst (λ (z : Provider). Asks (honest_answer (asked_challenge (setup_in w) job o r)) o z symbol p') seen
-        (subst (λ (m : ℕ). Asks (honest_answer (asked_challenge (setup_in w) job o r)) m p symbol p') put.id_is
-        (subst (λ c. Asks (honest_answer c) q.file.id p symbol p') challenge call)) in
-        let happens = happens_by w new moment number (Ask k o r) More stands.core.is_open stands.core.none_alone coming (symbol, (p', called, refl)) in
-        let mine : next_job.number ≡ number = number_of w.jobs number job coming.runs in
-        let tail_is : actions_left (setup_in w) next_job ≡ after w job = ap (drop (job.place + 1)) (actions_same (setup_in w) job (job.place + 1) (Answered k o r symbol ∷ job.given)) in
-        let running : IsRunning (setup_in w) y next_job = record {
-          number = same_number ∙ runs.number;
-          task = subst (λ (l : List Action). IsTask (setup_in w) next_job l y.task) (sym tail_is) (subst (IsTask (setup_in w) next_job (after w job)) (sym u.1) u.2);
-        } in
-        let core = fed w new More moment stands.core happens (record {
-          tells = tells_more symbol y.task p' n is_last told asked last_is tells;
-          entry = λ b is mine. entry_kept v.core w w.append number stands.core.append b is mine;
-        }) in
-        let are : AreRunning (setup_in w) v'.jobs.items new.jobs =
-        subst (λ (rs : List Running). AreRunning (setup_in w) rs (with_job w.jobs next_job)) (sym jobs)
-        (put_back (setup_in w) number y next_job running mine v.jobs.items w.jobs place stands.jobs (sym (place_is v.jobs.items number) ∙ at)) in
-        record {
-          state = new;
-          happens = happens;
-          stands = stands_on v v' w new holds faults ps ps' stands (record { records = refl; doubt = refl; append = refl; faults = refl; barred = refl })
-              (subst (λ (l : List Provider). AreHanded l new) (sym ps_is) (handed_on ps w new k p' stands.devices.providers is_handed_in refl (λ j. refl)))
-              core keeps flight are;
-          heard = tt;
-          beyond = λ ended. same_beyond new holds faults ps ps';
-          torn = λ e. cc;
-        }
-      where
-        is_handed_in : k < length ps
-        is_handed_in = Rattle.vault.proofs.AskStep.provider_there v w holds faults number k o r ps stands comes
+  -- a last ask has a verdict
+  pub tell_there : (y : Task) (symbol : Option ℕ) (n : ℕ) → Asked v.master.0 q k x.task y symbol → n ≡ v.core.setup.n → MayTell n y
+  tell_there y symbol n asked same =
+      let u = still y symbol asked in
+      subst (MayTell n) (sym u.1) (u.2.counts.0 ∙ sym (same ∙ ap (λ (s : Setup). s.n) stands.core.setup), u.2.counts.1)
 
-        -- the reply tells what the ask came to
-        tells_more : (symbol : Option ℕ) (y : Task) (p' : Provider) (n : ℕ) (is_last : Bool) (told : Reply) → Asked v.master.0 q k x.task y symbol → is_last ≡ is_last_ask_of (job_in v.core.jobs number) → TellsAsk is_last n y told
-            → Tells number told More (record (going_on w (advanced_with coming.job (Answered k o r symbol))) { providers = with_provider w.providers k p' })
-        tells_more symbol y p' n is_last told asked last_is tells = (let u = still y symbol asked in by_reply is_last told last_is u.0 (subst (λ (z : Task). TellsAsk is_last n z told) u.1 tells) u.2)
-          where
-            new : State
-            new = record (going_on w (advanced_with coming.job (Answered k o r symbol))) { providers = with_provider w.providers k p' }
+  -- the reply tells what the ask came to
+  tells_more : (symbol : Option ℕ) (y : Task) (p' : Provider) (n : ℕ) (is_last : Bool) (told : Reply) → Asked v.master.0 q k x.task y symbol → is_last ≡ is_last_ask_of (job_in v.core.jobs number) → TellsAsk is_last n y told
+      → Tells number told More (record (going_on w (advanced_with it.next.job (Answered k o r symbol))) { providers = with_provider w.providers k p' })
+  tells_more symbol y p' n is_last told asked last_is tells = (let u = still y symbol asked in by_reply is_last told last_is u.0 (subst (λ (z : Task). TellsAsk is_last n z told) u.1 tells) u.2)
+    where
+      new : State
+      new = record (going_on w (advanced_with it.next.job (Answered k o r symbol))) { providers = with_provider w.providers k p' }
 
-            by_reply : (is_last : Bool) (told : Reply) → is_last ≡ is_last_ask_of (job_in v.core.jobs number) → (u : AuditTask) → TellsAsk is_last n (task.Audit u) told
-                → IsAudit (setup_in w) u (advanced_with coming.job (Answered k o r symbol)) (after w coming.job) → Tells number told More new
-            by_reply false reply.Done last u tells is = tt
-            by_reply false reply.Failed last u tells is = absurd tells
-            by_reply false reply.Memory last u tells is = absurd tells
-            by_reply false (reply.Lost row) last u tells is = absurd tells
-            by_reply false (reply.Verdict undecided counts) last u tells is = absurd tells
-            by_reply true reply.Done last u tells is = absurd tells
-            by_reply true reply.Failed last u tells is = absurd tells
-            by_reply true reply.Memory last u tells is = absurd tells
-            by_reply true (reply.Lost row) last u tells is = absurd tells
-            by_reply true (reply.Verdict undecided counts) last u tells is = λ j found.
-                let mine : coming.job.number ≡ number = number_of w.jobs number coming.job coming.runs in
-                let here : job_of new.jobs coming.job.number ≡ Some j = subst (λ (m : ℕ). job_of new.jobs m ≡ Some j) (sym mine) found in
-                let before : job_of w.jobs coming.job.number ≡ Some coming.job = subst (λ (m : ℕ). job_of w.jobs m ≡ Some coming.job) (sym mine) coming.runs in
-                let same : advanced_with coming.job (Answered k o r symbol) ≡ j = same_value _ _ j (found_itself w.jobs (advanced_with coming.job (Answered k o r symbol)) coming.job before) here in
-                let sums : sums_on u ≡ record { counts = counted counts; undecided = undecided } = (λ i. record { counts = counted ((sym tells.1) i); undecided = (sym tells.0) i }) in
-                subst (λ (s : Setup). HasSums s j (record { counts = counted counts; undecided = undecided })) (sym (setup_same w new refl))
-                (subst (λ (z : Job). HasSums (setup_in w) z (record { counts = counted counts; undecided = undecided })) same
-                (subst (HasSums (setup_in w) (advanced_with coming.job (Answered k o r symbol))) sums (all_judged symbol u is (sym last))))
+      by_reply : (is_last : Bool) (told : Reply) → is_last ≡ is_last_ask_of (job_in v.core.jobs number) → (u : AuditTask) → TellsAsk is_last n (task.Audit u) told
+          → IsAudit (setup_in w) u (advanced_with it.next.job (Answered k o r symbol)) (after w it.next.job) → Tells number told More new
+      by_reply false reply.Done last u tells is = tt
+      by_reply false reply.Failed last u tells is = absurd tells
+      by_reply false reply.Memory last u tells is = absurd tells
+      by_reply false (reply.Lost row) last u tells is = absurd tells
+      by_reply false (reply.Verdict undecided counts) last u tells is = absurd tells
+      by_reply true reply.Done last u tells is = absurd tells
+      by_reply true reply.Failed last u tells is = absurd tells
+      by_reply true reply.Memory last u tells is = absurd tells
+      by_reply true (reply.Lost row) last u tells is = absurd tells
+      by_reply true (reply.Verdict undecided counts) last u tells is = λ j found.
+          let mine : it.next.job.number ≡ number = number_of w.jobs number it.next.job it.next.runs in
+          let here : job_of new.jobs it.next.job.number ≡ Some j = subst (λ (m : ℕ). job_of new.jobs m ≡ Some j) (sym mine) found in
+          let before : job_of w.jobs it.next.job.number ≡ Some it.next.job = subst (λ (m : ℕ). job_of w.jobs m ≡ Some it.next.job) (sym mine) it.next.runs in
+          let same : advanced_with it.next.job (Answered k o r symbol) ≡ j = same_value _ _ j (found_itself w.jobs (advanced_with it.next.job (Answered k o r symbol)) it.next.job before) here in
+          let sums : sums_on u ≡ record { counts = counted counts; undecided = undecided } = (λ i. record { counts = counted ((sym tells.1) i); undecided = (sym tells.0) i }) in
+          subst (λ (s : Setup). HasSums s j (record { counts = counted counts; undecided = undecided })) (sym (setup_same w new refl))
+          (subst (λ (z : Job). HasSums (setup_in w) z (record { counts = counted counts; undecided = undecided })) same
+          (subst (HasSums (setup_in w) (advanced_with it.next.job (Answered k o r symbol))) sums (all_judged v w number k o r it symbol u is (sym last))))
+
+  -- the ask is a step of the machine
+  pub ask_step : (v' : Vault) (ps' : List Provider) (p p' : Provider) (y : Running) (symbol : Option ℕ) (n : ℕ) (is_last : Bool) (told : Reply) → y.number ≡ x.number → Asked v.master.0 q k x.task y.task symbol
+      → Asks (honest_answer (challenge_put v.master.0 q)) q.file.id p symbol p' → slice_get ps k ≡ Some p → ps' ≡ slice_set ps k p'
+      → is_last ≡ is_last_ask_of (job_in v.core.jobs number) → TellsAsk is_last n y.task told
+      → v'.jobs.items ≡ slice_set v.jobs.items place y → KeepsAll v v' → v'.flight ≡ v.flight → IsFed v.core number told v'.core
+      → MakesStep w moment number turn.More v' (devices holds faults ps) (devices holds faults ps')
+  ask_step v' ps' p p' y symbol n is_last told same_number asked call p_is ps_is last_is tells jobs keeps flight fed =
+      let job = it.next.job in
+      let a = audit_in v w number k o r it x runs in
+      let u = still y.task symbol asked in
+      let next_job = advanced_with job (Answered k o r symbol) in
+      let new : State = record (going_on w next_job) { providers = with_provider w.providers k p' } in
+      let round = nx v w number k o r it a.0 a.2 in
+      let asked_is = is_put v w number k o r it a.0 a.2 q put in
+      let seen : p ≡ w.providers k = same_value _ p (w.providers k) p_is (stands.devices.providers.each k (is_handed_in)) in
+      let profile : (round.x).file.profile ≡ pinned_profile (setup_in w).profile job.pinned o = file_plain v w number k o r it a.0 a.2 ∙ sym (profile-among (setup_in w).profile job.pinned o it.plain.pinned) in
+      let challenge : challenge_put v.master.0 q ≡ asked_challenge (setup_in w) job o r =
+      ap (λ (m : List ℕ). challenge_put m q) it.master_is ∙ asked_is.challenge
+      ∙ (λ i. challenge_in (profiled (setup_in w) (profile i)) job ((sym round.id_is) i) ((sym (size_is v w number k o r it a.0 a.2) ∙ ap (pinned_size job.pinned) (sym round.id_is)) i) ((sym round.number_is) i)) in
+      let called : Asks (honest_answer (asked_challenge (setup_in w) job o r)) o (w.providers k) symbol p' =
+      subst (λ (z : Provider). Asks (honest_answer (asked_challenge (setup_in w) job o r)) o z symbol p') seen
+      (subst (λ (m : ℕ). Asks (honest_answer (asked_challenge (setup_in w) job o r)) m p symbol p') put.id_is
+      (subst (λ c. Asks (honest_answer c) q.file.id p symbol p') challenge call)) in
+      let happens = happens_by w new moment number (Ask k o r) More stands.core.is_open stands.core.none_alone it.next (symbol, (p', called, refl)) in
+      let mine : next_job.number ≡ number = number_of w.jobs number job it.next.runs in
+      let tail_is : actions_left (setup_in w) next_job ≡ after w job = ap (drop (job.place + 1)) (actions_same (setup_in w) job (job.place + 1) (Answered k o r symbol ∷ job.given)) in
+      let running : IsRunning (setup_in w) y next_job = record {
+        number = same_number ∙ runs.number;
+        task = subst (λ (l : List Action). IsTask (setup_in w) next_job l y.task) (sym tail_is) (subst (IsTask (setup_in w) next_job (after w job)) (sym u.1) u.2);
+      } in
+      let core = fed w new More moment stands.core happens (record {
+        tells = tells_more symbol y.task p' n is_last told asked last_is tells;
+        entry = λ b is mine. entry_kept v.core w w.append number stands.core.append b is mine;
+      }) in
+      let are : AreRunning (setup_in w) v'.jobs.items new.jobs =
+      subst (λ (rs : List Running). AreRunning (setup_in w) rs (with_job w.jobs next_job)) (sym jobs)
+      (put_back (setup_in w) number y next_job running mine v.jobs.items w.jobs place stands.jobs (sym (place_is v.jobs.items number) ∙ at)) in
+      record {
+        state = new;
+        happens = happens;
+        stands = stands_on v v' w new holds faults ps ps' stands (record { records = refl; doubt = refl; append = refl; faults = refl; barred = refl })
+            (subst (λ (l : List Provider). AreHanded l new) (sym ps_is) (handed_on ps w new k p' stands.devices.providers is_handed_in refl (λ j. refl)))
+            core keeps flight are;
+        heard = tt;
+        beyond = λ ended. same_beyond new holds faults ps ps';
+        torn = λ e. cc;
+      }
+    where
+      is_handed_in : k < length ps
+      is_handed_in = Rattle.vault.proofs.AskStep.provider_there v w holds faults number k o r ps stands comes

@@ -72,8 +72,9 @@ count-round : (o r : ℕ) (js : List ℕ) → asks_left (map (λ j. Ask j o r) j
 count-round o r [] = refl
 count-round o r (j ∷ js) = count-ask j o r (map (λ j. Ask j o r) js) ∙ (let l = count-round o r js in omega (arith, l))
 
-few-rounds : (s : Setup) (size : ℕ) → length (rounds_of s size) ≤ s.rounds
-few-rounds s size = elim (cases_Bool (stripes_of s size == 0)) [
+-- a file has at most so many rounds
+pub rounds_few : (s : Setup) (size : ℕ) → length (rounds_of s size) ≤ s.rounds
+rounds_few s size = elim (cases_Bool (stripes_of s size == 0)) [
   | inl t ↦ rw t (omega arith)
   | inr f ↦ rw f (omega (arith, length-range_with_len 0 s.rounds))
 ]
@@ -90,7 +91,7 @@ module _ (s : Setup) where
   count-files [] = omega arith
   count-files (f ∷ fs) =
       let rs = rounds_of (profiled s f.profile) (length f.bytes) in
-      let one : length rs * s.n ≤ s.rounds * s.n = times (length rs) s.rounds s.n (few-rounds (profiled s f.profile) (length f.bytes)) in
+      let one : length rs * s.n ≤ s.rounds * s.n = times (length rs) s.rounds s.n (rounds_few (profiled s f.profile) (length f.bytes)) in
       let l = count-files fs in
       let c = count-rounds f.id rs in
       let b = count-both (flat_map (λ r. on_each_provider s (λ j. Ask j f.id r)) rs) (flat_map (λ (f : Pinned). flat_map (λ r. on_each_provider s (λ j. Ask j f.id r)) (rounds_of (profiled s f.profile) (length f.bytes))) fs) in

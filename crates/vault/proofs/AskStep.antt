@@ -1,6 +1,6 @@
 -- An ask is a step of the machine.
 use Rattle.std.proofs.Common.{◌≡◌, ℕ, zero, suc, ◌+◌, ◌<◌, ◌≤◌, ◌==◌, true, List, [], ◌∷◌, ◌++◌, length, Option, None, refl, sym, ap, subst, ◌∙◌, arith, append_assoc, length-append, replicate}
-use Rattle.std.specs.Prelude.{vec_len, vec_capacity, IfSome}
+use Rattle.std.specs.Prelude.{vec_len, vec_capacity}
 use Rattle.std.specs.List.{list_all}
 use Rattle.std.proofs.lemmas.Bool.{eqb-true, and_parts}
 use Rattle.std.proofs.lemmas.List.{append-nil}
@@ -97,7 +97,6 @@ module _ (s : Setup) (job : Job) (rising : Rattle.vault.proofs.Asks.Rising 0 0 (
       job_is = hears.heard.job ∙ is.job_is;
       heard = entries;
       asks = asks_count ∙ ap (λ (a : ℕ). a + 1) is.asks ∙ sym symbols_count;
-      file = subst (λ f. IfSome f (Rattle.vault.specs.Tasks.IsFileOf s job.pinned)) (sym hears.file) is.file;
       over = over;
       left = x ∷ xs;
       rounds = rounds;
@@ -128,7 +127,6 @@ module _ (s : Setup) (job : Job) (rising : Rattle.vault.proofs.Asks.Rising 0 0 (
           job_is = ap (λ a. a.job) h ∙ hears.heard.job ∙ is.job_is;
           heard = ap (λ a. answered_entries a.job a.asks.items a.symbols.items) h ∙ entries;
           asks = ap (λ a. length a.asks.items) h ∙ asks_count ∙ ap (λ (a : ℕ). a + 1) is.asks ∙ sym symbols_count ∙ sym (ap (λ a. length a.symbols.items) h);
-          file = subst (λ f. IfSome f (Rattle.vault.specs.Tasks.IsFileOf s job.pinned)) (sym (judged.file ∙ hears.file)) is.file;
           over = over ++ x ∷ [];
           left = xs;
           rounds = rounds ∙ sym (append_assoc over (x ∷ []) xs);

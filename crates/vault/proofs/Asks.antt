@@ -2,8 +2,7 @@
 use Rattle.std.proofs.Common.{◌≡◌, ℕ, zero, suc, ◌+◌, ◌-◌, ◌*◌, ◌<◌, ◌≤◌, ◌==◌, ◌&&◌, Bool, true, false, List, [], ◌∷◌, ◌++◌, length, drop, map, Option, refl, sym, ap, subst, ◌∙◌, inl, inr, arith, length-append, length-drop, append_assoc}
 use Rattle.std.specs.List.{range_with_len, Contains}
 use Rattle.std.proofs.Math.Seq.{drop-append_seam}
-use Rattle.std.proofs.lemmas.Bool.{cases_Bool, eq-eqb, ne_eqb, eqb-true, eqb-false}
-use Rattle.std.proofs.lemmas.List.FromFn.{length-range_with_len}
+use Rattle.std.proofs.lemmas.Bool.{cases_Bool, eq-eqb, ne_eqb, eqb-true, eqb-false, false≢true}
 use Rattle.plain_facts.specs.Lists.{Each}
 use Rattle.plain_facts.proofs.Each.{each_append, each_at_most, each_zero}
 use Rattle.hail_codes.specs.Points.{upto}
@@ -25,6 +24,8 @@ use Rattle.vault.specs.Asking.{last_answers}
 use Rattle.vault.specs.Heard.{answered_entries}
 use Rattle.vault.specs.Rounds.{Round, rounds_in, JudgesEach}
 use Rattle.vault.specs.Tasks.{answered_gifts, HasAnswered, empty_sums}
+use Rattle.vault_core.proofs.Onward.{IsAnAsk}
+use Rattle.vault.proofs.AskOrders.{rounds_few}
 
 -- ---- the answers of a round
 
@@ -141,12 +142,6 @@ round_of f r = record { file = f; number = r }
 range_rising : (f : Pinned) (m a : ℕ) (xs : List Round) → Rising (f.id + 1) 0 xs → Rising f.id a (map (round_of f) (range_with_len a m) ++ xs)
 range_rising f zero a xs h = lower f.id a xs h
 range_rising f (suc m) a xs h = ((omega arith, λ e. omega arith), range_rising f m (a + 1) xs h)
-
-rounds_few : (s : Setup) (size : ℕ) → length (rounds_of s size) ≤ s.rounds
-rounds_few s size = elim (cases_Bool (stripes_of s size == 0)) [
-  | inl t ↦ (let e = ap length (cond_true (stripes_of s size == 0) [] (upto s.rounds) t) in omega (arith, e))
-  | inr f ↦ (let e = ap length (cond_false (stripes_of s size == 0) [] (upto s.rounds) f) in let l = length-range_with_len 0 s.rounds in omega (arith, e, l))
-]
 
 module _ (s : Setup) where
   pub rounds_rise : (low : ℕ) (fs : List Pinned) → AreAscending low fs → Rising low 0 (rounds_in s fs)
@@ -303,10 +298,6 @@ module _ (s : Setup) (job : Job) where
 
 -- ---- the last ask
 
-abbrev pub IsAnAsk : Action → Type 0
-IsAnAsk (Ask j o r) = Unit {0}
-IsAnAsk a = ⊥
-
 abbrev moves_to_end : List Action
 moves_to_end = append_actions ++ End ∷ []
 
@@ -320,11 +311,12 @@ not_move (suc (suc (suc (suc (suc p))))) j o r more e = omega (arith, ap (λ (l 
 
 -- behind the last ask come the moves of the second append, and the end
 after_asks : (asks : List Action) → Each IsAnAsk asks → (p j o r : ℕ) (more : List Action) → drop p (asks ++ moves_to_end) ≡ Ask j o r ∷ WriteBody ∷ more → drop (suc p) (asks ++ moves_to_end) ≡ moves_to_end
+unfolding IsAnAsk
 after_asks [] all p j o r more e = absurd (not_move p j o r (WriteBody ∷ more) e)
 after_asks (a ∷ asks) all (suc p) j o r more e = after_asks asks all.1 p j o r more e
 after_asks (a ∷ []) all zero j o r more e = refl
 after_asks (a ∷ b ∷ asks) all zero j o r more e =
-    absurd (subst IsAnAsk (let f : b ≡ WriteBody = cc in f) all.1.0)
+    absurd (false≢true (subst IsAnAsk (let f : b ≡ WriteBody = cc in f) all.1.0))
 
 pub behind_last : (asks : List Action) → Each IsAnAsk asks → (p j o r : ℕ) (more : List Action) → drop p (append_actions ++ (asks ++ (append_actions ++ End ∷ []))) ≡ Ask j o r ∷ WriteBody ∷ more
     → drop (suc p) (append_actions ++ (asks ++ (append_actions ++ End ∷ []))) ≡ append_actions ++ End ∷ []

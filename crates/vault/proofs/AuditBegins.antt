@@ -1,6 +1,5 @@
 -- What an audit begins with.
-use Rattle.std.proofs.Common.{◌≡◌, ℕ, ◌*◌, ◌≤◌, List, [], ◌∷◌, length, take, drop, replicate, Option, refl, sym, ap, ◌∙◌, subst, arith}
-use Rattle.std.specs.Prelude.{IfSome}
+use Rattle.std.proofs.Common.{◌≡◌, ℕ, ◌*◌, ◌≤◌, List, [], ◌∷◌, length, take, drop, replicate, Option, refl, sym, ap, ◌∙◌, arith}
 use Rattle.std.proofs.lemmas.List.{take-replicate, drop-replicate}
 use Rattle.hail_records.specs.Records.{Setup, most_files}
 use Rattle.hail_records.specs.Table.{File, files_of}
@@ -12,7 +11,6 @@ use Rattle.hail_machine.specs.States.{State, setup_in}
 use Rattle.sound_states.proofs.Written.{setup-providers}
 use Rattle.record_codec.specs.Entries.{counted}
 use Rattle.sound_states.proofs.Pinning.{length-pin_all}
-use Rattle.file_layout.specs.declared.file.FileShape.{FileShape}
 use Rattle.vault.specs.declared.heard.Ask.{Ask}
 use Rattle.vault.specs.declared.tasks.AuditTask.{AuditTask}
 use Rattle.vault.specs.declared.vault.Vault.{Vault}
@@ -22,7 +20,7 @@ use Rattle.vault.specs.Orders.{asks_left}
 use Rattle.vault.specs.Rounds.{Round, rounds_in}
 use Rattle.vault.specs.Seen.{table_of}
 use Rattle.vault.specs.Stands.{Stands}
-use Rattle.vault.specs.Tasks.{IsAudit, IsAsked, IsFileOf}
+use Rattle.vault.specs.Tasks.{IsAudit, IsAsked}
 use Rattle.vault.specs.Benches.{IsNewAudit}
 use Rattle.vault.proofs.AskOrders.{audit-order, audit-count}
 
@@ -57,7 +55,6 @@ module _ (v : Vault) (d : Devices) (w : State) (moment : ℕ) (stands : Stands v
         job_is = new.job_is ∙ stands.core.next_job;
         heard = ap (λ (xs : List Ask). answered_entries t.heard.job xs t.heard.symbols.items) new.no_asks;
         asks = ap length new.no_asks ∙ sym (ap length new.no_symbols);
-        file = subst (λ (o : Option FileShape). IfSome o (IsFileOf s job.pinned)) (sym new.file) tt;
         over = [];
         left = rounds_in s job.pinned;
         rounds = refl;

@@ -3,6 +3,7 @@ pub mod Opened
 pub mod Limits
 pub mod Grown
 pub mod JobPlaces
+pub mod RunningJobs
 pub mod Ways
 pub mod Allowed
 pub mod Fetched

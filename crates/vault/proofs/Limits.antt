@@ -10,3 +10,9 @@ setup-shape s is = grind (arith, nat_tests, is)
 
 pub setup-profile : (s : Setup) → IsTrue (is_setup s) → s.profile ≤ 4
 setup-profile s is = grind (arith, nat_tests, is)
+
+pub some-picks : (s : Setup) → IsTrue (is_setup s) → 1 ≤ s.picks
+some-picks s is = grind (arith, nat_tests, is)
+
+pub few-picks : (s : Setup) → IsTrue (is_setup s) → s.picks ≤ 64
+few-picks s is = grind (arith, nat_tests, is)

@@ -156,7 +156,6 @@ move_runs w job a subject older r move next kept running = record { number = run
           job_is = is.job_is;
           heard = is.heard;
           asks = is.asks;
-          file = is.file;
           over = is.over;
           left = is.left;
           rounds = is.rounds;

@@ -99,7 +99,6 @@ pub record HasJudged (master : List ℕ) (q : Question) (old new : AuditTask) : 
   pub n_is : new.counts.n ≡ old.counts.n
   pub padded : IsPadded old.counts → IsPadded new.counts
   pub heard : new.heard ≡ old.heard
-  pub file : new.file ≡ old.file
 
 -- what an ask was for
 abbrev pub ask_put : Question → ℕ → Ask
@@ -108,7 +107,6 @@ ask_put q k = record { provider = k; object = q.file.id; round = q.round }
 -- one answer more was heard, and nothing else changed
 pub record HasHeard (q : Question) (k : ℕ) (old new : AuditTask) (symbol : Option ℕ) : Type 0 where
   pub heard : GrowsAnswers old.heard new.heard (ask_put q k) symbol
-  pub file : new.file ≡ old.file
   pub counts : new.counts ≡ old.counts
   pub undecided : new.undecided ≡ old.undecided
 
@@ -179,8 +177,4 @@ pub record MayPut (v : Vault) (job object : ℕ) : Type 0 where
   pub size : ℕ
   pub length_is : length_in v.core job object ≡ Some size
   pub few : size ≤ 2 ^ 22
-  pub number : ℕ
-  pub number_is : IsAuditNumber (job_in v.core.jobs job) number
   pub rows : 1 ≤ stripes (vault_object v object) size * v.profile.size
-  pub some_picks : 1 ≤ v.setup.picks
-  pub few_picks : v.setup.picks ≤ 64

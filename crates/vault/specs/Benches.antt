@@ -1,5 +1,5 @@
 -- What a job begins with.
-use Rattle.std.specs.Prelude.{◌≡◌, ℕ, ◌+◌, ◌*◌, ◌≤◌, [], None, replicate, vec_len, vec_capacity}
+use Rattle.std.specs.Prelude.{◌≡◌, ℕ, ◌+◌, ◌*◌, ◌≤◌, [], replicate, vec_len, vec_capacity}
 use Rattle.hail_columns.specs.Objects.{stripes, stripe_symbols}
 use Rattle.vault.specs.declared.tasks.AuditTask.{AuditTask}
 use Rattle.vault.specs.declared.tasks.GetTask.{GetTask}
@@ -47,6 +47,5 @@ pub record IsNewAudit (job n asks : ℕ) (t : AuditTask) : Type 0 where
   pub undecided : t.undecided ≡ 0
   pub n_is : t.counts.n ≡ n
   pub by_is : t.counts.by ≡ replicate 16 0
-  pub file : t.file ≡ None
   pub room_asks : vec_len t.heard.asks + asks ≤ vec_capacity t.heard.asks
   pub room_symbols : vec_len t.heard.symbols + asks ≤ vec_capacity t.heard.symbols

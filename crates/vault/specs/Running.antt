@@ -1,19 +1,20 @@
 -- The running jobs of a vault, and the end of one of them.
 --
 --   place_in jobs number    == the place of the job of a number; None where there is none
+--   Runs c job              == a job of this number runs
 --   heard_of task           == what a job heard, by what it works with
 --   IsFed old job reply new == the core was given a reply
 --   KeepsAll old new        == nothing but the core, the running jobs and the append in flight may have
 --                              changed
 --   HasStopped, IsStopped   == a job was ended with an answer
-use Rattle.std.specs.Prelude.{◌≡◌, ℕ, ◌==◌, List, [], Option, Some, None, slice_get, position}
+use Rattle.std.specs.Prelude.{◌≡◌, ℕ, ◌==◌, true, List, [], Option, Some, None, is_some, slice_get, position}
 use Rattle.std.specs.List.{remove}
 use Rattle.hail_machine.specs.Events.{Outcome, Step}
 use Rattle.hail_machine.specs.Heard.{Entry}
 use Rattle.hail_machine.specs.Machine.{Happens}
 use Rattle.hail_machine.specs.States.{State}
 use Rattle.vault_core.specs.declared.reply.Reply.{Reply}
-use Rattle.vault_core.specs.View.{CoreView}
+use Rattle.vault_core.specs.View.{CoreView, job_in}
 use Rattle.vault_core.specs.Carried.{CoreIs}
 use Rattle.vault_core.specs.Replies.{IsReplyTo}
 use Rattle.vault.specs.declared.tasks.Running.{Running}
@@ -28,6 +29,10 @@ use Rattle.vault.specs.Heard.{fetched_entries, answered_entries, blocks_in}
 -- the place of the job of a number
 abbrev pub place_in : List Running → ℕ → Option ℕ
 place_in jobs number = position (λ (r : Running). r.number == number) jobs
+
+-- a job of this number runs
+abbrev pub Runs : CoreView → ℕ → Type 0
+Runs c job = is_some (job_in c.jobs job) ≡ true
 
 -- what a job heard
 abbrev pub heard_of : Task → List Entry

@@ -10,7 +10,7 @@
 --   IsPutTask, IsGet, IsDrop, IsAudit, IsRepair s task job rest == what a job of this kind works with
 --   IsTask s job rest task          == one of these
 --   AreRunning s running jobs       == the running jobs, in order, with what they work with
-use Rattle.std.specs.Prelude.{◌≡◌, ℕ, ◌+◌, ◌*◌, ◌<◌, ◌≤◌, Bool, List, [], ◌∷◌, ◌++◌, length, replicate, Option, IfSome, vec_len, vec_capacity}
+use Rattle.std.specs.Prelude.{◌≡◌, ℕ, ◌+◌, ◌*◌, ◌<◌, ◌≤◌, Bool, List, [], ◌∷◌, ◌++◌, length, replicate, Option, vec_len, vec_capacity}
 use Rattle.std.specs.List.{flat_map}
 use Rattle.hail_codes.specs.Points.{upto}
 use Rattle.hail_columns.specs.Objects.{Object, bytes_of_symbols, stripe_symbols}
@@ -18,11 +18,10 @@ use Rattle.hail_columns.specs.Verdicts.{Sums}
 use Rattle.hail_records.specs.Records.{Setup}
 use Rattle.record_codec.specs.Entries.{counted, IsPadded}
 use Rattle.file_layout.specs.Files as layout
-use Rattle.file_layout.specs.declared.file.FileShape.{FileShape}
 use Rattle.column_codec.specs.PresentBlocks.{present_blocks}
 use Rattle.hail_machine.specs.Jobs.{PutJob, GetJob, DropJob, AuditJob, RepairJob, Pinned, Given, Fetched, Answered, Job}
 use Rattle.hail_machine.specs.Setups.{object_of, pinned_stripes}
-use Rattle.hail_machine.specs.Given.{symbols_given, pinned_size}
+use Rattle.hail_machine.specs.Given.{symbols_given}
 use Rattle.hail_machine.specs.Actions.{Action, actions_left}
 use Rattle.hail_machine.specs.Heard.{entries_of}
 use Rattle.vault.specs.declared.blocks.Blocks.{Blocks}
@@ -140,11 +139,6 @@ abbrev pub IsAsked : List Round → ℕ → List (Option ℕ) → List Given →
 IsAsked [] c symbols given = Unit {0}
 IsAsked (x ∷ xs) c symbols given = HasAnswered x c symbols given
 
--- the file that an audit asked for last has its length
-abbrev pub IsFileOf : Setup → List Pinned → FileShape → Type 0
-IsFileOf s pinned file =
-    (layout.shaped_object s.master file ≡ object_of s file.id) × (file.length ≡ pinned_size pinned file.id)
-
 -- an audit has what it heard, the sums of the rounds that are over, and room for the rest
 pub record IsAudit (s : Setup) (t : AuditTask) (job : Job) (rest : List Action) : Type 0 where
   pub kind : job.kind ≡ AuditJob
@@ -152,7 +146,6 @@ pub record IsAudit (s : Setup) (t : AuditTask) (job : Job) (rest : List Action) 
   pub heard : answered_entries t.heard.job t.heard.asks.items t.heard.symbols.items
       ≡ entries_of job.number job.given
   pub asks : length t.heard.asks.items ≡ length t.heard.symbols.items
-  pub file : IfSome t.file (IsFileOf s job.pinned)
   pub over : List Round
   pub left : List Round
   pub rounds : rounds_in s job.pinned ≡ over ++ left

@@ -11,6 +11,7 @@ ghost use Rattle.record_codec.specs.Entries.{IsPadded};
 ghost use Rattle.vault_core.specs.declared.pinned.Pinned.{Pinned as PinnedValue};
 ghost use Rattle.vault.specs.Asking.{length_among, length_in, IsQuestion, challenge_put, HasHeard, HasJudged, TakesAsk, HasRoomForAsk, CanJudge, CanAsk, Asked, MayAsk, TellsAsk, MayTell, MayPut};
 ghost use Rattle.vault.specs.Calls.{CalledOnce};
+ghost use Rattle.vault.specs.Running.{Runs};
 ghost use Rattle.vault_open.specs.Devices.{devices};
 ghost use Rattle.provider_model.specs.Seen.{provider_seen};
 ghost use Rattle.vault.specs.Stands.{Stands, Comes, MakesTurn};
@@ -261,21 +262,25 @@ impl Task {
 impl Vault {
     /// The length of a file that a running job works on.
     fn length_in(&self, job: u32, object: u64) -> Option<u32>
+        requires { Runs self.now.core job }
         ensures { result ≡ length_in self.now.core job object }
     {
-        let pinned = self.core.pinned(job)?;
-        length_of(pinned, object)
+        match self.core.pinned(job) {
+            Some(pinned) => length_of(pinned, object),
+            None => unreachable!(),
+        }
     }
 
     /// What an ask of a running audit is for; None where there is no such.
     fn question(&self, job: u32, object: u64, round: u32) -> Option<Question>
+        requires { Runs self.now.core job }
         ensures is { IfSome result (IsQuestion self.now job object round) }
         ensures there { MayPut self.now job object → IsSome result }
     {
         let length = self.length_in(job, object)?;
-        let number = self.core.subject(job)?;
+        let number = self.subject_of(job);
         let picks = u32::from(self.setup.picks);
-        if length > LARGEST || picks < 1 || picks > 64 {
+        if length > LARGEST {
             return None;
         }
         let file = FileShape {
@@ -304,7 +309,8 @@ impl Vault {
         round: u32,
         providers: &mut [P],
     ) -> Option<Turn>
-        requires { Comes self.old.core job (AskAction provider object round) }
+        requires next { Comes self.old.core job (AskAction provider object round) }
+        requires there { provider < length providers.old }
         ensures machine { (w : State) (moment : ℕ) (holds : Option Cells) (faults : ℕ)
             → Stands self.old (devices holds faults (map (provider_seen P.Provider) providers.old)) w
             → MakesTurn w moment job result self.new
@@ -317,12 +323,9 @@ impl Vault {
         ensures acted { IfSome result (λ turn. IsNoAction turn → ⊥) }
         ensures called { OnSome result (CalledOnce P.calls provider providers.old providers.new) }
     {
+        let question = self.question(job, object, round)?;
         let place = place_of(&self.jobs, job)?;
         let index = provider as usize;
-        if index >= providers.len() {
-            return None;
-        }
-        let question = self.question(job, object, round)?;
         let task = &mut self.jobs[place].task;
         task.ask(
             &self.master,

@@ -18,7 +18,6 @@ impl AuditTask {
             heard: Answers { job, asks, symbols },
             undecided: 0,
             counts: Counts { n, by: [0; 16] },
-            file: None,
         })
     }
 }

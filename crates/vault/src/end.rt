@@ -1,11 +1,15 @@
 ghost use Rattle.std.specs.Prelude.{◌≡◌, ◌<◌, ℕ, [], Some, IfSome};
 ghost use Rattle.hail_machine.specs.Actions.{End};
 ghost use Rattle.hail_machine.specs.States.{State};
+ghost use Rattle.std.specs.Option.{option_map};
+ghost use Rattle.hail_columns.specs.Verdicts.{Sums};
+ghost use Rattle.record_codec.specs.Entries.{counted, IsPadded};
 ghost use Rattle.vault_core.specs.Coming.{TakesReply};
+ghost use Rattle.vault_core.specs.View.{job_in, CoreJob};
 ghost use Rattle.vault_open.specs.Devices.{Devices};
 ghost use Rattle.vault.specs.Ending.{answer_at_end};
 ghost use Rattle.vault.specs.Outcomes.{IfEnded, IsNoAction, HasPaddedCounts};
-ghost use Rattle.vault.specs.Running.{place_in, heard_of, IsStopped};
+ghost use Rattle.vault.specs.Running.{place_in, heard_of, IsStopped, Runs};
 ghost use Rattle.vault.specs.Seen.{left_of};
 ghost use Rattle.vault.specs.Stands.{Stands, Comes, MakesTurn};
 ghost use Rattle.vault.specs.declared.turn.Turn.TheVariants as turn;
@@ -105,6 +109,30 @@ impl Task {
 }
 
 impl Vault {
+    /// The object number of a running put, or the number of an audit or a repair; 0 until it is drawn.
+    pub(crate) fn subject_of(&self, job: u32) -> u64
+        requires { Runs self.now.core job }
+        ensures { Some result ≡ option_map (λ (j : CoreJob). j.subject) (job_in self.now.core.jobs job) }
+    {
+        match self.core.subject(job) {
+            Some(number) => number,
+            None => unreachable!(),
+        }
+    }
+
+    /// The undecided rounds of a running audit, and its counts; zeros until its verdict.
+    fn sums_of(&self, job: u32) -> (u32, Counts)
+        requires { Runs self.now.core job }
+        ensures value { Some (record { counts = counted result.1; undecided = result.0 })
+            ≡ option_map (λ (j : CoreJob). j.sums) (job_in self.now.core.jobs job) }
+        ensures padded { IsPadded result.1 }
+    {
+        match self.core.sums(job) {
+            Some(sums) => sums,
+            None => unreachable!(),
+        }
+    }
+
     /// Ends a job that made all its actions: what it did, read or found.
     pub(crate) fn end(&mut self, job: u32) -> Option<Turn>
         requires { Comes self.old.core job End }
@@ -115,11 +143,11 @@ impl Vault {
         ensures acted { IfSome result (λ turn. IsNoAction turn → ⊥) }
     {
         let place = place_of(&self.jobs, job)?;
-        let number = self.core.subject(job)?;
-        let (undecided, counts) = self.core.sums(job)?;
+        let number = self.subject_of(job);
+        let sums = self.sums_of(job);
         self.core.feed(job, Reply::Done);
         let running = self.jobs.remove(place);
-        Some(Turn::Done(running.task.into_end(number, undecided, counts)))
+        Some(Turn::Done(running.task.into_end(number, sums.0, sums.1)))
     }
 
     /// Ends a job with this answer, for which the core is given this reply.

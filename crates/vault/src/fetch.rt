@@ -68,7 +68,8 @@ impl Vault {
         stripe: u32,
         providers: &mut [P],
     ) -> Option<Turn>
-        requires { Comes self.old.core job (FetchAction provider object stripe) }
+        requires next { Comes self.old.core job (FetchAction provider object stripe) }
+        requires there { provider < length providers.old }
         ensures machine { (w : State) (moment : ℕ) (holds : Option Cells) (faults : ℕ)
             → Stands self.old (devices holds faults (map (provider_seen P.Provider) providers.old)) w
             → MakesTurn w moment job result self.new
@@ -83,9 +84,6 @@ impl Vault {
     {
         let place = place_of(&self.jobs, job)?;
         let index = provider as usize;
-        if index >= providers.len() {
-            return None;
-        }
         let fetch = Fetch {
             provider,
             object,

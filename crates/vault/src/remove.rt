@@ -1,4 +1,4 @@
-ghost use Rattle.std.specs.Prelude.{◌≡◌, ◌≢◌, slice_get, ℕ, Option, length, map, ◌<◌, Some, IfSome, OnSome};
+ghost use Rattle.std.specs.Prelude.{◌≡◌, ◌≢◌, slice_get, ℕ, Option, length, map, ◌<◌};
 ghost use Rattle.hail_devices.specs.Cells.{Cells};
 ghost use Rattle.hail_devices.specs.Faults.{one_more};
 ghost use Rattle.hail_devices.specs.ProviderCalls.{Removes};
@@ -7,9 +7,8 @@ ghost use Rattle.hail_machine.specs.States.{State};
 ghost use Rattle.vault.specs.Calls.{CalledOnce};
 ghost use Rattle.vault_open.specs.Devices.{devices};
 ghost use Rattle.provider_model.specs.Seen.{provider_seen};
-ghost use Rattle.vault.specs.Stands.{Stands, Comes, MakesTurn};
+ghost use Rattle.vault.specs.Stands.{Stands, Comes, MakesStep};
 ghost use Rattle.vault.specs.declared.turn.Turn.TheVariants as turn;
-ghost use Rattle.vault.specs.Outcomes.{IfEnded, IsNoAction, HasPaddedCounts};
 ghost use Rattle.vault.specs.Seen.{left_of};
 
 use crate::turn::Turn;
@@ -33,26 +32,23 @@ impl Vault {
         provider: u32,
         object: u64,
         providers: &mut [P],
-    ) -> Option<Turn>
-        requires { Comes self.old.core job (Remove provider object) }
+    ) -> Turn
+        requires next { Comes self.old.core job (Remove provider object) }
+        requires there { provider < length providers.old }
         ensures machine { (w : State) (moment : ℕ) (holds : Option Cells) (faults : ℕ)
             → Stands self.old (devices holds faults (map (provider_seen P.Provider) providers.old)) w
-            → MakesTurn w moment job result self.new
+            → MakesStep w moment job result self.new
             (devices holds faults (map (provider_seen P.Provider) providers.old))
             (devices holds faults (map (provider_seen P.Provider) providers.new)) }
         ensures count { length providers.new ≡ length providers.old }
         ensures others { (k : ℕ) → k ≢ provider → slice_get providers.new k ≡ slice_get providers.old k }
-        ensures left { result ≡ Some turn.More → left_of self.new job < left_of self.old job }
-        ensures padded { IfSome result (λ turn. IfEnded turn (λ ended. HasPaddedCounts ended.answer)) }
-        ensures acted { IfSome result (λ turn. IsNoAction turn → ⊥) }
-        ensures called { OnSome result (CalledOnce P.calls provider providers.old providers.new) }
+        ensures left { left_of self.new job < left_of self.old job }
+        ensures more { result ≡ turn.More }
+        ensures called { CalledOnce P.calls provider providers.old providers.new }
     {
         let index = provider as usize;
-        if index >= providers.len() {
-            return None;
-        }
         remove_from(&mut providers[index], object);
         self.core.feed(job, Reply::Done);
-        Some(Turn::More)
+        Turn::More
     }
 }

@@ -77,7 +77,9 @@ impl Vault {
         disk: &mut D,
         providers: &mut [P],
     ) -> Option<Turn>
-        requires { Comes self.old.core job (seen_action action) }
+        requires next { Comes self.old.core job (seen_action action) }
+        requires there { (j : ℕ) → called_provider (Acts (seen_action action)) ≡ Some j
+            → j < length providers.old }
         ensures machine { (w : State) (moment : ℕ)
             → Stands self.old (devices_seen D.Disk P.Provider disk.old providers.old) w
             → MakesTurn w moment job result self.new
@@ -123,7 +125,9 @@ impl Vault {
                 round,
             } => self.ask(job, provider, object, round, providers),
             Action::Work { object, stripe } => self.work(job, object, stripe),
-            Action::Remove { provider, object } => self.remove(job, provider, object, providers),
+            Action::Remove { provider, object } => {
+                Some(self.remove(job, provider, object, providers))
+            }
             Action::End => self.end(job),
         }
     }

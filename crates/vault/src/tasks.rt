@@ -6,7 +6,6 @@ ghost use Rattle.file_layout.specs.Files.{shaped_object};
 use crate::bench::Bench;
 use crate::blocks::Blocks;
 use crate::heard::{Answers, Fetches};
-use file_layout::FileShape;
 use record_codec::Counts;
 use stream_model::Bytes;
 
@@ -29,14 +28,12 @@ pub struct GetTask {
     pub bench: Bench,
 }
 
-/// What an audit works with: what its asks gave, the sums of the rounds that all providers were asked in, and the file
-/// that was asked for last.
+/// What an audit works with: what its asks gave, and the sums of the rounds that all providers were asked in.
 #[derive(Drop)]
 pub struct AuditTask {
     pub heard: Answers,
     pub undecided: u32,
     pub counts: Counts,
-    pub file: Option<FileShape>,
 }
 
 /// What a repair works with: the blocks of the stripe in work.

@@ -1,5 +1,4 @@
-ghost use Rattle.std.specs.Prelude.{◌≡◌};
-ghost use Rattle.vault.specs.Seen.{vault_setup, table_of, next_job_of};
+ghost use Rattle.std.specs.Prelude.{◌≡◌, ◌≤◌};
 
 use crate::codec::Codec;
 use crate::flight::Flight;
@@ -24,9 +23,15 @@ pub struct Vault {
     pub(crate) codec: Codec,
     pub(crate) flight: Option<Flight>,
     pub(crate) jobs: Vec<Running>,
+    ghost providers_fit: { core.setup.n ≡ setup.n },
+    ghost some_picks: { 1 ≤ setup.picks },
+    ghost few_picks: { setup.picks ≤ 64 },
 }
 
 impl Vault {
+    ghost use Rattle.std.specs.Prelude.{◌≡◌};
+    ghost use Rattle.vault.specs.Seen.{vault_setup, table_of, next_job_of};
+
     /// The numbers that the store was set up with.
     pub fn setup(&self) -> Setup
         ensures { result ≡ vault_setup self.now }

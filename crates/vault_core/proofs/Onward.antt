@@ -108,13 +108,15 @@ module _ (s : Setup) (m : Job) (some : 0 < s.n) where
 
 -- ---- asks
 
-pub IsAnAsk : Action → Type 0
+-- an action asks a provider
+unfoldable pub IsAnAsk : Action → Type 0
 IsAnAsk a = asks_next (Some a) ≡ true
 
 NoAsk : Action → Type 0
 NoAsk a = asks_next (Some a) ≡ false
 
-asks_ask : (s : Setup) (m : Job) → Each IsAnAsk (ask_actions s m)
+-- the asks of files are asks
+pub asks_ask : (s : Setup) (m : Job) → Each IsAnAsk (ask_actions s m)
 unfolding IsAnAsk
 asks_ask s m = each-ask IsAnAsk (λ j o t. refl) s m
 

@@ -33,6 +33,7 @@ impl Core {
         ensures refused { (w : State) (kind : Kind) → CoreIs self.old w → IsKindOf wish kind →
             IfErr result (λ why. why ≢ fault.Memory → begin_refusal 8 w kind ≡ Some (refusal_of why)) }
         ensures unchanged { OnErr result (self.new ≡ self.old) }
+        ensures setup { self.new.setup ≡ self.old.setup }
     {
         if let Some(fault) = self.refusal(&wish) {
             return Err(fault);
@@ -55,6 +56,7 @@ impl Core {
         ensures number { IfOk result (λ number. number ≡ self.old.next_job) }
         ensures memory { IfErr result (λ why. why ≡ fault.Memory) }
         ensures unchanged { OnErr result (self.new ≡ self.old) }
+        ensures setup { self.new.setup ≡ self.old.setup }
     {
         if self.jobs.reserve(1).is_err() {
             return Err(BeginFault::Memory);

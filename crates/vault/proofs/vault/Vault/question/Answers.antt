@@ -9,9 +9,5 @@ returns-then-rows-lt1-clause-there c = λ p.
     let e : p.size ≡ c.in_ok-length.length = cc in
     absurd (omega (arith, ap (λ (m : ℕ). stripes (vault_object c.args.self.now c.args.object) m * c.args.self.now.profile.size) e, p.rows, c.rows.ensures.value [], c.if-rows-lt1.true))
 
-pub invariant_of-result : goal.invariant_of-result
-invariant_of-result c = record {
-  rows = omega (arith, c.rows.ensures.value [], c.if-rows-lt1.false);
-  some_picks = omega (arith, c.if-picks-lt1.false);
-  few_picks = omega (arith, c.if-picks-gt64.false);
-}
+pub invariant_of-result-clause-rows : goal.invariant_of-result-clause-rows
+invariant_of-result-clause-rows c = omega (arith, c.rows.ensures.value [], c.if-rows-lt1.false)

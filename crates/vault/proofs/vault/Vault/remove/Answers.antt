@@ -1,22 +1,17 @@
-use Rattle.std.proofs.Common.{refl, ap, ◌∙◌, arith}
+use Rattle.std.proofs.Common.{refl, ap, ◌∙◌}
 use Rattle.std.specs.Option.{option_map}
-use Rattle.std.proofs.lemmas.List.{length-map, map-set}
+use Rattle.std.proofs.lemmas.List.{map-set}
 use Rattle.std.proofs.lemmas.Option.{slice_get-get_or, slice_get-map}
 use Rattle.provider_model.specs.Seen.{provider_seen}
-use Rattle.vault.proofs.RemoveStep.{provider_there, remove_step}
+use Rattle.vault.proofs.RemoveStep.{remove_step}
 use Rattle.vault.proofs.vault.Vault.remove.Goals as goal
-
-pub returns-then-index-providers-clause-machine : goal.returns-then-index-providers-clause-machine
-returns-then-index-providers-clause-machine g c = λ w moment holds faults stands.
-    let less = provider_there c.args.self.now w holds faults moment c.args.job _ _ _ stands c.requires in
-    omega (arith, less, length-map c.args.providers.now (provider_seen g.P.Provider), c.if-index-providers.true)
 
 pub returns-clause-machine : goal.returns-clause-machine
 returns-clause-machine g c = λ w moment holds faults stands.
     let seen = provider_seen g.P.Provider in
-    remove_step c.args.self.now w holds faults moment c.args.job _ _ _ stands c.requires
+    remove_step c.args.self.now w holds faults moment c.args.job _ _ _ stands c.requires.next
     _ _ _ _ c.remove_from.ensures.removed
-    (slice_get-map seen c.args.providers.now c.args.provider ∙ ap (option_map seen) (slice_get-get_or c.args.providers.now c.args.provider c.index-providers-index.result (omega (arith, c.if-index-providers.false))))
+    (slice_get-map seen c.args.providers.now c.args.provider ∙ ap (option_map seen) (slice_get-get_or c.args.providers.now c.args.provider c.index-providers-index.result c.requires.there))
     (map-set seen c.args.providers.now c.args.provider c.remove_from.new.from)
     refl
     (record { setup = refl; master = refl; shape = refl; profile = refl })
