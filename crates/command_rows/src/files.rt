@@ -1,6 +1,6 @@
 use crate::store::{KEY, Row, SureStore, after, done, done_with, refused};
 use hail_field::Symbol;
-use std::test::Fail;
+use std::alloc::Global;
 
 /// A text of 100 bytes.
 pub const NOTES: &[u8] = &[b'n'; 100];
@@ -52,8 +52,14 @@ fn has_records(journal: &[u8]) -> bool {
     journal.len() == 85 && journal.get(50..) == Some(RECORDS)
 }
 
+/// Whether an empty file that is stored has no block, and a get of it hears none.
+fn has_no_block(alloc: Global, rows: &[Row]) -> Option<bool> {
+    let mut store = after(alloc, rows)?;
+    Some(holders(&store) == 0 && heard(&mut store, "get empty") == Some((0, 0)))
+}
+
 #[test]
-fn an_empty_file_has_no_block(rt: HostRuntime) -> Result<(), Fail> {
+fn an_empty_file_has_no_block(rt: HostRuntime) {
     let rows = [
         SIX,
         done("put empty", b"stored empty 0\n"),
@@ -64,27 +70,40 @@ fn an_empty_file_has_no_block(rt: HostRuntime) -> Result<(), Fail> {
             b"audit 1 undecided 0\nprovider 0 count 0 ok\nprovider 1 count 0 ok\nprovider 2 count 0 ok\nprovider 3 count 0 ok\nprovider 4 count 0 ok\nprovider 5 count 0 ok\n",
         ),
     ];
-    let mut store = after(rt.alloc(), &rows).expect(&rt, "an empty file is kept");
-    assert_eq!(rt; holders(&store), 0);
-    assert!(rt; heard(&mut store, "get empty") == Some((0, 0)));
-    Ok(())
+    assert_eq!(rt; has_no_block(rt.alloc(), &rows), Some(true));
 }
 
-#[test]
-fn a_short_file_has_one_block_a_provider(rt: HostRuntime) -> Result<(), Fail> {
-    let rows = [SIX, STORED];
-    let store = after(rt.alloc(), &rows).expect(&rt, "a file is stored");
-    assert!(rt; has_records(store.disk.bytes()));
-    assert_eq!(rt; holders(&store), 6);
-    for (place, zero) in [false, true, true, false, false, false].iter().enumerate() {
-        let right = block(&store, place) == Some((16, *zero));
-        assert!(rt; right, "provider {place}");
+/// Whether the first blocks of six providers have 16 symbols each, of which all are zero as told.
+fn have_blocks(store: &SureStore, zero: &[bool; 6]) -> bool {
+    for place in 0..zero.len() {
+        if block(store, place) != Some((16, zero[place])) {
+            return false;
+        }
     }
-    Ok(())
+    true
+}
+
+/// Whether the text that is stored has its records, and one block a provider, of which all symbols are zero as told.
+fn has_one_block_each(alloc: Global, zero: &[bool; 6]) -> Option<bool> {
+    let store = after(alloc, &[SIX, STORED])?;
+    let records = has_records(store.disk.bytes());
+    Some(records && holders(&store) == 6 && have_blocks(&store, zero))
 }
 
 #[test]
-fn a_file_is_listed_and_given_back_until_it_is_dropped(rt: HostRuntime) -> Result<(), Fail> {
+fn a_short_file_has_one_block_a_provider(rt: HostRuntime) {
+    let zero = [false, true, true, false, false, false];
+    assert_eq!(rt; has_one_block_each(rt.alloc(), &zero), Some(true));
+}
+
+/// How many providers hold a first block of the first object behind these commands, where each ends as its row says.
+fn holders_after(alloc: Global, rows: &[Row]) -> Option<usize> {
+    let store = after(alloc, rows)?;
+    Some(holders(&store))
+}
+
+#[test]
+fn a_file_is_listed_and_given_back_until_it_is_dropped(rt: HostRuntime) {
     let rows = [
         SIX,
         STORED,
@@ -103,7 +122,5 @@ fn a_file_is_listed_and_given_back_until_it_is_dropped(rt: HostRuntime) -> Resul
         refused("get notes.txt", 3, 0),
         done("list", b"a 6\n"),
     ];
-    let store = after(rt.alloc(), &rows).expect(&rt, "each command ends as told");
-    assert_eq!(rt; holders(&store), 0);
-    Ok(())
+    assert_eq!(rt; holders_after(rt.alloc(), &rows), Some(0));
 }

@@ -32,31 +32,32 @@ fn wanted(case: &Case, call: u64) -> Row {
     }
 }
 
-/// The store before the command of a case.
-fn store_before(alloc: Global, case: &Case) -> Option<Store> {
-    let mut store = Store::after(alloc, case.before)?;
-    if case.loses && !store.loses(2) {
-        return None;
-    }
-    if store.first_wrong(case.found).is_some() {
-        return None;
-    }
-    Some(store)
-}
-
-/// Whether the command, and what a disk without faults shows afterwards, go as they are to where the disk fails at a call.
-fn goes_right(alloc: Global, case: &Case, call: u64) -> Option<bool> {
-    let mut store = store_before(alloc, case)?;
-    let later = if call < case.stands {
+/// What a disk that does not fail shows once the command of a case was made over one that fails at a call.
+fn later<'a>(case: &Case<'a>, call: u64) -> &'a [Row] {
+    if call < case.stands {
         case.without
     } else {
         case.with
-    };
-    let fails = store.disk_fails_at(&[call]);
-    let told = store.first_wrong(&[wanted(case, call)]);
-    let good = store.disk_fails_at(&[]);
-    let shown = store.first_wrong(later);
-    Some(fails && told.is_none() && good && shown.is_none())
+    }
+}
+
+/// Whether the loss of a case, and the commands behind it, go as they are to.
+fn loses_and_finds(store: &mut Store, case: &Case) -> bool {
+    (!case.loses || store.loses(2)) && store.are_as_told(case.found)
+}
+
+/// Whether the command of a case, over a disk that fails at a call, and what a disk without faults shows afterwards, go as they are to.
+fn goes_over(store: &mut Store, case: &Case, call: u64) -> bool {
+    store.disk_fails_at(&[call])
+        && store.are_as_told(&[wanted(case, call)])
+        && store.disk_fails_at(&[])
+        && store.are_as_told(later(case, call))
+}
+
+/// Whether all of a case goes so, where the disk fails at a call of its command.
+fn goes_right(alloc: Global, case: &Case, call: u64) -> Option<bool> {
+    let mut store = Store::after(alloc, case.before)?;
+    Some(loses_and_finds(&mut store, case) && goes_over(&mut store, case, call))
 }
 
 impl<'a> Case<'a> {

@@ -53,8 +53,8 @@ fn cut_put(call: u64) -> Row {
 /// Whether a put whose disk fails at a call ends as it is to, and the next one is done, under the number that is due.
 fn next_number_is_right(alloc: Global, call: u64) -> Option<bool> {
     let mut store = Store::after(alloc, &[four()])?;
-    let told = store.disk_fails_at(&[call]) && store.first_wrong(&[cut_put(call)]).is_none();
-    let next = store.disk_fails_at(&[]) && store.first_wrong(&[three()]).is_none();
+    let told = store.disk_fails_at(&[call]) && store.are_as_told(&[cut_put(call)]);
+    let next = store.disk_fails_at(&[]) && store.are_as_told(&[three()]);
     let drawn = store.has_object(0, 2) == (call >= 6) && !store.has_object(0, 3);
     Some(told && next && drawn)
 }

@@ -99,24 +99,25 @@ impl Store {
         first_wrong(self.alloc, rows, &mut self.disk, &mut self.providers)
     }
 
+    /// Whether each command ends as its row says.
+    pub fn are_as_told(&mut self, rows: &[Row]) -> bool {
+        self.first_wrong(rows).is_none()
+    }
+
     /// How a command ends whose source has three bytes and fails at one of its calls.
     pub fn over_source(&mut self, line: &str, call: u64) -> Option<(u8, u64)> {
-        let mut source = source_of(self.alloc, call)?;
-        let mut sink = sink_of(self.alloc, u64::MAX)?;
-        ended(
-            self.alloc,
-            line,
-            &mut self.disk,
-            &mut self.providers,
-            &mut source,
-            &mut sink,
-        )
+        self.over(line, call, u64::MAX)
     }
 
     /// How a command ends whose sink fails at one of its calls.
     pub fn over_sink(&mut self, line: &str, call: u64) -> Option<(u8, u64)> {
-        let mut source = source_of(self.alloc, u64::MAX)?;
-        let mut sink = sink_of(self.alloc, call)?;
+        self.over(line, u64::MAX, call)
+    }
+
+    /// How a command ends whose source has three bytes, where the source and the sink fail at one of their calls each.
+    fn over(&mut self, line: &str, read: u64, write: u64) -> Option<(u8, u64)> {
+        let mut source = source_of(self.alloc, read)?;
+        let mut sink = sink_of(self.alloc, write)?;
         ended(
             self.alloc,
             line,
