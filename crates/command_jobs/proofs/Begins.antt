@@ -1,5 +1,5 @@
 -- The begin of a job that is the only one: its words.
-use Rattle.std.proofs.Common.{◌≡◌, ℕ, ◌==◌, List, [], ◌∷◌, ◌++◌, Some, None, refl, ap, ◌∙◌}
+use Rattle.std.proofs.Common.{◌≡◌, ℕ, ◌==◌, [], ◌∷◌, ◌++◌, Some, None, refl, ap, ◌∙◌}
 use Rattle.std.proofs.lemmas.Bool.{eq-eqb}
 use Rattle.hail_machine.specs.Jobs.{Kind, job_of}
 use Rattle.hail_machine.specs.Events.{Begun, IsSpelledKind}

@@ -1,4 +1,4 @@
-use Rattle.std.proofs.Common.{◌≡◌, ℕ, map}
+use Rattle.std.proofs.Common.{◌≡◌, ℕ}
 use Rattle.std.specs.Prelude.{is_some}
 use Rattle.hail_machine.specs.Jobs.{Kind}
 use Rattle.hail_machine.specs.States.{State}
