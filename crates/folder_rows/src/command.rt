@@ -55,7 +55,7 @@ fn answer<D: Disk, P: Tamper, S: Source, K: Sink>(
 }
 
 /// Answers the words over some devices and a source of these bytes. Want of memory for the source and the sink is the one refusal.
-fn answered<D: Disk, P: Tamper>(
+fn ended_over<D: Disk, P: Tamper>(
     alloc: Global,
     words: &[String],
     input: &[u8],
@@ -72,7 +72,7 @@ fn answered<D: Disk, P: Tamper>(
 fn ended(files: &StandIn, alloc: Global, row: &Row) -> Option<Answered> {
     let words = words(alloc, row.line)?;
     let mut home = Devices::new(files, alloc)?;
-    answered(
+    ended_over(
         alloc,
         &words,
         row.input,
