@@ -1,16 +1,23 @@
-use command_row::{answer, words};
-use disk_model::SureDisk;
+use disk_model::{Disk, SureDisk};
 use hail_field::Symbol;
-use hail_top::Report;
+use hail_top::{Report, hail};
 use provider_model::{SureProvider, Tamper};
 use std::alloc::Global;
-use stream_model::{SureSink, SureSource};
+use stream_model::{Sink, Source, SureSink, SureSource};
 use vault::Heard;
-
-pub use command_row::Row;
 
 /// The bytes of the master key are 0 to 31.
 pub const KEY: &[u8] = b"000102030405060708090a0b0c0d0e0f101112131415161718191a1b1c1d1e1f\n";
+
+/// A command, its input, and how it is to end: its status, the place that the status speaks of, and what it writes.
+#[derive(Clone, Copy)]
+pub struct Row {
+    pub line: &'static str,
+    pub input: &'static [u8],
+    pub status: u8,
+    pub at: u64,
+    pub text: &'static [u8],
+}
 
 /// A command without input that ends with 0.
 pub fn done(line: &'static str, text: &'static [u8]) -> Row {
@@ -51,6 +58,28 @@ pub struct SureStore {
     pub alloc: Global,
     pub disk: SureDisk,
     pub providers: Vec<SureProvider>,
+}
+
+/// The words of a line, cut at its spaces.
+fn words(alloc: Global, line: &str) -> Option<Vec<String>> {
+    let mut all = Vec::new(alloc);
+    for word in line.split_whitespace() {
+        let word = String::from_str(alloc, word).ok()?;
+        all.push(word).ok()?;
+    }
+    Some(all)
+}
+
+/// Answers words over some devices.
+fn answer<D: Disk, P: Tamper, S: Source, K: Sink>(
+    alloc: Global,
+    words: &[String],
+    disk: &mut D,
+    providers: &mut Vec<P>,
+    source: &mut S,
+    sink: &mut K,
+) -> Report {
+    hail(alloc, words, disk, providers, source, sink)
 }
 
 impl SureStore {

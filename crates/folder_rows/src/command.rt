@@ -1,10 +1,10 @@
 use crate::home::Devices;
 use crate::stand_in::StandIn;
-use command_row::{answer, words};
 use disk_model::Disk;
+use hail_top::hail;
 use provider_model::Tamper;
 use std::alloc::Global;
-use stream_model::{SureSink, SureSource};
+use stream_model::{Sink, Source, SureSink, SureSource};
 
 /// A command, its input, and how it ends: its status, and what it writes.
 #[derive(Clone, Copy)]
@@ -32,6 +32,28 @@ struct Answered {
     text: SureSink,
 }
 
+/// The words of a line, cut at its spaces. Want of memory is the one refusal.
+fn words(alloc: Global, line: &str) -> Option<Vec<String>> {
+    let mut all = Vec::new(alloc);
+    for word in line.split_whitespace() {
+        let word = String::from_str(alloc, word).ok()?;
+        all.push(word).ok()?;
+    }
+    Some(all)
+}
+
+/// Answers the words over some devices, with a status.
+fn answer<D: Disk, P: Tamper, S: Source, K: Sink>(
+    alloc: Global,
+    words: &[String],
+    disk: &mut D,
+    providers: &mut Vec<P>,
+    source: &mut S,
+    sink: &mut K,
+) -> u8 {
+    hail(alloc, words, disk, providers, source, sink).status
+}
+
 /// Answers the words over some devices and a source of these bytes. Want of memory for the source and the sink is the one refusal.
 fn ended_over<D: Disk, P: Tamper>(
     alloc: Global,
@@ -42,7 +64,7 @@ fn ended_over<D: Disk, P: Tamper>(
 ) -> Option<Answered> {
     let mut source = SureSource::new(alloc, input).ok()?;
     let mut text = SureSink::new(alloc).ok()?;
-    let status = answer(alloc, words, disk, providers, &mut source, &mut text).status;
+    let status = answer(alloc, words, disk, providers, &mut source, &mut text);
     Some(Answered { status, text })
 }
 
