@@ -31,6 +31,7 @@ use Rattle.command_laws.specs.Ends.{IsKnown, DiskHas}
 use Rattle.command_laws.specs.After.{IsSure}
 use Rattle.job_laws.proofs.Telling.{over-opened, opened_state, state-over}
 use Rattle.command_laws.proofs.LastStates.{IsLast, last-state}
+use Rattle.sound_states.specs.Sound.{IsWholeJournal}
 use Rattle.sound_states.proofs.Written.{whole-end}
 
 -- ---- a text that fits is looked at
