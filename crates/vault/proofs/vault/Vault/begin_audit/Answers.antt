@@ -1,4 +1,4 @@
-use Rattle.std.proofs.Common.{◌≡◌, ℕ, ◌*◌, length, subst, ◌∙◌, ap, min}
+use Rattle.std.proofs.Common.{◌≡◌, ℕ, ◌*◌, length, subst, ◌∙◌, ap, min, refl}
 use Rattle.hail_machine.specs.Jobs.{AuditJob}
 use Rattle.vault_table.specs.Values.{Kept}
 use Rattle.vault.specs.Benches.{IsNewAudit}
@@ -13,5 +13,5 @@ returns-in-Ok-clause-machine c = λ w d moment stands.
     let count : c.count.result ≡ length (table_of v).files = c.count.ensures ∙ ap (λ (t : Kept). length t.files) c.table.ensures in
     let files : c.min-files.result ≡ length (table_of v).files = c.min-files.ensures ∙ ap (λ (k : ℕ). min k 1024) count ∙ least (length (table_of v).files) 1024 (few-files v d w moment stands) in
     let new = subst (λ (k : ℕ). IsNewAudit k v.setup.n (c.min-files.result * (c.from.result * c.from-2.result)) c.in-Ok.task) c.next_job.ensures c.in-Ok.ensures in
-    c.admit.ensures.machine w d moment AuditJob stands tt tt
+    c.admit.ensures.machine w d moment AuditJob stands refl tt
     (λ accepted. audit-task v d w moment stands c.in-Ok.task (c.min-files.result * (c.from.result * c.from-2.result)) new (λ i. files i * (c.from.ensures i * c.from-2.ensures i)))

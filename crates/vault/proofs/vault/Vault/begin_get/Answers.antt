@@ -1,5 +1,5 @@
 use Rattle.std.proofs.Common.{Result, ℕ, sym, subst, ◌∙◌, ◌∷◌, ◌≡◌, Some, None, ◌^◌}
-use Rattle.hail_machine.specs.Jobs.{GetJob}
+use Rattle.hail_machine.specs.Jobs.{GetJob, ToGet}
 use Rattle.vault_core.specs.declared.wish.BeginFault.{BeginFault}
 use Rattle.vault_core.specs.declared.wish.BeginFault.TheVariants as fault
 use Rattle.hail_records.specs.Table.{find_file}
@@ -43,5 +43,5 @@ returns-in-Ok-clause-machine c = λ w d moment stands.
     let fits = size-fits v d w moment stands name file found in
     let for_file = subst (λ (k : ℕ). IsBenchFor v file.id k bench) (c.min.ensures ∙ least file.size (2 ^ 22) fits) c.in_ok-bench.ensures.ok in
     let new = subst (λ (k : ℕ). IsNewGet k bench c.in-Ok.task) c.next_job.ensures c.in-Ok.ensures in
-    c.admit.ensures.machine w d moment kind stands (sym c.in_ok-name.ensures.named) c.in_ok-name.ensures.bytes
+    c.admit.ensures.machine w d moment kind stands (λ i. ToGet (c.in_ok-name.ensures.named i)) c.in_ok-name.ensures.bytes
     (λ accepted. get-task v d w moment stands name file found bench c.in-Ok.task for_file new)

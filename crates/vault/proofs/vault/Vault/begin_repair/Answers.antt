@@ -1,4 +1,4 @@
-use Rattle.std.proofs.Common.{sym, subst, ℕ, ◌*◌, ◌≤◌}
+use Rattle.std.proofs.Common.{sym, subst, ℕ, ◌*◌, ◌≤◌, refl}
 use Rattle.std.specs.Prelude.{vec_capacity}
 use Rattle.hail_machine.specs.Jobs.{RepairJob}
 use Rattle.vault.proofs.RepairBegins.{repair-task}
@@ -12,6 +12,6 @@ returns-in-Ok-clause-machine c = λ w d moment stands.
     let first : n ≤ vec_capacity blocks.present = subst (λ (k : ℕ). k ≤ vec_capacity blocks.present) c.from.ensures e.room_present in
     let second : n * c.in_ok-bench.bench.keys.file.profile.size ≤ vec_capacity blocks.symbols =
     subst (λ (k : ℕ). k * c.in_ok-bench.bench.keys.file.profile.size ≤ vec_capacity blocks.symbols) c.from.ensures e.room_symbols in
-    c.admit.ensures.machine w d moment RepairJob stands tt tt (λ accepted.
+    c.admit.ensures.machine w d moment RepairJob stands refl tt (λ accepted.
     repair-task c.args.self.now d w moment 0 4194304 c.in_ok-bench.bench blocks stands c.in_ok-bench.ensures.ok e.size e.present e.symbols first
     (subst (λ (k : ℕ). n * k ≤ vec_capacity blocks.symbols) (sym e.size) second))
