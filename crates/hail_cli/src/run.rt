@@ -64,6 +64,18 @@ fn answer<D: Disk, P: Tamper, S: Source, K: Sink>(
     }
 }
 
+/// Answers the words over some devices and the standard streams. Want of memory for the streams is the one refusal.
+fn run_over<D: Disk, P: Tamper>(
+    rt: &HostRuntime,
+    words: &[String],
+    disk: &mut D,
+    providers: &mut Vec<P>,
+) -> Option<Told> {
+    let mut source = StdSource::new(rt).ok()?;
+    let mut sink = StdSink::new(rt).ok()?;
+    Some(answer(rt.alloc(), words, disk, providers, &mut source, &mut sink))
+}
+
 /// Answers the words over an empty memory and these providers, which are gone afterwards. Want of memory for the devices is the
 /// one refusal.
 fn run_in_memory<P: Tamper + Drop>(
@@ -71,18 +83,8 @@ fn run_in_memory<P: Tamper + Drop>(
     words: &[String],
     mut providers: Vec<P>,
 ) -> Option<Told> {
-    let alloc = rt.alloc();
-    let mut disk = SureDisk::new(alloc, &[]).ok()?;
-    let mut source = StdSource::new(rt).ok()?;
-    let mut sink = StdSink::new(rt).ok()?;
-    Some(answer(
-        alloc,
-        words,
-        &mut disk,
-        &mut providers,
-        &mut source,
-        &mut sink,
-    ))
+    let mut disk = SureDisk::new(rt.alloc(), &[]).ok()?;
+    run_over(rt, words, &mut disk, &mut providers)
 }
 
 /// The providers of a home, where each store syncs its folder.
@@ -108,26 +110,25 @@ fn serves(words: &[String]) -> bool {
     }
 }
 
+/// The providers of a home for a command. Want of memory is the one refusal.
+fn home_providers(
+    rt: &HostRuntime,
+    home: &str,
+    words: &[String],
+    unsynced: &Unsynced,
+) -> Option<Vec<FolderProvider<HostRuntime>>> {
+    if serves(words) {
+        return synced_providers(rt, rt.alloc(), home);
+    }
+    folder_providers(rt, rt.alloc(), home, unsynced).ok()
+}
+
 /// Answers the words over the journal and the providers of a home. Want of memory for the devices is the one refusal.
 fn run_at_home(rt: &HostRuntime, home: &str, words: &[String]) -> Option<Told> {
-    let alloc = rt.alloc();
-    let unsynced = Unsynced::new(alloc).ok()?;
-    let mut disk = journal_disk(rt, alloc, home, &unsynced).ok()?;
-    let mut providers = if serves(words) {
-        synced_providers(rt, alloc, home)?
-    } else {
-        folder_providers(rt, alloc, home, &unsynced).ok()?
-    };
-    let mut source = StdSource::new(rt).ok()?;
-    let mut sink = StdSink::new(rt).ok()?;
-    Some(answer(
-        alloc,
-        words,
-        &mut disk,
-        &mut providers,
-        &mut source,
-        &mut sink,
-    ))
+    let unsynced = Unsynced::new(rt.alloc()).ok()?;
+    let mut disk = journal_disk(rt, rt.alloc(), home, &unsynced).ok()?;
+    let mut providers = home_providers(rt, home, words, &unsynced)?;
+    run_over(rt, words, &mut disk, &mut providers)
 }
 
 /// Answers the words over a home that no other program is at work in meanwhile. A home that cannot be locked is a fault of the
