@@ -5,7 +5,7 @@
 --   is_shut x                 == a scrub, a pack or an upgrade runs, beside which no job begins
 --   is_busy limit x aim       == what runs leaves no place for a job of this aim
 --   names_taken x             == the names in effect and those of running puts, each once
---   is_crowded x name         == these are as many as can be, and this name is not among them
+--   is_crowded_for x name     == these are as many as can be, and this name is not among them
 --   is_full x aim             == no job of this aim can have its records: they find no room, or its number
 --                                would come too near the last one
 --   causes limit x aim profile == the causes for which a begin is refused, in order; a put may name a profile
@@ -113,8 +113,8 @@ abbrev pub names_taken : Sight → List (List ℕ)
 names_taken x = with_puts (names_in x.files) x.aims
 
 -- no further name fits in
-abbrev pub is_crowded : Sight → List ℕ → Bool
-is_crowded x name = nat_le most_files (length (names_taken x)) && not (is_name_among (names_taken x) name)
+abbrev pub is_crowded_for : Sight → List ℕ → Bool
+is_crowded_for x name = nat_le most_files (length (names_taken x)) && not (is_name_among (names_taken x) name)
 
 -- the journal would grow too long with a job of this aim
 abbrev pub is_too_full : Sight → Aim → Bool
@@ -159,7 +159,7 @@ causes limit x aim profile =
         ∷ (unknown_profile profile
         ++ record { applies = nat_lt largest_file size; refusal = refusal.TooLong }
         ∷ (too_old x profile
-        ++ record { applies = is_crowded x name; refusal = refusal.TooManyFiles } ∷ []))
+        ++ record { applies = is_crowded_for x name; refusal = refusal.TooManyFiles } ∷ []))
     by_aim (ToGet name) =
         record { applies = not (is_name name); refusal = refusal.BadName }
         ∷ record { applies = not (is_stored x name); refusal = refusal.NoSuchName } ∷ []

@@ -24,10 +24,10 @@ abbrev pub entries_heard : HeardLists → List Entry
 entries_heard h = h.first ++ entries_behind h.more
 
 -- the room of lists that may be there
-abbrev pub room_behind : Option (Vec (List Entry) Global) → ℕ
-room_behind None = 0
-room_behind (Some more) = vec_capacity more - vec_len more
+abbrev pub spare_of : Option (Vec (List Entry) Global) → ℕ
+spare_of None = 0
+spare_of (Some more) = vec_capacity more - vec_len more
 
 -- for how many more jobs there is room
 abbrev pub room_of : HeardLists → ℕ
-room_of h = room_behind h.more
+room_of h = spare_of h.more

@@ -18,7 +18,7 @@ use Rattle.hail_machine.specs.Refusals.{Cause, first_refusal}
 use Rattle.hail_machine.specs.Events.{IsSpelledKind}
 use Rattle.hail_machine.specs.States.{State, Packing, setup_in, file_in, journal_end}
 use Rattle.hail_machine.specs.Space.{append_sizes, reserved}
-use Rattle.hail_machine.specs.Sights.{sight_of, aims_of, room_used, is_check, is_upgrade, is_shut, are_jobs_in_the_way, is_name_among, names_taken, is_crowded, is_stored, is_full, is_too_full, are_numbers_used_up, causes}
+use Rattle.hail_machine.specs.Sights.{sight_of, aims_of, room_used, is_check, is_upgrade, is_shut, are_jobs_in_the_way, is_name_among, names_taken, is_crowded_for, is_stored, is_full, is_too_full, are_numbers_used_up, causes}
 use Rattle.hail_machine.specs.Begins.{refusal_of_begin, due_number, subject_at_begin, chosen, beginning}
 use Rattle.hail_machine.proofs.JobLists.{cond_true, cond_false, same_value, found_more, still_found}
 use Rattle.hail_machine.proofs.Pins.{any_aim, check_alone}
@@ -55,7 +55,7 @@ record IsPutBegun (limit : ℕ) (old : State) (name bytes : List ℕ) (wish : Op
   named : is_name name ≡ true
   short : length bytes ≤ largest_file
   known : (p : ℕ) → wish ≡ Some p → (p < all_profiles) × ((version_of old.records == 1) ≡ false)
-  place : is_crowded (sight_of old) name ≡ false
+  place : is_crowded_for (sight_of old) name ≡ false
   full : is_full (sight_of old) (aim_of (PutJob name bytes)) ≡ false
 
 put-begun : (limit : ℕ) (old : State) (name bytes : List ℕ) (wish : Option ℕ) → refusal_of_begin limit old (PutJob name bytes) wish ≡ None → IsPutBegun limit old name bytes wish

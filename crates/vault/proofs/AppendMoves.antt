@@ -40,7 +40,7 @@ use Rattle.vault_open.specs.Devices.{devices}
 use Rattle.vault.specs.Devices.{records_in_flight}
 use Rattle.vault.specs.Flights.{HasFailed, MakesMove, GoesOn, EndsAppend, GivesUp}
 use Rattle.vault.specs.Running.{KeepsAll, IsFed, IsStopped}
-use Rattle.vault.specs.Movers.{IsFirst, IsMover}
+use Rattle.vault.specs.Movers.{IsUnbegun, IsMover}
 use Rattle.vault.specs.Stands.{Stands, Comes, IsFlight, IsSamePast, MakesStep, MakesTurn}
 use Rattle.vault_open.proofs.FirstVersion.{FirstStands, first-images}
 use Rattle.vault_core.proofs.Standing.{entry_machine}
@@ -127,7 +127,7 @@ module _ (v : Vault) (w : State) (holds : Option Cells) (faults number : ℕ) (p
   not_some : (f : Flight) → v.flight ≡ Some f → ⊥
   not_some f is = subst (λ (o : Option Flight). IsFlight o None w.records holds) is lies_still
 
-  begins : (f : Flight) → IsFirst v.core number f → IsMover v w holds number WriteBody f
+  begins : (f : Flight) → IsUnbegun v.core number f → IsMover v w holds number WriteBody f
   begins f first =
       let next = comes.machine w stands.core in
       let entry_now : IsEntryOf w number (Some first.entry) = subst (λ (o : Option Record). IsEntryOf w number o) first.given (entry_machine v.core w number (entry_in v.core number) stands.core refl) in
@@ -162,7 +162,7 @@ flight_moves v w holds faults number ps stands End comes moves f is = absurd (fa
 
 -- where it has none, the job's append begins
 pub flight_begins : (v : Vault) (w : State) (holds : Option Cells) (faults number : ℕ) (ps : List Provider) → Stands v (devices holds faults ps) w → (action : Action) → Comes v.core number action → is_move (Some action) ≡ true
-    → v.flight ≡ None → (f : Flight) → IsFirst v.core number f → IsMover v w holds number action f
+    → v.flight ≡ None → (f : Flight) → IsUnbegun v.core number f → IsMover v w holds number action f
 flight_begins v w holds faults number ps stands WriteBody comes moves is f first = begins v w holds faults number ps stands comes f first
 flight_begins v w holds faults number ps stands SyncBody comes moves is f first = absurd (not_none v w holds faults number ps stands SyncBody comes (omega arith) is)
 flight_begins v w holds faults number ps stands WriteGate comes moves is f first = absurd (not_none v w holds faults number ps stands WriteGate comes (omega arith) is)

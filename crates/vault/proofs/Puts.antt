@@ -6,14 +6,14 @@ use Rattle.hail_records.specs.Records.{is_name, largest_file}
 use Rattle.hail_machine.specs.Jobs.{PutJob, aim_of}
 use Rattle.hail_machine.specs.Refusals as refusal
 use Rattle.hail_machine.specs.Refusals.{Cause, first_refusal}
-use Rattle.hail_machine.specs.Sights.{sight_of, is_crowded, is_full}
+use Rattle.hail_machine.specs.Sights.{sight_of, is_crowded_for, is_full}
 use Rattle.hail_machine.specs.States.{State}
 
 -- the causes of a put behind that of its name
 abbrev pub causes_of_put : State → List ℕ → List ℕ → List Cause
 causes_of_put w name bytes =
     record { applies = nat_lt largest_file (length bytes); refusal = refusal.TooLong }
-    ∷ record { applies = is_crowded (sight_of w) name; refusal = refusal.TooManyFiles }
+    ∷ record { applies = is_crowded_for (sight_of w) name; refusal = refusal.TooManyFiles }
     ∷ record { applies = is_full (sight_of w) (aim_of (PutJob name bytes)); refusal = refusal.JournalFull } ∷ []
 
 -- the cause of its name

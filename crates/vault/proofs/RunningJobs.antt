@@ -6,7 +6,7 @@ use Rattle.std.proofs.lemmas.Bool.{false≢true}
 use Rattle.hail_machine.specs.Actions.{Action}
 use Rattle.vault_core.specs.View.{CoreJob, CoreView, job_in}
 use Rattle.vault_core.specs.Coming.{Acts, IsNoJob, IsBarred, next_of, next_in}
-use Rattle.vault.specs.Running.{Runs}
+use Rattle.vault.specs.Running.{RunsIn}
 
 none_acts : (a : Action) → IsNoJob ≡ Acts a → ⊥
 none_acts a e = cc
@@ -23,7 +23,7 @@ by_barred true c o a e = absurd (barred_acts a e)
 by_barred false c o a e = by_found c o a e
 
 -- a job whose action comes next runs
-pub runs_next : (c : CoreView) (number : ℕ) (a : Action) → next_in c number ≡ Acts a → Runs c number
+pub runs_next : (c : CoreView) (number : ℕ) (a : Action) → next_in c number ≡ Acts a → RunsIn c number
 runs_next c number a e = by_barred c.barred c (job_in c.jobs number) a e
 
 some_none : {X : Type 0} (x : X) → Some x ≡ None → ⊥

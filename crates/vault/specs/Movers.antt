@@ -1,7 +1,7 @@
 -- Moves of a job's append.
 --
 --   ComesMove c job       == a move of the job's append comes next
---   IsFirst c job f       == an append, no move of which is made, of the record that the job writes
+--   IsUnbegun c job f       == an append, no move of which is made, of the record that the job writes
 --   IsMover v w told job action f == an append that is at this move of the job: it brings the record that the
 --                            job writes, which is that of the append in flight, if there is one
 use Rattle.std.specs.Prelude.{◌≡◌, ℕ, ◌+◌, true, Option, Some, [], ◌∷◌, ◌++◌, IsTrue}
@@ -26,7 +26,7 @@ pub record ComesMove (c : CoreView) (job : ℕ) : Type 0 where
   pub moves : is_move (Some action) ≡ true
 
 -- an append, no move of which is made, of the record that the job writes
-pub record IsFirst (c : CoreView) (job : ℕ) (f : Flight) : Type 0 where
+pub record IsUnbegun (c : CoreView) (job : ℕ) (f : Flight) : Type 0 where
   pub entry : Record
   pub given : entry_in c job ≡ Some entry
   pub spelled : IsTrue (is_in_grammar entry)

@@ -1,7 +1,7 @@
 -- The running jobs of a vault, and the end of one of them.
 --
 --   place_in jobs number    == the place of the job of a number; None where there is none
---   Runs c job              == a job of this number runs
+--   RunsIn c job              == a job of this number runs
 --   heard_of task           == what a job heard, by what it works with
 --   IsFed old job reply new == the core was given a reply
 --   KeepsAll old new        == nothing but the core, the running jobs and the append in flight may have
@@ -31,8 +31,8 @@ abbrev pub place_in : List Running → ℕ → Option ℕ
 place_in jobs number = position (λ (r : Running). r.number == number) jobs
 
 -- a job of this number runs
-abbrev pub Runs : CoreView → ℕ → Type 0
-Runs c job = is_some (job_in c.jobs job) ≡ true
+abbrev pub RunsIn : CoreView → ℕ → Type 0
+RunsIn c job = is_some (job_in c.jobs job) ≡ true
 
 -- what a job heard
 abbrev pub heard_of : Task → List Entry

@@ -11,7 +11,7 @@ ghost use Rattle.record_codec.specs.Entries.{IsPadded};
 ghost use Rattle.vault_core.specs.declared.pinned.Pinned.{Pinned as PinnedValue};
 ghost use Rattle.vault.specs.Asking.{length_among, length_in, IsQuestion, challenge_put, HasHeard, HasJudged, TakesAsk, HasRoomForAsk, CanJudge, CanAsk, Asked, MayAsk, TellsAsk, MayTell, MayPut};
 ghost use Rattle.vault.specs.Calls.{CalledOnce};
-ghost use Rattle.vault.specs.Running.{Runs};
+ghost use Rattle.vault.specs.Running.{RunsIn};
 ghost use Rattle.vault_open.specs.Devices.{devices};
 ghost use Rattle.provider_model.specs.Seen.{provider_seen};
 ghost use Rattle.vault.specs.Stands.{Stands, Comes, MakesTurn};
@@ -262,7 +262,7 @@ impl Task {
 impl Vault {
     /// The length of a file that a running job works on.
     fn length_in(&self, job: u32, object: u64) -> Option<u32>
-        requires { Runs self.now.core job }
+        requires { RunsIn self.now.core job }
         ensures { result ≡ length_in self.now.core job object }
     {
         match self.core.pinned(job) {
@@ -273,7 +273,7 @@ impl Vault {
 
     /// What an ask of a running audit is for; None where there is no such.
     fn question(&self, job: u32, object: u64, round: u32) -> Option<Question>
-        requires { Runs self.now.core job }
+        requires { RunsIn self.now.core job }
         ensures is { IfSome result (IsQuestion self.now job object round) }
         ensures there { MayPut self.now job object → IsSome result }
     {

@@ -9,7 +9,7 @@ ghost use Rattle.vault_core.specs.View.{job_in, CoreJob};
 ghost use Rattle.vault_open.specs.Devices.{Devices};
 ghost use Rattle.vault.specs.Ending.{answer_at_end};
 ghost use Rattle.vault.specs.Outcomes.{IfEnded, IsNoAction, HasPaddedCounts};
-ghost use Rattle.vault.specs.Running.{place_in, heard_of, IsStopped, Runs};
+ghost use Rattle.vault.specs.Running.{place_in, heard_of, IsStopped, RunsIn};
 ghost use Rattle.vault.specs.Seen.{left_of};
 ghost use Rattle.vault.specs.Stands.{Stands, Comes, MakesTurn};
 ghost use Rattle.vault.specs.declared.turn.Turn.TheVariants as turn;
@@ -111,7 +111,7 @@ impl Task {
 impl Vault {
     /// The object number of a running put, or the number of an audit or a repair; 0 until it is drawn.
     pub(crate) fn subject_of(&self, job: u32) -> u64
-        requires { Runs self.now.core job }
+        requires { RunsIn self.now.core job }
         ensures { Some result ≡ option_map (λ (j : CoreJob). j.subject) (job_in self.now.core.jobs job) }
     {
         match self.core.subject(job) {
@@ -122,7 +122,7 @@ impl Vault {
 
     /// The undecided rounds of a running audit, and its counts; zeros until its verdict.
     fn sums_of(&self, job: u32) -> (u32, Counts)
-        requires { Runs self.now.core job }
+        requires { RunsIn self.now.core job }
         ensures value { Some (record { counts = counted result.1; undecided = result.0 })
             ≡ option_map (λ (j : CoreJob). j.sums) (job_in self.now.core.jobs job) }
         ensures padded { IsPadded result.1 }

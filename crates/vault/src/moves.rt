@@ -8,7 +8,7 @@ ghost use Rattle.hail_machine.specs.Actions.{Action};
 ghost use Rattle.hail_machine.specs.States.{State};
 ghost use Rattle.vault_open.specs.Devices.{devices};
 ghost use Rattle.vault.specs.Stands.{Stands, Comes, MakesTurn};
-ghost use Rattle.vault.specs.Movers.{ComesMove, IsFirst, IsMover};
+ghost use Rattle.vault.specs.Movers.{ComesMove, IsUnbegun, IsMover};
 ghost use Rattle.vault.specs.declared.turn.Turn.TheVariants as turn;
 ghost use Rattle.vault.specs.Outcomes.{IfEnded, IsNoAction, HasPaddedCounts};
 ghost use Rattle.vault.specs.Calls.{moves_before_next, MovesCells};
@@ -24,7 +24,7 @@ impl Vault {
     /// The append of the record that a job writes, no move of which is made.
     fn first_flight(&self, job: u32) -> Flight
         requires { ComesMove self.now.core job }
-        ensures { IsFirst self.now.core job result }
+        ensures { IsUnbegun self.now.core job result }
     {
         match self.core.entry(job) {
             Some(entry) => Flight::new(self.core.end() - 1, &entry),

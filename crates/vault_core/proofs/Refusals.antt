@@ -18,7 +18,7 @@ use Rattle.hail_machine.specs.Refusals as refusal
 use Rattle.hail_machine.specs.Refusals.{Refusal, Cause, first_refusal}
 use Rattle.hail_machine.specs.States.{State, Alone, setup_in}
 use Rattle.hail_machine.specs.Space.{append_sizes, room_left, reserved}
-use Rattle.hail_machine.specs.Sights.{Sight, sight_of, aims_of, room_used, is_put_or_check, is_check, is_upgrade, is_shut, are_jobs_in_the_way, is_busy, is_name_among, with_name, is_crowded, is_stored, is_full, is_too_full, are_numbers_used_up, causes}
+use Rattle.hail_machine.specs.Sights.{Sight, sight_of, aims_of, room_used, is_put_or_check, is_check, is_upgrade, is_shut, are_jobs_in_the_way, is_busy, is_name_among, with_name, is_crowded_for, is_stored, is_full, is_too_full, are_numbers_used_up, causes}
 use Rattle.sound_states.proofs.NamesTaken.{listed-with_puts, listed-files, length-names_in}
 use Rattle.sound_states.proofs.NamesTaken.{puts_name as machine_puts}
 use Rattle.sound_states.proofs.Written.{end-first}
@@ -130,8 +130,8 @@ none-beside aims wish.Repair a r = absurd (r refl)
 none-beside aims w a r = refl
 
 pub crowded : (a : Inside) (v : CoreView) (name : List ℕ) (taken : Bool) (count : ℕ) → view_of a ≡ v → taken ≡ is_name_among (taken_names a.table.files (aims_kept a.jobs.items)) name →
-    nat_le 1024 count ≡ nat_le 1024 (length (taken_names a.table.files (aims_kept a.jobs.items))) → (nat_le 1024 count && not taken) ≡ is_crowded (sight_in v) name
-crowded a v name taken count e h k = subst (λ (c : CoreView). (nat_le 1024 count && not taken) ≡ is_crowded (sight_in c) name) e
+    nat_le 1024 count ≡ nat_le 1024 (length (taken_names a.table.files (aims_kept a.jobs.items))) → (nat_le 1024 count && not taken) ≡ is_crowded_for (sight_in v) name
+crowded a v name taken count e h k = subst (λ (c : CoreView). (nat_le 1024 count && not taken) ≡ is_crowded_for (sight_in c) name) e
     (subst (λ (aims : List Aim). (nat_le 1024 count && not taken) ≡ (nat_le most_files (length (taken_names a.table.files aims)) && not (is_name_among (taken_names a.table.files aims) name)))
     (sym (aims-seen a.setup.n a.jobs.items)) (rw (h, k) refl))
 
@@ -250,7 +250,7 @@ order false false false false why = refl
 
 -- the causes that a core looks at are those of the machine: a name is one, and a put is not too long
 pub refusal-sight : (c : CoreView) (w : Wish) → HasName w → IsShort w → option_map refusal_of (refusal_in c w) ≡ first_refusal (causes 8 (sight_in c) (aim_of_wish w) None)
-refusal-sight c (wish.Put name size) named short = order c.barred (is_busy 8 (sight_in c) (ToPut name size)) (is_crowded (sight_in c) name) (is_full (sight_in c) (ToPut name size)) fault.TooManyFiles ∙ rw (named, not_long) refl
+refusal-sight c (wish.Put name size) named short = order c.barred (is_busy 8 (sight_in c) (ToPut name size)) (is_crowded_for (sight_in c) name) (is_full (sight_in c) (ToPut name size)) fault.TooManyFiles ∙ rw (named, not_long) refl
   where
     not_long : nat_lt largest_file size ≡ false
     not_long = elim (cases_Bool (nat_lt largest_file size)) [

@@ -10,7 +10,7 @@
 use Rattle.std.specs.Prelude.{ℕ, ◌+◌, Bool, false, List, map, sum_by, Option, None, Some, is_some, not, if◌then◌else◌}
 use Rattle.hail_records.specs.Table.{File, is_same_name}
 use Rattle.hail_machine.specs.Jobs.{Aim, ToPut}
-use Rattle.hail_machine.specs.Sights.{Sight, names_in, with_puts, is_busy, is_crowded, is_stored, is_full}
+use Rattle.hail_machine.specs.Sights.{Sight, names_in, with_puts, is_busy, is_crowded_for, is_stored, is_full}
 use Rattle.vault_table.specs.Values.{id_after}
 use Rattle.vault_core.specs.declared.wish.Wish.{Wish}
 use Rattle.vault_core.specs.declared.wish.Wish.TheVariants as wish
@@ -55,7 +55,7 @@ taken_names files aims = with_puts (names_in files) aims
 
 -- the words of a wish, or what is in effect, let no job begin
 abbrev pub word_refusal_in : Sight → Wish → Option BeginFault
-word_refusal_in x (wish.Put name size) = if is_crowded x name then Some fault.TooManyFiles else None
+word_refusal_in x (wish.Put name size) = if is_crowded_for x name then Some fault.TooManyFiles else None
 word_refusal_in x (wish.Get name) = if not (is_stored x name) then Some fault.NoSuchName else None
 word_refusal_in x (wish.Drop name) = if not (is_stored x name) then Some fault.NoSuchName else None
 word_refusal_in x wish.Audit = if is_some x.due then Some fault.RepairDue else None

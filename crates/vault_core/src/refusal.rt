@@ -5,7 +5,7 @@ ghost use Rattle.std.specs.List.{list_any, All};
 ghost use Rattle.hail_machine.specs.Jobs.{Kind};
 ghost use Rattle.hail_machine.specs.States.{State};
 ghost use Rattle.hail_machine.specs.Refusals.{first_refusal};
-ghost use Rattle.hail_machine.specs.Sights.{is_check, is_put_or_check, is_name_among, is_busy, is_crowded, is_full, causes};
+ghost use Rattle.hail_machine.specs.Sights.{is_check, is_put_or_check, is_name_among, is_busy, is_crowded_for, is_full, causes};
 ghost use Rattle.hail_machine.specs.Begins.{begin_refusal};
 ghost use Rattle.vault_core.specs.declared.job.Job.{Job as JobData};
 ghost use Rattle.vault_core.specs.Carried.{CoreIs, IsKindOf, refusal_of};
@@ -156,7 +156,7 @@ impl Core {
 
     /// No further name fits in beside those in effect and those of running puts.
     fn is_crowded(&self, name: &Name) -> bool
-        ensures { result ≡ is_crowded (sight_in self.now) name.now }
+        ensures { result ≡ is_crowded_for (sight_in self.now) name.now }
     {
         let beside = names_beside(&self.table, &self.jobs);
         self.table.count().saturating_add(beside) >= MOST_FILES
