@@ -18,7 +18,7 @@ use Rattle.hail_machine.proofs.JobLists.{cond_true, same_value, found_none}
 use Rattle.plain_facts.proofs.Each.{each_get}
 use Rattle.hail_machine.proofs.Changes.{Grown, Job_is, Block_is, Changes}
 use Rattle.hail_machine.proofs.Events.{some_told, changes}
-use Rattle.hail_machine.proofs.Numbers.{objects, Draws, HasNumber, next_is_by, at_three, first_above, drawn_later}
+use Rattle.hail_machine.proofs.Numbers.{objects, Draws, next_is_by, first_above, drawn_later}
 use Rattle.plain_facts.specs.Lists.{In}
 use Rattle.hail_machine.proofs.RecordFacts.{started-less}
 use Rattle.hail_machine.proofs.Refused.{none_lone}

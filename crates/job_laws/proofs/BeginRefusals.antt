@@ -1,5 +1,5 @@
 -- Where no job runs, a begin of the machine is refused as that of a command.
-use Rattle.std.proofs.Common.{◌≡◌, ◌+◌, ◌==◌, ◌||◌, Option, None, ◌∙◌, Bool, false, List, [], ◌∷◌, refl, ap, sym, subst, not, length, add-zero, sum}
+use Rattle.std.proofs.Common.{◌≡◌, ◌+◌, ◌==◌, ◌||◌, Option, None, ◌∙◌, Bool, false, List, [], ◌∷◌, ap, sym, subst, not, length, add-zero, sum}
 use Rattle.std.specs.Prelude.{is_some, nat_lt}
 use Rattle.hail_records.specs.Records.{Record, is_name, largest_file, largest_journal}
 use Rattle.hail_records.specs.Journal.{text_size}
@@ -40,13 +40,13 @@ module _ (w : State) where
       ∷ record { applies = not b; refusal = refusal.NoSuchName } ∷ [])) (stored-file w name)
   refusal-alone (DropJob name) =
       ap (λ (b : Bool). first_refusal (
-          record { applies = not (is_name name); refusal = refusal.BadName }
-          ∷ record { applies = not b; refusal = refusal.NoSuchName }
-          ∷ record { applies = is_full (sight_of alone) (ToDrop name); refusal = refusal.JournalFull } ∷ [])) (stored-file w name)
+      record { applies = not (is_name name); refusal = refusal.BadName }
+      ∷ record { applies = not b; refusal = refusal.NoSuchName }
+      ∷ record { applies = is_full (sight_of alone) (ToDrop name); refusal = refusal.JournalFull } ∷ [])) (stored-file w name)
       ∙ ap (λ (b : Bool). first_refusal (
-          record { applies = not (is_name name); refusal = refusal.BadName }
-          ∷ record { applies = not (is_some (file_of w.records name)); refusal = refusal.NoSuchName }
-          ∷ record { applies = b || has_no_number w.records (DropJob name); refusal = refusal.JournalFull } ∷ [])) (room-alone (DropJob name))
+      record { applies = not (is_name name); refusal = refusal.BadName }
+      ∷ record { applies = not (is_some (file_of w.records name)); refusal = refusal.NoSuchName }
+      ∷ record { applies = b || has_no_number w.records (DropJob name); refusal = refusal.JournalFull } ∷ [])) (room-alone (DropJob name))
   refusal-alone AuditJob = ap (λ (b : Bool). first_refusal (
       record { applies = is_some (due_of w.records); refusal = refusal.RepairDue }
       ∷ record { applies = b || has_no_number w.records AuditJob; refusal = refusal.JournalFull } ∷ [])) (room-alone AuditJob)

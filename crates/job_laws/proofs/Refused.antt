@@ -6,7 +6,7 @@ use Rattle.hail_records.specs.Table.{File}
 use Rattle.hail_machine.specs.Jobs.{DropJob, aim_of}
 use Rattle.hail_machine.specs.States.{State, file_in}
 use Rattle.hail_machine.specs.Begins.{begin_refusal}
-use Rattle.hail_machine.specs.Sights.{sight_of, is_stored, causes}
+use Rattle.hail_machine.specs.Sights.{sight_of, causes}
 use Rattle.hail_machine.proofs.Sights.{stored-file}
 use Rattle.sound_states.proofs.Begun.{none-applies}
 

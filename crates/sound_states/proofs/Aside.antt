@@ -16,7 +16,7 @@ use Rattle.hail_machine.specs.States.{State, Append, Scrub, Pack, Alone, Scrubbi
 use Rattle.hail_machine.specs.Space.{reserved}
 use Rattle.hail_machine.specs.Alone.{alone_refusal, Scrubs, StepsScrub, Packs, StepsAlone, new_scrub, new_pack, is_too_long, BeginsAlone, BeginsScrub, BeginsPack}
 use Rattle.hail_machine.specs.Refusals as refusal
-use Rattle.hail_machine.specs.Refusals.{Refusal, Cause}
+use Rattle.hail_machine.specs.Refusals.{Cause}
 use Rattle.hail_machine.proofs.Asides.{IsAside, steps_aside}
 use Rattle.hail_machine.proofs.JobLists.{same_value, found_none}
 use Rattle.hail_machine.proofs.PinFacts.{setup_same}

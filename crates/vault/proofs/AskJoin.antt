@@ -19,7 +19,7 @@ use Rattle.hail_devices.specs.Cells.{Cells}
 use Rattle.hail_devices.specs.Providers.{Provider}
 use Rattle.hail_devices.specs.ProviderCalls.{Asks}
 use Rattle.hail_records.specs.Records.{Setup}
-use Rattle.hail_machine.specs.Actions.{Action, Ask, WriteBody, SyncBody, WriteGate, SyncGate, End, actions_of, actions_by, actions_left, append_actions, ask_actions, on_each_provider, rounds_of}
+use Rattle.hail_machine.specs.Actions.{Action, Ask, WriteBody, SyncBody, WriteGate, SyncGate, End, actions_of, actions_by, actions_left, append_actions, ask_actions}
 use Rattle.hail_machine.specs.Audits.{challenge_in, asked_challenge, HasSums}
 use Rattle.hail_machine.specs.Events.{More}
 use Rattle.hail_machine.specs.Given.{pinned_size, pinned_profile}

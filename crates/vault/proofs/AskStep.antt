@@ -11,7 +11,6 @@ use Rattle.hail_records.specs.Records.{Setup}
 use Rattle.hail_machine.specs.Actions.{Action, Ask}
 use Rattle.hail_machine.specs.Audits.{challenge_in, JudgesRound}
 use Rattle.hail_machine.specs.Given.{answers_given}
-use Rattle.hail_machine.specs.Heard.{Entry}
 use Rattle.hail_machine.specs.Jobs.{Kind, PutJob, GetJob, DropJob, AuditJob, RepairJob, UpgradeJob, Given, Answered, Job, advanced_with}
 use Rattle.hail_machine.specs.Setups.{profiled, object_of}
 use Rattle.hail_machine.specs.States.{State, setup_in}
@@ -32,7 +31,7 @@ use Rattle.vault_open.specs.Devices.{devices}
 use Rattle.vault.specs.Stands.{Stands, Comes}
 use Rattle.vault.proofs.Allowed.{IsAllowed, next_allowed}
 use Rattle.vault.proofs.Ways.{is_handed}
-use Rattle.vault.proofs.Asks.{entries_more, none_answered, answered_more, last_given, enough_answers, rounds_rise, apart, judges_still, judges_more}
+use Rattle.vault.proofs.Asks.{entries_more, none_answered, answered_more, last_given, apart, judges_still, judges_more}
 use Rattle.vault.proofs.AskOrders.{count-ask}
 
 -- zeros, and nothing else

@@ -7,7 +7,7 @@ use Rattle.hail_devices.specs.Providers.{Provider}
 use Rattle.hail_devices.specs.Told.{Goes}
 use Rattle.hail_records.specs.Records.{Record, Setup}
 use Rattle.hail_records.specs.Spellings.{spelling}
-use Rattle.hail_records.specs.Journal.{before_gate, text_size}
+use Rattle.hail_records.specs.Journal.{text_size}
 use Rattle.hail_records.proofs.Sizes.{length-spelling, length-before_gate}
 use Rattle.hail_machine.specs.Actions.{Action}
 use Rattle.hail_machine.specs.Answers as answers

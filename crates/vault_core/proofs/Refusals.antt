@@ -15,7 +15,7 @@ use Rattle.hail_machine.specs.Jobs.{Aim, ToPut, ToGet, ToDrop, ToAudit, ToRepair
 use Rattle.hail_machine.specs.Jobs.{Job as MachineJob}
 use Rattle.hail_machine.specs.Actions.{Action, ends_append}
 use Rattle.hail_machine.specs.Refusals as refusal
-use Rattle.hail_machine.specs.Refusals.{Refusal, Cause, first_refusal}
+use Rattle.hail_machine.specs.Refusals.{first_refusal}
 use Rattle.hail_machine.specs.States.{State, Alone, setup_in}
 use Rattle.hail_machine.specs.Space.{append_sizes, room_left, reserved}
 use Rattle.hail_machine.specs.Sights.{Sight, sight_of, aims_of, room_used, is_put_or_check, is_check, is_upgrade, is_shut, are_jobs_in_the_way, is_busy, is_name_among, with_name, is_crowded_for, is_stored, is_full, is_too_full, are_numbers_used_up, causes}
